@@ -1,0 +1,12 @@
+pub mod Lists
+pub mod Paths
+pub mod Looks
+pub mod Counting
+pub mod Kept
+pub mod Replacing
+pub mod Bounds
+pub mod Setting
+pub mod Filling
+pub mod Moves
+pub mod Moving
+pub mod Testing

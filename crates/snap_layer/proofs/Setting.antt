@@ -1,0 +1,57 @@
+-- A mode, a mark or bytes set in place.
+use Rattle.std.proofs.Common.{◌≡◌, ℕ, ◌+◌, ◌<◌, ◌≤◌, Bool, true, false, cond, List, [], ◌∷◌, ◌++◌, length, Option, Some, None, IsSome, refl, sym, ap, subst, ◌∙◌, arith}
+use Rattle.std.specs.Prelude.{option_and_then, is_some}
+use Rattle.snap_path.specs.Text.{Names}
+use Rattle.snap_layer.specs.declared.node.Node.{Node}
+use Rattle.snap_layer.specs.declared.node.Node.TheVariants.{Dir, File, Symlink, Whiteout}
+use Rattle.snap_layer.specs.declared.node.Body.{Body}
+use Rattle.snap_layer.specs.declared.node.Body.TheVariants as body_kinds
+use Rattle.snap_layer.specs.Tree.{Tree, at, body, number_of, IsDirAt}
+use Rattle.snap_layer.specs.Counts.{inode_count}
+use Rattle.snap_layer.specs.Layers.{IsLayer, IsFile, IsWhole}
+use Rattle.snap_layer.specs.Edits.{with_entry, with_body, with_bytes, with_mode, with_file_mode, with_opaque}
+use Rattle.snap_layer.proofs.Counting.{inode_count-with_entry, inode_count-with_body, inodes_of}
+use Rattle.snap_layer.proofs.Kept.{IsLayer-with_entry, IsLayer-with_body}
+
+-- the layer stays one, with as many inodes
+pub record Stays (t u : Tree) : Type 0 where
+  pub layer : IsLayer u
+  pub count : inode_count t ≡ inode_count u
+
+module _ (t : Tree) (ok : IsLayer t) where
+  -- a directory with another mode or mark
+  pub dir_stays : (p : Names) (m n : ℕ) (b c : Bool) → at t p ≡ Some (Dir m b) → n ≤ 4095 → Stays t (with_entry t p (Dir n c))
+  dir_stays p m n b c is low =
+      let count : inode_count t ≡ inode_count (with_entry t p (Dir n c)) = omega (arith, inode_count-with_entry t p (Dir n c) ok.sorted_paths, ap inodes_of is) in
+      record {
+        layer = IsLayer-with_entry t p (Dir n c) ok (record {
+          no_number = ap (option_and_then number_of) is;
+          stays = λ dir. refl;
+          parent = λ q x e. ok.parents q x (subst (λ (r : Names). IsSome (at t r)) e (ap is_some is));
+          root = λ e. refl;
+          path = ok.paths p (ap is_some is);
+          whole = low;
+          few = omega (arith, count, ok.few);
+        });
+        count = count;
+      }
+
+  pub dir_mode : (p : Names) (m : ℕ) (b : Bool) → at t p ≡ Some (Dir m b) → m ≤ 4095
+  dir_mode p m b is = ok.nodes p (Dir m b) is
+
+  -- a file with another mode or other bytes
+  pub file_stays : (k m n : ℕ) (old bytes : List ℕ) → body t k ≡ Some (body_kinds.File m old) → IsFile (Some (body_kinds.File m old)) → IsFile (Some (body_kinds.File n bytes)) → Stays t (with_body t k (body_kinds.File n bytes))
+  file_stays k m n old bytes is was file = record {
+    layer = IsLayer-with_body t k (body_kinds.File n bytes) ok (subst IsFile (sym is) was) file;
+    count = sym (inode_count-with_body t k (body_kinds.File n bytes) ok.sorted_numbers (ap is_some is));
+  }
+
+-- the name of a file has a file's body
+pub file_of_name : (t : Tree) → IsLayer t → (p : Names) (k : ℕ) → at t p ≡ Some (File k) → IsFile (body t k)
+file_of_name t ok p k is = ok.nodes p (File k) is
+
+-- the file that is there
+pub file_body : (o : Option Body) → IsFile o → (m : ℕ) × (bytes : List ℕ) × (o ≡ Some (body_kinds.File m bytes))
+file_body None file = absurd file
+file_body (Some (body_kinds.File m bytes)) file = (m, bytes, refl)
+file_body (Some (body_kinds.Symlink target)) file = absurd file

@@ -1,0 +1,161 @@
+-- The layer after each edit, and when the edit may be made.
+use Rattle.std.specs.Prelude.{◌≡◌, ℕ, ◌+◌, ◌≤◌, Bool, true, false, not, ◌==◌, filter, map, List, [], ◌∷◌, ◌++◌, length, drop, Option, Some, None, IsSome, if◌then◌else◌}
+use Rattle.std.specs.Ordering.{nat_cmp}
+use Rattle.std.specs.Map.{remove_entry}
+use Rattle.std.specs.BTreeMap.{is_at, insert_entry}
+use Rattle.snap_path.specs.Text.{Names, IsPath}
+use Rattle.snap_layer.specs.declared.node.Node.{Node}
+use Rattle.snap_layer.specs.declared.node.Node.TheVariants.{Dir, File, Symlink, Whiteout}
+use Rattle.snap_layer.specs.declared.node.Body.{Body}
+use Rattle.snap_layer.specs.declared.node.Body.TheVariants as body_kinds
+use Rattle.snap_layer.specs.Tree.{Tree, Entries, Bodies, path_cmp, at, body, number_at, begins, is_whiteout, IsDirAt}
+use Rattle.snap_layer.specs.Counts.{name_count}
+
+-- the layer of the root alone, whose first file gets the number
+abbrev pub root_only : ℕ → ℕ → Tree
+root_only mode first = record { entries = ([], Dir mode false) ∷ []; bodies = []; next = first }
+
+-- the layer with the node at the path
+abbrev pub with_entry : Tree → Names → Node → Tree
+with_entry t p n = record { entries = insert_entry path_cmp t.entries p n; bodies = t.bodies; next = t.next }
+
+-- the layer with the body under the number
+abbrev pub with_body : Tree → ℕ → Body → Tree
+with_body t k b = record { entries = t.entries; bodies = insert_entry nat_cmp t.bodies k b; next = t.next }
+
+-- the entries but that at the path and those below it
+abbrev pub outside : Names → Entries → Entries
+outside p es = filter (λ e. not (begins p e.0)) es
+
+-- the bodies but that of the number, where no entry names it any more
+abbrev pub bodies_without : Option ℕ → Entries → Bodies → Bodies
+bodies_without None es bs = bs
+bodies_without (Some k) es bs = if name_count k es == 0 then remove_entry (is_at (nat_cmp k)) bs else bs
+
+-- the layer without what stands at the path; a body goes with its last name (unlink(2))
+abbrev pub without : Tree → Names → Tree
+without t p =
+    let es = outside p t.entries in
+    record { entries = es; bodies = bodies_without (number_at t p) es t.bodies; next = t.next }
+
+-- the layer with the node in place of what stands at the path
+abbrev pub with_node : Tree → Names → Node → Tree
+with_node t p n = with_entry (without t p) p n
+
+-- the layer with a new file or symlink, which has the next number, in place of what stands at the path
+abbrev pub with_new : Tree → Names → Node → Body → Tree
+with_new t p n b =
+    let u = with_node t p n in
+    record { entries = u.entries; bodies = insert_entry nat_cmp u.bodies t.next b; next = t.next + 1 }
+
+-- the node that names a file number, by its body
+abbrev pub name_of : ℕ → Option Body → Option Node
+name_of k None = None
+name_of k (Some (body_kinds.File mode bytes)) = Some (File k)
+name_of k (Some (body_kinds.Symlink target)) = Some (Symlink k)
+
+-- the layer with the name, if there is one, in place of what stands at the path
+abbrev pub with_name : Tree → Names → Option Node → Tree
+with_name t p None = t
+with_name t p (Some n) = with_node t p n
+
+-- the layer with other bytes of a file
+abbrev pub with_bytes : Tree → ℕ → Option Body → List ℕ → Tree
+with_bytes t k None bytes = t
+with_bytes t k (Some (body_kinds.File mode old)) bytes = with_body t k (body_kinds.File mode bytes)
+with_bytes t k (Some (body_kinds.Symlink target)) bytes = t
+
+-- a file with another mode
+abbrev pub body_with_mode : Body → ℕ → Body
+body_with_mode (body_kinds.File old bytes) mode = body_kinds.File mode bytes
+body_with_mode (body_kinds.Symlink target) mode = body_kinds.Symlink target
+
+-- the layer with another mode of a file
+abbrev pub with_file_mode : Tree → ℕ → Option Body → ℕ → Tree
+with_file_mode t k None mode = t
+with_file_mode t k (Some b) mode = with_body t k (body_with_mode b mode)
+
+-- the layer with another mode of the directory or the file at a path; all names of a file have its mode (chmod(2))
+abbrev pub with_mode : Tree → Names → Option Node → ℕ → Tree
+with_mode t p None mode = t
+with_mode t p (Some (Dir old opaque)) mode = with_entry t p (Dir mode opaque)
+with_mode t p (Some (File k)) mode = with_file_mode t k (body t k) mode
+with_mode t p (Some (Symlink k)) mode = t
+with_mode t p (Some Whiteout) mode = t
+
+-- the layer with the mark of the directory at a path
+abbrev pub with_opaque : Tree → Names → Option Node → Bool → Tree
+with_opaque t p None opaque = t
+with_opaque t p (Some (Dir mode old)) opaque = with_entry t p (Dir mode opaque)
+with_opaque t p (Some (File k)) opaque = t
+with_opaque t p (Some (Symlink k)) opaque = t
+with_opaque t p (Some Whiteout) opaque = t
+
+-- the path with `to` in place of its front `from`
+abbrev pub relocated : Names → Names → Names → Names
+relocated from to p = to ++ drop (length from) p
+
+-- the entry at or below `from` under its new path
+abbrev pub relocate : Names → Names → Names × Node → Names × Node
+relocate from to e = (relocated from to e.0, e.1)
+
+-- the entries at the path and below it
+abbrev pub inside : Names → Entries → Entries
+inside p es = filter (λ e. begins p e.0) es
+
+-- the entries with each of the others put among them
+abbrev pub put_all : Entries → Entries → Entries
+put_all [] es = es
+put_all (e ∷ new) es = insert_entry path_cmp (put_all new es) e.0 e.1
+
+-- the layer with what stands at `from` and all below it at `to`
+abbrev pub moved : Tree → Names → Names → Tree
+moved t from to = record { entries = put_all (map (relocate from to) (inside from t.entries)) (outside from t.entries); bodies = t.bodies; next = t.next }
+
+-- the same in place of what stands at `to`, with a whiteout at `from` where one is to be left
+abbrev pub with_moved : Tree → Names → Names → Bool → Tree
+with_moved t from to leaves =
+    let u = moved (without t to) from to in
+    if leaves then with_entry u from Whiteout else u
+
+-- nothing or a whiteout stands there
+abbrev pub IsFree : Option Node → Type 0
+IsFree None = Unit {0}
+IsFree (Some n) = is_whiteout n ≡ true
+
+-- the path is not the root, and its parent is a directory of the layer
+pub record HasParent (t : Tree) (p : Names) : Type 0 where
+  pub below_root : p ≡ [] → ⊥
+  pub parent : (q : Names) (n : List ℕ) → p ≡ q ++ n ∷ [] → IsDirAt (at t q)
+
+-- a new directory may be made there
+pub record HasRoom (t : Tree) (p : Names) : Type 0 where
+  pub free : IsFree (at t p)
+  pub above : HasParent t p
+
+-- what stands there may be replaced: nothing, a name, a whiteout, or a directory that has whiteouts alone
+pub record HasPlace (t : Tree) (p : Names) : Type 0 where
+  pub clear : (n : List ℕ) → IsFree (at t (p ++ n ∷ []))
+  pub above : HasParent t p
+
+-- a name, a whiteout, or a directory that has whiteouts alone stands there, and it is not the root
+pub record IsTakeable (t : Tree) (p : Names) : Type 0 where
+  pub there : IsSome (at t p)
+  pub clear : (n : List ℕ) → IsFree (at t (p ++ n ∷ []))
+  pub below_root : p ≡ [] → ⊥
+
+-- what stands at `from` may move to `to`: neither lies at or below the other, and each moved path is one
+pub record IsMovable (t : Tree) (from to : Names) : Type 0 where
+  pub there : IsSome (at t from)
+  pub place : HasPlace t to
+  pub not_inside : begins from to ≡ false
+  pub not_around : begins to from ≡ false
+  pub fits : (r : Names) → IsSome (at t (from ++ r)) → IsPath (to ++ r)
+
+-- a directory's or a file's mode may be set
+abbrev pub HasMode : Option Node → Type 0
+HasMode None = ⊥
+HasMode (Some (Dir mode opaque)) = Unit {0}
+HasMode (Some (File number)) = Unit {0}
+HasMode (Some (Symlink number)) = ⊥
+HasMode (Some Whiteout) = ⊥

@@ -1,0 +1,112 @@
+-- The test of `==`. Two nodes, bodies and layers pass it exactly where they are equal.
+use Rattle.std.specs.Prelude.{◌≡◌, ℕ, Bool, true, false, ◌&&◌, ◌==◌, nat_eq, List, refl}
+use Rattle.std.specs.Bool.{Decides, beq}
+use Rattle.std.specs.Cmp.{IsEquivalence, decided, unsigned_Decides, booleans_Decides, first_so, second_so}
+use Rattle.std.specs.Cmp.Lexicographic.{pointwise, pointwise_decides}
+use mathlib.Core.Path.{sym, ap, ◌∙◌}
+use mathlib.Core.Bool.{true≢false}
+use Rattle.snap_path.specs.Text.{Names}
+use Rattle.snap_layer.specs.declared.node.Node.{Node}
+use Rattle.snap_layer.specs.declared.node.Node.TheVariants.{Dir, File, Symlink, Whiteout}
+use Rattle.snap_layer.specs.declared.node.Body.{Body}
+use Rattle.snap_layer.specs.declared.node.Body.TheVariants as body_kinds
+use Rattle.snap_layer.specs.Tree.{Tree}
+
+-- two nodes of one kind with the same mode and mark, or the same number
+abbrev pub node_eq : Node → Node → Bool
+node_eq (Dir mode opaque) (Dir other mark) = mode == other && beq opaque mark
+node_eq (File number) (File other) = number == other
+node_eq (Symlink number) (Symlink other) = number == other
+node_eq Whiteout Whiteout = true
+node_eq node other = false
+
+-- two files with the same mode and bytes, or two symlinks with the same target
+abbrev pub body_eq : Body → Body → Bool
+body_eq (body_kinds.File mode bytes) (body_kinds.File other others) = mode == other && pointwise nat_eq bytes others
+body_eq (body_kinds.Symlink target) (body_kinds.Symlink other) = pointwise nat_eq target other
+body_eq body other = false
+
+-- the same entries, the same bodies, and the same next number
+abbrev pub tree_eq : Tree → Tree → Bool
+tree_eq t u = pointwise (λ p q. pointwise (pointwise nat_eq) p.0 q.0 && node_eq p.1 q.1) t.entries u.entries && pointwise (λ p q. nat_eq p.0 q.0 && body_eq p.1 q.1) t.bodies u.bodies && t.next == u.next
+
+no : false ≡ true → ⊥
+no e = true≢false (sym e)
+
+bytes_Decides : (xs ys : List ℕ) → Decides (pointwise nat_eq xs ys) (xs ≡ ys)
+bytes_Decides = pointwise_decides unsigned_Decides
+
+names_Decides : (p q : Names) → Decides (pointwise (pointwise nat_eq) p q) (p ≡ q)
+names_Decides = pointwise_decides bytes_Decides
+
+node_refl : (n : Node) → node_eq n n ≡ true
+node_refl (Dir mode opaque) = λ i. (unsigned_Decides mode mode).1 refl i && (booleans_Decides opaque opaque).1 refl i
+node_refl (File number) = (unsigned_Decides number number).1 refl
+node_refl (Symlink number) = (unsigned_Decides number number).1 refl
+node_refl Whiteout = refl
+
+node_same : (a b : Node) → node_eq a b ≡ true → a ≡ b
+node_same (Dir m o) (Dir n p) e = λ i. Dir ((unsigned_Decides m n).0 (first_so (m == n) (beq o p) e) i) ((booleans_Decides o p).0 (second_so (m == n) (beq o p) e) i)
+node_same (Dir m o) (File k) e = absurd (no e)
+node_same (Dir m o) (Symlink k) e = absurd (no e)
+node_same (Dir m o) Whiteout e = absurd (no e)
+node_same (File j) (Dir m o) e = absurd (no e)
+node_same (File j) (File k) e = λ i. File ((unsigned_Decides j k).0 e i)
+node_same (File j) (Symlink k) e = absurd (no e)
+node_same (File j) Whiteout e = absurd (no e)
+node_same (Symlink j) (Dir m o) e = absurd (no e)
+node_same (Symlink j) (File k) e = absurd (no e)
+node_same (Symlink j) (Symlink k) e = λ i. Symlink ((unsigned_Decides j k).0 e i)
+node_same (Symlink j) Whiteout e = absurd (no e)
+node_same Whiteout (Dir m o) e = absurd (no e)
+node_same Whiteout (File k) e = absurd (no e)
+node_same Whiteout (Symlink k) e = absurd (no e)
+node_same Whiteout Whiteout e = refl
+
+-- two nodes pass the test exactly where they are equal
+pub node_eq-Decides : (a b : Node) → Decides (node_eq a b) (a ≡ b)
+node_eq-Decides a b = (node_same a b, λ e. ap (λ (n : Node). node_eq n b) e ∙ node_refl b)
+
+body_refl : (b : Body) → body_eq b b ≡ true
+body_refl (body_kinds.File mode bytes) = λ i. (unsigned_Decides mode mode).1 refl i && (bytes_Decides bytes bytes).1 refl i
+body_refl (body_kinds.Symlink target) = (bytes_Decides target target).1 refl
+
+body_same : (a b : Body) → body_eq a b ≡ true → a ≡ b
+body_same (body_kinds.File m xs) (body_kinds.File n ys) e = λ i. body_kinds.File ((unsigned_Decides m n).0 (first_so (m == n) (pointwise nat_eq xs ys) e) i) ((bytes_Decides xs ys).0 (second_so (m == n) (pointwise nat_eq xs ys) e) i)
+body_same (body_kinds.File m xs) (body_kinds.Symlink ys) e = absurd (no e)
+body_same (body_kinds.Symlink xs) (body_kinds.File n ys) e = absurd (no e)
+body_same (body_kinds.Symlink xs) (body_kinds.Symlink ys) e = λ i. body_kinds.Symlink ((bytes_Decides xs ys).0 e i)
+
+-- two bodies pass the test exactly where they are equal
+pub body_eq-Decides : (a b : Body) → Decides (body_eq a b) (a ≡ b)
+body_eq-Decides a b = (body_same a b, λ e. ap (λ (x : Body). body_eq x b) e ∙ body_refl b)
+
+pairs_Decides : {A B : Type 0} (E : A → A → Bool) (F : B → B → Bool) → ((a b : A) → Decides (E a b) (a ≡ b)) → ((a b : B) → Decides (F a b) (a ≡ b)) → (p q : A × B) → Decides (E p.0 q.0 && F p.1 q.1) (p ≡ q)
+pairs_Decides E F f g p q = (
+  (λ e i. ((f p.0 q.0).0 (first_so (E p.0 q.0) (F p.1 q.1) e) i, (g p.1 q.1).0 (second_so (E p.0 q.0) (F p.1 q.1) e) i)),
+  λ e i. (f p.0 q.0).1 (ap (λ u. u.0) e) i && (g p.1 q.1).1 (ap (λ u. u.1) e) i,
+)
+
+entries_Decides : (t u : Tree) → Decides (pointwise (λ p q. pointwise (pointwise nat_eq) p.0 q.0 && node_eq p.1 q.1) t.entries u.entries) (t.entries ≡ u.entries)
+entries_Decides t u = pointwise_decides (pairs_Decides (pointwise (pointwise nat_eq)) node_eq names_Decides node_eq-Decides) t.entries u.entries
+
+bodies_Decides : (t u : Tree) → Decides (pointwise (λ p q. nat_eq p.0 q.0 && body_eq p.1 q.1) t.bodies u.bodies) (t.bodies ≡ u.bodies)
+bodies_Decides t u = pointwise_decides (pairs_Decides nat_eq body_eq unsigned_Decides body_eq-Decides) t.bodies u.bodies
+
+-- two layers pass the test exactly where they are equal
+pub tree_eq-Decides : (t u : Tree) → Decides (tree_eq t u) (t ≡ u)
+tree_eq-Decides t u =
+    let E = pointwise (λ p q. pointwise (pointwise nat_eq) p.0 q.0 && node_eq p.1 q.1) t.entries u.entries in
+    let B = pointwise (λ p q. nat_eq p.0 q.0 && body_eq p.1 q.1) t.bodies u.bodies in (
+      (λ e i. record { entries = (entries_Decides t u).0 (first_so E B (first_so (E && B) (t.next == u.next) e)) i; bodies = (bodies_Decides t u).0 (second_so E B (first_so (E && B) (t.next == u.next) e)) i; next = (unsigned_Decides t.next u.next).0 (second_so (E && B) (t.next == u.next) e) i }),
+      λ e i. (entries_Decides t u).1 (ap (λ (v : Tree). v.entries) e) i && (bodies_Decides t u).1 (ap (λ (v : Tree). v.bodies) e) i && (unsigned_Decides t.next u.next).1 (ap (λ (v : Tree). v.next) e) i,
+    )
+
+pub node_eq_equiv : IsEquivalence node_eq
+node_eq_equiv = decided node_eq node_eq-Decides
+
+pub body_eq_equiv : IsEquivalence body_eq
+body_eq_equiv = decided body_eq body_eq-Decides
+
+pub tree_eq_equiv : IsEquivalence tree_eq
+tree_eq_equiv = decided tree_eq tree_eq-Decides

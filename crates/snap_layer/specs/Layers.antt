@@ -1,0 +1,53 @@
+-- What is true of each layer.
+use Rattle.std.specs.Prelude.{◌≡◌, ℕ, ◌<◌, ◌≤◌, Bool, true, false, not, ◌==◌, ◌&&◌, nat_lt, nat_le, List, [], ◌∷◌, ◌++◌, length, Option, Some, None, IsSome}
+use Rattle.std.specs.Ordering.{nat_cmp}
+use Rattle.std.specs.List.{list_any}
+use Rattle.std.specs.List.Sorted.{IsStrictlySortedBy}
+use Rattle.std.specs.Map.{keys_of}
+use Rattle.snap_path.specs.Text.{Names, IsPath}
+use Rattle.snap_layer.specs.declared.node.Node.{Node}
+use Rattle.snap_layer.specs.declared.node.Node.TheVariants.{Dir, File, Symlink, Whiteout}
+use Rattle.snap_layer.specs.declared.node.Body.{Body}
+use Rattle.snap_layer.specs.declared.node.Body.TheVariants as body_kinds
+use Rattle.snap_layer.specs.Tree.{Tree, path_cmp, at, body, number_at, IsDirAt}
+use Rattle.snap_layer.specs.Counts.{inode_count}
+
+-- a symlink's target: 1 to 4095 bytes without NUL (symlink(2), PATH_MAX)
+abbrev pub is_target : List ℕ → Bool
+is_target bs = nat_lt 0 (length bs) && nat_le (length bs) 4095 && not (list_any (λ b. b == 0) bs)
+
+-- a file: its mode is at most octal 7777, and it has at most 1,048,576 bytes
+abbrev pub IsFile : Option Body → Type 0
+IsFile None = ⊥
+IsFile (Some (body_kinds.File mode bytes)) = (mode ≤ 4095) × (length bytes ≤ 1048576)
+IsFile (Some (body_kinds.Symlink target)) = ⊥
+
+-- a symlink with a target
+abbrev pub IsSymlink : Option Body → Type 0
+IsSymlink None = ⊥
+IsSymlink (Some (body_kinds.File mode bytes)) = ⊥
+IsSymlink (Some (body_kinds.Symlink target)) = is_target target ≡ true
+
+-- a node that may stand in the layer: a directory's mode is at most octal 7777, and a name has its body
+abbrev pub IsWhole : Tree → Node → Type 0
+IsWhole t (Dir mode opaque) = mode ≤ 4095
+IsWhole t (File number) = IsFile (body t number)
+IsWhole t (Symlink number) = IsSymlink (body t number)
+IsWhole t Whiteout = Unit {0}
+
+-- what is true of each layer
+pub record IsLayer (t : Tree) : Type 0 where
+  -- the root is a directory, and each entry lies in a directory of the layer
+  pub root : IsDirAt (at t [])
+  pub parents : (p : Names) (n : List ℕ) → IsSome (at t (p ++ n ∷ [])) → IsDirAt (at t p)
+  -- each path is one, each node is whole, and each body has a name
+  pub paths : (p : Names) → IsSome (at t p) → IsPath p
+  pub nodes : (p : Names) (n : Node) → at t p ≡ Some n → IsWhole t n
+  pub named : (k : ℕ) → IsSome (body t k) → (p : Names) × (number_at t p ≡ Some k)
+  -- file numbers are 1 to 4,294,967,294 and below the next one; there are at most 65,536 inodes
+  pub numbers : (k : ℕ) → IsSome (body t k) → (1 ≤ k) × (k < t.next)
+  pub next : (1 ≤ t.next) × (t.next ≤ 4294967295)
+  pub few : inode_count t ≤ 65536
+  -- both lists rise, so each path and each number stands once
+  pub sorted_paths : IsStrictlySortedBy path_cmp (keys_of t.entries)
+  pub sorted_numbers : IsStrictlySortedBy nat_cmp (keys_of t.bodies)

@@ -1,0 +1,35 @@
+ghost use Rattle.std.specs.Prelude.{◌≡◌};
+
+use std::alloc::{AllocError, AllocFailed};
+use thiserror::Error;
+
+/// Why an edit was refused. The layer is then as it was.
+#[derive(Clone, Copy, Debug, PartialEq, Eq, Error)]
+pub enum LayerError {
+    /// The layer would have more than 65,536 inodes, or its file numbers are used up.
+    #[error("the layer is full")]
+    LayerFull,
+    /// A growth was refused.
+    #[error("out of memory")]
+    OutOfMemory,
+}
+
+impl From<AllocError> for LayerError {
+    ghost use Rattle.snap_layer.specs.declared.error.LayerError.TheVariants.{OutOfMemory};
+
+    ghost from_gives = { λ _ e. e ≡ OutOfMemory };
+
+    fn from(_error: AllocError) -> LayerError {
+        LayerError::OutOfMemory
+    }
+}
+
+impl<T: Drop> From<AllocFailed<T>> for LayerError {
+    ghost use Rattle.snap_layer.specs.declared.error.LayerError.TheVariants.{OutOfMemory};
+
+    ghost from_gives = { λ _ e. e ≡ OutOfMemory };
+
+    fn from(_error: AllocFailed<T>) -> LayerError {
+        LayerError::OutOfMemory
+    }
+}

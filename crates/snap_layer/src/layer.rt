@@ -1,0 +1,652 @@
+ghost use Rattle.std.specs.Prelude.{◌≡◌, ◌↔◌, ◌<◌, ◌≤◌, ◌+◌, ℕ, Some, None, IfOk, IfSome, OnOk, OnErr, IsErrOf, IsSome, IsTrue, length, take, find, nat_lt, true, false};
+ghost use Rattle.std.specs.Option.{option_copied};
+ghost use Rattle.std.specs.Map.{keys_of};
+ghost use Rattle.snap_path.specs.Text.{IsPath};
+ghost use Rattle.snap_layer.specs.Tree.{Tree, at, body, number_at, names_below, number_of, has_number, IsDirAt};
+ghost use Rattle.snap_layer.specs.Counts.{dir_count, whiteout_count, name_count, inode_count, block_count, is_within};
+ghost use Rattle.snap_layer.specs.Layers.{IsLayer, IsFile, IsWhole, is_target};
+ghost use Rattle.snap_layer.specs.Equal.{tree_eq};
+ghost use Rattle.snap_layer.specs.Edits.{root_only, with_entry, with_node, with_new, with_name, name_of, with_bytes, with_mode, with_file_mode, with_opaque, with_moved, without, HasParent, HasRoom, HasPlace, IsTakeable, IsMovable, HasMode};
+
+use super::bodies::{block_sum, drop_unnamed, replace_body, set_file_mode};
+use super::entries::{
+    self, has_whiteouts_alone, name_below, names_outside, nodes_inside, put_entry, replace_entries,
+    shifted_entries, take_entries,
+};
+use super::error::LayerError;
+use super::node::{Body, Bytes, Node};
+use snap_path::{Name, Path};
+use std::alloc::{AllocError, Global};
+use std::collections::BTreeMap;
+use std::marker::Model;
+
+/// The most inodes of a layer.
+const MOST_INODES: usize = 65_536;
+
+/// A layer of a file system in memory: what stands at its paths, the bodies of its files and symlinks,
+/// and the number of its next file.
+///
+/// Contracts see it as a `Tree`: the list of its entries in order of paths, the list of its bodies in
+/// order of numbers, and the next number. An edit is one change of these lists; after an error the layer
+/// is as it was. It keeps the allocator that it was made with.
+#[derive(Debug, Drop)]
+pub struct Layer {
+    alloc: Global,
+    entries: BTreeMap<Path, Node>,
+    bodies: BTreeMap<u32, Body>,
+    next: u32,
+    inodes: usize,
+}
+
+impl Model for Layer {
+    ghost use Rattle.std.specs.Prelude.{◌≡◌};
+    ghost use Rattle.snap_layer.specs.Tree.{Tree};
+    ghost use Rattle.snap_layer.specs.Counts.{inode_count};
+    ghost use Rattle.snap_layer.specs.Layers.{IsLayer};
+
+    ghost Value = { Tree };
+
+    ghost view = { λ l. record { entries = l.entries.entries; bodies = l.bodies.entries; next = l.next } };
+
+    ghost invariant = { λ l. IsLayer (record { entries = l.entries.entries; bodies = l.bodies.entries; next = l.next }) × (l.inodes ≡ inode_count (record { entries = l.entries.entries; bodies = l.bodies.entries; next = l.next })) };
+}
+
+impl Layer {
+    /// The layer of an empty root directory, whose first file gets number 1.
+    ///
+    /// The condition is a mode of at most octal 7777. It fails only where memory is refused. The cost is
+    /// constant.
+    pub fn empty(alloc: Global, mode: u32) -> Result<Layer, AllocError>
+        requires { mode ≤ 4095 }
+        ensures { IfOk result (λ l. l ≡ root_only mode 1) }
+    {
+        Layer::empty_from(alloc, mode, 1)
+    }
+
+    /// The same, with the number of the first file.
+    ///
+    /// The conditions are a mode of at most octal 7777, and a number from 1. File numbers are given in
+    /// rising order and never twice; 4,294,967,294 is the last one.
+    pub fn empty_from(alloc: Global, mode: u32, first: u32) -> Result<Layer, AllocError>
+        requires mode { mode ≤ 4095 }
+        requires first { 1 ≤ first }
+        ensures { IfOk result (λ l. l ≡ root_only mode first) }
+    {
+        let mut entries = BTreeMap::new(alloc);
+        let root = Node::Dir {
+            mode,
+            opaque: false,
+        };
+        entries.insert(Path::root(alloc), root)?;
+        Ok(Layer {
+            alloc,
+            entries,
+            bodies: BTreeMap::new(alloc),
+            next: first,
+            inodes: 1,
+        })
+    }
+
+    /// A copy of the layer, which shares nothing with it.
+    ///
+    /// It fails only where memory is refused. Cost: the layer's size, with all bytes of its files.
+    pub fn copy(&self) -> Result<Layer, AllocError>
+        ensures { IfOk result (λ l. l ≡ self.now) }
+    {
+        Ok(Layer {
+            alloc: self.alloc,
+            entries: self.entries.clone()?,
+            bodies: self.bodies.clone()?,
+            next: self.next,
+            inodes: self.inodes,
+        })
+    }
+
+    /// What stands at the path in this layer alone, or nothing.
+    ///
+    /// Takes no memory. Cost: the logarithm of the number of paths, in comparisons of paths.
+    pub fn at(&self, path: &Path) -> Option<Node>
+        ensures { result ≡ at self.now path.now }
+    {
+        self.entries.get(path).copied()
+    }
+
+    /// What stands at the path of the first so many names of a path.
+    ///
+    /// The condition is that the path has as many. Takes no memory. Cost: the number of paths.
+    pub fn at_front(&self, path: &Path, names: usize) -> Option<Node>
+        requires { names ≤ length path.now }
+        ensures { result ≡ at self.now (take names path.now) }
+    {
+        let front = &path.names()[..names];
+        for (other, node) in &self.entries {
+            if other.names() == front {
+                return Some(*node);
+            }
+        }
+        None
+    }
+
+    /// The names in a directory, in byte order, whiteouts among them. There are none where no directory
+    /// stands.
+    ///
+    /// It fails only where memory is refused. Cost: the number of paths.
+    pub fn children(&self, path: &Path) -> Result<Vec<Name>, AllocError>
+        ensures { IfOk result (λ names. names.items ≡ names_below path.now self.now.entries) }
+    {
+        let mut names = Vec::new(self.alloc);
+        for other in self.entries.keys() {
+            if let Some(name) = name_below(path.names(), other.names()) {
+                names.push(name.clone()?)?;
+            }
+        }
+        Ok(names)
+    }
+
+    /// The file or symlink with the number, or nothing.
+    ///
+    /// Takes no memory. Cost: the logarithm of the number of files.
+    pub fn body(&self, number: u32) -> Option<&Body>
+        ensures { option_copied result ≡ body self.now number }
+    {
+        self.bodies.get(&number)
+    }
+
+    /// How many names the file number has: its link count (stat(2), `st_nlink`). A name is its file's last
+    /// exactly where this is 1.
+    ///
+    /// Takes no memory. Cost: the number of paths.
+    pub fn link_count(&self, number: u32) -> usize
+        ensures { result ≡ name_count number self.now.entries }
+    {
+        entries::name_count(&self.entries, number)
+    }
+
+    /// The inodes that the layer takes: one for each directory, the root included, one for each whiteout,
+    /// and one for each file or symlink however many names it has. At most 65,536.
+    ///
+    /// Takes no memory. The cost is constant.
+    pub fn inodes(&self) -> usize
+        ensures { result ≡ inode_count self.now }
+    {
+        self.inodes
+    }
+
+    /// The blocks of 4096 bytes that the layer takes: one for each directory, those of each file however
+    /// many names it has, and none for symlinks and whiteouts.
+    ///
+    /// Takes no memory. Cost: the number of paths and files.
+    pub fn blocks(&self) -> u64
+        ensures { result ≡ block_count self.now }
+    {
+        let directories = self.entries.values().filter(|node| node.is_dir()).count();
+        let _ = self.entries.len();
+        directories as u64 + block_sum(&self.bodies)
+    }
+
+    /// The number that the next file or symlink gets; at 4,294,967,295 the numbers are used up.
+    ///
+    /// Each layer is one by `IsLayer`, and this call says so to a caller. The cost is constant.
+    pub fn next_number(&self) -> u32
+        ensures next { result ≡ self.now.next }
+        ensures layer { IsLayer self.now }
+    {
+        self.next
+    }
+
+    /// How many directories and how many whiteouts there are, counted from scratch.
+    ///
+    /// Takes no memory. Cost: the number of paths.
+    pub fn tally(&self) -> (usize, usize)
+        ensures { result ≡ (dir_count self.now, whiteout_count self.now) }
+    {
+        let dirs = self.entries.values().filter(|node| node.is_dir()).count();
+        let whiteouts = self
+            .entries
+            .values()
+            .filter(|node| node.is_whiteout())
+            .count();
+        (dirs, whiteouts)
+    }
+
+    /// The least number above `after` that a file or symlink has, or nothing. From 0 on it goes over all.
+    ///
+    /// Takes no memory. Cost: the number of files.
+    pub fn next_body(&self, after: u32) -> Option<u32>
+        ensures { result ≡ find (λ k. nat_lt after k) (keys_of self.now.bodies) }
+    {
+        self.bodies.keys().copied().find(|number| *number > after)
+    }
+
+    /// Whether the path isn't the root, and its parent is a directory of this layer.
+    ///
+    /// Takes no memory. Cost: the number of paths.
+    pub fn has_parent(&self, path: &Path) -> bool
+        ensures { IsTrue result ↔ HasParent self.now path.now }
+    {
+        let names = path.names().len();
+        if names == 0 {
+            return false;
+        }
+        match self.at_front(path, names - 1) {
+            Some(node) => node.is_dir(),
+            None => false,
+        }
+    }
+
+    /// Whether a directory may be added at the path: nothing or a whiteout stands there, in a directory.
+    ///
+    /// Takes no memory. Cost: the number of paths.
+    pub fn has_room(&self, path: &Path) -> bool
+        ensures { IsTrue result ↔ HasRoom self.now path.now }
+    {
+        if !self.has_parent(path) {
+            return false;
+        }
+        match self.at(path) {
+            Some(node) => node.is_whiteout(),
+            None => true,
+        }
+    }
+
+    /// Whether what stands at the path may be replaced: nothing, a name, a whiteout, or a directory in
+    /// which nothing but whiteouts stands; and it lies in a directory.
+    ///
+    /// Takes no memory. Cost: the number of paths.
+    pub fn has_place(&self, path: &Path) -> bool
+        ensures { IsTrue result ↔ HasPlace self.now path.now }
+    {
+        if !self.has_parent(path) {
+            return false;
+        }
+        has_whiteouts_alone(&self.entries, path)
+    }
+
+    /// Whether what stands at the path may be taken: a name, a whiteout, or a directory other than the
+    /// root in which nothing but whiteouts stands.
+    ///
+    /// Takes no memory. Cost: the number of paths.
+    pub fn is_takeable(&self, path: &Path) -> bool
+        ensures { IsTrue result ↔ IsTakeable self.now path.now }
+    {
+        if path.names().is_empty() || self.at(path).is_none() {
+            return false;
+        }
+        has_whiteouts_alone(&self.entries, path)
+    }
+
+    /// Adds a directory, over nothing or in place of a whiteout.
+    ///
+    /// The conditions are those of `has_room`, and a mode of at most octal 7777. `LayerFull` where the
+    /// layer would have more than 65,536 inodes. `OutOfMemory` where memory is refused, which can't be
+    /// where a whiteout stands there. After either the layer is as it was. Cost: the number of paths where
+    /// a whiteout stands there, else its logarithm.
+    pub fn add_dir(&mut self, path: &Path, mode: u32, opaque: bool) -> Result<(), LayerError>
+        requires room { HasRoom self.old path.now }
+        requires mode { mode ≤ 4095 }
+        ensures ok { OnOk result (self.new ≡ with_entry self.old path.now (Node.Dir mode opaque)) }
+        ensures full { IsErrOf result LayerError.LayerFull ↔ (is_within (with_entry self.old path.now (Node.Dir mode opaque)) ≡ false) }
+        ensures sure { IsErrOf result LayerError.OutOfMemory → at self.old path.now ≡ None }
+        ensures err { OnErr result (self.new ≡ self.old) }
+    {
+        let _ = self.next_number();
+        let inodes = self.inodes_without(path) + 1;
+        if inodes > MOST_INODES {
+            return Err(LayerError::LayerFull);
+        }
+        Ok(self.replace(path, Node::Dir { mode, opaque }, inodes)?)
+    }
+
+    /// Adds a regular file with the next number, in place of what stands at the path, and gives the number.
+    ///
+    /// The conditions are those of `has_place`, a mode of at most octal 7777, and at most 1,048,576 bytes.
+    /// `LayerFull` where the layer would have more than 65,536 inodes, or where the file numbers are used
+    /// up. `OutOfMemory` where memory is refused. After either the layer is as it was, and the bytes are
+    /// gone. Cost: the number of paths where something stands there, else its logarithm.
+    pub fn add_file(&mut self, path: &Path, mode: u32, bytes: Bytes) -> Result<u32, LayerError>
+        requires place { HasPlace self.old path.now }
+        requires mode { mode ≤ 4095 }
+        requires size { length bytes ≤ 1048576 }
+        ensures ok { OnOk result (self.new ≡ with_new self.old path.now (Node.File self.old.next) (Body.File mode bytes)) }
+        ensures number { IfOk result (λ k. k ≡ self.old.next) }
+        ensures full { IsErrOf result LayerError.LayerFull ↔ (is_within (with_new self.old path.now (Node.File self.old.next) (Body.File mode bytes)) ≡ false) }
+        ensures err { OnErr result (self.new ≡ self.old) }
+    {
+        let number = self.next_number();
+        let inodes = self.inodes_without(path) + 1;
+        if number == u32::MAX {
+            return Err(LayerError::LayerFull);
+        }
+        if inodes > MOST_INODES {
+            return Err(LayerError::LayerFull);
+        }
+        self.insert(
+            path,
+            Node::File { number },
+            Body::File { mode, bytes },
+            inodes,
+        )?;
+        Ok(number)
+    }
+
+    /// Adds a symlink with the next number, in place of what stands at the path, and gives the number.
+    ///
+    /// The conditions are those of `has_place`, and a target of 1 to 4095 bytes without NUL (symlink(2)).
+    /// Errors and cost are those of `add_file`.
+    pub fn add_symlink(&mut self, path: &Path, target: Bytes) -> Result<u32, LayerError>
+        requires place { HasPlace self.old path.now }
+        requires target { is_target target ≡ true }
+        ensures ok { OnOk result (self.new ≡ with_new self.old path.now (Node.Symlink self.old.next) (Body.Symlink target)) }
+        ensures number { IfOk result (λ k. k ≡ self.old.next) }
+        ensures full { IsErrOf result LayerError.LayerFull ↔ (is_within (with_new self.old path.now (Node.Symlink self.old.next) (Body.Symlink target)) ≡ false) }
+        ensures err { OnErr result (self.new ≡ self.old) }
+    {
+        let number = self.next_number();
+        let inodes = self.inodes_without(path) + 1;
+        if number == u32::MAX {
+            return Err(LayerError::LayerFull);
+        }
+        if inodes > MOST_INODES {
+            return Err(LayerError::LayerFull);
+        }
+        self.insert(
+            path,
+            Node::Symlink { number },
+            Body::Symlink { target },
+            inodes,
+        )?;
+        Ok(number)
+    }
+
+    /// Adds one more name of a file or symlink (link(2)), in place of what stands at the path.
+    ///
+    /// The conditions are those of `has_place`, that the number has a body, and that the path doesn't name
+    /// it already. It fails only where memory is refused, which can't be where something stands there; the
+    /// layer is then as it was. Cost: as `add_file`.
+    pub fn add_name(&mut self, path: &Path, number: u32) -> Result<(), AllocError>
+        requires place { HasPlace self.old path.now }
+        requires there { IsSome (body self.old number) }
+        requires apart { number_at self.old path.now ≡ Some number → ⊥ }
+        ensures ok { OnOk result (self.new ≡ with_name self.old path.now (name_of number (body self.old number))) }
+        ensures sure { OnErr result (at self.old path.now ≡ None) }
+        ensures err { OnErr result (self.new ≡ self.old) }
+    {
+        let _ = self.next_number();
+        let inodes = self.inodes_without(path);
+        match self.bodies.get(&number) {
+            Some(Body::File { .. }) => return self.replace(path, Node::File { number }, inodes),
+            Some(Body::Symlink { .. }) => return self.replace(
+                path,
+                Node::Symlink { number },
+                inodes,
+            ),
+            None => return Ok(()),
+        }
+    }
+
+    /// Adds a whiteout, in place of what stands at the path: nothing, a name, a whiteout, or a directory
+    /// with its whiteouts.
+    ///
+    /// The conditions are those of `has_place`. `LayerFull` where the layer would have more than 65,536
+    /// inodes. `OutOfMemory` where memory is refused, which can't be where something stands there. After
+    /// either the layer is as it was. Cost: as `add_file`.
+    pub fn add_whiteout(&mut self, path: &Path) -> Result<(), LayerError>
+        requires { HasPlace self.old path.now }
+        ensures ok { OnOk result (self.new ≡ with_node self.old path.now Node.Whiteout) }
+        ensures full { IsErrOf result LayerError.LayerFull ↔ (is_within (with_node self.old path.now Node.Whiteout) ≡ false) }
+        ensures sure { IsErrOf result LayerError.OutOfMemory → at self.old path.now ≡ None }
+        ensures err { OnErr result (self.new ≡ self.old) }
+    {
+        let _ = self.next_number();
+        let inodes = self.inodes_without(path) + 1;
+        if inodes > MOST_INODES {
+            return Err(LayerError::LayerFull);
+        }
+        Ok(self.replace(path, Node::Whiteout, inodes)?)
+    }
+
+    /// Takes a name, a whiteout, or a directory with its whiteouts. A file or symlink goes with its last
+    /// name (unlink(2)), and its number is never given again.
+    ///
+    /// The conditions are those of `is_takeable`. Takes no memory. Cost: the number of paths.
+    pub fn take_name(&mut self, path: &Path)
+        requires { IsTakeable self.old path.now }
+        ensures { self.new ≡ without self.old path.now }
+    {
+        let _ = self.next_number();
+        let inodes = self.inodes_without(path);
+        let number = self.number_at(path);
+        take_entries(&mut self.entries, path);
+        drop_unnamed(&self.entries, &mut self.bodies, number);
+        self.inodes = inodes;
+    }
+
+    /// Moves what stands at `from`, and all below it, to `to`, in place of what stands there, and leaves a
+    /// whiteout at `from` where `leaves` says so (rename(2)).
+    ///
+    /// The conditions: something stands at `from`; what stands at `to` may be replaced, as in `has_place`;
+    /// neither path begins with the other; and each moved path has at most 4095 bytes. `LayerFull` where
+    /// the layer would have more than 65,536 inodes: what stands at `to` is taken before the whiteout is
+    /// counted. `OutOfMemory` where memory is refused. After either the layer is as it was. Cost: the
+    /// number of paths, with their texts.
+    pub fn move_tree(&mut self, from: &Path, to: &Path, leaves: bool) -> Result<(), LayerError>
+        requires { IsMovable self.old from.now to.now }
+        ensures ok { OnOk result (self.new ≡ with_moved self.old from.now to.now leaves) }
+        ensures full { IsErrOf result LayerError.LayerFull ↔ (is_within (with_moved self.old from.now to.now leaves) ≡ false) }
+        ensures err { OnErr result (self.new ≡ self.old) }
+    {
+        let _ = self.next_number();
+        let inodes = self.inodes_without(to) + usize::from(leaves);
+        if inodes > MOST_INODES {
+            return Err(LayerError::LayerFull);
+        }
+        Ok(self.relocate(from, to, leaves, inodes)?)
+    }
+
+    /// Gives a file other bytes, for all its names.
+    ///
+    /// The conditions are that the number is a regular file's, and at most 1,048,576 bytes. Takes no
+    /// memory. Cost: the logarithm of the number of files.
+    pub fn set_bytes(&mut self, number: u32, bytes: Bytes)
+        requires file { IsFile (body self.old number) }
+        requires size { length bytes ≤ 1048576 }
+        ensures { self.new ≡ with_bytes self.old number (body self.old number) bytes }
+    {
+        if let Some(Body::File { mode, .. }) = self.bodies.get(&number) {
+            let mode = *mode;
+            replace_body(&mut self.bodies, number, Body::File { mode, bytes });
+        }
+    }
+
+    /// Sets or clears the mark of a directory: an opaque one hides what the layers below have in it
+    /// (overlayfs.rst, "whiteouts and opaque directories").
+    ///
+    /// The condition is that a directory stands there. Takes no memory. Cost: as `at`.
+    pub fn set_opaque(&mut self, path: &Path, opaque: bool)
+        requires { IsDirAt (at self.old path.now) }
+        ensures { self.new ≡ with_opaque self.old path.now (at self.old path.now) opaque }
+    {
+        let inodes = self.inodes();
+        let _ = self.next_number();
+        if let Some(Node::Dir { mode, .. }) = self.at(path) {
+            let _ = self.put(path, Node::Dir { mode, opaque }, inodes);
+        }
+    }
+
+    /// Sets the mode of a directory, or of a regular file for all its names (chmod(2)).
+    ///
+    /// The conditions are that one of these stands there, and a mode of at most octal 7777. Takes no
+    /// memory. Cost: as `at`.
+    pub fn set_mode(&mut self, path: &Path, mode: u32)
+        requires there { HasMode (at self.old path.now) }
+        requires mode { mode ≤ 4095 }
+        ensures { self.new ≡ with_mode self.old path.now (at self.old path.now) mode }
+    {
+        let inodes = self.inodes();
+        let _ = self.next_number();
+        match self.at(path) {
+            Some(Node::Dir { opaque, .. }) => {
+                let _ = self.put(path, Node::Dir { mode, opaque }, inodes);
+            }
+            Some(Node::File { number }) => self.set_file_mode(number, mode),
+            Some(Node::Symlink { .. }) => {}
+            Some(Node::Whiteout) => {}
+            None => {}
+        }
+    }
+
+    /// Sets the mode of the file with the number.
+    fn set_file_mode(&mut self, number: u32, mode: u32)
+        requires file { IsFile (body self.old number) }
+        requires mode { mode ≤ 4095 }
+        ensures { self.new ≡ with_file_mode self.old number (body self.old number) mode }
+    {
+        let _ = self.next_number();
+        set_file_mode(&mut self.bodies, number, mode);
+    }
+
+    /// Whether the entries, the bodies and the next numbers are the same.
+    fn is_same(&self, other: &Layer) -> bool
+        ensures { result ≡ tree_eq self.now other.now }
+    {
+        self.entries == other.entries && self.bodies == other.bodies && self.next == other.next
+    }
+
+    /// The file number at the path.
+    fn number_at(&self, path: &Path) -> Option<u32>
+        ensures { result ≡ number_at self.now path.now }
+    {
+        self.at(path)?.number()
+    }
+
+    /// The inodes that are left where what stands at the path is taken.
+    fn inodes_without(&self, path: &Path) -> usize
+        ensures count { result ≡ inode_count (without self.now path.now) }
+        ensures few { result ≤ 65536 }
+        ensures path { IsPath path.now }
+    {
+        let _ = path.names();
+        let _ = self.next_number();
+        let Some(node) = self.at(path) else {
+            return self.inodes;
+        };
+        let left = self.inodes - nodes_inside(&self.entries, path);
+        match node.number() {
+            None => left,
+            Some(number) => {
+                if names_outside(&self.entries, path, number) == 0 {
+                    return left - 1;
+                }
+                left
+            }
+        }
+    }
+
+    /// Puts the node at the path, in place of one that stands there.
+    fn put(&mut self, path: &Path, node: Node, inodes: usize) -> Result<(), AllocError>
+        requires layer { IsLayer (with_entry self.old path.now node) }
+        requires count { inodes ≡ inode_count (with_entry self.old path.now node) }
+        ensures ok { OnOk result (self.new ≡ with_entry self.old path.now node) }
+        ensures sure { OnErr result (at self.old path.now ≡ None) }
+        ensures err { OnErr result (self.new ≡ self.old) }
+    {
+        put_entry(&mut self.entries, path, node)?;
+        self.inodes = inodes;
+        Ok(())
+    }
+
+    /// Puts the node in place of what stands at the path.
+    fn replace(&mut self, path: &Path, node: Node, inodes: usize) -> Result<(), AllocError>
+        requires layer { IsLayer (with_node self.old path.now node) }
+        requires count { inodes ≡ inode_count (with_node self.old path.now node) }
+        requires apart { (k : ℕ) → number_at self.old path.now ≡ Some k → has_number k node ≡ false }
+        ensures ok { OnOk result (self.new ≡ with_node self.old path.now node) }
+        ensures sure { OnErr result (at self.old path.now ≡ None) }
+        ensures err { OnErr result (self.new ≡ self.old) }
+    {
+        let number = self.number_at(path);
+        replace_entries(&mut self.entries, path, node)?;
+        drop_unnamed(&self.entries, &mut self.bodies, number);
+        self.inodes = inodes;
+        Ok(())
+    }
+
+    /// Puts a new file or symlink, which has the next number, in place of what stands at the path.
+    fn insert(
+        &mut self,
+        path: &Path,
+        node: Node,
+        body: Body,
+        inodes: usize,
+    ) -> Result<(), AllocError>
+        requires last { self.old.next < 4294967295 }
+        requires layer { IsLayer (with_new self.old path.now node body) }
+        requires count { inodes ≡ inode_count (with_new self.old path.now node body) }
+        requires named { number_of node ≡ Some self.old.next }
+        ensures ok { OnOk result (self.new ≡ with_new self.old path.now node body) }
+        ensures err { OnErr result (self.new ≡ self.old) }
+    {
+        let number = self.number_at(path);
+        let next = self.next;
+        self.bodies.insert(next, body)?;
+        match replace_entries(&mut self.entries, path, node) {
+            Ok(()) => {
+                drop_unnamed(&self.entries, &mut self.bodies, number);
+                self.next += 1;
+                self.inodes = inodes;
+                return Ok(());
+            }
+            Err(error) => {
+                self.bodies.remove(&next);
+                return Err(error);
+            }
+        }
+    }
+
+    /// Moves what stands at `from` and below it to `to`, in place of what stands there.
+    fn relocate(
+        &mut self,
+        from: &Path,
+        to: &Path,
+        leaves: bool,
+        inodes: usize,
+    ) -> Result<(), AllocError>
+        requires movable { IsMovable self.old from.now to.now }
+        requires layer { IsLayer (with_moved self.old from.now to.now leaves) }
+        requires count { inodes ≡ inode_count (with_moved self.old from.now to.now leaves) }
+        ensures ok { OnOk result (self.new ≡ with_moved self.old from.now to.now leaves) }
+        ensures err { OnErr result (self.new ≡ self.old) }
+    {
+        let number = self.number_at(to);
+        let entries = shifted_entries(&self.entries, from, to, leaves)?;
+        self.entries = entries;
+        drop_unnamed(&self.entries, &mut self.bodies, number);
+        self.inodes = inodes;
+        Ok(())
+    }
+}
+
+/// Layers are equal where their entries, their bodies and their next numbers are. Takes no memory.
+impl PartialEq for Layer {
+    ghost use Rattle.std.specs.Prelude.{◌≡◌, ◌↔◌, IsTrue};
+    ghost use Rattle.std.specs.Cmp.{partial_equiv_from_equiv};
+    ghost use Rattle.snap_layer.specs.Equal.{tree_eq};
+    ghost use Rattle.snap_layer.specs.Equal.{tree_eq_equiv};
+
+    ghost eq = { tree_eq };
+
+    ghost laws = { partial_equiv_from_equiv tree_eq_equiv };
+
+    fn eq(&self, other: &Layer) -> bool
+        ensures value { result ≡ tree_eq self.now other.now }
+        ensures equal { IsTrue result ↔ (self.now ≡ other.now) }
+    {
+        self.is_same(other)
+    }
+}
+
+impl Eq for Layer {
+    ghost use Rattle.snap_layer.specs.Equal.{tree_eq_equiv};
+
+    ghost laws = { tree_eq_equiv };
+}

@@ -1,0 +1,18 @@
+//! A layer of a file system in memory: directories, files with hard links, symlinks, whiteouts and opaque directories.
+//!
+//! A layer is what overlayfs keeps in one lower or upper directory (overlayfs.rst). Contracts see a
+//! [`Layer`] as a `Tree`: the list of its paths in order, the list of its files' bodies in order of
+//! their numbers, and the number of its next file. Each edit is one change of these lists.
+#![tactic(auto)]
+
+mod bodies;
+mod entries;
+mod error;
+mod layer;
+mod node;
+mod shared;
+
+pub use error::LayerError;
+pub use layer::Layer;
+pub use node::{Body, Bytes, Node};
+pub use shared::Shared;

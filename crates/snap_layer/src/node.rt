@@ -1,0 +1,225 @@
+ghost use Rattle.std.specs.Prelude.{◌≡◌, ◌↔◌, List, ℕ, IfOk, IsTrue};
+
+use std::alloc::{AllocError, Global};
+use std::marker::Model;
+
+/// The bytes of a file, or the target of a symlink.
+#[derive(Debug, Drop)]
+pub struct Bytes {
+    items: Vec<u8>,
+}
+
+impl Model for Bytes {
+    ghost Value = { List ℕ };
+
+    ghost view = { λ b. b.items.items };
+}
+
+impl Bytes {
+    /// These bytes. Takes no memory.
+    pub fn new(items: Vec<u8>) -> Bytes
+        ensures { result ≡ items.items }
+    {
+        Bytes { items }
+    }
+
+    /// A copy of the bytes. Its cost grows with their number.
+    pub fn copy_of(alloc: Global, bytes: &[u8]) -> Result<Bytes, AllocError>
+        ensures { IfOk result (λ b. b ≡ bytes.now) }
+    {
+        Ok(Bytes {
+            items: Vec::from_slice(alloc, bytes)?,
+        })
+    }
+
+    /// The bytes.
+    pub fn as_slice(&self) -> &[u8]
+        ensures { result.now ≡ self.now }
+    {
+        self.items.as_slice()
+    }
+}
+
+impl Clone for Bytes {
+    ghost is_clone = { λ a b. b ≡ a };
+
+    fn clone(&self) -> Result<Bytes, AllocError> {
+        Ok(Bytes {
+            items: self.items.clone()?,
+        })
+    }
+}
+
+impl PartialEq for Bytes {
+    ghost use Rattle.std.specs.Cmp.Lexicographic.{pointwise, nat_list_eq_equiv};
+    ghost use Rattle.std.specs.Prelude.{nat_eq};
+    ghost use Rattle.std.specs.Cmp.{partial_equiv_from_equiv};
+
+    ghost eq = { pointwise nat_eq };
+
+    ghost laws = { partial_equiv_from_equiv nat_list_eq_equiv };
+
+    fn eq(&self, other: &Bytes) -> bool {
+        self.items == other.items
+    }
+}
+
+impl Eq for Bytes {
+    ghost use Rattle.std.specs.Cmp.Lexicographic.{nat_list_eq_equiv};
+
+    ghost laws = { nat_list_eq_equiv };
+}
+
+/// What stands at a path of a layer.
+#[derive(Clone, Copy, Debug)]
+pub enum Node {
+    /// A directory. Its mode is at most octal 7777. An opaque one hides what the layers below have in it.
+    Dir { mode: u32, opaque: bool },
+    /// A name of the regular file with the number.
+    File { number: u32 },
+    /// A name of the symlink with the number.
+    Symlink { number: u32 },
+    /// A whiteout: the name is hidden in the layers below.
+    Whiteout,
+}
+
+impl Node {
+    ghost use Rattle.std.specs.Prelude.{◌≡◌};
+    ghost use Rattle.snap_layer.specs.Tree.{is_dir, is_whiteout, has_number, number_of};
+
+    /// Whether it is a directory.
+    pub fn is_dir(&self) -> bool
+        ensures { result ≡ is_dir self.now }
+    {
+        matches!(self, Node::Dir { .. })
+    }
+
+    /// Whether it is a whiteout.
+    pub fn is_whiteout(&self) -> bool
+        ensures { result ≡ is_whiteout self.now }
+    {
+        matches!(self, Node::Whiteout)
+    }
+
+    /// The number of the file or symlink that it names.
+    pub fn number(&self) -> Option<u32>
+        ensures { result ≡ number_of self.now }
+    {
+        match self {
+            Node::File { number } => Some(*number),
+            Node::Symlink { number } => Some(*number),
+            Node::Dir { .. } => None,
+            Node::Whiteout => None,
+        }
+    }
+
+    /// Whether it names the file or symlink with the number.
+    pub fn has_number(&self, number: u32) -> bool
+        ensures { result ≡ has_number number self.now }
+    {
+        match self {
+            Node::File { number: own } => *own == number,
+            Node::Symlink { number: own } => *own == number,
+            Node::Dir { .. } => false,
+            Node::Whiteout => false,
+        }
+    }
+}
+
+impl PartialEq for Node {
+    ghost use Rattle.std.specs.Prelude.{◌≡◌, ◌↔◌, IsTrue};
+    ghost use Rattle.std.specs.Cmp.{partial_equiv_from_equiv};
+    ghost use Rattle.snap_layer.specs.Equal.{node_eq};
+    ghost use Rattle.snap_layer.specs.Equal.{node_eq_equiv};
+
+    ghost eq = { node_eq };
+
+    ghost laws = { partial_equiv_from_equiv node_eq_equiv };
+
+    fn eq(&self, other: &Node) -> bool {
+        match (*self, *other) {
+            (
+                Node::Dir { mode, opaque },
+                Node::Dir {
+                    mode: other,
+                    opaque: mark,
+                },
+            ) => mode == other && opaque == mark,
+            (Node::File { number }, Node::File { number: other }) => number == other,
+            (Node::Symlink { number }, Node::Symlink { number: other }) => number == other,
+            (Node::Whiteout, Node::Whiteout) => true,
+            _ => false,
+        }
+    }
+}
+
+impl Eq for Node {
+    ghost use Rattle.snap_layer.specs.Equal.{node_eq_equiv};
+
+    ghost laws = { node_eq_equiv };
+}
+
+/// A file or a symlink, apart from its names.
+#[derive(Clone, Debug, Drop)]
+pub enum Body {
+    /// A regular file: a mode of at most octal 7777, and at most 1,048,576 bytes.
+    File { mode: u32, bytes: Bytes },
+    /// A symlink, with a target of 1 to 4095 bytes without NUL.
+    Symlink { target: Bytes },
+}
+
+impl Body {
+    ghost use Rattle.std.specs.Prelude.{◌≡◌};
+    ghost use Rattle.snap_layer.specs.Counts.{body_blocks};
+    ghost use Rattle.snap_layer.specs.Edits.{body_with_mode};
+
+    /// The blocks of 4096 bytes that it takes: a symlink takes none.
+    pub fn blocks(&self) -> u64
+        ensures { result ≡ body_blocks self.now }
+    {
+        match self {
+            Body::File { bytes, .. } => (bytes.as_slice().len() as u64).div_ceil(4096),
+            Body::Symlink { .. } => 0,
+        }
+    }
+
+    /// Sets the mode of a file.
+    pub(crate) fn set_mode(&mut self, mode: u32)
+        ensures { self.new ≡ body_with_mode self.old mode }
+    {
+        match self {
+            Body::File { mode: own, .. } => *own = mode,
+            Body::Symlink { .. } => {}
+        }
+    }
+}
+
+impl PartialEq for Body {
+    ghost use Rattle.std.specs.Cmp.{partial_equiv_from_equiv};
+    ghost use Rattle.snap_layer.specs.Equal.{body_eq};
+    ghost use Rattle.snap_layer.specs.Equal.{body_eq_equiv};
+
+    ghost eq = { body_eq };
+
+    ghost laws = { partial_equiv_from_equiv body_eq_equiv };
+
+    fn eq(&self, other: &Body) -> bool {
+        match (self, other) {
+            (
+                Body::File { mode, bytes },
+                Body::File {
+                    mode: other,
+                    bytes: others,
+                },
+            ) => *mode == *other && bytes == others,
+            (Body::Symlink { target }, Body::Symlink { target: other }) => target == other,
+            _ => false,
+        }
+    }
+}
+
+impl Eq for Body {
+    ghost use Rattle.snap_layer.specs.Equal.{body_eq_equiv};
+
+    ghost laws = { body_eq_equiv };
+}
