@@ -1,19 +1,22 @@
 -- The tests of an edit's condition.
 use Rattle.std.proofs.Common.{◌≡◌, ℕ, ◌+◌, ◌-◌, ◌<◌, ◌≤◌, Bool, true, false, cond, List, [], ◌∷◌, ◌++◌, length, length-append, take, drop, Option, Some, None, IsSome, refl, sym, ap, subst, ◌∙◌, ◌⊎◌, inl, inr, arith}
-use Rattle.std.specs.Prelude.{is_some, is_none, ◌||◌, ◌&&◌, ◌↔◌, IsTrue}
+use Rattle.std.specs.Prelude.{is_some, is_none, not, nat_le, ◌||◌, ◌&&◌, IsTrue}
 use Rattle.std.specs.List.{list_all}
 use Rattle.std.specs.List.Sorted.{IsStrictlySortedBy}
 use Rattle.std.specs.Map.{lookup, keys_of}
 use Rattle.std.specs.BTreeMap.{is_at}
 use Rattle.std.proofs.lemmas.Bool.{cond-true, cond-false}
-use Rattle.snap_path.specs.Text.{Names}
+use Rattle.std.proofs.lemmas.Bool.Decides.{nat_tests}
+use Rattle.std.proofs.lemmas.List.Folds.{list_all-append}
+use Rattle.snap_path.specs.Text.{Names, is_name, text_of, text_below, IsPath}
+use Rattle.snap_path.proofs.Texts.{text_below-append}
 use Rattle.snap_layer.specs.declared.node.Node.{Node}
 use Rattle.snap_layer.specs.declared.node.Node.TheVariants.{Dir, File, Symlink, Whiteout}
-use Rattle.snap_layer.specs.Tree.{Tree, Entries, path_cmp, at, is_dir, is_whiteout, name_below, IsDirAt}
+use Rattle.snap_layer.specs.Tree.{Tree, Entries, path_cmp, at, begins, is_dir, is_whiteout, name_below, IsDirAt}
 use Rattle.snap_layer.specs.Edits.{IsFree, HasParent, HasRoom, HasPlace, IsTakeable}
 use Rattle.snap_layer.proofs.Lists.{at_itself, lookup_below}
 use Rattle.snap_layer.proofs.Looks.{split_path}
-use Rattle.snap_layer.proofs.Paths.{path_cmp_total, path_cmp-IsAntisymmetric, name_below-append, name_below_is, snoc_same}
+use Rattle.snap_layer.proofs.Paths.{path_cmp_total, path_cmp-IsAntisymmetric, name_below-append, name_below_is, begins_from, begins_rest}
 
 -- ---- the parent
 
@@ -103,3 +106,78 @@ free_test (Some n) e = absurd (no_bool e)
 
 pub IsFree-none : (o : Option Node) → o ≡ None → IsFree o
 IsFree-none o e = subst IsFree (sym e) tt
+
+-- ---- the lengths of moved paths
+
+-- the entry doesn't lie at `from` or below it, or its new path's text has at most 4095 bytes
+abbrev pub is_short : Names → Names → Names × Node → Bool
+is_short from to e = not (begins from e.0) || nat_le (length (text_of e.0) + length (text_of to)) (4095 + length (text_of from))
+
+text_is : (p : Names) → (p ≡ [] → ⊥) → text_of p ≡ text_below p
+text_is [] some = absurd (some refl)
+text_is (n ∷ p) some = refl
+
+-- the length of a moved path, by those of the texts
+moved_length : (from to r : Names) → (from ≡ [] → ⊥) → (to ≡ [] → ⊥) → length (text_below (to ++ r)) + length (text_of from) ≡ length (text_of (from ++ r)) + length (text_of to)
+moved_length from to r one two =
+    let below : from ++ r ≡ [] → ⊥ = not_empty from r one in
+    omega (
+      arith,
+      ap length (text_is from one),
+      ap length (text_is to two),
+      ap length (text_is (from ++ r) below),
+      ap length (text_below-append to r),
+      ap length (text_below-append from r),
+      length-append (text_below to) (text_below r),
+      length-append (text_below from) (text_below r),
+    )
+  where
+    not_empty : (xs ys : Names) → (xs ≡ [] → ⊥) → xs ++ ys ≡ [] → ⊥
+    not_empty [] ys some e = some refl
+    not_empty (x ∷ xs) ys some e = cc
+
+short_test : (a b : Bool) → (not a || b) ≡ true → a ≡ true → b ≡ true
+short_test true b e is = e
+short_test false b e is = absurd (no_bool is)
+
+module _ (from to : Names) (one : from ≡ [] → ⊥) (two : to ≡ [] → ⊥) where
+  pub short_from : (es : Entries) → list_all (is_short from to) es ≡ true → (r : Names) → IsSome (lookup (is_at (path_cmp (from ++ r))) es) → length (text_below (to ++ r)) ≤ 4095
+  short_from [] all r some = absurd (cc)
+  short_from (e ∷ es) all r some = elim (split_path (from ++ r) e.0) [
+    | inl same ↦ here (short_test (begins from e.0) (nat_le (length (text_of e.0) + length (text_of to)) (4095 + length (text_of from))) (all_first (is_short from to e) (list_all (is_short from to) es) all) (begins_from from e.0 r (sym same.0))) same.0
+    | inr apart ↦ short_from es (all_second (is_short from to e) (list_all (is_short from to) es) all) r (subst IsSome (cond-false _ (Some e.1) (lookup (is_at (path_cmp (from ++ r))) es) apart.1) some)
+  ]
+    where
+      here : nat_le (length (text_of e.0) + length (text_of to)) (4095 + length (text_of from)) ≡ true → from ++ r ≡ e.0 → length (text_below (to ++ r)) ≤ 4095
+      here test same =
+          let fits : length (text_of e.0) + length (text_of to) ≤ 4095 + length (text_of from) = grind (arith, nat_tests) in
+          omega (arith, fits, ap (λ (q : Names). length (text_of q)) same, moved_length from to r one two)
+
+  pub all_short : (es : Entries) → IsStrictlySortedBy path_cmp (keys_of es) → ((r : Names) → IsSome (lookup (is_at (path_cmp (from ++ r))) es) → length (text_below (to ++ r)) ≤ 4095) → list_all (is_short from to) es ≡ true
+  unfolding IsStrictlySortedBy
+  all_short [] sorted short = refl
+  all_short (e ∷ es) sorted short = (λ i. first i && all_short es sorted.1 rest i)
+    where
+      by : (b : Bool) → begins from e.0 ≡ b → (not b || nat_le (length (text_of e.0) + length (text_of to)) (4095 + length (text_of from))) ≡ true
+      by false is = refl
+      by true is =
+          let r = drop (length from) e.0 in
+          let whole : e.0 ≡ from ++ r = begins_rest from e.0 is in
+          let there : IsSome (lookup (is_at (path_cmp (from ++ r))) (e ∷ es)) = ap is_some (cond-true _ (Some e.1) (lookup (is_at (path_cmp (from ++ r))) es) (subst (λ (q : Names). is_at (path_cmp q) e.0 ≡ true) whole (at_itself path_cmp_total path_cmp-IsAntisymmetric e.0))) in
+          let fits : length (text_of e.0) + length (text_of to) ≤ 4095 + length (text_of from) = omega (arith, short r there, ap (λ (q : Names). length (text_of q)) whole, moved_length from to r one two) in
+          grind (arith, nat_tests)
+
+      first : is_short from to e ≡ true
+      first = by (begins from e.0) refl
+
+      rest : (r : Names) → IsSome (lookup (is_at (path_cmp (from ++ r))) es) → length (text_below (to ++ r)) ≤ 4095
+      rest r some = short r (elim (split_path (from ++ r) e.0) [
+        | inl same ↦ ap is_some (cond-true _ (Some e.1) (lookup (is_at (path_cmp (from ++ r))) es) same.1)
+        | inr apart ↦ subst IsSome (sym (cond-false _ (Some e.1) (lookup (is_at (path_cmp (from ++ r))) es) apart.1)) some
+      ])
+
+-- the names of a moved path are names
+pub moved_names : (from to r : Names) → IsPath to → IsPath (from ++ r) → length (text_below (to ++ r)) ≤ 4095 → IsPath (to ++ r)
+moved_names from to r target source short =
+    let last : list_all is_name r ≡ true = all_second (list_all is_name from) (list_all is_name r) (sym (list_all-append is_name from r) ∙ source.0) in
+    (list_all-append is_name to r ∙ (λ i. target.0 i && last i), short)

@@ -152,6 +152,12 @@ pub record IsMovable (t : Tree) (from to : Names) : Type 0 where
   pub not_around : begins to from ≡ false
   pub fits : (r : Names) → IsSome (at t (from ++ r)) → IsPath (to ++ r)
 
+-- a regular file
+abbrev pub IsRegular : Option Body → Type 0
+IsRegular None = ⊥
+IsRegular (Some (body_kinds.File mode bytes)) = Unit {0}
+IsRegular (Some (body_kinds.Symlink target)) = ⊥
+
 -- a directory's or a file's mode may be set
 abbrev pub HasMode : Option Node → Type 0
 HasMode None = ⊥

@@ -1,5 +1,5 @@
 // The entries of a layer: what stands at its paths, in order.
-ghost use Rattle.std.specs.Prelude.{◌≡◌, ◌+◌, OnOk, OnErr, IfOk, None, ◌+◌, IsSome, IsTrue, map, true, ℕ, List, [], ◌∷◌, ◌++◌, ◌↔◌, ◌||◌, is_none, count_by};
+ghost use Rattle.std.specs.Prelude.{◌≡◌, ◌+◌, OnOk, OnErr, IfOk, None, ◌+◌, IsSome, IsTrue, map, true, ℕ, List, [], ◌∷◌, ◌++◌, ◌↔◌, ◌||◌, is_none, not, nat_le, length, count_by};
 ghost use Rattle.std.specs.Option.{option_copied};
 ghost use Rattle.std.specs.List.{list_all};
 ghost use Rattle.std.specs.Map.{lookup, values_of};
@@ -7,12 +7,15 @@ ghost use Rattle.std.specs.BTreeMap.{is_at, insert_entry, IsOrdered};
 ghost use Rattle.snap_layer.specs.Tree.{path_cmp, begins, name_below, names_below, has_number, is_dir, is_whiteout};
 ghost use Rattle.snap_layer.specs.Counts.{name_count};
 ghost use Rattle.snap_layer.specs.Edits.{inside, outside, relocated, relocate, put_all, with_moved, IsFree};
-ghost use Rattle.snap_path.specs.Text.{Names, IsPath};
+ghost use Rattle.snap_path.specs.Text.{Names, IsPath, text_of};
 
 use super::node::Node;
 use snap_path::{Name, Path};
 use std::alloc::AllocError;
 use std::collections::BTreeMap;
+
+/// The most bytes of a path.
+const MOST_BYTES: usize = 4095;
 
 /// Whether the names are those of the front, or go on below it.
 pub(crate) fn begins(front: &[Name], names: &[Name]) -> bool
@@ -178,4 +181,17 @@ fn are_loose(entries: &BTreeMap<Path, Node>, path: &Path) -> bool
 {
     entries.iter().all(|(other, node)| name_below(path.names(), other.names()).is_none()
         || node.is_whiteout())
+}
+
+/// Whether each entry lies elsewhere than at `from` and below it, or its path with `to` in place of `from` has at most 4095 bytes.
+pub(crate) fn are_short(entries: &BTreeMap<Path, Node>, from: &Path, to: &Path) -> bool
+    ensures short { result ≡ list_all (λ e. not (begins from.now e.0) || nat_le (length (text_of e.0) + length (text_of to.now)) (4095 + length (text_of from.now))) entries.now.entries }
+    ensures ordered { IsOrdered path_cmp entries.now }
+{
+    let _ = entries.len();
+    let front = from.as_str().len();
+    let target = to.as_str().len();
+    entries.iter().all(|(other, _)| {
+        !begins(from.names(), other.names()) || other.as_str().len() + target <= MOST_BYTES + front
+    })
 }

@@ -6,11 +6,11 @@ ghost use Rattle.snap_layer.specs.Tree.{Tree, at, body, number_at, names_below, 
 ghost use Rattle.snap_layer.specs.Counts.{dir_count, whiteout_count, name_count, inode_count, block_count, is_within};
 ghost use Rattle.snap_layer.specs.Layers.{IsLayer, IsFile, IsWhole, is_target};
 ghost use Rattle.snap_layer.specs.Equal.{tree_eq};
-ghost use Rattle.snap_layer.specs.Edits.{root_only, with_entry, with_node, with_new, with_name, name_of, with_bytes, with_mode, with_file_mode, with_opaque, with_moved, without, HasParent, HasRoom, HasPlace, IsTakeable, IsMovable, HasMode};
+ghost use Rattle.snap_layer.specs.Edits.{root_only, with_entry, with_node, with_new, with_name, name_of, with_bytes, with_mode, with_file_mode, with_opaque, with_moved, without, HasParent, HasRoom, HasPlace, IsTakeable, IsMovable, IsRegular, HasMode};
 
 use super::bodies::{block_sum, drop_unnamed, replace_body, set_file_mode};
 use super::entries::{
-    self, has_whiteouts_alone, name_below, names_outside, nodes_inside, put_entry, replace_entries,
+    self, are_short, begins, has_whiteouts_alone, name_below, names_outside, nodes_inside, put_entry, replace_entries,
     shifted_entries, take_entries,
 };
 use super::error::LayerError;
@@ -275,6 +275,23 @@ impl Layer {
         has_whiteouts_alone(&self.entries, path)
     }
 
+    /// Whether what stands at `from` may move to `to`: something stands there, what stands at `to` may be
+    /// replaced, neither path begins with the other, and each moved path has at most 4095 bytes.
+    ///
+    /// Takes no memory. Cost: the number of paths.
+    pub fn can_move(&self, from: &Path, to: &Path) -> bool
+        ensures { IsTrue result ↔ IsMovable self.now from.now to.now }
+    {
+        let _ = self.next_number();
+        if self.at(from).is_none() || !self.has_place(to) {
+            return false;
+        }
+        if begins(from.names(), to.names()) || begins(to.names(), from.names()) {
+            return false;
+        }
+        are_short(&self.entries, from, to)
+    }
+
     /// Adds a directory, over nothing or in place of a whiteout.
     ///
     /// The conditions are those of `has_room`, and a mode of at most octal 7777. `LayerFull` where the
@@ -448,7 +465,7 @@ impl Layer {
     /// The conditions are that the number is a regular file's, and at most 1,048,576 bytes. Takes no
     /// memory. Cost: the logarithm of the number of files.
     pub fn set_bytes(&mut self, number: u32, bytes: Bytes)
-        requires file { IsFile (body self.old number) }
+        requires file { IsRegular (body self.old number) }
         requires size { length bytes ≤ 1048576 }
         ensures { self.new ≡ with_bytes self.old number (body self.old number) bytes }
     {
