@@ -1,5 +1,5 @@
 // The entries of a layer: what stands at its paths, in order.
-ghost use Rattle.std.specs.Prelude.{◌≡◌, ◌+◌, OnOk, OnErr, IfOk, None, ◌+◌, IsSome, IsTrue, map, true, ℕ, List, [], ◌∷◌, ◌++◌, ◌↔◌, ◌||◌, is_none, not, nat_le, length, count_by};
+ghost use Rattle.std.specs.Prelude.{◌≡◌, ◌+◌, OnOk, OnErr, IfOk, None, IsSome, IsTrue, map, true, ℕ, List, [], ◌∷◌, ◌++◌, ◌↔◌, ◌||◌, is_none, not, nat_le, length, count_by};
 ghost use Rattle.std.specs.Option.{option_copied};
 ghost use Rattle.std.specs.List.{list_all};
 ghost use Rattle.std.specs.Map.{lookup, values_of};

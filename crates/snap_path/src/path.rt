@@ -210,7 +210,6 @@ impl Path {
     }
 }
 
-/// Whether a text is a path's.
 /// Appends copies of the names.
 fn append_names(all: &mut Vec<Name>, names: &[Name]) -> Result<(), AllocError>
     ensures { OnOk result (all.new.items ≡ all.old.items ++ names.now) }
@@ -232,6 +231,7 @@ fn append_text(text: &mut String, names: &[Name]) -> Result<(), AllocError>
     Ok(())
 }
 
+/// Whether a text is a path's.
 fn is_path_text(text: &str) -> bool
     ensures { result ≡ is_path text.now }
 {

@@ -16,8 +16,7 @@ returns c =
     let short : c.are_short.result ≡ list_all (is_short from to) c.args.self.now.entries = c.are_short.ensures.short ∙ ap (λ (t : Tree). list_all (is_short from to) t.entries) c.self.view_is in
     let ok = c.next_number.ensures.layer in
     let one = not_root from to not_inside in
-    let two = place.above.below_root in
-    (
+    let two = place.above.below_root in (
       (λ t. record {
         there = ap is_some (sym c.at.ensures) ∙ c.if-is_none.ensures;
         place = place;
