@@ -1,6 +1,6 @@
 -- When an edit would pass a layer's limits.
-use Rattle.std.proofs.Common.{◌≡◌, ℕ, ◌+◌, ◌-◌, ◌<◌, ◌≤◌, Bool, true, false, cond, not, List, [], ◌∷◌, length, Option, Some, None, IsSome, Result, Ok, Err, refl, sym, ap, subst, ◌∙◌, ◌⊎◌, inl, inr, arith}
-use Rattle.std.specs.Prelude.{option_and_then, is_some, ◌==◌, ◌&&◌, count_by, IsErrOf}
+use Rattle.std.proofs.Common.{◌≡◌, ℕ, ◌+◌, ◌<◌, ◌≤◌, Bool, true, false, cond, List, length, Option, Some, None, Result, Ok, Err, refl, sym, ap, subst, ◌∙◌, inl, inr, arith}
+use Rattle.std.specs.Prelude.{is_some, ◌==◌, ◌&&◌, count_by, IsErrOf}
 use Rattle.std.specs.Ordering.{nat_cmp}
 use Rattle.std.specs.BTreeMap.{is_at}
 use Rattle.std.specs.Map.{values_of}
@@ -15,11 +15,11 @@ use Rattle.snap_layer.specs.declared.node.Body.TheVariants as body_kinds
 use Rattle.snap_layer.specs.Tree.{Tree, Entries, at, body, number_of, number_at, has_number, is_dir, is_whiteout}
 use Rattle.snap_layer.specs.Counts.{inode_count, name_count, is_within}
 use Rattle.snap_layer.specs.Layers.{IsLayer, IsFile, IsSymlink, IsWhole, is_target}
-use Rattle.snap_layer.specs.Edits.{with_entry, with_node, with_new, name_of, without, outside, inside, HasRoom, HasPlace}
-use Rattle.snap_layer.proofs.Counting.{inode_count-without, dropped, inodes_of}
+use Rattle.snap_layer.specs.Edits.{with_node, with_new, without, outside, inside, HasRoom, HasPlace}
+use Rattle.snap_layer.proofs.Counting.{inode_count-without, dropped}
 use Rattle.snap_layer.proofs.Looks.{SetsBody-insert_entry, is_dropped, split_number}
 use Rattle.snap_layer.proofs.Kept.{has_body, body-without, node_with_number}
-use Rattle.snap_layer.proofs.Replacing.{with_node-free, inode_count-with_node, inode_count-with_new, IsLayer-with_node, IsLayer-with_new, HasPlace-from_room, is_within_yes, is_within_many, is_within_last, other_name}
+use Rattle.snap_layer.proofs.Replacing.{inode_count-with_node, inode_count-with_new, IsLayer-with_node, IsLayer-with_new, HasPlace-from_room, is_within_yes, is_within_many, is_within_last}
 
 -- ---- the inodes that are left
 

@@ -1,23 +1,21 @@
 -- Each edit leaves a layer.
-use Rattle.std.proofs.Common.{◌≡◌, ℕ, ◌+◌, ◌<◌, ◌≤◌, Bool, true, false, cond, not, List, [], ◌∷◌, ◌++◌, length, Option, Some, None, IsSome, refl, sym, ap, subst, ◌∙◌, ◌⊎◌, inl, inr, arith, append_assoc, lit≤}
+use Rattle.std.proofs.Common.{◌≡◌, ℕ, ◌+◌, ◌≤◌, Bool, true, false, cond, not, List, [], ◌∷◌, ◌++◌, Option, Some, None, IsSome, refl, sym, ap, subst, ◌∙◌, inl, inr, arith, append_assoc, lit≤}
 use Rattle.std.specs.Prelude.{option_and_then, is_some}
-use Rattle.std.specs.Ordering.{nat_cmp}
 use Rattle.std.specs.Cmp.{nat_cmp_total}
 use Rattle.std.specs.List.Sorted.{IsStrictlySortedBy}
-use Rattle.std.specs.Map.{keys_of}
 use Rattle.snap_path.specs.Text.{Names, IsPath}
 use Rattle.snap_layer.specs.declared.node.Node.{Node}
 use Rattle.snap_layer.specs.declared.node.Node.TheVariants.{Dir, File, Symlink, Whiteout}
 use Rattle.snap_layer.specs.declared.node.Body.{Body}
 use Rattle.snap_layer.specs.declared.node.Body.TheVariants as body_kinds
-use Rattle.snap_layer.specs.Tree.{Tree, path_cmp, at, body, number_of, number_at, is_dir, is_whiteout, begins, IsDirAt}
+use Rattle.snap_layer.specs.Tree.{Tree, path_cmp, at, body, number_of, number_at, is_dir, begins, IsDirAt}
 use Rattle.snap_layer.specs.Counts.{inode_count}
-use Rattle.snap_layer.specs.Layers.{IsLayer, IsFile, IsSymlink, IsWhole, is_target}
-use Rattle.snap_layer.specs.Edits.{root_only, with_entry, with_body, with_new, without, outside, IsFree, HasParent}
+use Rattle.snap_layer.specs.Layers.{IsLayer, IsFile, IsSymlink, IsWhole}
+use Rattle.snap_layer.specs.Edits.{root_only, with_entry, with_body, without, IsFree, HasParent}
 use Rattle.snap_layer.proofs.Lists.{sorted-insert_entry, sorted-filter}
-use Rattle.snap_layer.proofs.Paths.{path_cmp_total, path_differs, begins-trans, begins-append, begins_snoc, split_front}
-use Rattle.snap_layer.proofs.Looks.{split_path, split_number, Sets, Sets-with_entry, SetsBody, SetsBody-with_body, SetsBody-insert_entry, at-without, at-without_outside, at-without_inside, is_dropped, body-bodies_without, sorted-bodies_without, kept_by_name, names_left, name_found}
-use Rattle.snap_layer.proofs.Counting.{inode_count-without, inode_count-with_body, taken_inodes}
+use Rattle.snap_layer.proofs.Paths.{path_cmp_total, begins-trans, begins-append, split_front}
+use Rattle.snap_layer.proofs.Looks.{split_path, split_number, Sets, Sets-with_entry, SetsBody, SetsBody-with_body, SetsBody-insert_entry, at-without_outside, at-without_inside, is_dropped, body-bodies_without, sorted-bodies_without, kept_by_name, names_left, name_found}
+use Rattle.snap_layer.proofs.Counting.{inode_count-without, inode_count-with_body}
 
 no_some : {A : Type 0} (x : A) → None ≡ Some x → ⊥
 no_some x e = cc

@@ -1,10 +1,9 @@
 -- What is found in a layer after a change of its lists.
-use Rattle.std.proofs.Common.{◌≡◌, ℕ, ◌+◌, Bool, true, false, cond, not, List, [], ◌∷◌, ◌++◌, Option, Some, None, IsSome, refl, sym, ap, subst, ◌∙◌, ◌⊎◌, inl, inr, arith, append_assoc}
-use Rattle.std.specs.Prelude.{option_and_then, is_some, ◌==◌, ◌&&◌, count_by}
-use Rattle.std.specs.Ordering.{nat_cmp, is_eq}
-use Rattle.std.specs.Cmp.{IsTotalOrder, nat_cmp_total}
-use Rattle.std.specs.FinMap.{IsAntisymmetric, nat_cmp-IsAntisymmetric}
-use Rattle.std.specs.List.{AllByRecursion, sum_by}
+use Rattle.std.proofs.Common.{◌≡◌, ℕ, ◌+◌, Bool, true, false, cond, not, [], ◌∷◌, Option, Some, None, refl, sym, ap, subst, ◌∙◌, ◌⊎◌, inl, inr, arith}
+use Rattle.std.specs.Prelude.{◌==◌, ◌&&◌}
+use Rattle.std.specs.Ordering.{nat_cmp}
+use Rattle.std.specs.Cmp.{nat_cmp_total}
+use Rattle.std.specs.FinMap.{nat_cmp-IsAntisymmetric}
 use Rattle.std.specs.List.Sorted.{IsStrictlySortedBy}
 use Rattle.std.specs.Map.{lookup, remove_entry, keys_of, values_of}
 use Rattle.std.specs.BTreeMap.{is_at, insert_entry}
@@ -15,10 +14,10 @@ use Rattle.snap_path.specs.Text.{Names}
 use Rattle.snap_layer.specs.declared.node.Node.{Node}
 use Rattle.snap_layer.specs.declared.node.Node.TheVariants.{Dir, File, Symlink, Whiteout}
 use Rattle.snap_layer.specs.declared.node.Body.{Body}
-use Rattle.snap_layer.specs.Tree.{Tree, Entries, Bodies, path_cmp, at, body, number_of, number_at, has_number, is_dir, begins, IsDirAt}
+use Rattle.snap_layer.specs.Tree.{Tree, Entries, Bodies, path_cmp, at, body, number_of, has_number, begins}
 use Rattle.snap_layer.specs.Counts.{name_count}
-use Rattle.snap_layer.specs.Edits.{with_entry, with_body, without, outside, bodies_without}
-use Rattle.snap_layer.proofs.Lists.{split_key, at_itself, same_from, apart_from, lookup-insert_entry, lookup-filter, lookup-remove_entry, lookup_below, same_lists, sorted-remove_entry}
+use Rattle.snap_layer.specs.Edits.{with_entry, with_body, without, bodies_without}
+use Rattle.snap_layer.proofs.Lists.{split_key, at_itself, apart_from, lookup-insert_entry, lookup-filter, lookup-remove_entry, lookup_below, same_lists, sorted-remove_entry}
 use Rattle.snap_layer.proofs.Paths.{path_cmp_total, path_cmp-IsAntisymmetric}
 
 no_bool : true ≡ false → ⊥

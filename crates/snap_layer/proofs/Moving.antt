@@ -1,23 +1,23 @@
 -- A subtree moved: the code's entries, and the layer afterwards.
-use Rattle.std.proofs.Common.{◌≡◌, ℕ, ◌+◌, ◌<◌, ◌≤◌, Bool, true, false, cond, not, List, [], ◌∷◌, ◌++◌, length, length-append, drop, map, Option, Some, None, IsSome, refl, sym, ap, subst, ◌∙◌, ◌⊎◌, inl, inr, arith}
-use Rattle.std.specs.Prelude.{option_and_then, is_some, ◌==◌, if◌then◌else◌}
+use Rattle.std.proofs.Common.{◌≡◌, ℕ, ◌+◌, ◌≤◌, Bool, true, false, cond, not, List, [], ◌∷◌, ◌++◌, length, length-append, drop, map, Option, Some, None, IsSome, refl, sym, ap, subst, ◌∙◌, inl, inr, arith}
+use Rattle.std.specs.Prelude.{option_and_then, ◌==◌}
 use Rattle.std.specs.Ordering.{nat_cmp}
 use Rattle.std.specs.List.Sorted.{IsStrictlySortedBy}
 use Rattle.std.specs.Map.{lookup, remove_entry, keys_of}
 use Rattle.std.specs.BTreeMap.{is_at, insert_entry}
 use Rattle.snap_path.specs.Text.{Names, IsPath}
 use Rattle.snap_layer.specs.declared.node.Node.{Node}
-use Rattle.snap_layer.specs.declared.node.Node.TheVariants.{Dir, File, Symlink, Whiteout}
-use Rattle.snap_layer.specs.Tree.{Tree, Entries, Bodies, path_cmp, at, number_of, number_at, begins, is_dir, IsDirAt}
+use Rattle.snap_layer.specs.declared.node.Node.TheVariants.{Whiteout}
+use Rattle.snap_layer.specs.Tree.{Tree, Entries, Bodies, path_cmp, at, number_of, number_at, begins, IsDirAt}
 use Rattle.snap_layer.specs.Counts.{inode_count, name_count}
 use Rattle.snap_layer.specs.Layers.{IsLayer}
-use Rattle.snap_layer.specs.Edits.{without, outside, inside, bodies_without, relocated, relocate, put_all, moved, with_moved, with_entry, IsMovable}
+use Rattle.snap_layer.specs.Edits.{without, outside, inside, bodies_without, relocated, relocate, put_all, moved, with_moved, IsMovable}
 use Rattle.snap_layer.proofs.Lists.{lookup-filter}
-use Rattle.snap_layer.proofs.Paths.{path_cmp_total, path_cmp-IsAntisymmetric, split_front, begins_itself, begins-trans, begins_rest, drop-append, begins-append}
+use Rattle.snap_layer.proofs.Paths.{path_cmp_total, path_cmp-IsAntisymmetric, split_front, begins_itself, begins-trans, begins_rest, begins-append}
 use Rattle.snap_layer.proofs.Kept.{IsLayer-with_entry}
 use Rattle.snap_layer.proofs.Replacing.{clears_place}
 use Rattle.snap_layer.proofs.Filling.{Becomes, becomes}
-use Rattle.snap_layer.proofs.Moves.{IsLayer-replaced, IsVacant-without, at-moved_gone, at-with_moved_else, inode_count-with_moved, inode_count-with_moved_whiteout, name_count-with_moved, not_longer, not_root}
+use Rattle.snap_layer.proofs.Moves.{IsLayer-replaced, at-moved_gone, at-with_moved_else, inode_count-with_moved, inode_count-with_moved_whiteout, name_count-with_moved, not_longer, not_root}
 
 -- ---- the entries, one after the other
 

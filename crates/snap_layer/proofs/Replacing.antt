@@ -1,6 +1,6 @@
 -- An edit in place of what stands at a path.
-use Rattle.std.proofs.Common.{◌≡◌, ℕ, ◌+◌, ◌<◌, ◌≤◌, Bool, true, false, cond, not, List, [], ◌∷◌, ◌++◌, length, length-append, Option, Some, None, IsSome, refl, sym, ap, subst, ◌∙◌, ◌⊎◌, inl, inr, arith}
-use Rattle.std.specs.Prelude.{option_and_then, is_some, filter, nat_eq, nat_le, ◌==◌, ◌||◌, ◌&&◌, count_by}
+use Rattle.std.proofs.Common.{◌≡◌, ℕ, ◌+◌, ◌<◌, ◌≤◌, Bool, true, false, cond, not, List, [], ◌∷◌, ◌++◌, length, length-append, Option, Some, None, refl, sym, ap, subst, ◌∙◌, inl, inr, arith}
+use Rattle.std.specs.Prelude.{option_and_then, filter, nat_eq, nat_le, ◌==◌, ◌||◌, ◌&&◌, count_by}
 use Rattle.std.specs.Ordering.{nat_cmp}
 use Rattle.std.specs.Cmp.{nat_cmp_total}
 use Rattle.std.specs.FinMap.{nat_cmp-IsAntisymmetric}
@@ -10,7 +10,7 @@ use Rattle.std.specs.List.Sorted.{IsStrictlySortedBy}
 use Rattle.std.specs.Map.{lookup, remove_entry, keys_of, values_of}
 use Rattle.std.specs.BTreeMap.{is_at, insert_entry}
 use Rattle.std.proofs.lemmas.Bool.Decides.{nat_tests}
-use Rattle.std.proofs.lemmas.Bool.{cond-true, cond-false}
+use Rattle.std.proofs.lemmas.Bool.{cond-true}
 use Rattle.std.proofs.lemmas.List.Sums.{sum_by-cons}
 use Rattle.snap_path.specs.Text.{Names, IsPath}
 use Rattle.snap_layer.specs.declared.node.Node.{Node}
@@ -22,9 +22,9 @@ use Rattle.snap_layer.specs.Layers.{IsLayer, IsWhole}
 use Rattle.snap_layer.specs.Edits.{with_entry, with_node, with_new, without, outside, inside, bodies_without, IsFree, HasParent, HasRoom, HasPlace}
 use Rattle.snap_layer.proofs.Lists.{lookup-insert_entry, lookup-filter, sorted-insert_entry, sorted-filter, same_lists, sum_by-filter_entries}
 use Rattle.snap_layer.proofs.Paths.{path_cmp_total, path_cmp-IsAntisymmetric, path_test, begins_itself, split_front}
-use Rattle.snap_layer.proofs.Looks.{split_path, split_number, Sets, Sets-with_entry, at-with_entry, at-without, at-without_inside, at-without_outside, same_tree, is_dropped, body-bodies_without, sorted-bodies_without}
-use Rattle.snap_layer.proofs.Counting.{weight, name_count-insert_entry, inode_count-with_entry, inode_count-without, inodes_of, taken_inodes, dropped, dirs, whites, length-insert_new}
-use Rattle.snap_layer.proofs.Kept.{IsLayer-without, IsLayer-with_entry, IsLayer-with_file, Puts, PutsNew, with_file, free_has_no_number, free_is_no_dir, nothing_below, dir_has_no_number, inode_count-taken, has_body, body-without, next_is_fresh}
+use Rattle.snap_layer.proofs.Looks.{split_path, split_number, at-with_entry, at-without_inside, at-without_outside, same_tree, is_dropped, body-bodies_without, sorted-bodies_without}
+use Rattle.snap_layer.proofs.Counting.{weight, name_count-insert_entry, inode_count-with_entry, inodes_of, dirs, whites, length-insert_new}
+use Rattle.snap_layer.proofs.Kept.{IsLayer-without, IsLayer-with_entry, IsLayer-with_file, free_has_no_number, free_is_no_dir, nothing_below, has_body, body-without, next_is_fresh}
 
 -- ---- the entries
 

@@ -1,15 +1,14 @@
 -- A mode, a mark or bytes set in place.
-use Rattle.std.proofs.Common.{◌≡◌, ℕ, ◌+◌, ◌<◌, ◌≤◌, Bool, true, false, cond, List, [], ◌∷◌, ◌++◌, length, Option, Some, None, IsSome, refl, sym, ap, subst, ◌∙◌, arith}
+use Rattle.std.proofs.Common.{◌≡◌, ℕ, ◌≤◌, Bool, List, Option, Some, None, IsSome, refl, sym, ap, subst, arith}
 use Rattle.std.specs.Prelude.{option_and_then, is_some}
 use Rattle.snap_path.specs.Text.{Names}
-use Rattle.snap_layer.specs.declared.node.Node.{Node}
-use Rattle.snap_layer.specs.declared.node.Node.TheVariants.{Dir, File, Symlink, Whiteout}
+use Rattle.snap_layer.specs.declared.node.Node.TheVariants.{Dir, File}
 use Rattle.snap_layer.specs.declared.node.Body.{Body}
 use Rattle.snap_layer.specs.declared.node.Body.TheVariants as body_kinds
-use Rattle.snap_layer.specs.Tree.{Tree, at, body, number_of, IsDirAt}
+use Rattle.snap_layer.specs.Tree.{Tree, at, body, number_of}
 use Rattle.snap_layer.specs.Counts.{inode_count}
-use Rattle.snap_layer.specs.Layers.{IsLayer, IsFile, IsWhole}
-use Rattle.snap_layer.specs.Edits.{with_entry, with_body, with_bytes, with_mode, with_file_mode, with_opaque}
+use Rattle.snap_layer.specs.Layers.{IsLayer, IsFile}
+use Rattle.snap_layer.specs.Edits.{with_entry, with_body}
 use Rattle.snap_layer.proofs.Counting.{inode_count-with_entry, inode_count-with_body, inodes_of}
 use Rattle.snap_layer.proofs.Kept.{IsLayer-with_entry, IsLayer-with_body}
 

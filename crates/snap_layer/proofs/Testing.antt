@@ -1,5 +1,5 @@
 -- The tests of an edit's condition.
-use Rattle.std.proofs.Common.{◌≡◌, ℕ, ◌+◌, ◌-◌, ◌<◌, ◌≤◌, Bool, true, false, cond, List, [], ◌∷◌, ◌++◌, length, length-append, take, drop, Option, Some, None, IsSome, refl, sym, ap, subst, ◌∙◌, ◌⊎◌, inl, inr, arith}
+use Rattle.std.proofs.Common.{◌≡◌, ℕ, ◌+◌, ◌-◌, ◌≤◌, Bool, true, false, List, [], ◌∷◌, ◌++◌, length, length-append, take, drop, Option, Some, None, IsSome, refl, sym, ap, subst, ◌∙◌, inl, inr, arith}
 use Rattle.std.specs.Prelude.{is_some, is_none, not, nat_le, ◌||◌, ◌&&◌, IsTrue}
 use Rattle.std.specs.List.{list_all}
 use Rattle.std.specs.List.Sorted.{IsStrictlySortedBy}
@@ -11,9 +11,8 @@ use Rattle.std.proofs.lemmas.List.Folds.{list_all-append}
 use Rattle.snap_path.specs.Text.{Names, is_name, text_of, text_below, IsPath}
 use Rattle.snap_path.proofs.Texts.{text_below-append}
 use Rattle.snap_layer.specs.declared.node.Node.{Node}
-use Rattle.snap_layer.specs.declared.node.Node.TheVariants.{Dir, File, Symlink, Whiteout}
-use Rattle.snap_layer.specs.Tree.{Tree, Entries, path_cmp, at, begins, is_dir, is_whiteout, name_below, IsDirAt}
-use Rattle.snap_layer.specs.Edits.{IsFree, HasParent, HasRoom, HasPlace, IsTakeable}
+use Rattle.snap_layer.specs.Tree.{Tree, Entries, path_cmp, at, begins, is_whiteout, name_below, IsDirAt}
+use Rattle.snap_layer.specs.Edits.{IsFree, HasParent}
 use Rattle.snap_layer.proofs.Lists.{at_itself, lookup_below}
 use Rattle.snap_layer.proofs.Looks.{split_path}
 use Rattle.snap_layer.proofs.Paths.{path_cmp_total, path_cmp-IsAntisymmetric, name_below-append, name_below_is, begins_from, begins_rest}

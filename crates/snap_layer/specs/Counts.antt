@@ -1,5 +1,5 @@
 -- How much a layer takes: its inodes, and its blocks of 4096 bytes.
-use Rattle.std.specs.Prelude.{ℕ, ◌+◌, ◌/◌, Bool, ◌&&◌, nat_le, List, [], ◌∷◌, length, count_by}
+use Rattle.std.specs.Prelude.{ℕ, ◌+◌, ◌/◌, Bool, ◌&&◌, nat_le, length, count_by}
 use Rattle.std.specs.Map.{values_of}
 use Rattle.std.specs.List.{sum_by}
 use Rattle.snap_layer.specs.declared.node.Body.{Body}

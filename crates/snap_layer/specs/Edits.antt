@@ -1,5 +1,5 @@
 -- The layer after each edit, and when the edit may be made.
-use Rattle.std.specs.Prelude.{◌≡◌, ℕ, ◌+◌, ◌≤◌, Bool, true, false, not, ◌==◌, filter, map, List, [], ◌∷◌, ◌++◌, length, drop, Option, Some, None, IsSome, if◌then◌else◌}
+use Rattle.std.specs.Prelude.{◌≡◌, ℕ, ◌+◌, Bool, true, false, not, ◌==◌, filter, map, List, [], ◌∷◌, ◌++◌, length, drop, Option, Some, None, IsSome, if◌then◌else◌}
 use Rattle.std.specs.Ordering.{nat_cmp}
 use Rattle.std.specs.Map.{remove_entry}
 use Rattle.std.specs.BTreeMap.{is_at, insert_entry}

@@ -1,4 +1,4 @@
-use Rattle.std.proofs.Common.{◌≡◌, sym, ◌∙◌}
+use Rattle.std.proofs.Common.{sym, ◌∙◌}
 use Rattle.snap_layer.proofs.Testing.{clear_from, all_from}
 use Rattle.snap_layer.proofs.entries.has_whiteouts_alone.Goals as goal
 

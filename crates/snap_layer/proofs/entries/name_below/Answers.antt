@@ -1,6 +1,4 @@
-use Rattle.std.proofs.Common.{◌≡◌, ◌∷◌, ◌++◌, [], ℕ, List, length, drop, true, false, sym, ap, ◌∙◌}
-use Rattle.snap_path.specs.Text.{Names}
-use Rattle.snap_layer.specs.Tree.{name_below, begins}
+use Rattle.std.proofs.Common.{◌≡◌, true, false, sym, ◌∙◌}
 use Rattle.snap_layer.proofs.Paths.{below_last, below_none}
 use Rattle.snap_layer.proofs.entries.name_below.Goals as goal
 use Rattle.snap_layer.proofs.entries.name_below.Goals.{else-names-directory-via-then-names-directory+else-starts_with, else-names-directory-via-else-names-directory}

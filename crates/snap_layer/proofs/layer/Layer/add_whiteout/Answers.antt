@@ -1,13 +1,7 @@
-use Rattle.std.proofs.Common.{◌≡◌, ℕ, ◌+◌, ◌<◌, ◌≤◌, Some, sym, ap, ◌∙◌, subst, arith}
 use Rattle.std.proofs.lemmas.Result.{err_from_is_err_and}
-use Rattle.snap_layer.specs.declared.node.Node.TheVariants.{Dir, File, Symlink, Whiteout}
-use Rattle.snap_layer.specs.declared.node.Body.TheVariants as body_kinds
-use Rattle.snap_layer.specs.Tree.{Tree}
-use Rattle.snap_layer.specs.Counts.{inode_count, is_within}
-use Rattle.snap_layer.specs.Layers.{IsLayer}
-use Rattle.snap_layer.specs.Edits.{with_entry, with_node, with_new}
-use Rattle.snap_layer.proofs.Replacing.{with_node-free}
-use Rattle.snap_layer.proofs.Filling.{dir_becomes, whiteout_becomes, file_becomes, symlink_becomes, new_full, full_said, memory_said, ok_said}
+use Rattle.snap_layer.specs.declared.node.Node.TheVariants.{Whiteout}
+use Rattle.snap_layer.specs.Edits.{with_node}
+use Rattle.snap_layer.proofs.Filling.{whiteout_becomes, full_said, memory_said, ok_said}
 use Rattle.snap_layer.proofs.layer.Layer.add_whiteout.Goals as goal
 
 pub returns-then-inodes-gt-MOST_INODES-clause-full : goal.returns-then-inodes-gt-MOST_INODES-clause-full

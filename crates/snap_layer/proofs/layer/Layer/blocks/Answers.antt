@@ -1,4 +1,4 @@
-use Rattle.std.proofs.Common.{◌≡◌, ◌+◌, ◌*◌, ◌≤◌, sym, ap, arith, rules}
+use Rattle.std.proofs.Common.{◌≡◌, arith, rules}
 use Rattle.std.specs.Prelude.{count_by}
 use Rattle.std.specs.BTreeMap.{values}
 use Rattle.snap_layer.specs.Tree.{is_dir}

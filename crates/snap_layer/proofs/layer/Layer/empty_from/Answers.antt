@@ -1,4 +1,4 @@
-use Rattle.std.proofs.Common.{◌≡◌, [], ◌∷◌, refl, sym, arith}
+use Rattle.std.proofs.Common.{refl, arith}
 use Rattle.snap_layer.proofs.Kept.{IsLayer-root_only}
 use Rattle.snap_layer.proofs.layer.Layer.empty_from.Goals as goal
 

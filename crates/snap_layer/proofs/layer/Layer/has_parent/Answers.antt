@@ -1,6 +1,5 @@
-use Rattle.std.proofs.Common.{◌≡◌, ◌-◌, Option, Some, None, length, take, sym, ap, subst, ◌∙◌}
+use Rattle.std.proofs.Common.{◌≡◌, ◌-◌, Some, None, length, take, sym, ap, subst, ◌∙◌}
 use Rattle.snap_path.specs.Text.{Names}
-use Rattle.snap_layer.specs.declared.node.Node.{Node}
 use Rattle.snap_layer.specs.Tree.{at, IsDirAt}
 use Rattle.snap_layer.proofs.Testing.{parent_from, parent_is}
 use Rattle.snap_layer.proofs.layer.Layer.has_parent.Goals as goal

@@ -1,6 +1,6 @@
-use Rattle.std.proofs.Common.{◌≡◌, ℕ, List, ◌∷◌, ◌++◌, [], sym, subst}
+use Rattle.std.proofs.Common.{ℕ, List, ◌∷◌, ◌++◌, [], sym, subst}
 use Rattle.snap_layer.specs.Tree.{Tree, at}
-use Rattle.snap_layer.specs.Edits.{HasParent, HasPlace, IsFree}
+use Rattle.snap_layer.specs.Edits.{HasParent, IsFree}
 use Rattle.snap_layer.proofs.layer.Layer.has_place.Goals as goal
 
 pub returns : goal.returns

@@ -1,10 +1,8 @@
-use Rattle.std.proofs.Common.{◌≡◌, ℕ, ◌+◌, ◌≤◌, Option, Some, None, sym, ap, ◌∙◌, subst, arith}
+use Rattle.std.proofs.Common.{◌≡◌, Some, None, sym, ap, ◌∙◌, arith}
 use Rattle.std.specs.Prelude.{option_and_then}
-use Rattle.snap_layer.specs.declared.node.Node.{Node}
-use Rattle.snap_layer.specs.Tree.{Tree, at, number_of, number_at}
+use Rattle.snap_layer.specs.Tree.{Tree, number_of, number_at}
 use Rattle.snap_layer.specs.Counts.{inode_count}
 use Rattle.snap_layer.specs.Edits.{without, outside}
-use Rattle.snap_layer.proofs.Counting.{dropped}
 use Rattle.snap_layer.proofs.Replacing.{without_nothing}
 use Rattle.snap_layer.proofs.Filling.{left_count, dropped_last, dropped_other, dropped_none}
 use Rattle.snap_layer.proofs.layer.Layer.inodes_without.Goals as goal

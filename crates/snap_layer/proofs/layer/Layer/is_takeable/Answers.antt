@@ -2,7 +2,7 @@ use Rattle.std.proofs.Common.{◌≡◌, ℕ, List, ◌∷◌, ◌++◌, [], sym
 use Rattle.std.specs.Prelude.{is_some, ◌==◌, false, true, length}
 use Rattle.snap_path.specs.Text.{Names}
 use Rattle.snap_layer.specs.Tree.{Tree, at}
-use Rattle.snap_layer.specs.Edits.{IsTakeable, IsFree}
+use Rattle.snap_layer.specs.Edits.{IsFree}
 use Rattle.snap_layer.proofs.layer.Layer.is_takeable.Goals as goal
 
 differ : false ≡ true → ⊥

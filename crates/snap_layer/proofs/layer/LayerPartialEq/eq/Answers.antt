@@ -1,4 +1,4 @@
-use Rattle.std.proofs.Common.{◌≡◌, sym, ◌∙◌}
+use Rattle.std.proofs.Common.{sym, ◌∙◌}
 use Rattle.snap_layer.specs.Equal.{tree_eq-Decides}
 use Rattle.snap_layer.proofs.layer.LayerPartialEq.eq.Goals as goal
 
