@@ -10,3 +10,4 @@ pub mod Filling
 pub mod Moves
 pub mod Moving
 pub mod Testing
+pub mod Laws

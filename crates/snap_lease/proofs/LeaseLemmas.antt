@@ -1,0 +1,48 @@
+-- Lemmas on one lease, whose names are the bytes of the keys of a set.
+use Rattle.std.proofs.Common.{◌≡◌, ℕ, ◌+◌, ◌<◌, Bool, true, false, List, [], ◌∷◌, ◌++◌, ◌||◌, map, length, get_or, take, refl, sym, ap, ◌∙◌, String, string_bytes, if◌then◌else◌}
+use Rattle.std.proofs.lemmas.List.{map-append, take_more}
+use Rattle.std.specs.List.{list_any}
+use Rattle.std.specs.Str.{bytes_eq}
+use Rattle.std.specs.String.{string_eq}
+use Rattle.indexmap.specs.IndexSet.{insert_key}
+use Rattle.snap_lease.specs.Lease.{Lease, does_name, with_name}
+
+-- a test of each element of a mapped list
+pub list_any-map : {X Y : Type 0} (p : Y → Bool) (f : X → Y) (xs : List X) → list_any p (map f xs) ≡ list_any (λ x. p (f x)) xs
+list_any-map p f [] = refl
+list_any-map p f (x ∷ xs) = ap (λ b. p (f x) || b) (list_any-map p f xs)
+
+module _ {Z : Type 0} where
+  -- the set has the name where the lease names it
+  pub list_any-names : (name : List ℕ) (keys : List (String Z)) → list_any (bytes_eq name) (map string_bytes keys) ≡ list_any (λ k. bytes_eq name (string_bytes k)) keys
+  list_any-names name keys = list_any-map (bytes_eq name) string_bytes keys
+
+  -- the names after a new key is inserted
+  pub names-insert_key : (keys : List (String Z)) (k : String Z) → list_any (bytes_eq (string_bytes k)) (map string_bytes keys) ≡ false → map string_bytes (insert_key string_eq keys k) ≡ map string_bytes keys ++ string_bytes k ∷ []
+  names-insert_key keys k absent =
+      let none : list_any (string_eq k) keys ≡ false = sym (list_any-names (string_bytes k) keys) ∙ absent in
+      ap (λ b. map string_bytes (if b then keys else keys ++ k ∷ [])) none ∙ map-append string_bytes keys (k ∷ [])
+
+-- a lease that lacks the name has it last
+pub with_name-new : (name : List ℕ) (l : Lease) → does_name name l ≡ false → with_name name l ≡ record l { names = l.names ++ name ∷ [] }
+with_name-new name l absent = ap (λ b. if b then l else record l { names = l.names ++ name ∷ [] }) absent
+
+-- a lease that has the name stays as it is
+pub with_name-there : (name : List ℕ) (l : Lease) → does_name name l ≡ true → with_name name l ≡ l
+with_name-there name l there = ap (λ b. if b then l else record l { names = l.names ++ name ∷ [] }) there
+
+-- a list with a name more is the copy of a list with an element more
+pub map-push : {X Y : Type 0} (f : X → Y) (xs ys : List X) (k x : X) (i : ℕ) → i < length xs → x ≡ get_or xs i x → f k ≡ f x → map f ys ≡ map f (take i xs) → map f (ys ++ k ∷ []) ≡ map f (take (i + 1) xs)
+map-push f xs ys k x i within at same copied =
+    let grown : map f (take (i + 1) xs) ≡ map f (take i xs) ++ f (get_or xs i x) ∷ [] = ap (map f) (take_more xs i x within) ∙ map-append f (take i xs) (get_or xs i x ∷ []) in
+    let last : f k ≡ f (get_or xs i x) = same ∙ ap f at in
+    map-append f ys (k ∷ []) ∙ ap (λ l. l ++ f k ∷ []) copied ∙ ap (λ y. map f (take i xs) ++ y ∷ []) last ∙ sym grown
+
+-- a lease over the keys of a set, after a new key is inserted
+pub with_name-inserted : {Z : Type 0} (name : List ℕ) (l : Lease) (keys new : List (String Z)) (k : String Z)
+    → does_name name l ≡ false → l.names ≡ map string_bytes keys → string_bytes k ≡ name → new ≡ insert_key string_eq keys k
+    → record l { names = map string_bytes new } ≡ with_name name l
+with_name-inserted name l keys new k absent seen is inserted =
+    let lacks : list_any (bytes_eq (string_bytes k)) (map string_bytes keys) ≡ false = ap (λ n. list_any (bytes_eq n) (map string_bytes keys)) is ∙ ap (list_any (bytes_eq name)) (sym seen) ∙ absent in
+    let grown : map string_bytes new ≡ l.names ++ name ∷ [] = ap (map string_bytes) inserted ∙ names-insert_key keys k lacks ∙ ap (λ ns. ns ++ string_bytes k ∷ []) (sym seen) ∙ ap (λ n. l.names ++ n ∷ []) is in
+    ap (λ ns. record l { names = ns }) grown ∙ sym (with_name-new name l absent)

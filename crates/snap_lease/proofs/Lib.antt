@@ -1,0 +1,4 @@
+pub mod CountLemmas
+pub mod LeaseLemmas
+pub mod ListLemmas
+pub mod Walks

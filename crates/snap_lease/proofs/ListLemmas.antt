@@ -1,0 +1,175 @@
+-- Lemmas on lists of leases: which lease is meant, and that leases stay distinct.
+use Rattle.std.proofs.Common.{◌≡◌, ℕ, zero, suc, ◌+◌, ◌<◌, Bool, true, false, not, cond, List, [], ◌∷◌, ◌++◌, ◌&&◌, ◌||◌, Option, None, Some, map, filter, position, slice_get, find, nat_lt, is_some, set, length, get_or, refl, sym, ap, ◌∙◌, arith, true≢false, if◌then◌else◌, bytes_eq}
+use Rattle.std.proofs.lemmas.List.Folds.{find_at, list_any-append, list_any_at}
+use Rattle.std.proofs.lemmas.List.Quantifiers.{position-Some}
+use Rattle.std.proofs.lemmas.Option.{slice_get-get_or}
+use Rattle.std.proofs.lemmas.Bool.Decides.{nat_tests}
+use Rattle.std.proofs.lemmas.Slice.Eq.{bytes_eq-Decides}
+use Rattle.std.specs.List.{list_any, position_or_len}
+use Rattle.snap_lease.specs.Lease.{Lease, is_lease, does_name, with_name}
+use Rattle.snap_lease.specs.Leases.{has_lease, AreDistinct, with_name_added}
+
+-- a test that no element passes: the filter by its negation keeps all, and a change where it passes changes nothing
+module _ {X : Type 0} (t : X → Bool) where
+  pub list_any-tail : (x : X) (xs : List X) → list_any t (x ∷ xs) ≡ false → (t x ≡ false) × (list_any t xs ≡ false)
+  list_any-tail x xs none = grind arith
+
+  pub filter-none : (xs : List X) → list_any t xs ≡ false → filter (λ x. not (t x)) xs ≡ xs
+  filter-none [] none = refl
+  filter-none (x ∷ xs) none =
+      let both = list_any-tail x xs none in
+      ap (λ b. cond (not b) (x ∷ filter (λ y. not (t y)) xs) (filter (λ y. not (t y)) xs)) both.0 ∙ ap (λ ys. x ∷ ys) (filter-none xs both.1)
+
+  pub map-none : (f : X → X) (xs : List X) → list_any t xs ≡ false → map (λ x. if t x then f x else x) xs ≡ xs
+  map-none f [] none = refl
+  map-none f (x ∷ xs) none =
+      let both = list_any-tail x xs none in
+      ap (λ b. (if b then f x else x) ∷ map (λ y. if t y then f y else y) xs) both.0 ∙ ap (λ ys. x ∷ ys) (map-none f xs both.1)
+
+  pub list_any-filter_none : (p : X → Bool) (xs : List X) → list_any t xs ≡ false → list_any t (filter p xs) ≡ false
+  list_any-filter_none p [] none = refl
+  list_any-filter_none p (x ∷ xs) none = by (p x) refl (list_any-filter_none p xs (list_any-tail x xs none).1)
+    where
+      by : (b : Bool) → p x ≡ b → list_any t (filter p xs) ≡ false → list_any t (filter p (x ∷ xs)) ≡ false
+      by true e rest = ap (λ b. list_any t (cond b (x ∷ filter p xs) (filter p xs))) e ∙ ap (λ b. b || list_any t (filter p xs)) (list_any-tail x xs none).0 ∙ rest
+      by false e rest = ap (λ b. list_any t (cond b (x ∷ filter p xs) (filter p xs))) e ∙ rest
+
+  -- there is a first place exactly where some element passes
+  pub is_within-position_or_len : (xs : List X) → nat_lt (position_or_len t xs) (length xs) ≡ list_any t xs
+  is_within-position_or_len [] = refl
+  is_within-position_or_len (x ∷ xs) = by (t x) refl (is_within-position_or_len xs)
+    where
+      by : (b : Bool) → t x ≡ b → nat_lt (position_or_len t xs) (length xs) ≡ list_any t xs → nat_lt (position_or_len t (x ∷ xs)) (length (x ∷ xs)) ≡ list_any t (x ∷ xs)
+      by true e rest = let at : position_or_len t (x ∷ xs) ≡ 0 = ap (λ b. cond (not b) (1 + position_or_len t xs) 0) e in grind (arith, nat_tests)
+      by false e rest = let at : position_or_len t (x ∷ xs) ≡ 1 + position_or_len t xs = ap (λ b. cond (not b) (1 + position_or_len t xs) 0) e in let any : list_any t (x ∷ xs) ≡ list_any t xs = ap (λ b. b || list_any t xs) e in grind (arith, nat_tests)
+
+  pub is_some-position : (xs : List X) → is_some (position t xs) ≡ list_any t xs
+  is_some-position xs = ap (λ b. is_some (cond b (Some (position_or_len t xs)) None)) (is_within-position_or_len xs) ∙ by (list_any t xs)
+    where
+      by : (b : Bool) → is_some (cond b (Some (position_or_len t xs)) None) ≡ b
+      by true = refl
+      by false = refl
+
+  -- the first place has the first element that passes
+  pub find-position : (xs : List X) (i : ℕ) (d : X) → position t xs ≡ Some i → find t xs ≡ Some (get_or xs i d)
+  find-position xs i d some = by (nat_lt (position_or_len t xs) (length xs)) refl
+    where
+      by : (b : Bool) → nat_lt (position_or_len t xs) (length xs) ≡ b → find t xs ≡ Some (get_or xs i d)
+      by true e =
+          let first : Some (position_or_len t xs) ≡ Some i = sym (ap (λ b. cond b (Some (position_or_len t xs)) None) e) ∙ some in
+          let same : position_or_len t xs ≡ i = cc in
+          find_at t xs ∙ ap (slice_get xs) same ∙ slice_get-get_or xs i d (position-Some t xs i d some).0
+      by false e = let none : None ≡ Some i = sym (ap (λ b. cond b (Some (position_or_len t xs)) None) e) ∙ some in cc
+
+-- the namespace has the lease exactly where the lease has a place
+pub has_lease_at_place : (ls : List Lease) (namespace lease : List ℕ) (place : Option ℕ) → place ≡ position (is_lease namespace lease) ls → has_lease ls namespace lease ≡ is_some place
+has_lease_at_place ls namespace lease place at = sym (is_some-position (is_lease namespace lease) ls) ∙ ap is_some (sym at)
+
+-- the test of a lease finds its namespace and its name
+pub is_lease-parts : (namespace lease : List ℕ) (l : Lease) → is_lease namespace lease l ≡ true → (namespace ≡ l.namespace) × (lease ≡ l.name)
+is_lease-parts namespace lease l is =
+    let both : (bytes_eq namespace l.namespace ≡ true) × (bytes_eq lease l.name ≡ true) = grind arith in
+    ((bytes_eq-Decides namespace l.namespace).0 both.0, (bytes_eq-Decides lease l.name).0 both.1)
+
+pub bytes_eq_comm : (xs ys : List ℕ) → bytes_eq xs ys ≡ bytes_eq ys xs
+bytes_eq_comm xs ys = by (bytes_eq xs ys) (bytes_eq ys xs) refl refl
+  where
+    by : (a b : Bool) → bytes_eq xs ys ≡ a → bytes_eq ys xs ≡ b → bytes_eq xs ys ≡ bytes_eq ys xs
+    by true b p q = p ∙ sym ((bytes_eq-Decides ys xs).1 (sym ((bytes_eq-Decides xs ys).0 p)))
+    by false true p q = (bytes_eq-Decides xs ys).1 (sym ((bytes_eq-Decides ys xs).0 q)) ∙ sym q
+    by false false p q = p ∙ sym q
+
+pub is_lease_comm : (l k : Lease) → is_lease l.namespace l.name k ≡ is_lease k.namespace k.name l
+is_lease_comm l k = ap (λ b. b && bytes_eq l.name k.name) (bytes_eq_comm l.namespace k.namespace) ∙ ap (λ b. bytes_eq k.namespace l.namespace && b) (bytes_eq_comm l.name k.name)
+
+-- a lease that is new goes last
+pub AreDistinct-push : (ls : List Lease) (l : Lease) → AreDistinct ls → has_lease ls l.namespace l.name ≡ false → AreDistinct (ls ++ l ∷ [])
+AreDistinct-push [] l distinct absent = (refl, tt)
+AreDistinct-push (k ∷ ks) l distinct absent =
+    let both = list_any-tail (is_lease l.namespace l.name) k ks absent in
+    let other : is_lease k.namespace k.name l ≡ false = is_lease_comm k l ∙ both.0 in
+    let new : has_lease (l ∷ []) k.namespace k.name ≡ false = ap (λ b. b || false) other in
+    (list_any-append (is_lease k.namespace k.name) ks (l ∷ []) ∙ ap (λ b. b || has_lease (l ∷ []) k.namespace k.name) distinct.0 ∙ new, AreDistinct-push ks l distinct.1 both.1)
+
+pub AreDistinct-filter : (p : Lease → Bool) (ls : List Lease) → AreDistinct ls → AreDistinct (filter p ls)
+AreDistinct-filter p [] distinct = tt
+AreDistinct-filter p (l ∷ ls) distinct = by (p l) (AreDistinct-filter p ls distinct.1)
+  where
+    by : (b : Bool) → AreDistinct (filter p ls) → AreDistinct (cond b (l ∷ filter p ls) (filter p ls))
+    by true rest = (list_any-filter_none (is_lease l.namespace l.name) p ls distinct.0, rest)
+    by false rest = rest
+
+-- after a lease that is of the namespace and of the name, there is no other
+pub has_lease-after : (namespace lease : List ℕ) (l : Lease) (ls : List Lease) → AreDistinct (l ∷ ls) → is_lease namespace lease l ≡ true → has_lease ls namespace lease ≡ false
+has_lease-after namespace lease l ls distinct is =
+    let parts = is_lease-parts namespace lease l is in
+    ap (λ n. has_lease ls n lease) parts.0 ∙ ap (has_lease ls l.namespace) parts.1 ∙ distinct.0
+
+-- a lease keeps its namespace and its name when a name is added
+pub with_name-namespace : (name : List ℕ) (l : Lease) → (with_name name l).namespace ≡ l.namespace
+with_name-namespace name l = by (does_name name l)
+  where
+    by : (b : Bool) → (if b then l else record l { names = l.names ++ name ∷ [] }).namespace ≡ l.namespace
+    by true = refl
+    by false = refl
+
+pub with_name-name : (name : List ℕ) (l : Lease) → (with_name name l).name ≡ l.name
+with_name-name name l = by (does_name name l)
+  where
+    by : (b : Bool) → (if b then l else record l { names = l.names ++ name ∷ [] }).name ≡ l.name
+    by true = refl
+    by false = refl
+
+module _ (namespace lease name : List ℕ) where
+  -- what becomes of one lease
+  abbrev pub changed : Lease → Lease
+  changed l = if is_lease namespace lease l then with_name name l else l
+
+  pub is_lease-changed : (space other : List ℕ) (l : Lease) → is_lease space other (changed l) ≡ is_lease space other l
+  is_lease-changed space other l = by (is_lease namespace lease l)
+    where
+      by : (b : Bool) → is_lease space other (if b then with_name name l else l) ≡ is_lease space other l
+      by true = ap (λ n. bytes_eq space n && bytes_eq other (with_name name l).name) (with_name-namespace name l) ∙ ap (λ n. bytes_eq space l.namespace && bytes_eq other n) (with_name-name name l)
+      by false = refl
+
+  pub namespace-changed : (l : Lease) → (changed l).namespace ≡ l.namespace
+  namespace-changed l = by (is_lease namespace lease l)
+    where
+      by : (b : Bool) → (if b then with_name name l else l).namespace ≡ l.namespace
+      by true = with_name-namespace name l
+      by false = refl
+
+  pub name-changed : (l : Lease) → (changed l).name ≡ l.name
+  name-changed l = by (is_lease namespace lease l)
+    where
+      by : (b : Bool) → (if b then with_name name l else l).name ≡ l.name
+      by true = with_name-name name l
+      by false = refl
+
+  pub has_lease-with_name_added : (space other : List ℕ) (ls : List Lease) → has_lease (with_name_added ls namespace lease name) space other ≡ has_lease ls space other
+  has_lease-with_name_added space other [] = refl
+  has_lease-with_name_added space other (l ∷ ls) =
+      ap (λ b. b || has_lease (with_name_added ls namespace lease name) space other) (is_lease-changed space other l)
+      ∙ ap (λ b. is_lease space other l || b) (has_lease-with_name_added space other ls)
+
+  pub AreDistinct-with_name_added : (ls : List Lease) → AreDistinct ls → AreDistinct (with_name_added ls namespace lease name)
+  AreDistinct-with_name_added [] distinct = tt
+  AreDistinct-with_name_added (l ∷ ls) distinct =
+      (has_lease-with_name_added (changed l).namespace (changed l).name ls ∙ ap (λ n. has_lease ls n (changed l).name) (namespace-changed l) ∙ ap (has_lease ls l.namespace) (name-changed l) ∙ distinct.0, AreDistinct-with_name_added ls distinct.1)
+
+  -- a write at the place of the lease changes it alone
+  pub set-with_name_added : (ls : List Lease) (place : ℕ) (d : Lease) → AreDistinct ls → place < length ls → is_lease namespace lease (get_or ls place d) ≡ true
+      → set ls place (with_name name (get_or ls place d)) ≡ with_name_added ls namespace lease name
+  set-with_name_added [] place d distinct within is = absurd (omega arith)
+  set-with_name_added (l ∷ ls) zero d distinct within is =
+      ap (λ k. k ∷ ls) (sym (ap (λ b. if b then with_name name l else l) is))
+      ∙ ap (λ ks. changed l ∷ ks) (sym (map-none (is_lease namespace lease) (with_name name) ls (has_lease-after namespace lease l ls distinct is)))
+  set-with_name_added (l ∷ ls) (suc place) d distinct within is =
+      let there : has_lease ls namespace lease ≡ true = list_any_at (is_lease namespace lease) ls place d (omega arith) is in
+      by (is_lease namespace lease l) refl there (set-with_name_added ls place d distinct.1 (omega arith) is)
+    where
+      by : (b : Bool) → is_lease namespace lease l ≡ b → has_lease ls namespace lease ≡ true
+          → set ls place (with_name name (get_or ls place d)) ≡ with_name_added ls namespace lease name
+          → l ∷ set ls place (with_name name (get_or ls place d)) ≡ with_name_added (l ∷ ls) namespace lease name
+      by true e there rest = absurd (true≢false (sym there ∙ has_lease-after namespace lease l ls distinct e))
+      by false e there rest = ap (λ ks. l ∷ ks) rest ∙ ap (λ k. k ∷ with_name_added ls namespace lease name) (sym (ap (λ b. if b then with_name name l else l) e))

@@ -1,0 +1,21 @@
+use Rattle.std.proofs.Common.{◌∙◌, ◌≡◌, rules, ap, sym, subst}
+use Rattle.std.proofs.lemmas.Fn.{filter_same}
+use Rattle.snap_lease.specs.Leases.{AreDistinct, without_ended, CountsLive}
+use Rattle.snap_lease.proofs.CountLemmas.{CountsLive-without_ended}
+use Rattle.snap_lease.proofs.ListLemmas.{AreDistinct-filter}
+use Rattle.snap_lease.proofs.list.Leases.drop_ended.Goals as goal
+
+-- what the call leaves
+kept : (c : goal.After-retain) → c.retain.new.self.items ≡ without_ended c.self.inside.list.items c.args.namespace.now c.args.now
+kept c = filter_same _ _ _ (λ x b f' k. search rules) _ _ c.retain.ensures.filtered
+
+pub invariant_of-self : goal.invariant_of-self
+invariant_of-self c = subst AreDistinct (sym (kept c)) (AreDistinct-filter _ _ c.self.invariant)
+
+pub returns-clause-leases : goal.returns-clause-leases
+returns-clause-leases c = kept c ∙ ap (λ ls. without_ended ls c.args.namespace.now c.args.now) c.self.view_is
+
+pub returns-clause-counts : goal.returns-clause-counts
+returns-clause-counts c =
+    subst (λ new. CountsLive c.args.self.now new c.args.namespace.now c.args.now) (sym (returns-clause-leases c))
+    (CountsLive-without_ended c.args.self.now c.args.namespace.now c.args.now)

@@ -1,0 +1,39 @@
+-- What a lease is, and what is asked of one lease. Texts are their bytes.
+use Rattle.std.specs.Prelude.{ℕ, Bool, true, List, [], ◌∷◌, ◌++◌, Option, None, Some, nat_le, ◌&&◌, if◌then◌else◌}
+use Rattle.std.specs.List.{list_any}
+use Rattle.std.specs.Str.{bytes_eq}
+
+-- a lease of a namespace: its last moment, if it has one, and the snapshots that it names, in order
+pub record Lease : Type 0 where
+  pub namespace : List ℕ
+  pub name : List ℕ
+  pub until : Option ℕ
+  pub names : List (List ℕ)
+
+-- whether the lease is of the namespace
+abbrev pub is_of : List ℕ → Lease → Bool
+is_of namespace l = bytes_eq namespace l.namespace
+
+-- whether it is the namespace's lease of this name
+abbrev pub is_lease : List ℕ → List ℕ → Lease → Bool
+is_lease namespace lease l = is_of namespace l && bytes_eq lease l.name
+
+-- whether the lease names the snapshot
+abbrev pub does_name : List ℕ → Lease → Bool
+does_name name l = list_any (bytes_eq name) l.names
+
+-- whether the lease is live at the moment: it has no last moment, or the moment is not after it
+abbrev pub is_live_until : Option ℕ → ℕ → Bool
+is_live_until None now = true
+is_live_until (Some until) now = nat_le now until
+
+abbrev pub is_live : ℕ → Lease → Bool
+is_live now l = is_live_until l.until now
+
+-- a lease that names nothing yet
+abbrev pub empty_lease : List ℕ → List ℕ → Option ℕ → Lease
+empty_lease namespace lease until = record { namespace = namespace; name = lease; until = until; names = [] }
+
+-- the lease with the name as its last, and as it is where it has that name
+abbrev pub with_name : List ℕ → Lease → Lease
+with_name name l = if does_name name l then l else record l { names = l.names ++ name ∷ [] }

@@ -1,0 +1,4 @@
+pub mod Lease
+pub mod Leases
+pub mod Marks
+pub mod Reach

@@ -1,0 +1,202 @@
+//! The leases of all namespaces.
+ghost use Rattle.std.specs.Prelude.{◌≡◌, ◌≢◌, ◌↔◌, ◌<◌, ℕ, List, [], ◌∷◌, ◌++◌, map, false, count_by, position, string_bytes, Some, IsTrue, IfOk, OnOk, OnErr, IsErrOf, IsOkUnless};
+ghost use Rattle.snap_lease.specs.Lease.{empty_lease, is_lease};
+ghost use Rattle.snap_lease.specs.Leases.{AreDistinct, has_lease, names_of, lease_names, count_of, is_guarded, is_guarded_at, has_ended, with_name_added, without_lease, without_ended, CountsAdded, CountsReleased, CountsLive};
+
+use crate::LeaseError;
+use crate::entry::LeaseEntry;
+use std::alloc::Global;
+use std::marker::Model;
+
+/// The leases of all namespaces.
+///
+/// Contracts see them as a list of records, in the order in which the leases were created; a release and a sweep leave the
+/// others in their order. The names of a lease are in the order in which they were added, each once. No two leases of one
+/// namespace have the same name.
+#[derive(Drop)]
+pub struct Leases {
+    alloc: Global,
+    list: Vec<LeaseEntry>,
+}
+
+impl Model for Leases {
+    ghost use Rattle.std.specs.Prelude.{List};
+    ghost use Rattle.snap_lease.specs.Lease.{Lease};
+    ghost use Rattle.snap_lease.specs.Leases.{AreDistinct};
+
+    ghost Value = { List Lease };
+
+    ghost view = { λ a. a.list.items };
+
+    ghost invariant = { λ a. AreDistinct a.list.items };
+}
+
+impl Leases {
+    /// No leases. Takes no memory.
+    pub fn new(alloc: Global) -> Leases
+        ensures { result ≡ [] }
+    {
+        Leases {
+            alloc,
+            list: Vec::new(alloc),
+        }
+    }
+
+    // Whether the namespace has a lease of this name.
+    fn has(&self, namespace: &str, lease: &str) -> bool
+        ensures { result ≡ has_lease self.now namespace.now lease.now }
+    {
+        self.list.iter().any(|l| l.is_lease(namespace, lease))
+    }
+
+    // The place of the namespace's lease of this name.
+    fn place_of(&self, namespace: &str, lease: &str) -> Option<usize>
+        ensures { result ≡ position (is_lease namespace.now lease.now) self.now }
+    {
+        self.list.iter().position(|l| l.is_lease(namespace, lease))
+    }
+
+    /// Makes a lease that names nothing, with a last moment or none, as containerd's `leases.Manager.Create` does.
+    ///
+    /// Takes memory for the two texts and for a place in the list. Its cost grows with the number of leases.
+    pub fn create(
+        &mut self,
+        namespace: &str,
+        lease: &str,
+        until: Option<u64>,
+    ) -> Result<(), LeaseError>
+        // The lease is the last one. What is named how often stays.
+        ensures ok { OnOk result (self.new ≡ self.old ++ empty_lease namespace.now lease.now until ∷ []) }
+        ensures counts { (space name : List ℕ) → count_of self.new space name ≡ count_of self.old space name }
+
+        // The one refusal other than want of memory comes exactly where the lease is there already.
+        ensures exists { IsErrOf result LeaseError.LeaseExists ↔ IsTrue (has_lease self.old namespace.now lease.now) }
+        ensures no_lease { result ≢ Err LeaseError.NoLease }
+        ensures err { OnErr result (self.new ≡ self.old) }
+    {
+        if self.has(namespace, lease) {
+            return Err(LeaseError::LeaseExists);
+        }
+        let entry = LeaseEntry::new(self.alloc, namespace, lease, until)?;
+        self.list.push(entry)?;
+        Ok(())
+    }
+
+    /// Names the snapshot in the lease too, as its last name. A name that is there already changes nothing.
+    ///
+    /// Takes memory for the text and for a place in the set, and none for a name that is there already. Its cost grows with
+    /// the number of leases.
+    #[tactic(auto, using(crate::proofs::ListLemmas::has_lease_at_place))]
+    pub fn add(&mut self, namespace: &str, lease: &str, name: &str) -> Result<(), LeaseError>
+        // The lease has the name, once, and every other lease stays.
+        ensures ok { OnOk result (self.new ≡ with_name_added self.old namespace.now lease.now name.now) }
+        ensures counts { OnOk result (CountsAdded self.old self.new namespace.now lease.now name.now) }
+
+        // Without the lease it is refused. Want of memory comes only for a name that is new.
+        ensures no_lease { IsErrOf result LeaseError.NoLease ↔ (has_lease self.old namespace.now lease.now ≡ false) }
+        ensures memory { IsErrOf result LeaseError.OutOfMemory → lease_names self.old namespace.now lease.now name.now ≡ false }
+        ensures exists { result ≢ Err LeaseError.LeaseExists }
+        ensures err { OnErr result (self.new ≡ self.old) }
+    {
+        let Some(place) = self.place_of(namespace, lease) else {
+            return Err(LeaseError::NoLease);
+        };
+        let entry = &mut self.list[place];
+        entry.add(self.alloc, name)?;
+        Ok(())
+    }
+
+    /// Takes the lease away with its names, as containerd's `leases.Manager.Delete` does.
+    ///
+    /// Takes no memory. Its cost grows with the number of leases.
+    pub fn release(&mut self, namespace: &str, lease: &str) -> Result<(), LeaseError>
+        // The others stay as they are, in their order.
+        ensures ok { OnOk result (self.new ≡ without_lease self.old namespace.now lease.now) }
+        ensures counts { OnOk result (CountsReleased self.old self.new namespace.now lease.now) }
+
+        // The only refusal comes exactly where there is no such lease.
+        ensures no_lease { IsErrOf result LeaseError.NoLease ↔ (has_lease self.old namespace.now lease.now ≡ false) }
+        ensures only { IsOkUnless result LeaseError.NoLease }
+        ensures err { OnErr result (self.new ≡ self.old) }
+    {
+        if !self.has(namespace, lease) {
+            return Err(LeaseError::NoLease);
+        }
+        self.list.retain(|l| !l.is_lease(namespace, lease));
+        Ok(())
+    }
+
+    /// Whether a lease of the namespace names the snapshot, live or ended.
+    ///
+    /// Takes no memory. Its cost grows with the number of leases.
+    pub fn holds(&self, namespace: &str, name: &str) -> bool
+        ensures value { result ≡ is_guarded self.now namespace.now name.now }
+        ensures count { IsTrue result ↔ (0 < count_of self.now namespace.now name.now) }
+    {
+        self.count(namespace, name) > 0
+    }
+
+    /// A copy of the names of the lease, in the order in which they were added, as containerd's
+    /// `leases.Manager.ListResources` gives them.
+    ///
+    /// Takes memory for the copy. Its cost grows with the number of leases and with the length of the names.
+    #[tactic(auto, using(crate::proofs::ListLemmas::has_lease_at_place))]
+    pub fn of(&self, namespace: &str, lease: &str) -> Result<Vec<String>, LeaseError>
+        ensures ok { IfOk result (λ v. names_of self.now namespace.now lease.now ≡ Some (map string_bytes v.items)) }
+        ensures no_lease { IsErrOf result LeaseError.NoLease ↔ (has_lease self.now namespace.now lease.now ≡ false) }
+        ensures exists { result ≢ Err LeaseError.LeaseExists }
+    {
+        let Some(place) = self.place_of(namespace, lease) else {
+            return Err(LeaseError::NoLease);
+        };
+        let names = self.list[place].copy_names(self.alloc)?;
+        Ok(names)
+    }
+
+    /// The number of the namespace's leases that name the snapshot, live or ended.
+    ///
+    /// Takes no memory. Its cost grows with the number of leases.
+    pub fn count(&self, namespace: &str, name: &str) -> u64
+        ensures value { result ≡ count_of self.now namespace.now name.now }
+
+        // What is so of all leases: no two of one namespace have the same name.
+        ensures distinct { AreDistinct self.now }
+    {
+        self.list
+            .iter()
+            .filter(|l| l.is_of(namespace) && l.does_name(name))
+            .count() as u64
+    }
+
+    /// Whether a lease of the namespace that is live at the moment names the snapshot.
+    ///
+    /// Takes no memory. Its cost grows with the number of leases.
+    pub fn live(&self, namespace: &str, name: &str, now: u64) -> bool
+        ensures { result ≡ is_guarded_at self.now namespace.now name.now now }
+    {
+        self.list.iter().any(|l| l.is_of(namespace) && l.does_name(name) && l.is_live(now))
+    }
+
+    /// The number of the namespace's leases that have ended at the moment.
+    ///
+    /// Takes no memory. Its cost grows with the number of leases.
+    pub fn ended(&self, namespace: &str, now: u64) -> u64
+        ensures { result ≡ count_by (has_ended namespace.now now) self.now }
+    {
+        self.list
+            .iter()
+            .filter(|l| l.is_of(namespace) && !l.is_live(now))
+            .count() as u64
+    }
+
+    /// Takes away the namespace's leases that have ended at the moment, with their names.
+    ///
+    /// Takes no memory. Its cost grows with the number of leases.
+    pub fn drop_ended(&mut self, namespace: &str, now: u64)
+        ensures leases { self.new ≡ without_ended self.old namespace.now now }
+        ensures counts { CountsLive self.old self.new namespace.now now }
+    {
+        self.list
+            .retain(|l| !(l.is_of(namespace) && !l.is_live(now)));
+    }
+}
