@@ -193,11 +193,8 @@ impl Path {
     {
         let mut text = String::new(alloc);
         let mut all = Vec::new(alloc);
-        for name in names {
-            text.push('/')?;
-            text.push_str(name.as_str())?;
-            all.push(name.clone()?)?;
-        }
+        append_names(&mut all, names)?;
+        append_text(&mut text, names)?;
         Ok(Path { text, names: all })
     }
 
