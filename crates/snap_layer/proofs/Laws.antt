@@ -22,8 +22,22 @@ use Rattle.snap_layer.proofs.Lists.{at_itself, apart_from, sorted-filter, sorted
 use Rattle.snap_layer.proofs.Paths.{path_cmp_total, path_cmp-IsAntisymmetric, begins-append, begins_itself, begins_rest, append-cancel, name_below-append, name_below_is}
 use Rattle.snap_layer.proofs.Looks.{Sets-with_entry, SetsBody, SetsBody-insert_entry, at-without, at-without_inside, at-without_outside, is_dropped, sorted-bodies_without, same_tree}
 use Rattle.snap_layer.proofs.Counting.{weight, weight_of_body, dirs, inodes_of, block_count-with_entry, block_count-with_body, inode_count-with_body, inode_count-with_entry}
+use Rattle.std.specs.Cmp.{nat_cmp_total}
+use Rattle.snap_layer.proofs.Moves.{sorted-without}
 use Rattle.snap_layer.proofs.Kept.{nothing_below, body-without, next_is_fresh}
 use Rattle.snap_layer.proofs.Replacing.{at_taken}
+
+-- ---- in order
+
+pub sorted-with_entry : (t : Tree) (p : Names) (n : Node) → IsStrictlySortedBy path_cmp (keys_of t.entries) → IsStrictlySortedBy path_cmp (keys_of (with_entry t p n).entries)
+sorted-with_entry t p n sorted = sorted-insert_entry path_cmp_total t.entries p n sorted
+
+pub sorted-with_body : (t : Tree) (k : ℕ) (b : Body) → IsStrictlySortedBy nat_cmp (keys_of t.bodies) → IsStrictlySortedBy nat_cmp (keys_of (with_body t k b).bodies)
+sorted-with_body t k b sorted = sorted-insert_entry nat_cmp_total t.bodies k b sorted
+
+-- `with_new` has the same entries
+pub sorted-with_node : (t : Tree) (p : Names) (n : Node) → IsStrictlySortedBy path_cmp (keys_of t.entries) → IsStrictlySortedBy path_cmp (keys_of (with_node t p n).entries)
+sorted-with_node t p n sorted = sorted-with_entry (without t p) p n (sorted-without t p sorted)
 
 -- ---- at every path
 
@@ -134,7 +148,7 @@ inode_count-with_bytes t ok k bytes = by (body t k) refl
 pub block_count-with_bytes : (t : Tree) → IsLayer t → (k mode : ℕ) (old bytes : List ℕ) → body t k ≡ Some (body_kinds.File mode old) → block_count (with_bytes t k (body t k) bytes) + blocks_of (length old) ≡ block_count t + blocks_of (length bytes)
 block_count-with_bytes t ok k mode old bytes e =
     let counted : block_count (with_body t k (body_kinds.File mode bytes)) + blocks_of (length old) ≡ block_count t + blocks_of (length bytes)
-          = ap (λ n. block_count (with_body t k (body_kinds.File mode bytes)) + n) (sym (ap (weight_of_body body_blocks) e)) ∙ block_count-with_body t k (body_kinds.File mode bytes) ok.sorted_numbers in
+    = ap (λ n. block_count (with_body t k (body_kinds.File mode bytes)) + n) (sym (ap (weight_of_body body_blocks) e)) ∙ block_count-with_body t k (body_kinds.File mode bytes) ok.sorted_numbers in
     ap (λ o. block_count (with_bytes t k o bytes) + blocks_of (length old)) e ∙ counted
 
 -- a change of mode or of the mark counts nothing
@@ -198,17 +212,19 @@ without-with_entry t ok p n none unnumbered =
     let u = with_entry t p n in
     let bare : number_at u p ≡ None = ap (option_and_then number_of) (Sets-with_entry t p n).here ∙ unnumbered in
     same_tree (without u p) t
-      (sorted-filter path_cmp (λ e. not (begins p e.0)) u.entries (sorted-insert_entry path_cmp_total t.entries p n ok.sorted_paths))
-      ok.sorted_paths
-      (λ q. at-without u p q ∙ by q (begins p q) refl)
-      (ap (λ o. bodies_without o (outside p u.entries) t.bodies) bare)
-      refl
+    (sorted-filter path_cmp (λ e. not (begins p e.0)) u.entries (sorted-insert_entry path_cmp_total t.entries p n ok.sorted_paths))
+    ok.sorted_paths
+    (λ q. at-without u p q ∙ by q (begins p q) refl)
+    (ap (λ o. bodies_without o (outside p u.entries) t.bodies) bare)
+    refl
   where
     u : Tree
     u = with_entry t p n
+
     vacant : (r : Names) → at t (p ++ r) ≡ None
     vacant [] = ap (at t) (append-nil p) ∙ none
     vacant (m ∷ r) = nothing_below t ok p (λ dir. subst IsDirAt none dir) m r
+
     by : (q : Names) (b : Bool) → begins p q ≡ b → cond b None (at u q) ≡ at t q
     by q true e = sym (ap (at t) (begins_rest p q e) ∙ vacant (drop (length p) q))
     by q false e = (Sets-with_entry t p n).others q (not_itself p q e)
@@ -221,14 +237,17 @@ names_below_are t d n = among t.entries
   where
     q : Names
     q = d ++ n ∷ []
+
     among : (es : Entries) → list_any (bytes_eq n) (names_below d es) ≡ is_some (lookup (is_at (path_cmp q)) es)
     among [] = refl
     among (e ∷ es) = by (among es) (name_below d e.0) refl
       where
         skipped : name_below d e.0 ≡ None → names_below d (e ∷ es) ≡ names_below d es
         skipped none = ap (λ o. cons_option o (names_below d es)) none
+
         taken : {m : List ℕ} → name_below d e.0 ≡ Some m → names_below d (e ∷ es) ≡ m ∷ names_below d es
         taken is = ap (λ o. cons_option o (names_below d es)) is
+
         by : list_any (bytes_eq n) (names_below d es) ≡ is_some (lookup (is_at (path_cmp q)) es)
             → (o : Option (List ℕ)) → name_below d e.0 ≡ o → list_any (bytes_eq n) (names_below d (e ∷ es)) ≡ is_some (cond (is_at (path_cmp q) e.0) (Some e.1) (lookup (is_at (path_cmp q)) es))
         by later None none =
@@ -241,10 +260,13 @@ names_below_are t d n = among t.entries
           where
             place : e.0 ≡ d ++ m ∷ []
             place = name_below_is d e.0 m is
+
             last_same : d ++ m ∷ [] ≡ d ++ n ∷ [] → n ≡ m
             last_same f = let one = append-cancel d (m ∷ []) (n ∷ []) f in cc
+
             differ : bytes_eq n m ≡ false → n ≡ m → ⊥
             differ f same = let yes = (bytes_eq-Decides n m).1 same in cc
+
             named : (b : Bool) → bytes_eq n m ≡ b → (b || list_any (bytes_eq n) (names_below d es)) ≡ is_some (cond (is_at (path_cmp q) e.0) (Some e.1) (lookup (is_at (path_cmp q)) es))
             named true same =
                 let whole : e.0 ≡ q = place ∙ ap (λ x. d ++ x ∷ []) (sym ((bytes_eq-Decides n m).0 same)) in
