@@ -58,7 +58,9 @@ impl Leases {
 
     /// Makes a lease that names nothing, with a last moment or none, as containerd's `leases.Manager.Create` does.
     ///
-    /// Takes memory for the two texts and for a place in the list. Its cost grows with the number of leases.
+    /// `LeaseExists` where the namespace has a lease of this name, live or ended. `OutOfMemory` where memory is refused, which
+    /// it takes for the two texts and for a place in the list. After either the leases are as they were. Its cost grows with
+    /// the number of leases.
     pub fn create(
         &mut self,
         namespace: &str,
@@ -84,8 +86,9 @@ impl Leases {
 
     /// Names the snapshot in the lease too, as its last name. A name that is there already changes nothing.
     ///
-    /// Takes memory for the text and for a place in the set, and none for a name that is there already. Its cost grows with
-    /// the number of leases.
+    /// `NoLease` where the namespace has no lease of this name. `OutOfMemory` where memory is refused, which it takes for the
+    /// text and for a place in the set, and not for a name that is there already. After either the leases are as they were.
+    /// Its cost grows with the number of leases.
     #[tactic(auto, using(crate::proofs::ListLemmas::has_lease_at_place))]
     pub fn add(&mut self, namespace: &str, lease: &str, name: &str) -> Result<(), LeaseError>
         // The lease has the name, once, and every other lease stays.
@@ -108,7 +111,7 @@ impl Leases {
 
     /// Takes the lease away with its names, as containerd's `leases.Manager.Delete` does.
     ///
-    /// Takes no memory. Its cost grows with the number of leases.
+    /// `NoLease`, and nothing changed, where the namespace has no lease of this name. Takes no memory. Its cost grows with the number of leases.
     pub fn release(&mut self, namespace: &str, lease: &str) -> Result<(), LeaseError>
         // The others stay as they are, in their order.
         ensures ok { OnOk result (self.new ≡ without_lease self.old namespace.now lease.now) }
@@ -139,7 +142,8 @@ impl Leases {
     /// A copy of the names of the lease, in the order in which they were added, as containerd's
     /// `leases.Manager.ListResources` gives them.
     ///
-    /// Takes memory for the copy. Its cost grows with the number of leases and with the length of the names.
+    /// `NoLease` where the namespace has no lease of this name. `OutOfMemory` where memory is refused, which it takes for the
+    /// copy. Its cost grows with the number of leases and with the length of the names.
     #[tactic(auto, using(crate::proofs::ListLemmas::has_lease_at_place))]
     pub fn of(&self, namespace: &str, lease: &str) -> Result<Vec<String>, LeaseError>
         ensures ok { IfOk result (λ v. names_of self.now namespace.now lease.now ≡ Some (map string_bytes v.items)) }
