@@ -1,0 +1,4 @@
+pub mod Filters
+pub mod Kinds
+pub mod Labels
+pub mod Updates

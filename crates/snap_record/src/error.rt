@@ -1,0 +1,35 @@
+use std::alloc::{AllocError, AllocFailed};
+use thiserror::Error;
+
+/// Why an update of labels is refused. The labels are then as they were.
+#[derive(Clone, Copy, Debug, PartialEq, Eq, Error)]
+pub enum LabelsError {
+    /// A given label or a path without its form, or more than 64 labels as the result.
+    #[error("bad labels")]
+    BadLabels,
+    /// Memory was wanting.
+    #[error("out of memory")]
+    OutOfMemory,
+}
+
+impl From<AllocError> for LabelsError {
+    ghost use Rattle.std.specs.Prelude.{◌≡◌};
+    ghost use Rattle.snap_record.specs.declared.error.LabelsError.TheVariants.{OutOfMemory};
+
+    ghost from_gives = { λ _ e. e ≡ OutOfMemory };
+
+    fn from(_e: AllocError) -> LabelsError {
+        LabelsError::OutOfMemory
+    }
+}
+
+impl<T: Drop> From<AllocFailed<T>> for LabelsError {
+    ghost use Rattle.std.specs.Prelude.{◌≡◌};
+    ghost use Rattle.snap_record.specs.declared.error.LabelsError.TheVariants.{OutOfMemory};
+
+    ghost from_gives = { λ _ e. e ≡ OutOfMemory };
+
+    fn from(_e: AllocFailed<T>) -> LabelsError {
+        LabelsError::OutOfMemory
+    }
+}

@@ -1,0 +1,97 @@
+ghost use Rattle.std.specs.Prelude.{◌≡◌, ◌↔◌, IsTrue, Option, All};
+ghost use Rattle.snap_record.specs.Filters.{Matches, Asks, HasLabel};
+ghost use Rattle.snap_record.specs.Labels.{value_of};
+
+use crate::info::Info;
+use crate::kind::Kind;
+use crate::labels::Labels;
+use crate::sequence::Sequence;
+use crate::text::Text;
+use std::alloc::AllocError;
+
+/// A label that a snapshot has to have.
+#[derive(Debug, Drop, PartialEq, Eq)]
+pub struct LabelFilter {
+    pub key: Text,
+    /// The value that is asked for. `None` asks only that the label is there, with any value.
+    pub value: Option<Text>,
+}
+
+impl Clone for LabelFilter {
+    ghost is_clone = { λ a b. b ≡ a };
+
+    fn clone(&self) -> Result<LabelFilter, AllocError> {
+        Ok(LabelFilter {
+            key: self.key.clone()?,
+            value: self.value.clone()?,
+        })
+    }
+}
+
+/// Which snapshots are asked for: those that have every part that is given. Parts may be of any
+/// form, and a filter without parts asks for all snapshots.
+#[derive(Debug, Drop, PartialEq, Eq)]
+pub struct Filter {
+    pub name: Option<Text>,
+    /// `Some` of the empty text asks for snapshots without a parent.
+    pub parent: Option<Text>,
+    pub kind: Option<Kind>,
+    pub labels: Sequence<LabelFilter>,
+}
+
+impl Clone for Filter {
+    ghost is_clone = { λ a b. b ≡ a };
+
+    fn clone(&self) -> Result<Filter, AllocError> {
+        Ok(Filter {
+            name: self.name.clone()?,
+            parent: self.parent.clone()?,
+            kind: self.kind,
+            labels: self.labels.clone()?,
+        })
+    }
+}
+
+/// Whether the snapshot has every part of the filter. Takes no memory. Its cost grows with the
+/// filter's labels and with the bytes that are compared.
+pub fn matches(info: &Info, filter: &Filter) -> bool
+    ensures { IsTrue result ↔ Matches info.now filter.now }
+{
+    asks_text(&filter.name, &info.name)
+        && asks_text(&filter.parent, &info.parent)
+        && asks_kind(&filter.kind, info.kind)
+        && has_labels(&info.labels, filter.labels.as_slice())
+}
+
+fn asks_text(part: &Option<Text>, text: &Text) -> bool
+    ensures { IsTrue result ↔ Asks part.now text.now }
+{
+    match part {
+        None => true,
+        Some(wanted) => *wanted == *text,
+    }
+}
+
+fn asks_kind(part: &Option<Kind>, kind: Kind) -> bool
+    ensures { IsTrue result ↔ Asks part.now kind }
+{
+    match part {
+        None => true,
+        Some(wanted) => *wanted == kind,
+    }
+}
+
+fn has_labels(labels: &Labels, filters: &[LabelFilter]) -> bool
+    ensures { IsTrue result ↔ All (HasLabel labels.now) filters.now }
+{
+    filters.iter().all(|filter| has_label(labels, filter))
+}
+
+fn has_label(labels: &Labels, filter: &LabelFilter) -> bool
+    ensures { IsTrue result ↔ HasLabel labels.now filter.now }
+{
+    match labels.get(&filter.key) {
+        None => false,
+        Some(value) => asks_text(&filter.value, value),
+    }
+}

@@ -1,0 +1,36 @@
+ghost use Rattle.std.specs.Prelude.{◌≡◌, Some};
+ghost use Rattle.snap_record.specs.Kinds.{kind_word};
+
+use std::fmt;
+
+/// What a snapshot is, in the words of containerd's `snapshots.Kind`.
+#[derive(Clone, Copy, Debug, PartialEq, Eq)]
+pub enum Kind {
+    /// A read-only snapshot, which can't be committed.
+    View,
+    /// A snapshot that is written to, until it is committed.
+    Active,
+    /// A snapshot that doesn't change any more and can be a parent.
+    Committed,
+}
+
+impl Kind {
+    /// The kind's word.
+    pub fn as_str(&self) -> &'static str
+        ensures { result.now ≡ kind_word self.now }
+    {
+        match self {
+            Kind::View => "View",
+            Kind::Active => "Active",
+            Kind::Committed => "Committed",
+        }
+    }
+}
+
+impl fmt::Display for Kind {
+    ghost output = { λ k. Some (kind_word k) };
+
+    fn fmt<W: fmt::Write>(&self, f: &mut fmt::Formatter<W>) -> fmt::Result {
+        f.write_str(self.as_str())
+    }
+}

@@ -1,0 +1,23 @@
+//! Records of snapshots: texts and lists, kinds, labels, infos and filters.
+#![tactic(auto)]
+
+mod error;
+mod filter;
+mod info;
+mod kind;
+mod labels;
+mod sequence;
+mod text;
+mod update;
+
+pub use error::LabelsError;
+pub use filter::{Filter, LabelFilter, matches};
+pub use info::Info;
+pub use kind::Kind;
+pub use labels::{Labels, MAX_LABEL_BYTES, MAX_LABELS};
+pub use sequence::Sequence;
+pub use text::Text;
+pub use update::{is_well_formed, update_labels};
+
+#[cfg(test)]
+mod tests;

@@ -1,0 +1,4 @@
+pub mod Distinct
+pub mod Joined
+pub mod Above
+pub mod Places
