@@ -1,4 +1,3 @@
 pub mod Distinct
 pub mod Joined
 pub mod Above
-pub mod Places

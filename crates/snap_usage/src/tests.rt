@@ -1,46 +1,14 @@
-ghost use Rattle.std.specs.Prelude.{◌≡◌, IfOk, IsTrue, IsSome, None, true};
-ghost use Rattle.snap_layer.specs.Tree.{at};
-ghost use Rattle.snap_layer.specs.Edits.{HasRoom, HasPlace, IsTakeable};
-
 use super::{Usage, blocks_of, count, difference, recount};
-use snap_layer::{Bytes, Layer, Node};
+use snap_layer::{Bytes, Layer};
 use snap_path::Path;
-use std::alloc::{AllocError, Global};
+use std::alloc::Global;
 use std::collections::HashSet;
 use std::process::Abort;
 use std::test::Fail;
 
-/// Whether nothing stands at the path, and a directory stands above it.
-fn is_free(layer: &Layer, path: &Path) -> Result<bool, AllocError>
-    ensures room { IfOk result (λ free. free ≡ true → HasRoom layer.now path.now) }
-    ensures place { IfOk result (λ free. free ≡ true → HasPlace layer.now path.now) }
-    ensures none { IfOk result (λ free. free ≡ true → at layer.now path.now ≡ None) }
-{
-    let _ = layer.next_number();
-    let Some(parent) = path.parent()? else {
-        return Ok(false);
-    };
-    match layer.at(&parent) {
-        Some(Node::Dir { .. }) => Ok(layer.at(path).is_none()),
-        _ => Ok(false),
-    }
-}
-
-/// Whether a name of a file stands at the path.
-fn is_file(layer: &Layer, path: &Path) -> bool
-    ensures { IsTrue result → IsTakeable layer.now path.now }
-{
-    let _ = layer.next_number();
-    match layer.at(path) {
-        Some(Node::File { .. }) => true,
-        _ => false,
-    }
-}
-
 fn put_dir(rt: &impl Abort, alloc: Global, layer: &mut Layer, text: &str) -> Result<(), Fail> {
     let path = Path::parse(alloc, text)?;
-    let free = is_free(layer, &path)?;
-    assert!(rt; free, "nothing at {text}");
+    assert!(rt; layer.has_room(&path), "room for {text}");
     layer.add_dir(&path, 493, false)?;
     Ok(())
 }
@@ -54,8 +22,7 @@ fn put_file(
 ) -> Result<u32, Fail> {
     let path = Path::parse(alloc, text)?;
     let bytes = vec![in alloc; 0u8; size]?;
-    let free = is_free(layer, &path)?;
-    assert!(rt; free, "nothing at {text}");
+    assert!(rt; layer.has_place(&path), "a place for {text}");
     assert!(rt; bytes.len() <= 1_048_576, "the size of {text}");
     Ok(layer.add_file(&path, 420, Bytes::new(bytes))?)
 }
@@ -68,8 +35,10 @@ fn put_name(
     number: u32,
 ) -> Result<(), Fail> {
     let path = Path::parse(alloc, text)?;
-    let free = is_free(layer, &path)?;
-    assert!(rt; free, "nothing at {text}");
+    assert!(rt;
+        layer.has_place(&path) && layer.at(&path).is_none(),
+        "nothing at {text}"
+    );
     assert!(rt; layer.body(number).is_some(), "a body for {text}");
     layer.add_name(&path, number)?;
     Ok(())
@@ -78,23 +47,21 @@ fn put_name(
 fn put_symlink(rt: &impl Abort, alloc: Global, layer: &mut Layer, text: &str) -> Result<(), Fail> {
     let path = Path::parse(alloc, text)?;
     let target = Bytes::copy_of(alloc, b"p")?;
-    let free = is_free(layer, &path)?;
-    assert!(rt; free, "nothing at {text}");
+    assert!(rt; layer.has_place(&path), "a place for {text}");
     layer.add_symlink(&path, target)?;
     Ok(())
 }
 
 fn put_whiteout(rt: &impl Abort, alloc: Global, layer: &mut Layer, text: &str) -> Result<(), Fail> {
     let path = Path::parse(alloc, text)?;
-    let free = is_free(layer, &path)?;
-    assert!(rt; free, "nothing at {text}");
+    assert!(rt; layer.has_place(&path), "a place for {text}");
     layer.add_whiteout(&path)?;
     Ok(())
 }
 
 fn take_file(rt: &impl Abort, alloc: Global, layer: &mut Layer, text: &str) -> Result<(), Fail> {
     let path = Path::parse(alloc, text)?;
-    assert!(rt; is_file(layer, &path), "a file at {text}");
+    assert!(rt; layer.is_takeable(&path), "a name at {text}");
     layer.take_name(&path);
     Ok(())
 }
