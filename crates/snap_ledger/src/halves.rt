@@ -53,7 +53,9 @@ impl Model for NewTable {
 impl NewTable {
     /// Makes a table, whose name is that of a store to come. It takes memory for the table alone,
     /// whose size doesn't depend on the halves made of it; the error says that there was none.
-    pub fn new(alloc: Global) -> Result<NewTable, AllocError> {
+    pub fn new(alloc: Global) -> Result<NewTable, AllocError>
+        ensures { IfOk result (λ t. (t.words ≡ 1) × (t.slots ≡ 0)) }
+    {
         let (table, first) = Table::of_words(alloc, &[0], &())?;
         Ok(NewTable { table, first })
     }
