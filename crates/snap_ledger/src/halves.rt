@@ -124,7 +124,7 @@ impl<N: StoreName> Share<N> {
     }
 
     /// The id of the snapshot that it was issued for.
-    pub fn id(&self) -> u64
+    pub fn id(&self) -> u32
         ensures { result ≡ self.now.id }
     {
         self.holding.id
@@ -178,7 +178,7 @@ impl<N: StoreName> Charge<N> {
     }
 
     /// Charges a free slot and hands out its share. It takes no memory, as no call below does.
-    pub fn issue(&mut self, id: u64, first: Usage) -> Share<N>
+    pub fn issue(&mut self, id: u32, first: Usage) -> Share<N>
         requires free { self.old.usage ≡ no_usage }
         requires covers { CoversOne first }
         ensures charge { self.new ≡ record self.old { id = id; usage = first; issued = true } }
@@ -260,8 +260,8 @@ impl<N: StoreName> Charge<N> {
         held
     }
 
-    // Sets both halves alike.
-    fn set(&mut self, share: &mut Share<N>, to: Usage)
+    /// Sets both halves to the same amount. It takes no memory.
+    pub fn set(&mut self, share: &mut Share<N>, to: Usage)
         requires slot { share.old.slot ≡ self.old.slot }
         requires covers { CoversOne to }
         ensures met { Meets self.old share.old }

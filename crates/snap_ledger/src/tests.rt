@@ -17,7 +17,7 @@ fn both_halves_move_alike<N: StoreName>(
     rt: &impl Abort,
     charge: &mut Charge<N>,
     slot: u64,
-    id: u64,
+    id: u32,
 ) {
     assert_eq!(rt; charge.held(), usage(0, 0));
     let mut share = charge.issue(id, usage(1, 1));

@@ -7,7 +7,7 @@ use snap_usage::Usage;
 /// What a half holds, and the id of its snapshot.
 #[derive(Clone, Copy)]
 pub struct Holding {
-    pub id: u64,
+    pub id: u32,
     pub usage: Usage,
 }
 

@@ -2,3 +2,4 @@ pub mod Filters
 pub mod Kinds
 pub mod Labels
 pub mod Updates
+pub mod Records

@@ -1,4 +1,4 @@
-//! Records of snapshots: texts and lists, kinds, labels, infos and filters.
+//! Records of snapshots: texts and lists, kinds, labels, infos, filters and the records themselves.
 #![tactic(auto)]
 
 mod error;
@@ -6,6 +6,7 @@ mod filter;
 mod info;
 mod kind;
 mod labels;
+mod record;
 mod sequence;
 mod text;
 mod update;
@@ -15,6 +16,7 @@ pub use filter::{Filter, LabelFilter, matches};
 pub use info::Info;
 pub use kind::Kind;
 pub use labels::{Labels, MAX_LABEL_BYTES, MAX_LABELS};
+pub use record::{Content, Record};
 pub use sequence::Sequence;
 pub use text::Text;
 pub use update::{is_well_formed, update_labels};

@@ -1,6 +1,9 @@
 use crate::{
-    Filter, Info, Kind, LabelFilter, Labels, Sequence, Text, is_well_formed, matches, update_labels,
+    Content, Filter, Info, Kind, LabelFilter, Labels, Record, Sequence, Text, is_well_formed,
+    matches, update_labels,
 };
+use snap_layer::{Layer, Shared};
+use snap_usage::Usage;
 use std::alloc::{AllocError, Global};
 use std::cmp::Ordering;
 use std::test::Fail;
@@ -301,5 +304,61 @@ fn a_sequence_keeps_its_items(rt: HostRuntime) -> Result<(), Fail> {
     assert!(rt; texts == Sequence::from(texts_of(alloc, &["a", "b"])?));
     assert!(rt; texts != Sequence::from(texts_of(alloc, &["b", "a"])?));
     assert!(rt; texts.clone()? == texts);
+    Ok(())
+}
+
+fn usage(blocks: u64, inodes: u64) -> Usage {
+    Usage { blocks, inodes }
+}
+
+#[test]
+fn an_info_has_what_the_record_has(rt: HostRuntime) -> Result<(), Fail> {
+    let alloc = rt.alloc();
+    let record = Record {
+        namespace: 0,
+        key: Text::copy_of(alloc, "k")?,
+        parent: Text::copy_of(alloc, "base")?,
+        id: 7,
+        labels: labels_of(alloc, &[("x", "1")])?,
+        created: 2,
+        updated: 5,
+        content: Content::View,
+    };
+    let info = record.info()?;
+    assert_eq!(&rt;
+        (info.kind, info.name.as_str(), info.parent.as_str()),
+        (Kind::View, "k", "base")
+    );
+    assert_eq!(&rt;
+        (info.id, info.created, info.updated, info.labels.len()),
+        (7, 2, 5, 1)
+    );
+    Ok(())
+}
+
+#[test]
+fn a_usage_goes_by_the_kind(rt: HostRuntime) -> Result<(), Fail> {
+    let Ok(layer) = Shared::new(rt.alloc(), Layer::empty(rt.alloc(), 493)?) else {
+        panic!(&rt; "the layer is not shared");
+    };
+    let contents = [
+        Content::View,
+        Content::Active {
+            slot: 3,
+            charged: usage(5, 3),
+        },
+        Content::Committed {
+            layer,
+            usage: usage(4, 3),
+        },
+    ];
+    let expected = [
+        (Kind::View, usage(0, 0)),
+        (Kind::Active, usage(5, 3)),
+        (Kind::Committed, usage(4, 3)),
+    ];
+    for (content, expected) in contents.iter().zip(expected.iter()) {
+        assert_eq!(&rt; (content.kind(), content.usage()), *expected);
+    }
     Ok(())
 }

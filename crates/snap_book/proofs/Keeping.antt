@@ -1,0 +1,85 @@
+-- What a recorded call keeps.
+use Rattle.std.proofs.Common.{◌≡◌, ℕ, ◌+◌, ◌<◌, ◌≤◌, ◌^◌, List, [], ◌∷◌, ◌++◌, length, Some, sym, ap, ◌∙◌, subst, arith, length-append}
+use Rattle.snap_usage.specs.declared.usage.Usage.{Usage}
+use Rattle.snap_ledger.specs.States.{ChargeState, free_charge}
+use Rattle.snap_call.specs.declared.entry.Entry.{Entry}
+use Rattle.snap_call.specs.declared.reply.Reply.{Reply}
+use Rattle.snap_call.specs.declared.state.State.{State}
+use Rattle.snap_call.specs.Journal.{Replays}
+use Rattle.snap_call.specs.Records.{charge_at, open_count}
+use Rattle.snap_call.specs.Step.{step, IsAllowed}
+use Rattle.snap_book.specs.Slots.{charge_in}
+use Rattle.snap_call.specs.declared.call.Call.{Call}
+use Rattle.snap_call.specs.declared.call.Given.{Given}
+use Rattle.snap_call.specs.declared.refusal.Refusal.{Refusal}
+use Rattle.snap_call.specs.declared.refusal.Refusal.TheVariants.{BadArgument, NoNamespace, NotFound, AlreadyExists, NotCommitted, NotActive, HasChildren, InUse, Leased, NoLease, LeaseExists, TooDeep, TooManyActives, OverLimit, BelowCharge, NumbersSpent, JournalFull, OutOfMemory}
+use Rattle.snap_call.specs.declared.reply.Reply.TheVariants.{Opened, Refused}
+use Rattle.snap_call.specs.declared.call.Call.TheVariants as calls
+use Rattle.snap_call.specs.declared.call.Given.TheVariants.{Nothing}
+use Rattle.std.proofs.Common.{Bool}
+use Rattle.std.proofs.lemmas.Bool.{lt-ltb}
+use Rattle.std.specs.Prelude.{if◌then◌else◌}
+use Rattle.snap_book.specs.Book.{JournalValue, BookValue, Kept, AreAccounts, Recorded, RefusedBy, IsRecorded}
+use Rattle.snap_call.proofs.Replaying.{replays_step, step-entries}
+use Rattle.snap_book.proofs.Rows.{slice_get-found}
+
+-- a call that is recorded: j has room made as m, and then the entry as k
+pub kept_push : (s t : State) (j m k : JournalValue) (e x : Entry) → Kept s j → m ≡ record j { room = m.room } → k ≡ record m { entries = m.entries ++ x ∷ []; copy = Some x; room = k.room } → x ≡ e
+    → IsAllowed s e.call e.given → step s e.call e.given ≡ (t, e.reply) → length m.entries + open_count t.records + 1 ≤ m.limit → open_count t.records ≤ k.room → Kept t k
+kept_push s t j m k e x kept made pushed is allowed moved below room =
+    let counted : t.entries ≡ s.entries + 1 = ap (λ (p : State × Reply). p.0.entries) (sym moved) ∙ step-entries s e.call e.given allowed in
+    let entries : k.entries ≡ j.entries ++ e ∷ [] = ap (λ (v : JournalValue). v.entries) pushed ∙ (λ i. (made i).entries ++ is i ∷ []) in
+    let opening : k.opening ≡ j.opening = ap (λ (v : JournalValue). v.opening) pushed ∙ ap (λ (v : JournalValue). v.opening) made in
+    let limit : k.limit ≡ m.limit = ap (λ (v : JournalValue). v.limit) pushed in
+    let limit_made : m.limit ≡ j.limit = ap (λ (v : JournalValue). v.limit) made in
+    let longer : length k.entries ≡ length (m.entries ++ x ∷ []) = ap (λ (v : JournalValue). length v.entries) pushed in
+    let longer_made : length k.entries ≡ length (j.entries ++ e ∷ []) = ap (λ (l : List Entry). length l) entries in
+    let began : k.opening.entries ≡ j.opening.entries = ap (λ (o : State). o.entries) opening in
+    let replays : Replays j.opening (j.entries ++ e ∷ []) t = replays_step j.opening j.entries s t e kept.replays allowed moved in
+    record {
+      replays = subst (λ (l : List Entry). Replays k.opening l t) (sym entries) (subst (λ (o : State). Replays o (j.entries ++ e ∷ []) t) (sym opening) replays);
+      below = omega (arith, length-append m.entries (x ∷ []), longer, limit, below);
+      room = room;
+      numbered = omega (arith, length-append j.entries (e ∷ []), longer_made, counted, began, kept.numbered);
+      numbers = omega (arith, began, limit, limit_made, kept.numbers);
+    }
+
+-- a journal without entries, at a state without open snapshots
+pub kept_open : (s : State) (j : JournalValue) → j.entries ≡ [] → j.opening ≡ s → open_count s.records ≡ 0 → s.entries + j.limit ≤ 2 ^ 62 → Kept s j
+kept_open s j none began closed numbers =
+    let empty : length j.entries ≡ 0 = ap (λ (l : List Entry). length l) none in
+    let same : j.opening.entries ≡ s.entries = ap (λ (o : State). o.entries) began in
+    record {
+      replays = subst (λ (l : List Entry). Replays j.opening l s) (sym none) (sym began);
+      below = omega (arith, empty, closed);
+      room = omega (arith, closed);
+      numbered = omega (arith, empty, same);
+      numbers = omega (arith, same, numbers);
+    }
+
+-- a refusal that is recorded, as the typed calls say it
+pub refused_by : (why : Refusal) (old new : BookValue) (n : ℕ) (call : Call) (given : Given) → IsRecorded why → Recorded old new n call given (Refused why) → RefusedBy old new n call given why
+refused_by BadArgument old new n call given h r = r
+refused_by NoNamespace old new n call given h r = r
+refused_by NotFound old new n call given h r = r
+refused_by AlreadyExists old new n call given h r = r
+refused_by NotCommitted old new n call given h r = r
+refused_by NotActive old new n call given h r = r
+refused_by HasChildren old new n call given h r = r
+refused_by InUse old new n call given h r = r
+refused_by Leased old new n call given h r = r
+refused_by NoLease old new n call given h r = r
+refused_by LeaseExists old new n call given h r = r
+refused_by TooDeep old new n call given h r = r
+refused_by TooManyActives old new n call given h r = r
+refused_by (OverLimit blocks inodes) old new n call given h r = r
+refused_by BelowCharge old new n call given h r = r
+refused_by NumbersSpent old new n call given h r = r
+refused_by JournalFull old new n call given h r = absurd (h tt)
+refused_by OutOfMemory old new n call given h r = absurd (h tt)
+
+-- one session more
+pub session_step : (s t : State) → s.sessions < 65536 → t ≡ record s { sessions = s.sessions + 1; entries = s.entries + 1 } → step s calls.Session Nothing ≡ (t, Opened)
+session_step s t few is =
+    ap (λ (b : Bool). if b then (record s { sessions = s.sessions + 1; entries = s.entries + 1 }, Opened) else (s, Refused NumbersSpent)) (lt-ltb s.sessions 65536 few)
+    ∙ (λ i. (sym is i, Opened))

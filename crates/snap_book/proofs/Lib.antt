@@ -1,0 +1,6 @@
+pub mod Rows
+pub mod Accounting
+pub mod Keeping
+pub mod Rooted
+pub mod Preparing
+pub mod Commits

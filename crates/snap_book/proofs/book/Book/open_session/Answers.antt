@@ -1,0 +1,20 @@
+use Rattle.std.proofs.Common.{◌≡◌, ◌≤◌, ◌<◌, ◌+◌, length, sym, ap, ◌∙◌, subst, arith}
+use Rattle.snap_call.specs.Journal.{entry}
+use Rattle.snap_call.specs.declared.state.State.{State}
+use Rattle.snap_call.specs.declared.call.Call.TheVariants as calls
+use Rattle.snap_call.specs.declared.call.Given.TheVariants.{Nothing}
+use Rattle.snap_call.specs.declared.reply.Reply.TheVariants.{Opened}
+use Rattle.snap_call.specs.Records.{open_count}
+use Rattle.snap_book.proofs.Keeping.{kept_push, session_step}
+use Rattle.snap_book.proofs.book.Book.open_session.Goals as goal
+
+pub invariant_of-self-2 : goal.invariant_of-self-2
+invariant_of-self-2 g c =
+    let s = c.self.inside.accounts in
+    let few : s.sessions < 65536 = subst (λ (u : State). u.sessions < 65536) c.state.ensures.same c.if-number-ge65536.false in
+    let same = ap (λ (u : State). open_count u.records) c.open_session.ensures in
+    kept_push _ _ _ _ _ (entry c.state.result.now.sessions calls.Session Nothing Opened) _ c.self.invariant c.in_ok-admit.ensures.same c.push.ensures.entry c.session_entry.ensures
+    few
+    (session_step s _ few c.open_session.ensures)
+    (omega (arith, same, c.open.ensures, c.in_ok-admit.ensures.below))
+    (omega (arith, same, c.open.ensures, c.in_ok-admit.ensures.room, c.push.ensures.room))

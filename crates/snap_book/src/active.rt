@@ -1,0 +1,204 @@
+// Open snapshots in their writers' hands. They have to be spent.
+ghost use Rattle.std.specs.Prelude.{◌≡◌, ◌<◌, IfOk, IfErr};
+ghost use Rattle.snap_usage.specs.Counted.{Covers, count_of};
+ghost use Rattle.snap_ledger.specs.States.{CoversOne, minus};
+ghost use Rattle.snap_book.specs.Held.{share_of};
+
+use snap_layer::{Layer, Shared};
+use snap_ledger::{Share, StoreName};
+use snap_record::Text;
+use snap_usage::{Usage, count, difference};
+use std::alloc::Global;
+use std::marker::Model;
+
+/// An active snapshot in its writer's hands: its layer, which is the upper directory of its mount,
+/// and its share, which covers the layer's count.
+///
+/// It has no `Drop`. A commit or a discard on the book takes it back. No call of it waits for another
+/// writer.
+pub struct Active<N: StoreName> {
+    pub(crate) alloc: Global,
+    pub(crate) namespace: usize,
+    pub(crate) key: Text,
+    pub(crate) layer: Layer,
+    pub(crate) share: Share<N>,
+}
+
+impl<N: StoreName> Model for Active<N> {
+    ghost use Rattle.std.specs.Prelude.{◌<◌};
+    ghost use Rattle.snap_usage.specs.Counted.{Covers, count_of};
+    ghost use Rattle.snap_book.specs.Active.{ActiveValue};
+
+    ghost Value = { ActiveValue };
+
+    ghost view = { λ a. record { namespace = a.namespace; key = a.key; layer = a.layer; share = a.share } };
+
+    ghost invariant = { λ a. (a.share.slot < 64) × Covers a.share.usage (count_of a.layer) };
+}
+
+/// An active snapshot whose layer does not change any more. It has no `Drop`, as [`Active`].
+pub struct Sealed<N: StoreName> {
+    pub(crate) namespace: usize,
+    pub(crate) key: Text,
+    pub(crate) layer: Shared,
+    pub(crate) share: Share<N>,
+}
+
+impl<N: StoreName> Model for Sealed<N> {
+    ghost use Rattle.std.specs.Prelude.{◌<◌};
+    ghost use Rattle.snap_usage.specs.Counted.{Covers, count_of};
+    ghost use Rattle.snap_book.specs.Active.{ActiveValue};
+
+    ghost Value = { ActiveValue };
+
+    ghost view = { λ a. record { namespace = a.namespace; key = a.key; layer = a.layer; share = a.share } };
+
+    ghost invariant = { λ a. (a.share.slot < 64) × Covers a.share.usage (count_of a.layer) };
+}
+
+/// A snapshot that is given back, sealed or not.
+pub enum Held<N: StoreName> {
+    Active(Active<N>),
+    Sealed(Sealed<N>),
+}
+
+impl<N: StoreName> Active<N> {
+    /// The place of its namespace among those of the configuration, from 0.
+    pub fn namespace(&self) -> usize
+        ensures { result ≡ self.now.namespace }
+    {
+        self.namespace
+    }
+
+    /// Its key.
+    pub fn key(&self) -> &str
+        ensures { result.now ≡ self.now.key }
+    {
+        self.key.as_str()
+    }
+
+    /// Its slot, one of 0 to 63.
+    pub fn slot(&self) -> u64
+        ensures slot { result ≡ self.now.share.slot }
+        ensures low { result < 64 }
+    {
+        self.share.slot()
+    }
+
+    /// The id of its snapshot.
+    pub fn id(&self) -> u32
+        ensures { result ≡ self.now.share.id }
+    {
+        self.share.id()
+    }
+
+    /// What its slot is charged, which the layer may fill.
+    pub fn share(&self) -> Usage
+        ensures share { result ≡ self.now.share.usage }
+        ensures covers { Covers result (count_of self.now.layer) }
+    {
+        self.share.held()
+    }
+
+    /// What its layer takes: at least 1/1, for the root. Takes no memory. The cost is one pass over the
+    /// layer's paths and bodies.
+    #[tactic(auto, using(crate::proofs::Rooted::count_covers_one))]
+    pub fn count(&self) -> Usage
+        ensures count { result ≡ count_of self.now.layer }
+        ensures one { CoversOne result }
+    {
+        let _ = self.layer.next_number();
+        count(&self.layer)
+    }
+
+    /// The share less the count: what the layer may grow by before it needs a charge. Its cost is that
+    /// of [`Active::count`].
+    pub fn spare(&self) -> Usage
+        ensures { result ≡ minus self.now.share.usage (count_of self.now.layer) }
+    {
+        difference(self.share(), self.count())
+    }
+
+    /// The same snapshot, whose layer does not change any more. Where memory is refused it comes back
+    /// unchanged. The cost is constant.
+    pub fn seal(self) -> Result<Sealed<N>, Active<N>>
+        ensures ok { IfOk result (λ s. s ≡ self) }
+        ensures err { IfErr result (λ a. a ≡ self) }
+    {
+        let Active {
+            alloc,
+            namespace,
+            key,
+            layer,
+            share,
+        } = self;
+        match Shared::new(alloc, layer) {
+            Ok(layer) => Ok(Sealed {
+                namespace,
+                key,
+                layer,
+                share,
+            }),
+            Err(layer) => Err(Active {
+                alloc,
+                namespace,
+                key,
+                layer,
+                share,
+            }),
+        }
+    }
+}
+
+impl<N: StoreName> Sealed<N> {
+    /// What its slot is charged. It covers the layer's count.
+    pub fn share(&self) -> Usage
+        ensures share { result ≡ self.now.share.usage }
+        ensures covers { Covers result (count_of self.now.layer) }
+    {
+        self.share.held()
+    }
+
+    /// What its layer takes: the usage that a commit stores (containerd's `Snapshotter.Usage`). Takes
+    /// no memory. The cost is one pass over the layer's paths and bodies.
+    pub fn usage(&self) -> Usage
+        ensures { result ≡ count_of self.now.layer }
+    {
+        count(self.layer.layer())
+    }
+
+    /// Its layer.
+    pub fn layer(&self) -> &Layer
+        ensures { result.now ≡ self.now.layer }
+    {
+        self.layer.layer()
+    }
+}
+
+impl<N: StoreName> Held<N> {
+    // Its share. The layer goes.
+    pub(crate) fn into_share(self) -> Share<N>
+        ensures share { result ≡ share_of self }
+        ensures slot { result.slot < 64 }
+    {
+        match self {
+            Held::Active(
+                Active {
+                    alloc: _,
+                    namespace: _,
+                    key: _,
+                    layer: _,
+                    share,
+                },
+            ) => share,
+            Held::Sealed(
+                Sealed {
+                    namespace: _,
+                    key: _,
+                    layer: _,
+                    share,
+                },
+            ) => share,
+        }
+    }
+}

@@ -1,0 +1,20 @@
+//! The book of a store, and the values that its writers hold.
+#![tactic(auto)]
+
+mod accounts;
+mod active;
+mod asking;
+mod book;
+mod committing;
+mod entries;
+mod journal;
+mod open;
+mod opening;
+mod prepare;
+mod slots;
+#[cfg(test)]
+mod tests;
+mod totals;
+
+pub use active::{Active, Held, Sealed};
+pub use book::Book;

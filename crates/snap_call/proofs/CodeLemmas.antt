@@ -1,0 +1,107 @@
+-- What the code's searches through the records find.
+use Rattle.std.proofs.Common.{◌≡◌, ℕ, zero, suc, ◌+◌, ◌<◌, ◌≤◌, List, [], ◌∷◌, length, get_or, set, Bool, true, false, position, Option, Some, None, sym, refl, ap, ◌∙◌, arith, add-one, ⊎_elim, ap₂}
+use Rattle.std.proofs.lemmas.Bool.{cases_lt}
+use Rattle.std.proofs.lemmas.List.Quantifiers.{position-Some}
+use Rattle.std.proofs.lemmas.Iterator.Adapters.{position_from-zero}
+use Rattle.std.specs.Option.{MatchOption}
+use Rattle.std.specs.List.{position_from, insert, remove, list_any}
+use Rattle.snap_layer.specs.Tree.{Tree}
+use Rattle.snap_usage.specs.declared.usage.Usage.{Usage}
+use Rattle.snap_usage.specs.Counted.{count_of}
+use Rattle.snap_record.specs.declared.record.Record.{Record}
+use Rattle.snap_record.specs.declared.record.Content.TheVariants.{Active, Committed}
+use Rattle.snap_call.specs.Records.{is_later, is_slot, active_at, with_record, without_slot, recharged, committed_as, lowest_free, is_free, or_if}
+
+-- an insertion before the first record that comes later
+with_record_found : (r : Record) (rs : List Record) (i : ℕ) (d : Record) → i < length rs → is_later r (get_or rs i d) ≡ true → ((k : ℕ) → k < i → is_later r (get_or rs k d) ≡ false) → insert rs i r ≡ with_record r rs
+with_record_found r [] i d lt here before = absurd (omega arith)
+with_record_found r (t ∷ ts) zero d lt here before = rw here refl
+with_record_found r (t ∷ ts) (suc i) d lt here before =
+    let no : is_later r t ≡ false = before 0 (omega arith) in
+    rw no (ap (λ l. t ∷ l) (with_record_found r ts i d (omega arith) here (λ k h. before (suc k) (omega arith))))
+
+with_record_absent : (r : Record) (i : ℕ) (rs : List Record) → position_from (is_later r) i rs ≡ None → insert rs (length rs) r ≡ with_record r rs
+with_record_absent r i [] e = refl
+with_record_absent r i (t ∷ ts) e = at (is_later r t) refl (with_record_absent r (i + 1) ts)
+  where
+    at : (b : Bool) → is_later r t ≡ b → (position_from (is_later r) (i + 1) ts ≡ None → insert ts (length ts) r ≡ with_record r ts) → insert (t ∷ ts) (length (t ∷ ts)) r ≡ with_record r (t ∷ ts)
+    at true is next = let f = rw is at e in absurd (cc)
+    at false is next = let f = rw is at e in rw is (ap (λ l. t ∷ l) (next f))
+
+pub with_record-Some : (r : Record) (rs : List Record) (i : ℕ) → position (is_later r) rs ≡ Some i → insert rs i r ≡ with_record r rs
+with_record-Some r rs i e = let f = position-Some (is_later r) rs i r e in with_record_found r rs i r f.0 f.1 f.2
+
+pub with_record-None : (r : Record) (rs : List Record) → position (is_later r) rs ≡ None → insert rs (length rs) r ≡ with_record r rs
+with_record-None r rs e = with_record_absent r 0 rs (sym (position_from-zero (is_later r) rs) ∙ e)
+
+-- the record at the place of a slot is taken away
+without_slot_found : (slot : ℕ) (rs : List Record) (i : ℕ) (d : Record) → i < length rs → is_slot slot (get_or rs i d) ≡ true → ((k : ℕ) → k < i → is_slot slot (get_or rs k d) ≡ false)
+    → (remove rs i ≡ without_slot slot rs) × (Some (get_or rs i d) ≡ active_at slot rs)
+without_slot_found slot [] i d lt here before = absurd (omega arith)
+without_slot_found slot (r ∷ rs) zero d lt here before = (rw here refl, rw here refl)
+without_slot_found slot (r ∷ rs) (suc i) d lt here before =
+    let no : is_slot slot r ≡ false = before 0 (omega arith) in
+    let f = without_slot_found slot rs i d (omega arith) here (λ k h. before (suc k) (omega arith)) in
+    (rw no (ap (λ l. r ∷ l) f.0), rw no f.1)
+
+without_slot_absent : (slot i : ℕ) (rs : List Record) → position_from (is_slot slot) i rs ≡ None → (rs ≡ without_slot slot rs) × (None ≡ active_at slot rs)
+without_slot_absent slot i [] e = (refl, refl)
+without_slot_absent slot i (r ∷ rs) e = at (is_slot slot r) refl (without_slot_absent slot (i + 1) rs)
+  where
+    at : (b : Bool) → is_slot slot r ≡ b → (position_from (is_slot slot) (i + 1) rs ≡ None → (rs ≡ without_slot slot rs) × (None ≡ active_at slot rs)) → (r ∷ rs ≡ without_slot slot (r ∷ rs)) × (None ≡ active_at slot (r ∷ rs))
+    at true is next = let f = rw is at e in absurd (cc)
+    at false is next = let f = rw is at e in let g = next f in (rw is (ap (λ l. r ∷ l) g.0), rw is g.1)
+
+pub without_slot-Some : (slot : ℕ) (rs : List Record) (i : ℕ) (r : Record) → position (is_slot slot) rs ≡ Some i → r ≡ get_or rs i r → (remove rs i ≡ without_slot slot rs) × (Some r ≡ active_at slot rs)
+without_slot-Some slot rs i r e at =
+    let f = position-Some (is_slot slot) rs i r e in
+    let g = without_slot_found slot rs i r f.0 f.1 f.2 in
+    (g.0, ap Some at ∙ g.1)
+
+pub without_slot-None : (slot : ℕ) (rs : List Record) → position (is_slot slot) rs ≡ None → (rs ≡ without_slot slot rs) × (None ≡ active_at slot rs)
+without_slot-None slot rs e = without_slot_absent slot 0 rs (sym (position_from-zero (is_slot slot) rs) ∙ e)
+
+-- the record at the place of a slot is charged
+recharged_found : (slot : ℕ) (to : Usage) (rs : List Record) (i : ℕ) (d : Record) → i < length rs → is_slot slot (get_or rs i d) ≡ true → ((k : ℕ) → k < i → is_slot slot (get_or rs k d) ≡ false)
+    → set rs i (record (get_or rs i d) { content = Active slot to }) ≡ recharged slot to rs
+recharged_found slot to [] i d lt here before = absurd (omega arith)
+recharged_found slot to (r ∷ rs) zero d lt here before = rw here refl
+recharged_found slot to (r ∷ rs) (suc i) d lt here before =
+    let no : is_slot slot r ≡ false = before 0 (omega arith) in
+    rw no (ap (λ l. r ∷ l) (recharged_found slot to rs i d (omega arith) here (λ k h. before (suc k) (omega arith))))
+
+recharged_absent : (slot : ℕ) (to : Usage) (i : ℕ) (rs : List Record) → position_from (is_slot slot) i rs ≡ None → rs ≡ recharged slot to rs
+recharged_absent slot to i [] e = refl
+recharged_absent slot to i (r ∷ rs) e = at (is_slot slot r) refl (recharged_absent slot to (i + 1) rs)
+  where
+    at : (b : Bool) → is_slot slot r ≡ b → (position_from (is_slot slot) (i + 1) rs ≡ None → rs ≡ recharged slot to rs) → r ∷ rs ≡ recharged slot to (r ∷ rs)
+    at true is next = let f = rw is at e in absurd (cc)
+    at false is next = let f = rw is at e in rw is (ap (λ l. r ∷ l) (next f))
+
+pub recharged-Some : (slot : ℕ) (to : Usage) (rs : List Record) (i : ℕ) (r : Record) → position (is_slot slot) rs ≡ Some i → r ≡ get_or rs i r → set rs i (record r { content = Active slot to }) ≡ recharged slot to rs
+recharged-Some slot to rs i r e at =
+    let f = position-Some (is_slot slot) rs i r e in
+    ap (λ (x : Record). set rs i (record x { content = Active slot to })) at ∙ recharged_found slot to rs i r f.0 f.1 f.2
+
+pub recharged-None : (slot : ℕ) (to : Usage) (rs : List Record) → position (is_slot slot) rs ≡ None → rs ≡ recharged slot to rs
+recharged-None slot to rs e = recharged_absent slot to 0 rs (sym (position_from-zero (is_slot slot) rs) ∙ e)
+
+-- a record that is taken and put back as a committed one
+pub committed_back : (name : List ℕ) (layer : Tree) (number : ℕ) (r : Record) (u : Usage) (slot : ℕ) (rs ts : List Record) → u ≡ count_of layer → ts ≡ without_slot slot rs
+    → with_record (record r { key = name; content = Committed layer u; created = number; updated = number }) ts ≡ with_record (committed_as name layer number r) (without_slot slot rs)
+committed_back name layer number r u slot rs ts count taken =
+    ap₂ (λ u ts. with_record (record r { key = name; content = Committed layer u; created = number; updated = number }) ts) count taken
+
+pub MatchOption-from_some : {A : Type 0} (o : Option A) (P : Type 0) (Q : A → Type 0) (x : A) → o ≡ Some x → Q x → MatchOption o P Q
+MatchOption-from_some o P Q x e q = rw e q
+
+pub without_slot-free : (slot : ℕ) (rs : List Record) → active_at slot rs ≡ None → without_slot slot rs ≡ rs
+without_slot-free slot [] e = refl
+without_slot-free slot (r ∷ rs) e = at (is_slot slot r) refl (without_slot-free slot rs)
+  where
+    at : (b : Bool) → is_slot slot r ≡ b → (active_at slot rs ≡ None → without_slot slot rs ≡ rs) → without_slot slot (r ∷ rs) ≡ r ∷ rs
+    at true is next = let f = rw is at e in absurd (cc)
+    at false is next = let f = rw is at e in rw is (ap (λ l. r ∷ l) (next f))
+
+pub MatchOption-from_none : {A : Type 0} (o : Option A) (P : Type 0) (Q : A → Type 0) → o ≡ None → P → MatchOption o P Q
+MatchOption-from_none o P Q e p = rw e p

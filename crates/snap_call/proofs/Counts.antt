@@ -1,0 +1,146 @@
+-- How many snapshots are active after each change of the records.
+use Rattle.std.proofs.Common.{◌≡◌, ◌≢◌, ℕ, zero, suc, ◌+◌, ◌<◌, ◌≤◌, List, [], ◌∷◌, Bool, true, false, true≢false, Some, None, refl, sym, ◌∙◌, ⊎_elim, arith}
+use Rattle.std.specs.Prelude.{◌==◌, Option}
+use Rattle.std.specs.List.{AllByRecursion}
+use Rattle.std.specs.Ordering.{is_lt}
+use Rattle.std.proofs.lemmas.Bool.Decides.{eqb_tells}
+use Rattle.snap_layer.specs.Tree.{Tree}
+use Rattle.snap_usage.specs.declared.usage.Usage.{Usage}
+use Rattle.snap_record.specs.Labels.{Bytes}
+use Rattle.snap_record.specs.declared.record.Content.{Content}
+use Rattle.snap_record.specs.declared.record.Content.TheVariants.{View, Active, Committed}
+use Rattle.snap_record.specs.declared.record.Record.{Record}
+use Rattle.snap_call.specs.Records.{record_cmp, has_slot, is_slot, active_at, active_one, open_count, with_record, without_slot, recharged, committed_as}
+use Rattle.snap_call.specs.Good.{AllPairwise, AreApart, HasPlace}
+use Rattle.snap_call.proofs.Sums.{active_at-past}
+use Rattle.snap_call.proofs.Slots.{active_at-without_slot_own}
+
+-- a record that is in a slot is an active one
+active_one-in : (slot : ℕ) (c : Content) → has_slot slot c ≡ true → active_one c ≡ 1
+active_one-in slot View e = absurd (true≢false (sym e))
+active_one-in slot (Active s u) e = refl
+active_one-in slot (Committed layer u) e = absurd (true≢false (sym e))
+
+pub is_slot-active_one : (slot : ℕ) (r : Record) → is_slot slot r ≡ true → active_one r.content ≡ 1
+is_slot-active_one slot r e = active_one-in slot r.content e
+
+-- one record more
+pub open_count-with_record : (r : Record) (rs : List Record) → open_count (with_record r rs) ≡ open_count rs + active_one r.content
+open_count-with_record r [] = omega arith
+open_count-with_record r (t ∷ ts) = at (is_lt (record_cmp r t)) refl (open_count-with_record r ts)
+  where
+    at : (b : Bool) → is_lt (record_cmp r t) ≡ b → open_count (with_record r ts) ≡ open_count ts + active_one r.content → open_count (with_record r (t ∷ ts)) ≡ open_count (t ∷ ts) + active_one r.content
+    at true is next = rw is (omega arith)
+    at false is next = rw is (omega arith)
+
+pub open_count-with_active : (slot : ℕ) (r : Record) (rs : List Record) → is_slot slot r ≡ true → open_count (with_record r rs) ≡ open_count rs + 1
+open_count-with_active slot r rs is = let one = is_slot-active_one slot r is in let all = open_count-with_record r rs in omega arith
+
+pub open_count-with_committed : (name : Bytes) (layer : Tree) (number : ℕ) (r : Record) (rs : List Record) → open_count (with_record (committed_as name layer number r) rs) ≡ open_count rs
+open_count-with_committed name layer number r rs = let all = open_count-with_record (committed_as name layer number r) rs in omega arith
+
+-- the record of a slot charged anew
+pub open_count-recharged : (slot : ℕ) (to : Usage) (rs : List Record) → open_count (recharged slot to rs) ≡ open_count rs
+open_count-recharged slot to [] = refl
+open_count-recharged slot to (t ∷ ts) = at (is_slot slot t) refl (open_count-recharged slot to ts)
+  where
+    at : (b : Bool) → is_slot slot t ≡ b → open_count (recharged slot to ts) ≡ open_count ts → open_count (recharged slot to (t ∷ ts)) ≡ open_count (t ∷ ts)
+    at true is next = rw is (let one = is_slot-active_one slot t is in omega arith)
+    at false is next = rw is (omega arith)
+
+-- the record of a slot less
+pub open_count-without_slot : (slot : ℕ) (rs : List Record) (r : Record) → active_at slot rs ≡ Some r → open_count (without_slot slot rs) + 1 ≡ open_count rs
+open_count-without_slot slot [] r e = absurd (cc)
+open_count-without_slot slot (t ∷ ts) r e = at (is_slot slot t) refl (open_count-without_slot slot ts r)
+  where
+    at : (b : Bool) → is_slot slot t ≡ b → (active_at slot ts ≡ Some r → open_count (without_slot slot ts) + 1 ≡ open_count ts) → open_count (without_slot slot (t ∷ ts)) + 1 ≡ open_count (t ∷ ts)
+    at true is next = rw is (let one = is_slot-active_one slot t is in omega arith)
+    at false is next = rw is (let less = next (active_at-past slot t ts r is e) in omega arith)
+
+-- a commit: one active less
+pub open_count-committed : (slot : ℕ) (name : Bytes) (layer : Tree) (number : ℕ) (rs : List Record) (r : Record) → active_at slot rs ≡ Some r
+    → open_count (with_record (committed_as name layer number r) (without_slot slot rs)) + 1 ≡ open_count rs
+open_count-committed slot name layer number rs r e =
+    let less = open_count-without_slot slot rs r e in
+    let same = open_count-with_committed name layer number r (without_slot slot rs) in
+    omega arith
+
+-- where a slot is open, one is active
+pub open_count-some : (slot : ℕ) (rs : List Record) (r : Record) → active_at slot rs ≡ Some r → 1 ≤ open_count rs
+open_count-some slot rs r e = let less = open_count-without_slot slot rs r e in omega arith
+
+-- what holds of all the records holds of all but one
+All-without_slot : (P : Record → Type 0) (slot : ℕ) (rs : List Record) → AllByRecursion P rs → AllByRecursion P (without_slot slot rs)
+All-without_slot P slot [] all = tt
+All-without_slot P slot (t ∷ ts) all = at (is_slot slot t) refl (All-without_slot P slot ts all.1)
+  where
+    at : (b : Bool) → is_slot slot t ≡ b → AllByRecursion P (without_slot slot ts) → AllByRecursion P (without_slot slot (t ∷ ts))
+    at true is next = rw is all.1
+    at false is next = rw is (all.0, next)
+
+apart-without_slot : (slot : ℕ) (rs : List Record) → AllPairwise AreApart rs → AllPairwise AreApart (without_slot slot rs)
+apart-without_slot slot [] apart = tt
+apart-without_slot slot (t ∷ ts) apart = at (is_slot slot t) refl (apart-without_slot slot ts apart.1)
+  where
+    at : (b : Bool) → is_slot slot t ≡ b → AllPairwise AreApart (without_slot slot ts) → AllPairwise AreApart (without_slot slot (t ∷ ts))
+    at true is next = rw is apart.1
+    at false is next = rw is (All-without_slot (AreApart t) slot ts apart.0, next)
+
+-- the slot of an active is below a number
+abbrev IsBelow : ℕ → Content → Type 0
+IsBelow n View = Unit {0}
+IsBelow n (Active slot charged) = slot < n
+IsBelow n (Committed layer usage) = Unit {0}
+
+abbrev AllBelow : ℕ → List Record → Type 0
+AllBelow n rs = AllByRecursion (λ r. IsBelow n r.content) rs
+
+place-below : (c : Content) → HasPlace c → IsBelow 64 c
+place-below View h = tt
+place-below (Active slot charged) h = h
+place-below (Committed layer usage) h = tt
+
+all-below : (rs : List Record) → AllByRecursion (λ r. HasPlace r.content) rs → AllBelow 64 rs
+all-below [] all = tt
+all-below (t ∷ ts) all = (place-below t.content all.0, all-below ts all.1)
+
+none_active : (c : Content) → IsBelow 0 c → active_one c ≡ 0
+none_active View h = refl
+none_active (Active slot charged) h = absurd (omega arith)
+none_active (Committed layer usage) h = refl
+
+none_open : (rs : List Record) → AllBelow 0 rs → open_count rs ≡ 0
+none_open [] all = refl
+none_open (t ∷ ts) all = let none = none_active t.content all.0 in let rest = none_open ts all.1 in omega arith
+
+below-other : (n : ℕ) (c : Content) → has_slot n c ≡ false → IsBelow (suc n) c → IsBelow n c
+below-other n View e h = tt
+below-other n (Active slot charged) e h =
+    ⊎_elim
+    (λ (k : ((slot == n) ≡ true) × (slot ≡ n)). absurd (true≢false (sym k.0 ∙ e)))
+    (λ (k : ((slot == n) ≡ false) × (slot ≢ n)). let p = k.1 in omega arith)
+    (eqb_tells slot n)
+below-other n (Committed layer usage) e h = tt
+
+below-free : (n : ℕ) (rs : List Record) → active_at n rs ≡ None → AllBelow (suc n) rs → AllBelow n rs
+below-free n [] none all = tt
+below-free n (t ∷ ts) none all = at (is_slot n t) refl (below-free n ts)
+  where
+    at : (b : Bool) → is_slot n t ≡ b → (active_at n ts ≡ None → AllBelow (suc n) ts → AllBelow n ts) → AllBelow n (t ∷ ts)
+    at true is next = let f = rw is at none in absurd (cc)
+    at false is next = (below-other n t.content is all.0, next (rw is at none) all.1)
+
+count_below : (n : ℕ) (rs : List Record) → AllPairwise AreApart rs → AllBelow n rs → open_count rs ≤ n
+count_below zero rs apart all = let none = none_open rs all in omega arith
+count_below (suc n) rs apart all = at (active_at n rs) refl (count_below n)
+  where
+    at : (o : Option Record) → active_at n rs ≡ o → ((ts : List Record) → AllPairwise AreApart ts → AllBelow n ts → open_count ts ≤ n) → open_count rs ≤ suc n
+    at None is next = let few = next rs apart (below-free n rs is all) in omega arith
+    at (Some r) is next =
+        let few = next (without_slot n rs) (apart-without_slot n rs apart) (below-free n (without_slot n rs) (active_at-without_slot_own n rs apart) (All-without_slot (λ r. IsBelow (suc n) r.content) n rs all)) in
+        let less = open_count-without_slot n rs r is in
+        omega arith
+
+-- at most 64 are active, since no two have the same slot
+pub open_count-most : (rs : List Record) → AllPairwise AreApart rs → AllByRecursion (λ r. HasPlace r.content) rs → open_count rs ≤ 64
+open_count-most rs apart placed = count_below 64 rs apart (all-below rs placed)

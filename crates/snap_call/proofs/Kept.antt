@@ -1,0 +1,416 @@
+-- Each step keeps what is true of the state, and so does the replay of a journal.
+use Rattle.std.proofs.Common.{◌≡◌, ◌≢◌, ℕ, zero, suc, ◌+◌, ◌<◌, Bool, true, false, true≢false, eqb, List, [], ◌∷◌, length, Option, Some, None, IsSome, refl, sym, ap, ◌∙◌, subst, inl, inr, arith}
+use Rattle.std.specs.List.{AllByRecursion, list_all}
+use Rattle.std.specs.List.Sorted.{IsStrictlySortedBy}
+use Rattle.std.specs.Prelude.{if◌then◌else◌, ◌&&◌, nat_lt, nat_le}
+use Rattle.std.proofs.lemmas.Bool.{and_parts, eqb-true, false_from_ne_true, cases_eq, leb-true}
+use Rattle.std.proofs.lemmas.List.Quantifiers.{position-Some}
+use Rattle.snap_layer.specs.Tree.{Tree}
+use Rattle.snap_usage.specs.declared.usage.Usage.{Usage}
+use Rattle.snap_usage.specs.Counted.{count_of, Covers}
+use Rattle.snap_ledger.specs.States.{plus, minus}
+use Rattle.snap_lease.specs.Lease.{Lease}
+use Rattle.snap_record.specs.Labels.{Bytes, Label}
+use Rattle.snap_record.specs.Records.{no_usage, usage_of}
+use Rattle.snap_record.specs.declared.record.Content.{Content}
+use Rattle.snap_record.specs.declared.record.Content.TheVariants.{View, Active, Committed}
+use Rattle.snap_record.specs.declared.record.Record.{Record}
+use Rattle.snap_mount.specs.Mounts.{is_root_text}
+use Rattle.snap_call.specs.declared.call.Call.{Call}
+use Rattle.snap_call.specs.declared.call.Call.TheVariants as calls
+use Rattle.snap_call.specs.declared.call.Given.{Given}
+use Rattle.snap_call.specs.declared.call.Given.TheVariants.{Nothing, Count, Layer}
+use Rattle.snap_call.specs.declared.config.Config.{Config}
+use Rattle.snap_call.specs.declared.config.Namespace.{Namespace}
+use Rattle.snap_call.specs.declared.entry.Entry.{Entry}
+use Rattle.snap_call.specs.declared.refusal.Refusal.{Refusal}
+use Rattle.snap_call.specs.declared.reply.Reply.{Reply}
+use Rattle.snap_call.specs.declared.state.State.{State}
+use Rattle.snap_call.specs.Forms.{has_name, is_limit, is_namespace, is_text, have_distinct_names, is_config, is_key}
+use Rattle.snap_call.specs.Records.{has_key, has_slot, is_slot, record_at, active_at, charge_of, with_record, without_slot, recharged, committed_as, lowest_free}
+use Rattle.snap_call.specs.State.{opening, place_of, limit_at, covers, charge_with, chain}
+use Rattle.snap_call.specs.Good.{HasParent, IsGuarding, IsCounted, HasPlace, AreApart, Good}
+use Rattle.snap_call.specs.Step.{counted, refused, session, one, no_more, new_active, prepared, prepare_slot, prepare_in, prepare, greater, fits, choice, charge_to, charge, trim, committed, commit_under, is_lease_text, commit_as, commit, discard, ask_record, ask_in, ask, step, IsCovered, IsAllowed, TrimAllowed, CommitAllowed}
+use Rattle.snap_call.specs.Journal.{Replays}
+use Rattle.snap_call.proofs.Lists.{all-map, find-none, same_slot, active_at-all, all-with_record, pairwise-with_record, all-without_slot, pairwise-without_slot, all-beside, all-recharged, pairwise-recharged}
+use Rattle.snap_call.proofs.Ordered.{sorted-with_record, sorted-without_slot, sorted-recharged, has_key-without_slot}
+use Rattle.snap_call.proofs.Chains.{Keeps, Keeps-after, Keeps-with_record, Keeps-without_slot, Keeps-recharged, keeps-HasParent, keeps-IsGuarding, keeps-some_chain}
+use Rattle.snap_call.proofs.Sums.{charge_of-with_record_own, charge_of-with_record_other, charge_of-covers, charge_of-without_slot_own, charge_of-without_slot_other, charge_of-recharged_own, charge_of-recharged_other, charge_of-committed_own, charge_of-committed_other}
+use Rattle.snap_call.proofs.Lowest.{lowest_free-Some}
+
+-- ---- a limit
+
+-- the charge of one namespace changes, within its limit
+within_after : (ns : List Namespace) (rs ts : List Record) (place : ℕ) → ((p : ℕ) → p < length ns → Covers (limit_at p ns) (charge_of p rs))
+    → Covers (limit_at place ns) (charge_of place ts) → ((p : ℕ) → p ≢ place → charge_of p ts ≡ charge_of p rs)
+    → (p : ℕ) → p < length ns → Covers (limit_at p ns) (charge_of p ts)
+within_after ns rs ts place within here other p low = elim (cases_eq p place) [
+  | inl same ↦ subst (λ (n : ℕ). Covers (limit_at n ns) (charge_of n ts)) (sym same) here
+  | inr apart ↦ subst (λ (u : Usage). Covers (limit_at p ns) u) (sym (other p apart)) (within p low)
+]
+
+-- a part gives way to one that it covers
+covers_less : (limit whole part to : Usage) → Covers limit whole → Covers whole part → Covers part to → Covers limit (plus (minus whole part) to)
+covers_less limit whole part to a b c = record { blocks = omega (arith, a.blocks, b.blocks, c.blocks); inodes = omega (arith, a.inodes, b.inodes, c.inodes) }
+
+-- none of the record's charge stays
+covers_gone : (limit whole part : Usage) → Covers limit whole → Covers limit (minus whole part)
+covers_gone limit whole part a = record { blocks = omega (arith, a.blocks); inodes = omega (arith, a.inodes) }
+
+pub covers-Covers : (a b : Usage) → covers a b ≡ true → Covers a b
+covers-Covers a b e =
+    let h = and_parts (nat_le b.blocks a.blocks) (nat_le b.inodes a.inodes) e in
+    record { blocks = leb-true b.blocks a.blocks h.0; inodes = leb-true b.inodes a.inodes h.1 }
+
+-- ---- two records in slots
+
+-- a record that is out of a slot is apart from one that is active in it
+apart_other : (slot k : ℕ) (to : Usage) (c : Content) → has_slot slot c ≡ false → has_slot k c ≡ true → has_slot k (Active slot to) ≡ false
+apart_other slot k to c out is = false_from_ne_true (eqb slot k) (λ e. true≢false (sym is ∙ ap (λ (n : ℕ). has_slot n c) (sym (eqb-true slot k e)) ∙ out))
+
+-- ---- what stands on committed records
+
+module _ (ns : List Namespace) (rs ts : List Record) (keeps : Keeps rs ts) where
+  stand_parents : (us : List Record) → AllByRecursion (HasParent rs) us → AllByRecursion (HasParent ts) us
+  stand_parents us all = all-map (HasParent rs) (HasParent ts) (keeps-HasParent rs ts keeps) us all
+
+  stand_leases : (ls : List Lease) → AllByRecursion (IsGuarding ns rs) ls → AllByRecursion (IsGuarding ns ts) ls
+  stand_leases ls all = all-map (IsGuarding ns rs) (IsGuarding ns ts) (keeps-IsGuarding rs ts keeps ns) ls all
+
+  stand_chains : (us : List Record) → AllByRecursion (λ r. IsSome (chain rs r)) us → AllByRecursion (λ r. IsSome (chain ts r)) us
+  stand_chains us all = all-map (λ r. IsSome (chain rs r)) (λ r. IsSome (chain ts r)) (keeps-some_chain rs ts keeps) us all
+
+-- ---- the counters alone
+
+pub good_counters : (s : State) (sessions entries : ℕ) → Good s → Good (record s { sessions = sessions; entries = entries })
+good_counters s m n good = record {
+  parents = good.parents;
+  leased = good.leased;
+  counted = good.counted;
+  within = good.within;
+  limits = good.limits;
+  placed = good.placed;
+  sorted = good.sorted;
+  ids = good.ids;
+  numbered = good.numbered;
+  slots = good.slots;
+  open_slots = good.open_slots;
+  chains = good.chains;
+}
+
+pub good_counted : (s : State) → Good s → Good (counted s)
+good_counted s good = good_counters s s.sessions (s.entries + 1) good
+
+-- ---- a new active snapshot
+
+pub good_prepared : (s : State) (place : ℕ) (key : Bytes) (slot : ℕ) → Good s → place < length s.namespaces → has_key place key s.records ≡ false → slot < 64 → active_at slot s.records ≡ None
+    → Covers (limit_at place s.namespaces) (plus (charge_of place s.records) one) → Good (prepared s place key slot).0
+good_prepared s place key slot good low free few none room = record {
+  parents = stand_parents ns rs ts keeps ts (all-with_record r (HasParent rs) rs tt good.parents);
+  leased = stand_leases ns rs ts keeps s.leases good.leased;
+  counted = all-with_record r (λ t. IsCounted t.content) rs tt good.counted;
+  within = within_after ns rs ts place good.within (subst (λ (u : Usage). Covers (limit_at place ns) u) (sym (charge_of-with_record_own r rs)) room) (λ p apart. charge_of-with_record_other p r rs apart);
+  limits = good.limits;
+  placed = all-with_record r (λ t. t.namespace < length ns) rs low good.placed;
+  sorted = sorted-with_record r rs free good.sorted;
+  ids = pairwise-with_record r (λ t u. t.id ≢ u.id) rs
+      (all-map (λ t. t.id < s.next_id) (λ t. s.next_id ≢ t.id) (λ t h. omega (arith, h)) rs good.numbered)
+      (all-map (λ t. t.id < s.next_id) (λ t. t.id ≢ s.next_id) (λ t h. omega (arith, h)) rs good.numbered)
+      good.ids;
+  numbered = all-with_record r (λ t. t.id < s.next_id + 1) rs (omega arith) (all-map (λ t. t.id < s.next_id) (λ t. t.id < s.next_id + 1) (λ t h. omega (arith, h)) rs good.numbered);
+  slots = pairwise-with_record r AreApart rs
+      (all-map (λ t. is_slot slot t ≡ false) (AreApart r) (λ t out k is. subst (λ (n : ℕ). is_slot n t ≡ false) (eqb-true slot k is) out) rs empty)
+      (all-map (λ t. is_slot slot t ≡ false) (λ t. AreApart t r) (λ t out k is. apart_other slot k one t.content out is) rs empty)
+      good.slots;
+  open_slots = all-with_record r (λ t. HasPlace t.content) rs few good.open_slots;
+  chains = stand_chains ns rs ts keeps ts (all-with_record r (λ t. IsSome (chain rs t)) rs refl good.chains);
+}
+  where
+    ns : List Namespace
+    ns = s.namespaces
+
+    rs : List Record
+    rs = s.records
+
+    r : Record
+    r = new_active s place key slot
+
+    ts : List Record
+    ts = with_record r rs
+
+    keeps : Keeps rs ts
+    keeps = Keeps-with_record r rs free
+
+    empty : AllByRecursion (λ t. is_slot slot t ≡ false) rs
+    empty = find-none (is_slot slot) rs none
+
+-- ---- an active snapshot charged anew
+
+module _ (slot : ℕ) (to : Usage) where
+  place_anew : (c : Content) → has_slot slot c ≡ true → HasPlace c → slot < 64
+  place_anew View e h = absurd (true≢false (sym e))
+  place_anew (Active k u) e h = subst (λ (n : ℕ). n < 64) (eqb-true k slot e) h
+  place_anew (Committed l u) e h = absurd (true≢false (sym e))
+
+  pub good_recharged : (s : State) (r : Record) → Good s → active_at slot s.records ≡ Some r → Covers (limit_at r.namespace s.namespaces) (charge_with r to s.records)
+      → Good (record s { records = recharged slot to s.records; entries = s.entries + 1 })
+  good_recharged s r good e room = record {
+    parents = stand_parents ns rs ts keeps ts (all-recharged slot to (HasParent rs) rs (λ t is h. h) good.parents);
+    leased = stand_leases ns rs ts keeps s.leases good.leased;
+    counted = all-recharged slot to (λ t. IsCounted t.content) rs (λ t is h. tt) good.counted;
+    within = within_after ns rs ts r.namespace good.within (subst (λ (u : Usage). Covers (limit_at r.namespace ns) u) (sym (charge_of-recharged_own slot to rs r e)) room) (λ p apart. charge_of-recharged_other p slot to rs r e apart);
+    limits = good.limits;
+    placed = all-recharged slot to (λ t. t.namespace < length ns) rs (λ t is h. h) good.placed;
+    sorted = sorted-recharged slot to rs good.sorted;
+    ids = pairwise-recharged slot to (λ t u. t.id ≢ u.id) rs (λ t u is h. h) (λ t u is h. h) good.ids;
+    numbered = all-recharged slot to (λ t. t.id < s.next_id) rs (λ t is h. h) good.numbered;
+    slots = pairwise-recharged slot to AreApart rs
+        (λ t u is h k out. h k (sym (same_slot slot k to t.content is) ∙ out))
+        (λ t u is h k out. same_slot slot k to u.content is ∙ h k out)
+        good.slots;
+    open_slots = all-recharged slot to (λ t. HasPlace t.content) rs (λ t is h. place_anew t.content is h) good.open_slots;
+    chains = stand_chains ns rs ts keeps ts (all-recharged slot to (λ t. IsSome (chain rs t)) rs (λ t is h. h) good.chains);
+  }
+    where
+      ns : List Namespace
+      ns = s.namespaces
+
+      rs : List Record
+      rs = s.records
+
+      ts : List Record
+      ts = recharged slot to rs
+
+      keeps : Keeps rs ts
+      keeps = Keeps-recharged slot to rs
+
+-- the charge of a record gives way to one that it covers
+covered : (s : State) (slot : ℕ) (r : Record) (to : Usage) → Good s → active_at slot s.records ≡ Some r → Covers (usage_of r.content) to → Covers (limit_at r.namespace s.namespaces) (charge_with r to s.records)
+covered s slot r to good e less =
+    covers_less (limit_at r.namespace s.namespaces) (charge_of r.namespace s.records) (usage_of r.content) to
+    (good.within r.namespace (active_at-all (λ t. t.namespace < length s.namespaces) slot s.records r e good.placed))
+    (charge_of-covers slot s.records r e) less
+
+-- ---- a snapshot less
+
+pub good_discarded : (s : State) (slot : ℕ) (r : Record) → Good s → active_at slot s.records ≡ Some r → Good (record s { records = without_slot slot s.records; entries = s.entries + 1 })
+good_discarded s slot r good e = record {
+  parents = stand_parents ns rs ts keeps ts (all-without_slot slot (HasParent rs) rs good.parents);
+  leased = stand_leases ns rs ts keeps s.leases good.leased;
+  counted = all-without_slot slot (λ t. IsCounted t.content) rs good.counted;
+  within = within_after ns rs ts r.namespace good.within
+      (subst (λ (u : Usage). Covers (limit_at r.namespace ns) u) (sym (charge_of-without_slot_own slot rs r e)) (covers_gone (limit_at r.namespace ns) (charge_of r.namespace rs) (usage_of r.content) (good.within r.namespace low)))
+      (λ p apart. charge_of-without_slot_other p slot rs r e apart);
+  limits = good.limits;
+  placed = all-without_slot slot (λ t. t.namespace < length ns) rs good.placed;
+  sorted = sorted-without_slot slot rs good.sorted;
+  ids = pairwise-without_slot slot (λ t u. t.id ≢ u.id) rs good.ids;
+  numbered = all-without_slot slot (λ t. t.id < s.next_id) rs good.numbered;
+  slots = pairwise-without_slot slot AreApart rs good.slots;
+  open_slots = all-without_slot slot (λ t. HasPlace t.content) rs good.open_slots;
+  chains = stand_chains ns rs ts keeps ts (all-without_slot slot (λ t. IsSome (chain rs t)) rs good.chains);
+}
+  where
+    ns : List Namespace
+    ns = s.namespaces
+
+    rs : List Record
+    rs = s.records
+
+    ts : List Record
+    ts = without_slot slot rs
+
+    keeps : Keeps rs ts
+    keeps = Keeps-without_slot slot rs
+
+    low : r.namespace < length ns
+    low = active_at-all (λ t. t.namespace < length ns) slot rs r e good.placed
+
+-- ---- a snapshot committed
+
+pub good_committed : (s : State) (slot : ℕ) (name : Bytes) (layer : Tree) (r : Record) → Good s → active_at slot s.records ≡ Some r → has_key r.namespace name s.records ≡ false → Covers (usage_of r.content) (count_of layer)
+    → Good (committed s slot name layer r).0
+good_committed s slot name layer r good e free less = record {
+  parents = stand_parents ns rs ts keeps ts (all-with_record c (HasParent rs) us (active_at-all (HasParent rs) slot rs r e good.parents) (all-without_slot slot (HasParent rs) rs good.parents));
+  leased = stand_leases ns rs ts keeps s.leases good.leased;
+  counted = all-with_record c (λ t. IsCounted t.content) us refl (all-without_slot slot (λ t. IsCounted t.content) rs good.counted);
+  within = within_after ns rs ts r.namespace good.within
+      (subst (λ (u : Usage). Covers (limit_at r.namespace ns) u) (sym (charge_of-committed_own slot name layer (s.entries + 1) rs r e)) (covered s slot r (count_of layer) good e less))
+      (λ p apart. charge_of-committed_other p slot name layer (s.entries + 1) rs r e apart);
+  limits = good.limits;
+  placed = all-with_record c (λ t. t.namespace < length ns) us (active_at-all (λ t. t.namespace < length ns) slot rs r e good.placed) (all-without_slot slot (λ t. t.namespace < length ns) rs good.placed);
+  sorted = sorted-with_record c us left (sorted-without_slot slot rs good.sorted);
+  ids = pairwise-with_record c (λ t u. t.id ≢ u.id) us
+      (all-beside slot (λ t u. t.id ≢ u.id) (λ t. r.id ≢ t.id) rs r e (λ t h. h) (λ t h same. h (sym same)) good.ids)
+      (all-beside slot (λ t u. t.id ≢ u.id) (λ t. t.id ≢ r.id) rs r e (λ t h same. h (sym same)) (λ t h. h) good.ids)
+      (pairwise-without_slot slot (λ t u. t.id ≢ u.id) rs good.ids);
+  numbered = all-with_record c (λ t. t.id < s.next_id) us (active_at-all (λ t. t.id < s.next_id) slot rs r e good.numbered) (all-without_slot slot (λ t. t.id < s.next_id) rs good.numbered);
+  slots = pairwise-with_record c AreApart us
+      (all-map (λ t. HasPlace t.content) (AreApart c) (λ t h k is. absurd (true≢false (sym is))) us places)
+      (all-map (λ t. HasPlace t.content) (λ t. AreApart t c) (λ t h k is. refl) us places)
+      (pairwise-without_slot slot AreApart rs good.slots);
+  open_slots = all-with_record c (λ t. HasPlace t.content) us tt places;
+  chains = stand_chains ns rs ts keeps ts
+      (all-with_record c (λ t. IsSome (chain rs t)) us (active_at-all (λ t. IsSome (chain rs t)) slot rs r e good.chains) (all-without_slot slot (λ t. IsSome (chain rs t)) rs good.chains));
+}
+  where
+    ns : List Namespace
+    ns = s.namespaces
+
+    rs : List Record
+    rs = s.records
+
+    us : List Record
+    us = without_slot slot rs
+
+    c : Record
+    c = committed_as name layer (s.entries + 1) r
+
+    ts : List Record
+    ts = with_record c us
+
+    left : has_key r.namespace name us ≡ false
+    left = has_key-without_slot slot r.namespace name rs free
+
+    keeps : Keeps rs ts
+    keeps = Keeps-after rs us ts (Keeps-without_slot slot rs) (Keeps-with_record c us left)
+
+    places : AllByRecursion (λ t. HasPlace t.content) us
+    places = all-without_slot slot (λ t. HasPlace t.content) rs good.open_slots
+
+-- ---- one call
+
+-- a test chooses one of two outcomes
+either : (b : Bool) (x y : State × Reply) → (b ≡ true → Good x.0) → (b ≡ false → Good y.0) → Good (if b then x else y).0
+either true x y f g = f refl
+either false x y f g = g refl
+
+pub good_refused : (s : State) (why : Refusal) → Good s → Good (refused s why).0
+good_refused s why good = good_counted s good
+
+pub good_session : (s : State) → Good s → Good (session s).0
+good_session s good = either (nat_lt s.sessions 65536) _ _ (λ e. good_counters s (s.sessions + 1) (s.entries + 1) good) (λ e. good)
+
+-- a place that is found is one of the places
+pub place_of-below : (name : Bytes) (ns : List Namespace) (place : ℕ) → place_of name ns ≡ Some place → place < length ns
+place_of-below name ns place e = (position-Some (has_name name) ns place (record { name = []; limit = no_usage }) e).0
+
+good_prepare_slot : (s : State) (place : ℕ) (key : Bytes) → Good s → place < length s.namespaces → has_key place key s.records ≡ false → (o : Option ℕ) → lowest_free 64 s.records ≡ o → Good (prepare_slot s place key o).0
+good_prepare_slot s place key good low free None e = good_counted s good
+good_prepare_slot s place key good low free (Some slot) e =
+    either (covers (limit_at place s.namespaces) (plus (charge_of place s.records) one)) _ _
+    (λ room. either (nat_le s.next_id 4294967295) _ _
+    (λ few. let h = lowest_free-Some s.records slot e in good_prepared s place key slot good low free h.0 h.1 (covers-Covers _ _ room))
+    (λ spent. good_counted s good))
+    (λ over. good_counted s good)
+
+good_prepare_in : (s : State) (key : Bytes) → Good s → (o : Option ℕ) → ((place : ℕ) → o ≡ Some place → place < length s.namespaces) → Good (prepare_in s key o).0
+good_prepare_in s key good None low = good_counted s good
+good_prepare_in s key good (Some place) low =
+    either (has_key place key s.records) _ _ (λ taken. good_counted s good) (λ free. good_prepare_slot s place key good (low place refl) free (lowest_free 64 s.records) refl)
+
+pub good_prepare : (s : State) (namespace key parent : Bytes) (labels : List Label) → Good s → Good (prepare s namespace key parent labels).0
+good_prepare s namespace key parent labels good =
+    either (is_key key && no_more parent && no_more labels) _ _ (λ e. good_prepare_in s key good (place_of namespace s.namespaces) (place_of-below namespace s.namespaces)) (λ e. good_counted s good)
+
+-- the choice was tested
+good_charge_to : (s : State) (slot : ℕ) (r : Record) → Good s → active_at slot s.records ≡ Some r → (a b : Bool) (needed wanted : Usage) → fits s r wanted ≡ a → fits s r needed ≡ b → Good (charge_to s slot r (choice a b needed wanted)).0
+good_charge_to s slot r good e true b needed wanted first second = good_recharged slot wanted s r good e (covers-Covers _ _ first)
+good_charge_to s slot r good e false true needed wanted first second = good_recharged slot needed s r good e (covers-Covers _ _ second)
+good_charge_to s slot r good e false false needed wanted first second = good_counted s good
+
+pub good_charge : (s : State) (slot : ℕ) (need want : Usage) → Good s → (o : Option Record) → active_at slot s.records ≡ o → Good (charge s slot need want o).0
+good_charge s slot need want good None e = good_counted s good
+good_charge s slot need want good (Some r) e = good_charge_to s slot r good e _ _ (greater (usage_of r.content) need) (greater (greater (usage_of r.content) need) want) refl refl
+
+pub good_trim : (s : State) (slot id : ℕ) → Good s → (given : Given) (o : Option Record) → active_at slot s.records ≡ o → TrimAllowed id given o → Good (trim s slot given o).0
+good_trim s slot id good (Count now) None e h = good_counted s good
+good_trim s slot id good (Count now) (Some r) e h = good_recharged slot now s r good e (covered s slot r now good e h.1)
+good_trim s slot id good Nothing o e h = good_counted s good
+good_trim s slot id good (Layer layer) o e h = good_counted s good
+
+good_commit_under : (s : State) (slot : ℕ) (name : Bytes) (lease : Option Bytes) (layer : Tree) (r : Record) → Good s → active_at slot s.records ≡ Some r → has_key r.namespace name s.records ≡ false → Covers (usage_of r.content) (count_of layer)
+    → Good (commit_under s slot name lease layer r).0
+good_commit_under s slot name None layer r good e free less = good_committed s slot name layer r good e free less
+good_commit_under s slot name (Some lease) layer r good e free less = good_counted s good
+
+good_commit_as : (s : State) (slot id : ℕ) (name : Bytes) (lease : Option Bytes) (layer : Tree) → Good s → (o : Option Record) → active_at slot s.records ≡ o → IsCovered id (count_of layer) o → Good (commit_as s slot name lease layer o).0
+good_commit_as s slot id name lease layer good None e h = good_counted s good
+good_commit_as s slot id name lease layer good (Some r) e h =
+    either (is_key name && is_lease_text lease) _ _
+    (λ formed. either (has_key r.namespace name s.records) _ _ (λ taken. good_counted s good) (λ free. good_commit_under s slot name lease layer r good e free h.1))
+    (λ bad. good_counted s good)
+
+pub good_commit : (s : State) (slot id : ℕ) (name : Bytes) (lease : Option Bytes) → Good s → (given : Given) → CommitAllowed id given (active_at slot s.records) → Good (commit s slot name lease given).0
+good_commit s slot id name lease good (Layer layer) h = good_commit_as s slot id name lease layer good (active_at slot s.records) refl h
+good_commit s slot id name lease good Nothing h = good_counted s good
+good_commit s slot id name lease good (Count now) h = good_counted s good
+
+pub good_discard : (s : State) (slot : ℕ) → Good s → (o : Option Record) → active_at slot s.records ≡ o → Good (discard s slot o).0
+good_discard s slot good None e = good_counted s good
+good_discard s slot good (Some r) e = good_discarded s slot r good e
+
+good_ask_record : (s : State) (answer : Record → Reply) → Good s → (o : Option Record) → Good (ask_record s answer o).0
+good_ask_record s answer good None = good_counted s good
+good_ask_record s answer good (Some r) = good_counted s good
+
+good_ask_in : (s : State) (answer : Record → Reply) (key : Bytes) → Good s → (o : Option ℕ) → Good (ask_in s answer key o).0
+good_ask_in s answer key good None = good_counted s good
+good_ask_in s answer key good (Some place) = good_ask_record s answer good (record_at place key s.records)
+
+pub good_ask : (s : State) (answer : Record → Reply) (namespace key : Bytes) → Good s → Good (ask s answer namespace key).0
+good_ask s answer namespace key good = either (is_key key) _ _ (λ e. good_ask_in s answer key good (place_of namespace s.namespaces)) (λ e. good_counted s good)
+
+-- each call keeps what is true of the state
+pub good_step : (s : State) (call : Call) (given : Given) → Good s → IsAllowed s call given → Good (step s call given).0
+good_step s calls.Session given good h = good_session s good
+good_step s (calls.Prepare namespace key parent labels) given good h = good_prepare s namespace key parent labels good
+good_step s (calls.Charge slot id need want) given good h = good_charge s slot need want good (active_at slot s.records) refl
+good_step s (calls.Trim slot id) given good h = good_trim s slot id good given (active_at slot s.records) refl h
+good_step s (calls.Commit slot id name lease) given good h = good_commit s slot id name lease good given h
+good_step s (calls.Discard slot id) given good h = good_discard s slot good (active_at slot s.records) refl
+good_step s (calls.Stat namespace key) given good h = good_ask s _ namespace key good
+good_step s (calls.Usage namespace key) given good h = good_ask s _ namespace key good
+
+-- ---- a store that is opened
+
+limits_from : (ns : List Namespace) (place : ℕ) → list_all is_namespace ns ≡ true → place < length ns → is_limit (limit_at place ns) ≡ true
+limits_from [] place all low = absurd (omega arith)
+limits_from (n ∷ ns) zero all low = let h = and_parts (is_namespace n) (list_all is_namespace ns) all in (and_parts (is_text 255 n.name) (is_limit n.limit) h.0).1
+limits_from (n ∷ ns) (suc place) all low = let h = and_parts (is_namespace n) (list_all is_namespace ns) all in limits_from ns place h.1 (omega arith)
+
+namespaces_formed : (c : Config) → is_config c ≡ true → list_all is_namespace c.namespaces ≡ true
+namespaces_formed c e =
+    let root = is_root_text c.root in
+    let each = list_all is_namespace c.namespaces in
+    let few = nat_le (length c.namespaces) 64 in
+    let apart = have_distinct_names c.namespaces in
+    let journal = nat_le c.journal 1048576 in
+    let h = and_parts (root && each && few && apart && journal) (nat_le 1 c.first_id) e in
+    let i = and_parts (root && each && few && apart) journal h.0 in
+    let j = and_parts (root && each && few) apart i.0 in
+    (and_parts root each (and_parts (root && each) few j.0).0).1
+
+pub good_opening : (c : Config) → is_config c ≡ true → Good (opening c)
+unfolding IsStrictlySortedBy
+good_opening c e = record {
+  parents = tt;
+  leased = tt;
+  counted = tt;
+  within = λ place low. record { blocks = omega arith; inodes = omega arith };
+  limits = λ place low. limits_from c.namespaces place (namespaces_formed c e) low;
+  placed = tt;
+  sorted = tt;
+  ids = tt;
+  numbered = tt;
+  slots = tt;
+  open_slots = tt;
+  chains = tt;
+}
+
+-- ---- a journal
+
+-- the calls of a journal, one after the other
+pub good_replays : (s : State) (j : List Entry) (t : State) → Good s → Replays s j t → Good t
+good_replays s [] t good h = subst Good (sym h) good
+good_replays s (e ∷ es) t good h = good_replays (step s e.call e.given).0 es t (good_step s e.call e.given good h.0) h.2

@@ -1,0 +1,10 @@
+pub mod Lists
+pub mod Ordered
+pub mod Chains
+pub mod Sums
+pub mod Lowest
+pub mod Slots
+mod CodeLemmas
+pub mod Kept
+pub mod Counts
+pub mod Replaying

@@ -1,0 +1,223 @@
+-- Lists of records: what holds of each of them and of any two of them, and what is found, after each change.
+use Rattle.std.proofs.Common.{◌≡◌, ℕ, Bool, true, false, true≢false, eqb, cond, List, [], ◌∷◌, Option, Some, None, refl, sym, ap, ◌∙◌, subst}
+use Rattle.std.specs.List.{AllByRecursion, find, list_any}
+use Rattle.std.specs.Prelude.{if◌then◌else◌, ◌||◌}
+use Rattle.std.specs.Ordering.{is_lt}
+use Rattle.std.proofs.lemmas.Bool.{eqb-true, or_parts}
+use Rattle.std.specs.Option.{option_and_then}
+use Rattle.snap_usage.specs.declared.usage.Usage.{Usage}
+use Rattle.snap_record.specs.Labels.{Bytes}
+use Rattle.snap_record.specs.declared.record.Content.{Content}
+use Rattle.snap_record.specs.declared.record.Content.TheVariants.{View, Active, Committed}
+use Rattle.snap_record.specs.declared.record.Record.{Record}
+use Rattle.snap_call.specs.Records.{record_cmp, is_named, record_at, has_slot, is_slot, active_at, is_committed, if_committed, committed_at, with_record, without_slot, recharged}
+use Rattle.snap_call.specs.Good.{AllPairwise}
+
+-- ---- any list
+
+module _ {X : Type 0} where
+  pub all-map : (P Q : X → Type 0) → ((x : X) → P x → Q x) → (xs : List X) → AllByRecursion P xs → AllByRecursion Q xs
+  all-map P Q f [] all = tt
+  all-map P Q f (x ∷ xs) all = (f x all.0, all-map P Q f xs all.1)
+
+  pub all-both : (P Q : X → Type 0) (xs : List X) → AllByRecursion P xs → AllByRecursion Q xs → AllByRecursion (λ x. P x × Q x) xs
+  all-both P Q [] p q = tt
+  all-both P Q (x ∷ xs) p q = ((p.0, q.0), all-both P Q xs p.1 q.1)
+
+  pub pairwise-map : (R S : X → X → Type 0) → ((x y : X) → R x y → S x y) → (xs : List X) → AllPairwise R xs → AllPairwise S xs
+  pairwise-map R S f [] all = tt
+  pairwise-map R S f (x ∷ xs) all = (all-map (R x) (S x) (f x) xs all.0, pairwise-map R S f xs all.1)
+
+  pub some_same : (x y : X) → ◌≡◌ {A = Option X} (Some x) (Some y) → x ≡ y
+  some_same x y e = cc
+
+  pub none_some : (x : X) → ◌≡◌ {A = Option X} None (Some x) → ⊥
+  none_some x e = cc
+
+  -- what is found passes
+  pub find-passes : (p : X → Bool) (xs : List X) (x : X) → find p xs ≡ Some x → p x ≡ true
+  find-passes p [] x e = absurd (none_some x e)
+  find-passes p (y ∷ ys) x e = by (p y) refl e (find-passes p ys x)
+    where
+      by : (b : Bool) → p y ≡ b → cond b (Some y) (find p ys) ≡ Some x → (find p ys ≡ Some x → p x ≡ true) → p x ≡ true
+      by true is found next = subst (λ z. p z ≡ true) (some_same y x found) is
+      by false is found next = next found
+
+  -- what holds of each holds of what is found
+  pub find-all : (P : X → Type 0) (p : X → Bool) (xs : List X) (x : X) → find p xs ≡ Some x → AllByRecursion P xs → P x
+  find-all P p [] x e all = absurd (none_some x e)
+  find-all P p (y ∷ ys) x e all = by (p y) e (λ found. find-all P p ys x found all.1)
+    where
+      by : (b : Bool) → cond b (Some y) (find p ys) ≡ Some x → (find p ys ≡ Some x → P x) → P x
+      by true found next = subst P (some_same y x found) all.0
+      by false found next = next found
+
+  -- where none passes
+  pub none-passes : (p : X → Bool) (xs : List X) → list_any p xs ≡ false → AllByRecursion (λ x. p x ≡ false) xs
+  none-passes p [] e = tt
+  none-passes p (x ∷ xs) e = let h = or_parts (p x) (list_any p xs) e in (h.0, none-passes p xs h.1)
+
+  pub list_any-none : (p : X → Bool) (xs : List X) → AllByRecursion (λ x. p x ≡ false) xs → list_any p xs ≡ false
+  list_any-none p [] all = refl
+  list_any-none p (x ∷ xs) all = ap (λ b. b || list_any p xs) all.0 ∙ list_any-none p xs all.1
+
+  -- then none is found
+  pub find-any : (p : X → Bool) (xs : List X) (x : X) → list_any p xs ≡ false → find p xs ≡ Some x → ⊥
+  find-any p xs x none e = true≢false (sym (find-passes p xs x e) ∙ find-all (λ y. p y ≡ false) p xs x e (none-passes p xs none))
+
+  -- where none is found, none passes
+  pub find-none : (p : X → Bool) (xs : List X) → find p xs ≡ None → AllByRecursion (λ x. p x ≡ false) xs
+  find-none p [] e = tt
+  find-none p (x ∷ xs) e = by (p x) refl e (find-none p xs)
+    where
+      by : (b : Bool) → p x ≡ b → cond b (Some x) (find p xs) ≡ None → (find p xs ≡ None → AllByRecursion (λ y. p y ≡ false) xs) → (p x ≡ false) × AllByRecursion (λ y. p y ≡ false) xs
+      by true is found next = absurd (none_some x (sym found))
+      by false is found next = (is, next found)
+
+-- ---- a slot
+
+-- the record is charged so much
+abbrev pub with_charge : ℕ → Usage → Record → Record
+with_charge slot to r = record r { content = Active slot to }
+
+-- a record that is active in a slot has no other
+pub same_slot : (slot k : ℕ) (to : Usage) (c : Content) → has_slot slot c ≡ true → has_slot k (Active slot to) ≡ has_slot k c
+same_slot slot k to View e = absurd (true≢false (sym e))
+same_slot slot k to (Active s u) e = ap (λ (n : ℕ). eqb n k) (sym (eqb-true s slot e))
+same_slot slot k to (Committed l u) e = absurd (true≢false (sym e))
+
+-- the record that is active in a slot is in it
+pub active_at-is_slot : (slot : ℕ) (rs : List Record) (r : Record) → active_at slot rs ≡ Some r → is_slot slot r ≡ true
+active_at-is_slot slot rs r e = find-passes (is_slot slot) rs r e
+
+pub active_at-all : (P : Record → Type 0) (slot : ℕ) (rs : List Record) (r : Record) → active_at slot rs ≡ Some r → AllByRecursion P rs → P r
+active_at-all P slot rs r e all = find-all P (is_slot slot) rs r e all
+
+-- ---- a key
+
+pub record_at-is_named : (place : ℕ) (key : Bytes) (rs : List Record) (r : Record) → record_at place key rs ≡ Some r → is_named place key r ≡ true
+record_at-is_named place key rs r e = find-passes (is_named place key) rs r e
+
+pub record_at-all : (P : Record → Type 0) (place : ℕ) (key : Bytes) (rs : List Record) (r : Record) → record_at place key rs ≡ Some r → AllByRecursion P rs → P r
+record_at-all P place key rs r e all = find-all P (is_named place key) rs r e all
+
+-- the committed record of a key is the record of that key
+pub committed-parts : (o : Option Record) (r : Record) → option_and_then if_committed o ≡ Some r → (o ≡ Some r) × (is_committed r.content ≡ true)
+committed-parts None r e = absurd (none_some r e)
+committed-parts (Some t) r e = by (is_committed t.content) refl e
+  where
+    by : (b : Bool) → is_committed t.content ≡ b → (if b then Some t else None) ≡ Some r → (Some t ≡ Some r) × (is_committed r.content ≡ true)
+    by true is found = (found, subst (λ (z : Record). is_committed z.content ≡ true) (some_same t r found) is)
+    by false is found = absurd (none_some r found)
+
+pub committed-from : (o : Option Record) (r : Record) → o ≡ Some r → is_committed r.content ≡ true → option_and_then if_committed o ≡ Some r
+committed-from o r e is = ap (option_and_then if_committed) e ∙ ap (λ b. if b then Some r else None) is
+
+pub committed_at-record_at : (place : ℕ) (key : Bytes) (rs : List Record) (r : Record) → committed_at place key rs ≡ Some r → record_at place key rs ≡ Some r
+committed_at-record_at place key rs r e = (committed-parts (record_at place key rs) r e).0
+
+pub committed_at-is_committed : (place : ℕ) (key : Bytes) (rs : List Record) (r : Record) → committed_at place key rs ≡ Some r → is_committed r.content ≡ true
+committed_at-is_committed place key rs r e = (committed-parts (record_at place key rs) r e).1
+
+pub committed_at-all : (P : Record → Type 0) (place : ℕ) (key : Bytes) (rs : List Record) (r : Record) → committed_at place key rs ≡ Some r → AllByRecursion P rs → P r
+committed_at-all P place key rs r e all = record_at-all P place key rs r (committed_at-record_at place key rs r e) all
+
+pub committed_at-is_named : (place : ℕ) (key : Bytes) (rs : List Record) (r : Record) → committed_at place key rs ≡ Some r → is_named place key r ≡ true
+committed_at-is_named place key rs r e = record_at-is_named place key rs r (committed_at-record_at place key rs r e)
+
+-- ---- one record more
+
+module _ (r : Record) where
+  pub all-with_record : (P : Record → Type 0) (rs : List Record) → P r → AllByRecursion P rs → AllByRecursion P (with_record r rs)
+  all-with_record P [] here all = (here, tt)
+  all-with_record P (t ∷ ts) here all =
+      elim (is_lt (record_cmp r t)) as (λ b. AllByRecursion P (if b then r ∷ t ∷ ts else t ∷ with_record r ts)) [ true ↦ (here, all) | false ↦ (all.0, all-with_record P ts here all.1) ]
+
+  pub pairwise-with_record : (R : Record → Record → Type 0) (rs : List Record) → AllByRecursion (R r) rs → AllByRecursion (λ t. R t r) rs → AllPairwise R rs → AllPairwise R (with_record r rs)
+  pairwise-with_record R [] after before all = (tt, tt)
+  pairwise-with_record R (t ∷ ts) after before all =
+      elim (is_lt (record_cmp r t)) as (λ b. AllPairwise R (if b then r ∷ t ∷ ts else t ∷ with_record r ts)) [
+        | true ↦ (after, all)
+        | false ↦ (all-with_record (R t) ts before.0 all.0, pairwise-with_record R ts after.1 before.1 all.1)
+      ]
+
+  -- what is found among the others
+  pub find-with_record : (p : Record → Bool) (rs : List Record) → p r ≡ false → find p (with_record r rs) ≡ find p rs
+  find-with_record p [] other = ap (λ b. cond b (Some r) None) other
+  find-with_record p (t ∷ ts) other =
+      elim (is_lt (record_cmp r t)) as (λ b. find p (if b then r ∷ t ∷ ts else t ∷ with_record r ts) ≡ cond (p t) (Some t) (find p ts)) [
+        | true ↦ ap (λ b. cond b (Some r) (find p (t ∷ ts))) other
+        | false ↦ ap (λ o. cond (p t) (Some t) o) (find-with_record p ts other)
+      ]
+
+-- ---- the record of a slot less
+
+module _ (slot : ℕ) where
+  pub all-without_slot : (P : Record → Type 0) (rs : List Record) → AllByRecursion P rs → AllByRecursion P (without_slot slot rs)
+  all-without_slot P [] all = tt
+  all-without_slot P (r ∷ rs) all =
+      elim (is_slot slot r) as (λ b. AllByRecursion P (if b then rs else r ∷ without_slot slot rs)) [ true ↦ all.1 | false ↦ (all.0, all-without_slot P rs all.1) ]
+
+  pub pairwise-without_slot : (R : Record → Record → Type 0) (rs : List Record) → AllPairwise R rs → AllPairwise R (without_slot slot rs)
+  pairwise-without_slot R [] all = tt
+  pairwise-without_slot R (r ∷ rs) all =
+      elim (is_slot slot r) as (λ b. AllPairwise R (if b then rs else r ∷ without_slot slot rs)) [ true ↦ all.1 | false ↦ (all-without_slot (R r) rs all.0, pairwise-without_slot R rs all.1) ]
+
+  -- those that are left, beside the one that goes
+  pub all-beside : (R : Record → Record → Type 0) (S : Record → Type 0) (rs : List Record) (r : Record) → active_at slot rs ≡ Some r
+      → ((t : Record) → R r t → S t) → ((t : Record) → R t r → S t) → AllPairwise R rs → AllByRecursion S (without_slot slot rs)
+  all-beside R S [] r e after before all = absurd (none_some r e)
+  all-beside R S (t ∷ ts) r e after before all = by (is_slot slot t) e (λ found. all-beside R S ts r found after before all.1)
+    where
+      by : (b : Bool) → cond b (Some t) (active_at slot ts) ≡ Some r → (active_at slot ts ≡ Some r → AllByRecursion S (without_slot slot ts)) → AllByRecursion S (if b then ts else t ∷ without_slot slot ts)
+      by true found next = all-map (R t) S (λ u h. after u (subst (λ z. R z u) (some_same t r found) h)) ts all.0
+      by false found next = (before t (active_at-all (R t) slot ts r found all.0), next found)
+
+  -- what is found and isn't in the slot stays
+  pub find-without_slot : (p : Record → Bool) (rs : List Record) (r : Record) → is_slot slot r ≡ false → find p rs ≡ Some r → find p (without_slot slot rs) ≡ Some r
+  find-without_slot p [] r out e = absurd (none_some r e)
+  find-without_slot p (t ∷ ts) r out e = by (p t) refl e (find-without_slot p ts r out)
+    where
+      by : (c : Bool) → p t ≡ c → cond c (Some t) (find p ts) ≡ Some r → (find p ts ≡ Some r → find p (without_slot slot ts) ≡ Some r) → find p (without_slot slot (t ∷ ts)) ≡ Some r
+      by true is found next =
+          let apart : is_slot slot t ≡ false = ap (is_slot slot) (some_same t r found) ∙ out in
+          ap (λ b. find p (if b then ts else t ∷ without_slot slot ts)) apart ∙ ap (λ c. cond c (Some t) (find p (without_slot slot ts))) is ∙ found
+      by false is found next =
+          elim (is_slot slot t) as (λ b. find p (if b then ts else t ∷ without_slot slot ts) ≡ Some r) [ true ↦ found | false ↦ ap (λ c. cond c (Some t) (find p (without_slot slot ts))) is ∙ next found ]
+
+-- ---- the record of a slot charged anew
+
+module _ (slot : ℕ) (to : Usage) where
+  pub all-recharged : (P : Record → Type 0) (rs : List Record) → ((r : Record) → is_slot slot r ≡ true → P r → P (with_charge slot to r)) → AllByRecursion P rs → AllByRecursion P (recharged slot to rs)
+  all-recharged P [] f all = tt
+  all-recharged P (r ∷ rs) f all = by (is_slot slot r) refl (all-recharged P rs f all.1)
+    where
+      by : (b : Bool) → is_slot slot r ≡ b → AllByRecursion P (recharged slot to rs) → AllByRecursion P (if b then with_charge slot to r ∷ rs else r ∷ recharged slot to rs)
+      by true is next = (f r is all.0, all.1)
+      by false is next = (all.0, next)
+
+  pub pairwise-recharged : (R : Record → Record → Type 0) (rs : List Record)
+      → ((r t : Record) → is_slot slot r ≡ true → R r t → R (with_charge slot to r) t)
+      → ((r t : Record) → is_slot slot t ≡ true → R r t → R r (with_charge slot to t))
+      → AllPairwise R rs → AllPairwise R (recharged slot to rs)
+  pairwise-recharged R [] f g all = tt
+  pairwise-recharged R (r ∷ rs) f g all = by (is_slot slot r) refl (pairwise-recharged R rs f g all.1)
+    where
+      by : (b : Bool) → is_slot slot r ≡ b → AllPairwise R (recharged slot to rs) → AllPairwise R (if b then with_charge slot to r ∷ rs else r ∷ recharged slot to rs)
+      by true is next = (all-map (R r) (R (with_charge slot to r)) (λ t. f r t is) rs all.0, all.1)
+      by false is next = (all-recharged (R r) rs (λ t. g r t) all.0, next)
+
+  -- what is found and isn't in the slot is found again, by a test that doesn't see the charge
+  pub find-recharged : (p : Record → Bool) (rs : List Record) (r : Record) → ((t : Record) → p (with_charge slot to t) ≡ p t) → is_slot slot r ≡ false → find p rs ≡ Some r → find p (recharged slot to rs) ≡ Some r
+  find-recharged p [] r same out e = absurd (none_some r e)
+  find-recharged p (t ∷ ts) r same out e = by (p t) refl e (find-recharged p ts r same out)
+    where
+      by : (c : Bool) → p t ≡ c → cond c (Some t) (find p ts) ≡ Some r → (find p ts ≡ Some r → find p (recharged slot to ts) ≡ Some r) → find p (recharged slot to (t ∷ ts)) ≡ Some r
+      by true is found next =
+          let apart : is_slot slot t ≡ false = ap (is_slot slot) (some_same t r found) ∙ out in
+          ap (λ b. find p (if b then with_charge slot to t ∷ ts else t ∷ recharged slot to ts)) apart ∙ ap (λ c. cond c (Some t) (find p (recharged slot to ts))) is ∙ found
+      by false is found next =
+          elim (is_slot slot t) as (λ b. find p (if b then with_charge slot to t ∷ ts else t ∷ recharged slot to ts) ≡ Some r) [
+            | true ↦ ap (λ c. cond c (Some (with_charge slot to t)) (find p ts)) (same t ∙ is) ∙ found
+            | false ↦ ap (λ c. cond c (Some t) (find p (recharged slot to ts))) is ∙ next found
+          ]

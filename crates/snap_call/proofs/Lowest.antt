@@ -1,0 +1,104 @@
+-- The lowest free slot.
+use Rattle.std.proofs.Common.{◌≡◌, ◌≢◌, ℕ, zero, suc, ◌+◌, ◌<◌, List, [], ◌∷◌, Bool, true, false, true≢false, Some, None, refl, sym, ap, ◌∙◌, subst, ⊎_elim, arith}
+use Rattle.std.proofs.lemmas.Bool.Decides.{eqb_tells}
+use Rattle.std.specs.Prelude.{◌==◌, Option}
+use Rattle.snap_record.specs.declared.record.Record.{Record}
+use Rattle.snap_call.specs.Records.{is_slot, active_at, is_free, or_if, lowest_free}
+
+-- a slot is free where no record is found in it
+pub is_free-None : (slot : ℕ) (rs : List Record) → is_free slot rs ≡ true → active_at slot rs ≡ None
+is_free-None slot [] e = refl
+is_free-None slot (r ∷ rs) e = at (is_slot slot r) refl (is_free-None slot rs)
+  where
+    at : (b : Bool) → is_slot slot r ≡ b → (is_free slot rs ≡ true → active_at slot rs ≡ None) → active_at slot (r ∷ rs) ≡ None
+    at true is next = absurd (true≢false (sym (rw is at e)))
+    at false is next = rw is (next (rw is at e))
+
+pub None-is_free : (slot : ℕ) (rs : List Record) → active_at slot rs ≡ None → is_free slot rs ≡ true
+None-is_free slot [] e = refl
+None-is_free slot (r ∷ rs) e = at (is_slot slot r) refl (None-is_free slot rs)
+  where
+    at : (b : Bool) → is_slot slot r ≡ b → (active_at slot rs ≡ None → is_free slot rs ≡ true) → is_free slot (r ∷ rs) ≡ true
+    at true is next = let f = rw is at e in absurd (cc)
+    at false is next = rw is (next (rw is at e))
+
+-- and it is taken where one is
+pub is_free-Some : (slot : ℕ) (rs : List Record) → is_free slot rs ≡ false → (r : Record) × (active_at slot rs ≡ Some r)
+is_free-Some slot [] e = absurd (true≢false e)
+is_free-Some slot (r ∷ rs) e = at (is_slot slot r) refl (is_free-Some slot rs)
+  where
+    at : (b : Bool) → is_slot slot r ≡ b → (is_free slot rs ≡ false → (t : Record) × (active_at slot rs ≡ Some t)) → (t : Record) × (active_at slot (r ∷ rs) ≡ Some t)
+    at true is next = (r, rw is refl)
+    at false is next = let f = next (rw is at e) in (f.0, rw is f.1)
+
+pub Some-is_free : (slot : ℕ) (rs : List Record) (r : Record) → active_at slot rs ≡ Some r → is_free slot rs ≡ false
+Some-is_free slot rs r e = at (is_free slot rs) refl
+  where
+    at : (b : Bool) → is_free slot rs ≡ b → is_free slot rs ≡ false
+    at true is = let f = is_free-None slot rs is in absurd (cc)
+    at false is = is
+
+-- below any number
+none_below : (n : ℕ) (rs : List Record) → lowest_free n rs ≡ None → (k : ℕ) → k < n → is_free k rs ≡ false
+unfolding lowest_free
+none_below zero rs e k lt = absurd (omega arith)
+none_below (suc n) rs e k lt = at (lowest_free n rs) (is_free n rs) refl refl e (none_below n rs)
+  where
+    at : (o : Option ℕ) (b : Bool) → lowest_free n rs ≡ o → is_free n rs ≡ b → or_if o b n ≡ None → (lowest_free n rs ≡ None → (j : ℕ) → j < n → is_free j rs ≡ false) → is_free k rs ≡ false
+    at (Some m) b low is e next = absurd (cc)
+    at None true low is e next = absurd (cc)
+    at None false low is e next =
+        ⊎_elim
+        (λ (h : ((k == n) ≡ true) × (k ≡ n)). ap (λ j. is_free j rs) h.1 ∙ is)
+        (λ (h : ((k == n) ≡ false) × (k ≢ n)). next low k (let p = h.1 in omega arith))
+        (eqb_tells k n)
+
+abbrev IsLowest : ℕ → ℕ → List Record → Type 0
+IsLowest n slot rs = (slot < n) × (is_free slot rs ≡ true) × ((k : ℕ) → k < slot → is_free k rs ≡ false)
+
+lowest_below : (n : ℕ) (rs : List Record) (slot : ℕ) → lowest_free n rs ≡ Some slot → IsLowest n slot rs
+unfolding lowest_free
+lowest_below zero rs slot e = absurd (cc)
+lowest_below (suc n) rs slot e = at (lowest_free n rs) (is_free n rs) refl refl e (lowest_below n rs slot)
+  where
+    at : (o : Option ℕ) (b : Bool) → lowest_free n rs ≡ o → is_free n rs ≡ b → or_if o b n ≡ Some slot → (lowest_free n rs ≡ Some slot → IsLowest n slot rs) → IsLowest (suc n) slot rs
+    at (Some m) b low is e next = let h = next (low ∙ e) in (omega (arith, h.0), h.1, h.2)
+    at None true low is e next = let P : ℕ → Type 0 = λ k. IsLowest (suc n) k rs in subst P (cc) (omega arith, is, none_below n rs low)
+    at None false low is e next = absurd (cc)
+
+found_below : (n : ℕ) (rs : List Record) (k : ℕ) → lowest_free k rs ≡ None → is_free k rs ≡ true → k < n → lowest_free n rs ≡ Some k
+unfolding lowest_free
+found_below zero rs k low is lt = absurd (omega arith)
+found_below (suc n) rs k low is lt = at (found_below n rs k low is)
+  where
+    at : (k < n → lowest_free n rs ≡ Some k) → or_if (lowest_free n rs) (is_free n rs) n ≡ Some k
+    at next =
+        ⊎_elim
+        (λ (h : ((n == k) ≡ true) × (n ≡ k)). ap (λ j. or_if (lowest_free j rs) (is_free j rs) j) h.1 ∙ rw (low, is) refl)
+        (λ (h : ((n == k) ≡ false) × (n ≢ k)). ap (λ o. or_if o (is_free n rs) n) (next (let p = h.1 in omega arith)))
+        (eqb_tells n k)
+
+past : (k : ℕ) (rs : List Record) → lowest_free k rs ≡ None → is_free k rs ≡ false → lowest_free (suc k) rs ≡ None
+unfolding lowest_free
+past k rs low is = rw (low, is) refl
+
+-- the lowest free slot is one of 0 to 63, no record is in it, and one is in each slot below it
+pub lowest_free-Some : (rs : List Record) (slot : ℕ) → lowest_free 64 rs ≡ Some slot → (slot < 64) × (active_at slot rs ≡ None) × ((k : ℕ) → k < slot → (r : Record) × (active_at k rs ≡ Some r))
+lowest_free-Some rs slot e =
+    let h = lowest_below 64 rs slot e in
+    (h.0, is_free-None slot rs h.1, λ k lt. is_free-Some k rs (h.2 k lt))
+
+-- where there is none, a record is in each of the 64
+pub lowest_free-None : (rs : List Record) → lowest_free 64 rs ≡ None → (k : ℕ) → k < 64 → (r : Record) × (active_at k rs ≡ Some r)
+lowest_free-None rs e k lt = is_free-Some k rs (none_below 64 rs e k lt)
+
+-- for a loop over the slots: at the start, at a free slot, at one that is taken, and at the end
+pub lowest_free-start : (rs : List Record) → lowest_free 0 rs ≡ None
+unfolding lowest_free
+lowest_free-start rs = refl
+
+pub lowest_free-found : (k : ℕ) (rs : List Record) → lowest_free k rs ≡ None → is_free k rs ≡ true → k < 64 → lowest_free 64 rs ≡ Some k
+lowest_free-found k rs low is lt = found_below 64 rs k low is lt
+
+pub lowest_free-past : (k : ℕ) (rs : List Record) → lowest_free k rs ≡ None → is_free k rs ≡ false → lowest_free (k + 1) rs ≡ None
+lowest_free-past k rs low is = let e : k + 1 ≡ suc k = omega arith in ap (λ n. lowest_free n rs) e ∙ past k rs low is

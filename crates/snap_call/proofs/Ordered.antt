@@ -1,0 +1,79 @@
+-- The order of the records after each change.
+use Rattle.std.proofs.Common.{◌≡◌, ℕ, ◌<◌, true, false, true≢false, eq-eqb, List, [], ◌∷◌, refl, sym, ap, ◌∙◌, subst}
+use Rattle.std.specs.List.{AllByRecursion}
+use Rattle.std.specs.List.Sorted.{IsStrictlySortedBy}
+use Rattle.std.specs.Prelude.{if◌then◌else◌}
+use Rattle.std.specs.declared.cmp.Ordering.{Ordering}
+use Rattle.std.specs.declared.cmp.Ordering.TheVariants.{Less, Equal, Greater}
+use Rattle.std.specs.Ordering.{is_lt, is_eq, nat_cmp, ordering_then, ordering_reverse, MatchOrdering}
+use Rattle.std.specs.Cmp.{IsTotalOrder}
+use Rattle.std.specs.Cmp.Lexicographic.{slice_cmp}
+use Rattle.std.proofs.lemmas.Bool.{and_from, or_parts}
+use Rattle.std.proofs.lemmas.Cmp.{nat_cmp_total, nat_list_cmp_total, on_total, then_total, tied_back, ranked}
+use Rattle.std.proofs.lemmas.Map.Text.{is_eq-slice_cmp}
+use Rattle.snap_usage.specs.declared.usage.Usage.{Usage}
+use Rattle.snap_record.specs.Labels.{Bytes}
+use Rattle.snap_record.specs.declared.record.Record.{Record}
+use Rattle.snap_call.specs.Records.{record_cmp, is_named, has_key, is_slot, with_record, without_slot, recharged}
+use Rattle.snap_call.proofs.Lists.{none-passes, list_any-none, with_charge, all-with_record, all-without_slot, all-recharged}
+
+pub record_cmp_total : IsTotalOrder record_cmp
+record_cmp_total = then_total (on_total (λ (r : Record). r.namespace) nat_cmp_total) (on_total (λ (r : Record). r.key) nat_list_cmp_total)
+
+-- ---- records that tie
+
+both_equal : (a b : Ordering) → ordering_then a b ≡ Equal → (a ≡ Equal) × (b ≡ Equal)
+both_equal Less b e = absurd (cc)
+both_equal Equal b e = (refl, e)
+both_equal Greater b e = absurd (cc)
+
+nat_tied : (x y : ℕ) → nat_cmp x y ≡ Equal → x ≡ y
+nat_tied x y e = subst (λ o. MatchOrdering o (x < y) (x ≡ y) (y < x)) e (ranked x y (nat_cmp x y) refl)
+
+-- records that tie have one namespace and one key
+pub tied-is_named : (r t : Record) → record_cmp r t ≡ Equal → is_named r.namespace r.key t ≡ true
+tied-is_named r t e =
+    let h = both_equal (nat_cmp t.namespace r.namespace) (slice_cmp nat_cmp t.key r.key) (tied_back record_cmp_total r t e) in
+    and_from _ _ (eq-eqb t.namespace r.namespace (nat_tied t.namespace r.namespace h.0)) (sym (is_eq-slice_cmp t.key r.key) ∙ ap is_eq h.1)
+
+-- ---- the changes
+
+above : (r t : Record) (rs : List Record) → record_cmp r t ≡ Less → AllByRecursion (λ u. record_cmp t u ≡ Less) rs → AllByRecursion (λ u. record_cmp r u ≡ Less) rs
+above r t [] e all = tt
+above r t (u ∷ us) e all = (record_cmp_total.trans r t u e all.0, above r t us e all.1)
+
+pub sorted-with_record : (r : Record) (rs : List Record) → has_key r.namespace r.key rs ≡ false → IsStrictlySortedBy record_cmp rs → IsStrictlySortedBy record_cmp (with_record r rs)
+unfolding IsStrictlySortedBy
+sorted-with_record r [] none sorted = (tt, tt)
+sorted-with_record r (t ∷ ts) none sorted = by (record_cmp r t) refl (sorted-with_record r ts rest.1 sorted.1)
+  where
+    rest : (is_named r.namespace r.key t ≡ false) × (has_key r.namespace r.key ts ≡ false)
+    rest = or_parts (is_named r.namespace r.key t) (has_key r.namespace r.key ts) none
+
+    by : (o : Ordering) → record_cmp r t ≡ o → IsStrictlySortedBy record_cmp (with_record r ts) → IsStrictlySortedBy record_cmp (if is_lt o then r ∷ t ∷ ts else t ∷ with_record r ts)
+    by Less e next = ((e, above r t ts e sorted.0), sorted)
+    by Equal e next = absurd (true≢false (sym (tied-is_named r t e) ∙ rest.0))
+    by Greater e next = (all-with_record r (λ u. record_cmp t u ≡ Less) ts (record_cmp_total.antisymm t r ∙ ap ordering_reverse e) sorted.0, next)
+
+pub sorted-without_slot : (slot : ℕ) (rs : List Record) → IsStrictlySortedBy record_cmp rs → IsStrictlySortedBy record_cmp (without_slot slot rs)
+unfolding IsStrictlySortedBy
+sorted-without_slot slot [] sorted = tt
+sorted-without_slot slot (r ∷ rs) sorted =
+    elim (is_slot slot r) as (λ b. IsStrictlySortedBy record_cmp (if b then rs else r ∷ without_slot slot rs)) [
+      | true ↦ sorted.1
+      | false ↦ (all-without_slot slot (λ u. record_cmp r u ≡ Less) rs sorted.0, sorted-without_slot slot rs sorted.1)
+    ]
+
+pub sorted-recharged : (slot : ℕ) (to : Usage) (rs : List Record) → IsStrictlySortedBy record_cmp rs → IsStrictlySortedBy record_cmp (recharged slot to rs)
+unfolding IsStrictlySortedBy
+sorted-recharged slot to [] sorted = tt
+sorted-recharged slot to (r ∷ rs) sorted =
+    elim (is_slot slot r) as (λ b. IsStrictlySortedBy record_cmp (if b then with_charge slot to r ∷ rs else r ∷ recharged slot to rs)) [
+      | true ↦ sorted
+      | false ↦ (all-recharged slot to (λ u. record_cmp r u ≡ Less) rs (λ u is e. e) sorted.0, sorted-recharged slot to rs sorted.1)
+    ]
+
+-- a key that is free stays free where a slot's record goes
+pub has_key-without_slot : (slot place : ℕ) (key : Bytes) (rs : List Record) → has_key place key rs ≡ false → has_key place key (without_slot slot rs) ≡ false
+has_key-without_slot slot place key rs none =
+    list_any-none (is_named place key) (without_slot slot rs) (all-without_slot slot (λ r. is_named place key r ≡ false) rs (none-passes (is_named place key) rs none))

@@ -1,0 +1,19 @@
+use Rattle.std.proofs.Common.{◌≡◌, sym, ap, ◌∙◌, get_or, List, set, position, Some, None}
+use Rattle.snap_record.specs.declared.record.Record.{Record}
+use Rattle.snap_record.specs.declared.record.Content.TheVariants.{Active}
+use Rattle.snap_call.specs.Records.{is_slot}
+use Rattle.snap_call.proofs.CodeLemmas.{recharged-Some, recharged-None}
+use Rattle.snap_call.proofs.records.Records.recharge.Goals as goal
+
+pub returns-in_default : goal.returns-in_default
+returns-in_default c =
+    let at : position (is_slot c.args.slot) c.args.self.now ≡ None = ap (λ (l : List Record). position (is_slot c.args.slot) l) (sym (c.deref.ensures.value ∙ c.self.view_is)) ∙ sym c.place_of_slot.ensures ∙ c.in_default.is in
+    recharged-None c.args.slot c.args.to _ at
+
+pub returns : goal.returns
+returns c =
+    let r = c.index_mut-record.result.now in
+    let found : position (is_slot c.args.slot) c.args.self.now ≡ Some c.in-Some.place = ap (λ (l : List Record). position (is_slot c.args.slot) l) (sym (c.deref.ensures.value ∙ c.self.view_is)) ∙ sym c.place_of_slot.ensures ∙ c.in-Some.is in
+    let at : r ≡ get_or c.args.self.now c.in-Some.place r = c.index_mut-record.ensures.value ∙ ap (λ l. get_or l c.in-Some.place r) c.self.view_is in
+    ap (λ (l : List Record). set l c.in-Some.place (record r { content = Active c.args.slot c.args.to })) c.self.view_is
+    ∙ recharged-Some c.args.slot c.args.to _ c.in-Some.place r found at

@@ -1,0 +1,37 @@
+-- The forms that texts, limits and configurations must have.
+use Rattle.std.specs.Prelude.{ℕ, ◌==◌, ◌^◌, Bool, true, false, not, ◌&&◌, nat_le, List, [], ◌∷◌, length, bytes_eq}
+use Rattle.std.specs.List.{list_any, list_all}
+use Rattle.snap_usage.specs.declared.usage.Usage.{Usage}
+use Rattle.snap_record.specs.Labels.{Bytes}
+use Rattle.snap_mount.specs.Mounts.{is_root_text}
+use Rattle.snap_call.specs.declared.config.Config.{Config}
+use Rattle.snap_call.specs.declared.config.Namespace.{Namespace}
+
+-- 1 to so many bytes, none of them NUL
+abbrev pub is_text : ℕ → Bytes → Bool
+is_text most bs = nat_le 1 (length bs) && nat_le (length bs) most && not (list_any (λ b. b == 0) bs)
+
+-- a key of a snapshot, or the name of a committed one, of a parent or of a lease
+abbrev pub is_key : Bytes → Bool
+is_key bs = is_text 1024 bs
+
+-- a limit of a namespace: at most 2^40 blocks and 2^40 inodes
+abbrev pub is_limit : Usage → Bool
+is_limit u = nat_le u.blocks 1099511627776 && nat_le u.inodes 1099511627776
+
+-- a namespace: its name has at most 255 bytes, and its limit is one
+abbrev pub is_namespace : Namespace → Bool
+is_namespace n = is_text 255 n.name && is_limit n.limit
+
+-- a namespace of this name
+abbrev pub has_name : Bytes → Namespace → Bool
+has_name name n = bytes_eq n.name name
+
+-- no two namespaces have the same name
+abbrev pub have_distinct_names : List Namespace → Bool
+have_distinct_names [] = true
+have_distinct_names (n ∷ ns) = not (list_any (has_name n.name) ns) && have_distinct_names ns
+
+-- what a store can be opened with
+abbrev pub is_config : Config → Bool
+is_config c = is_root_text c.root && list_all is_namespace c.namespaces && nat_le (length c.namespaces) 64 && have_distinct_names c.namespaces && nat_le c.journal 1048576 && nat_le 1 c.first_id

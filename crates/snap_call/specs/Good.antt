@@ -1,0 +1,76 @@
+-- What is true of the state whenever no call is under way.
+use Rattle.std.specs.Prelude.{◌≡◌, ◌≢◌, ℕ, ◌<◌, ◌≤◌, Bool, true, false, List, [], ◌∷◌, Option, None, Some, IsSome, length}
+use Rattle.std.specs.List.{AllByRecursion}
+use Rattle.std.specs.List.Sorted.{IsStrictlySortedBy}
+use Rattle.snap_usage.specs.declared.usage.Usage.{Usage}
+use Rattle.snap_usage.specs.Counted.{count_of, Covers}
+use Rattle.snap_lease.specs.Lease.{Lease}
+use Rattle.snap_record.specs.Labels.{Bytes}
+use Rattle.snap_record.specs.declared.record.Content.{Content}
+use Rattle.snap_record.specs.declared.record.Content.TheVariants.{View, Active, Committed}
+use Rattle.snap_record.specs.declared.record.Record.{Record}
+use Rattle.snap_call.specs.declared.config.Namespace.{Namespace}
+use Rattle.snap_call.specs.declared.state.State.{State}
+use Rattle.snap_call.specs.Forms.{is_limit}
+use Rattle.snap_call.specs.Records.{record_cmp, is_slot, committed_at, charge_of}
+use Rattle.snap_call.specs.State.{place_of, limit_at, chain}
+
+-- R holds of any two items, the earlier one first
+abbrev pub AllPairwise : {X : Type 0} → (X → X → Type 0) → List X → Type 0
+AllPairwise R [] = Unit {0}
+AllPairwise R (x ∷ xs) = AllByRecursion (R x) xs × AllPairwise R xs
+
+-- the snapshot has no parent, or its parent is a committed snapshot of its namespace
+abbrev pub ParentStands : List Record → ℕ → Bytes → Type 0
+ParentStands rs place [] = Unit {0}
+ParentStands rs place (b ∷ bs) = IsSome (committed_at place (b ∷ bs) rs)
+
+abbrev pub HasParent : List Record → Record → Type 0
+HasParent rs r = ParentStands rs r.namespace r.parent
+
+-- each snapshot that the lease names is a committed one of the lease's namespace
+abbrev pub NamesStand : List Record → Option ℕ → List Bytes → Type 0
+NamesStand rs None names = ⊥
+NamesStand rs (Some place) names = AllByRecursion (λ name. IsSome (committed_at place name rs)) names
+
+abbrev pub IsGuarding : List Namespace → List Record → Lease → Type 0
+IsGuarding ns rs l = NamesStand rs (place_of l.namespace ns) l.names
+
+-- a committed snapshot's stored usage is the count over its layer
+abbrev pub IsCounted : Content → Type 0
+IsCounted View = Unit {0}
+IsCounted (Active slot charged) = Unit {0}
+IsCounted (Committed layer usage) = usage ≡ count_of layer
+
+-- an active snapshot's slot is one of 0 to 63
+abbrev pub HasPlace : Content → Type 0
+HasPlace View = Unit {0}
+HasPlace (Active slot charged) = slot < 64
+HasPlace (Committed layer usage) = Unit {0}
+
+-- the two are not active in the same slot
+abbrev pub AreApart : Record → Record → Type 0
+AreApart r t = (slot : ℕ) → is_slot slot r ≡ true → is_slot slot t ≡ false
+
+-- what is true of the state whenever no call is under way
+pub record Good (s : State) : Type 0 where
+  -- each parent is a committed snapshot of the same namespace
+  pub parents : AllByRecursion (HasParent s.records) s.records
+  -- each snapshot that a lease names is a committed one
+  pub leased : AllByRecursion (IsGuarding s.namespaces s.records) s.leases
+  -- each stored usage is the count over the stored layer
+  pub counted : AllByRecursion (λ r. IsCounted r.content) s.records
+  -- each namespace is charged within its limit, which is at most 2^40 of each quantity
+  pub within : (place : ℕ) → place < length s.namespaces → Covers (limit_at place s.namespaces) (charge_of place s.records)
+  pub limits : (place : ℕ) → place < length s.namespaces → is_limit (limit_at place s.namespaces) ≡ true
+  pub placed : AllByRecursion (λ r. r.namespace < length s.namespaces) s.records
+  -- each key stands once in its namespace, and the records are in order
+  pub sorted : IsStrictlySortedBy record_cmp s.records
+  -- no two snapshots have the same id, and the next one is above all
+  pub ids : AllPairwise (λ r t. r.id ≢ t.id) s.records
+  pub numbered : AllByRecursion (λ r. r.id < s.next_id) s.records
+  -- no two active snapshots have the same slot, and each has one of 0 to 63
+  pub slots : AllPairwise AreApart s.records
+  pub open_slots : AllByRecursion (λ r. HasPlace r.content) s.records
+  -- each snapshot has a chain of at most 64 committed ancestors
+  pub chains : AllByRecursion (λ r. IsSome (chain s.records r)) s.records

@@ -1,0 +1,121 @@
+-- Records as a list, in order of their namespaces' places and of the bytes of their keys.
+use Rattle.std.specs.Prelude.{ℕ, zero, suc, ◌+◌, ◌==◌, Bool, true, false, ◌&&◌, if◌then◌else◌, List, [], ◌∷◌, Option, None, Some, find, bytes_eq, option_and_then}
+use Rattle.std.specs.declared.cmp.Ordering.{Ordering}
+use Rattle.std.specs.Ordering.{nat_cmp, ordering_then, is_lt}
+use Rattle.std.specs.Cmp.Lexicographic.{slice_cmp}
+use Rattle.std.specs.List.{list_any}
+use Rattle.snap_layer.specs.Tree.{Tree}
+use Rattle.snap_usage.specs.declared.usage.Usage.{Usage}
+use Rattle.snap_usage.specs.Counted.{count_of}
+use Rattle.snap_ledger.specs.States.{ChargeState, free_charge, plus}
+use Rattle.snap_record.specs.Labels.{Bytes}
+use Rattle.snap_record.specs.Records.{no_usage, usage_of}
+use Rattle.snap_record.specs.declared.record.Content.{Content}
+use Rattle.snap_record.specs.declared.record.Content.TheVariants.{View, Active, Committed}
+use Rattle.snap_record.specs.declared.record.Record.{Record}
+
+-- the order of the records
+abbrev pub record_cmp : Record → Record → Ordering
+record_cmp r t = ordering_then (nat_cmp r.namespace t.namespace) (slice_cmp nat_cmp r.key t.key)
+
+-- the record t comes after r
+abbrev pub is_later : Record → Record → Bool
+is_later r t = is_lt (record_cmp r t)
+
+-- the record of this key in the namespace at this place
+abbrev pub is_named : ℕ → Bytes → Record → Bool
+is_named place key r = (r.namespace == place) && bytes_eq r.key key
+
+abbrev pub record_at : ℕ → Bytes → List Record → Option Record
+record_at place key rs = find (is_named place key) rs
+
+-- whether the namespace has a snapshot of this key
+abbrev pub has_key : ℕ → Bytes → List Record → Bool
+has_key place key rs = list_any (is_named place key) rs
+
+-- a record that is active in this slot
+abbrev pub has_slot : ℕ → Content → Bool
+has_slot slot View = false
+has_slot slot (Active s charged) = s == slot
+has_slot slot (Committed layer usage) = false
+
+abbrev pub is_slot : ℕ → Record → Bool
+is_slot slot r = has_slot slot r.content
+
+-- the record that is active in the slot, if the slot is open
+abbrev pub active_at : ℕ → List Record → Option Record
+active_at slot rs = find (is_slot slot) rs
+
+-- a committed record
+abbrev pub is_committed : Content → Bool
+is_committed View = false
+is_committed (Active slot charged) = false
+is_committed (Committed layer usage) = true
+
+abbrev pub if_committed : Record → Option Record
+if_committed r = if is_committed r.content then Some r else None
+
+-- the committed record of this key in the namespace
+abbrev pub committed_at : ℕ → Bytes → List Record → Option Record
+committed_at place key rs = option_and_then if_committed (record_at place key rs)
+
+-- what the record adds to the charge of the namespace at this place
+abbrev pub part_of : ℕ → Record → Usage
+part_of place r = if r.namespace == place then usage_of r.content else no_usage
+
+-- the charge of a namespace: stored usages of its committed snapshots and charged usages of its active ones
+abbrev pub charge_of : ℕ → List Record → Usage
+charge_of place [] = no_usage
+charge_of place (r ∷ rs) = plus (part_of place r) (charge_of place rs)
+
+-- the charge of a slot, as the ledger has it
+abbrev pub charge_if : ℕ → Option Record → ChargeState
+charge_if slot None = free_charge slot
+charge_if slot (Some r) = record { slot = slot; id = r.id; usage = usage_of r.content; issued = true }
+
+abbrev pub charge_at : ℕ → List Record → ChargeState
+charge_at slot rs = charge_if slot (active_at slot rs)
+
+-- one for an active record
+abbrev pub active_one : Content → ℕ
+active_one View = 0
+active_one (Active slot charged) = 1
+active_one (Committed layer usage) = 0
+
+-- how many snapshots are active
+abbrev pub open_count : List Record → ℕ
+open_count [] = 0
+open_count (r ∷ rs) = active_one r.content + open_count rs
+
+-- the records with one more, in its place
+abbrev pub with_record : Record → List Record → List Record
+with_record r [] = r ∷ []
+with_record r (t ∷ ts) = if is_lt (record_cmp r t) then r ∷ t ∷ ts else t ∷ with_record r ts
+
+-- the records without the one that is active in the slot
+abbrev pub without_slot : ℕ → List Record → List Record
+without_slot slot [] = []
+without_slot slot (r ∷ rs) = if is_slot slot r then rs else r ∷ without_slot slot rs
+
+-- the records after the one that is active in the slot is charged so much
+abbrev pub recharged : ℕ → Usage → List Record → List Record
+recharged slot to [] = []
+recharged slot to (r ∷ rs) = if is_slot slot r then record r { content = Active slot to } ∷ rs else r ∷ recharged slot to rs
+
+-- a record as it is once it is committed under a name, by the entry of this number
+abbrev pub committed_as : Bytes → Tree → ℕ → Record → Record
+committed_as name layer number r = record r { key = name; content = Committed layer (count_of layer); created = number; updated = number }
+
+-- the slot is free
+abbrev pub is_free : ℕ → List Record → Bool
+is_free slot rs = if list_any (is_slot slot) rs then false else true
+
+-- of the slots below a number, the lowest that is free
+abbrev pub or_if : Option ℕ → Bool → ℕ → Option ℕ
+or_if (Some slot) free n = Some slot
+or_if None true n = Some n
+or_if None false n = None
+
+unfoldable pub lowest_free : ℕ → List Record → Option ℕ
+lowest_free zero rs = None
+lowest_free (suc n) rs = or_if (lowest_free n rs) (is_free n rs) n

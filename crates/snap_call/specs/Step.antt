@@ -1,0 +1,178 @@
+-- What one call answers, and the state after it. The cases of each call stand in the order in which its refusals are tested.
+use Rattle.std.specs.Prelude.{◌≡◌, ℕ, ◌+◌, ◌<◌, Bool, true, false, not, ◌&&◌, nat_le, nat_lt, if◌then◌else◌, List, [], ◌∷◌, ◌++◌, Option, None, Some, max}
+use Rattle.snap_layer.specs.Tree.{Tree}
+use Rattle.snap_usage.specs.declared.usage.Usage.{Usage}
+use Rattle.snap_usage.specs.Counted.{count_of, Covers}
+use Rattle.snap_ledger.specs.States.{plus, minus}
+use Rattle.snap_record.specs.Labels.{Bytes, Label}
+use Rattle.snap_record.specs.Records.{usage_of, info_of}
+use Rattle.snap_record.specs.declared.record.Content.TheVariants.{Active}
+use Rattle.snap_record.specs.declared.record.Record.{Record}
+use Rattle.snap_call.specs.declared.call.Call.{Call}
+use Rattle.snap_call.specs.declared.call.Call.TheVariants as calls
+use Rattle.snap_call.specs.declared.call.Given.{Given}
+use Rattle.snap_call.specs.declared.call.Given.TheVariants.{Nothing, Count, Layer}
+use Rattle.snap_call.specs.declared.refusal.Refusal.{Refusal}
+use Rattle.snap_call.specs.declared.refusal.Refusal.TheVariants.{BadArgument, NoNamespace, NotFound, AlreadyExists, NotActive, NoLease, TooManyActives, NumbersSpent}
+use Rattle.snap_call.specs.declared.reply.Reply.{Reply}
+use Rattle.snap_call.specs.declared.reply.Reply.TheVariants.{Opened, Prepared, Charged, Trimmed, Committed, Discarded, Info, Usage as UsageReply, Refused}
+use Rattle.snap_call.specs.declared.state.State.{State}
+use Rattle.snap_call.specs.Forms.{is_key}
+use Rattle.snap_call.specs.Records.{record_at, has_key, active_at, charge_of, with_record, without_slot, recharged, committed_as, lowest_free}
+use Rattle.snap_call.specs.State.{place_of, limit_at, covers, charge_with, over_limit}
+
+-- one entry more
+abbrev pub counted : State → State
+counted s = record s { entries = s.entries + 1 }
+
+-- a refusal leaves all but the number of entries
+abbrev pub refused : State → Refusal → State × Reply
+refused s why = (counted s, Refused why)
+
+-- Session: there are at most 65,536
+abbrev pub session : State → State × Reply
+session s = if nat_lt s.sessions 65536 then (record s { sessions = s.sessions + 1; entries = s.entries + 1 }, Opened) else (s, Refused NumbersSpent)
+
+-- Prepare: a new active snapshot, in the lowest free slot, charged 1/1 for its root. A parent and labels are refused.
+abbrev pub one : Usage
+one = record { blocks = 1; inodes = 1 }
+
+abbrev pub no_more : {X : Type 0} → List X → Bool
+no_more [] = true
+no_more (x ∷ xs) = false
+
+abbrev pub new_active : State → ℕ → Bytes → ℕ → Record
+new_active s place key slot = record { namespace = place; key = key; parent = []; id = s.next_id; labels = []; created = s.entries + 1; updated = s.entries + 1; content = Active slot one }
+
+abbrev pub prepared : State → ℕ → Bytes → ℕ → State × Reply
+prepared s place key slot = (record s { records = with_record (new_active s place key slot) s.records; next_id = s.next_id + 1; entries = s.entries + 1 }, Prepared s.next_id slot [])
+
+abbrev pub prepare_slot : State → ℕ → Bytes → Option ℕ → State × Reply
+prepare_slot s place key None = refused s TooManyActives
+prepare_slot s place key (Some slot) =
+    if covers (limit_at place s.namespaces) (plus (charge_of place s.records) one)
+    then if nat_le s.next_id 4294967295 then prepared s place key slot else refused s NumbersSpent
+    else refused s (over_limit s place)
+
+abbrev pub prepare_in : State → Bytes → Option ℕ → State × Reply
+prepare_in s key None = refused s NoNamespace
+prepare_in s key (Some place) = if has_key place key s.records then refused s AlreadyExists else prepare_slot s place key (lowest_free 64 s.records)
+
+abbrev pub prepare : State → Bytes → Bytes → Bytes → List Label → State × Reply
+prepare s namespace key parent labels = if is_key key && no_more parent && no_more labels then prepare_in s key (place_of namespace s.namespaces) else refused s BadArgument
+
+-- Charge: the wanted amount where the limit covers it, else the needed one where the limit covers that
+abbrev pub greater : Usage → Usage → Usage
+greater a b = record { blocks = max a.blocks b.blocks; inodes = max a.inodes b.inodes }
+
+abbrev pub fits : State → Record → Usage → Bool
+fits s r to = covers (limit_at r.namespace s.namespaces) (charge_with r to s.records)
+
+abbrev pub choice : Bool → Bool → Usage → Usage → Option Usage
+choice true b needed wanted = Some wanted
+choice false true needed wanted = Some needed
+choice false false needed wanted = None
+
+abbrev pub granted : State → Record → Usage → Usage → Option Usage
+granted s r need want =
+    let needed = greater (usage_of r.content) need in
+    let wanted = greater needed want in
+    choice (fits s r wanted) (fits s r needed) needed wanted
+
+abbrev pub charge_to : State → ℕ → Record → Option Usage → State × Reply
+charge_to s slot r (Some to) = (record s { records = recharged slot to s.records; entries = s.entries + 1 }, Charged to)
+charge_to s slot r None = refused s (over_limit s r.namespace)
+
+abbrev pub charge : State → ℕ → Usage → Usage → Option Record → State × Reply
+charge s slot need want (Some r) = charge_to s slot r (granted s r need want)
+charge s slot need want None = refused s NotActive
+
+-- Trim: charged for the count of its layer
+abbrev pub trim : State → ℕ → Given → Option Record → State × Reply
+trim s slot (Count now) (Some r) = (record s { records = recharged slot now s.records; entries = s.entries + 1 }, Trimmed)
+trim s slot (Count now) None = refused s NotActive
+trim s slot Nothing r = refused s BadArgument
+trim s slot (Layer layer) r = refused s BadArgument
+
+-- Commit: the active snapshot gives way to a committed one with the layer and its count. No lease stands yet, so none is found.
+abbrev pub committed : State → ℕ → Bytes → Tree → Record → State × Reply
+committed s slot name layer r = (record s { records = with_record (committed_as name layer (s.entries + 1) r) (without_slot slot s.records); entries = s.entries + 1 }, Committed r.id (count_of layer))
+
+abbrev pub commit_under : State → ℕ → Bytes → Option Bytes → Tree → Record → State × Reply
+commit_under s slot name None layer r = committed s slot name layer r
+commit_under s slot name (Some lease) layer r = refused s NoLease
+
+abbrev pub is_lease_text : Option Bytes → Bool
+is_lease_text None = true
+is_lease_text (Some lease) = is_key lease
+
+abbrev pub commit_as : State → ℕ → Bytes → Option Bytes → Tree → Option Record → State × Reply
+commit_as s slot name lease layer (Some r) =
+    if is_key name && is_lease_text lease
+    then if has_key r.namespace name s.records then refused s AlreadyExists else commit_under s slot name lease layer r
+    else refused s BadArgument
+commit_as s slot name lease layer None = refused s NotActive
+
+abbrev pub commit : State → ℕ → Bytes → Option Bytes → Given → State × Reply
+commit s slot name lease (Layer layer) = commit_as s slot name lease layer (active_at slot s.records)
+commit s slot name lease Nothing = refused s BadArgument
+commit s slot name lease (Count now) = refused s BadArgument
+
+-- Discard: the record goes, and what it was charged is answered
+abbrev pub discard : State → ℕ → Option Record → State × Reply
+discard s slot (Some r) = (record s { records = without_slot slot s.records; entries = s.entries + 1 }, Discarded (usage_of r.content))
+discard s slot None = refused s NotActive
+
+-- Stat, Usage: what is asked of a record
+abbrev pub ask_record : State → (Record → Reply) → Option Record → State × Reply
+ask_record s answer None = refused s NotFound
+ask_record s answer (Some r) = (counted s, answer r)
+
+abbrev pub ask_in : State → (Record → Reply) → Bytes → Option ℕ → State × Reply
+ask_in s answer key None = refused s NoNamespace
+ask_in s answer key (Some place) = ask_record s answer (record_at place key s.records)
+
+abbrev pub ask : State → (Record → Reply) → Bytes → Bytes → State × Reply
+ask s answer namespace key = if is_key key then ask_in s answer key (place_of namespace s.namespaces) else refused s BadArgument
+
+-- one call: the state after it, and its reply
+abbrev pub step : State → Call → Given → State × Reply
+step s calls.Session given = session s
+step s (calls.Prepare namespace key parent labels) given = prepare s namespace key parent labels
+step s (calls.Charge slot id need want) given = charge s slot need want (active_at slot s.records)
+step s (calls.Trim slot id) given = trim s slot given (active_at slot s.records)
+step s (calls.Commit slot id name lease) given = commit s slot name lease given
+step s (calls.Discard slot id) given = discard s slot (active_at slot s.records)
+step s (calls.Stat namespace key) given = ask s (λ r. Info (info_of r)) namespace key
+step s (calls.Usage namespace key) given = ask s (λ r. UsageReply (usage_of r.content)) namespace key
+
+-- the slot is open under the id
+abbrev pub IsOpen : ℕ → Option Record → Type 0
+IsOpen id None = ⊥
+IsOpen id (Some r) = r.id ≡ id
+
+-- and its charge covers so much
+abbrev pub IsCovered : ℕ → Usage → Option Record → Type 0
+IsCovered id now None = ⊥
+IsCovered id now (Some r) = (r.id ≡ id) × Covers (usage_of r.content) now
+
+abbrev pub TrimAllowed : ℕ → Given → Option Record → Type 0
+TrimAllowed id (Count now) r = IsCovered id now r
+TrimAllowed id Nothing r = ⊥
+TrimAllowed id (Layer layer) r = ⊥
+
+abbrev pub CommitAllowed : ℕ → Given → Option Record → Type 0
+CommitAllowed id (Layer layer) r = IsCovered id (count_of layer) r
+CommitAllowed id Nothing r = ⊥
+CommitAllowed id (Count now) r = ⊥
+
+-- the condition of a call: its slot is open under its id, and the charge covers what the value has; a session is opened only where one is left
+abbrev pub IsAllowed : State → Call → Given → Type 0
+IsAllowed s calls.Session given = s.sessions < 65536
+IsAllowed s (calls.Prepare namespace key parent labels) given = Unit {0}
+IsAllowed s (calls.Charge slot id need want) given = IsOpen id (active_at slot s.records)
+IsAllowed s (calls.Trim slot id) given = TrimAllowed id given (active_at slot s.records)
+IsAllowed s (calls.Commit slot id name lease) given = CommitAllowed id given (active_at slot s.records)
+IsAllowed s (calls.Discard slot id) given = IsOpen id (active_at slot s.records)
+IsAllowed s (calls.Stat namespace key) given = Unit {0}
+IsAllowed s (calls.Usage namespace key) given = Unit {0}

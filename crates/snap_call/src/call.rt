@@ -1,0 +1,137 @@
+ghost use Rattle.std.specs.Prelude.{◌≡◌};
+
+use snap_layer::Shared;
+use snap_record::{Labels, Text};
+use snap_usage::Usage;
+use std::alloc::AllocError;
+
+/// A call on the store.
+#[derive(Debug, Drop, PartialEq, Eq)]
+pub enum Call {
+    /// Opens a session.
+    Session,
+    /// Makes an active snapshot on a parent, the empty text for none (containerd's `Prepare`).
+    Prepare {
+        namespace: Text,
+        key: Text,
+        parent: Text,
+        labels: Labels,
+    },
+    /// Charges the active snapshot of a slot for the wanted amount, or for the needed one.
+    Charge {
+        slot: u64,
+        id: u32,
+        need: Usage,
+        want: Usage,
+    },
+    /// Lowers the charge of the active snapshot of a slot to the count of its layer.
+    Trim {
+        slot: u64,
+        id: u32,
+    },
+    /// Commits the active snapshot of a slot under a name (containerd's `Commit`).
+    Commit {
+        slot: u64,
+        id: u32,
+        name: Text,
+        lease: Option<Text>,
+    },
+    /// Drops the active snapshot of a slot.
+    Discard {
+        slot: u64,
+        id: u32,
+    },
+    /// Asks for a snapshot's info (containerd's `Stat`).
+    Stat {
+        namespace: Text,
+        key: Text,
+    },
+    /// Asks what a snapshot is charged (containerd's `Usage`).
+    Usage {
+        namespace: Text,
+        key: Text,
+    },
+}
+
+/// What the value handed in adds to a call.
+#[derive(Debug, Drop, PartialEq, Eq)]
+pub enum Given {
+    Nothing,
+    /// The count of the layer of an active snapshot that is trimmed.
+    Count(Usage),
+    /// The layer that is committed.
+    Layer(Shared),
+}
+
+/// A copy of each text and each label.
+impl Clone for Call {
+    ghost is_clone = { λ a b. b ≡ a };
+
+    fn clone(&self) -> Result<Call, AllocError> {
+        Ok(match self {
+            Call::Session => Call::Session,
+            Call::Prepare {
+                namespace,
+                key,
+                parent,
+                labels,
+            } => Call::Prepare {
+                namespace: namespace.clone()?,
+                key: key.clone()?,
+                parent: parent.clone()?,
+                labels: labels.clone()?,
+            },
+            Call::Charge {
+                slot,
+                id,
+                need,
+                want,
+            } => Call::Charge {
+                slot: *slot,
+                id: *id,
+                need: *need,
+                want: *want,
+            },
+            Call::Trim { slot, id } => Call::Trim {
+                slot: *slot,
+                id: *id,
+            },
+            Call::Commit {
+                slot,
+                id,
+                name,
+                lease,
+            } => Call::Commit {
+                slot: *slot,
+                id: *id,
+                name: name.clone()?,
+                lease: lease.clone()?,
+            },
+            Call::Discard { slot, id } => Call::Discard {
+                slot: *slot,
+                id: *id,
+            },
+            Call::Stat { namespace, key } => Call::Stat {
+                namespace: namespace.clone()?,
+                key: key.clone()?,
+            },
+            Call::Usage { namespace, key } => Call::Usage {
+                namespace: namespace.clone()?,
+                key: key.clone()?,
+            },
+        })
+    }
+}
+
+/// One more holder of the same layer, which is not copied.
+impl Clone for Given {
+    ghost is_clone = { λ a b. b ≡ a };
+
+    fn clone(&self) -> Result<Given, AllocError> {
+        Ok(match self {
+            Given::Nothing => Given::Nothing,
+            Given::Count(count) => Given::Count(*count),
+            Given::Layer(layer) => Given::Layer(layer.again()?),
+        })
+    }
+}

@@ -1,0 +1,41 @@
+ghost use Rattle.std.specs.Prelude.{◌≡◌, IsTrue, ◌↔◌};
+
+use crate::call::{Call, Given};
+use crate::reply::Reply;
+use crate::same::{is_same_call, is_same_given, is_same_reply};
+use std::alloc::AllocError;
+
+/// An entry of the journal: a call of a session, what was handed in with it, and the reply.
+#[derive(Debug, Drop, PartialEq, Eq)]
+pub struct Entry {
+    pub session: u64,
+    pub call: Call,
+    pub given: Given,
+    pub reply: Reply,
+}
+
+impl Entry {
+    /// Whether the entries are equal in all parts. Its cost grows with what is compared.
+    pub fn is_same(&self, other: &Entry) -> bool
+        ensures { IsTrue result ↔ (self.now ≡ other.now) }
+    {
+        self.session == other.session
+            && is_same_call(&self.call, &other.call)
+            && is_same_given(&self.given, &other.given)
+            && is_same_reply(&self.reply, &other.reply)
+    }
+}
+
+/// A copy of all parts. Its cost and its memory grow with their texts and labels.
+impl Clone for Entry {
+    ghost is_clone = { λ a b. b ≡ a };
+
+    fn clone(&self) -> Result<Entry, AllocError> {
+        Ok(Entry {
+            session: self.session,
+            call: self.call.clone()?,
+            given: self.given.clone()?,
+            reply: self.reply.clone()?,
+        })
+    }
+}

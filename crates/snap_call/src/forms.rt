@@ -1,0 +1,83 @@
+ghost use Rattle.std.specs.Prelude.{◌≡◌, ◌==◌};
+ghost use Rattle.std.specs.List.{list_any, list_all};
+ghost use Rattle.snap_call.specs.Forms.{is_text, is_key, is_limit, is_namespace, has_name, have_distinct_names};
+
+use crate::config::Namespace;
+use snap_usage::Usage;
+
+/// The most bytes of a key of a snapshot, and of the name of a committed snapshot, of a parent or of
+/// a lease.
+pub const MAX_KEY_BYTES: usize = 1024;
+
+/// The most bytes of a namespace's name.
+pub const MAX_NAMESPACE_BYTES: usize = 255;
+
+/// The most blocks and the most inodes of a namespace's limit: 2^40.
+pub const MAX_LIMIT: u64 = 1_099_511_627_776;
+
+/// Whether the text has 1 to so many bytes, none of them NUL.
+fn is_text(most: usize, text: &str) -> bool
+    ensures { result ≡ is_text most text.now }
+{
+    let bytes = text.as_bytes();
+    1 <= bytes.len() && bytes.len() <= most && !has_nul(bytes)
+}
+
+fn has_nul(bytes: &[u8]) -> bool
+    ensures { result ≡ list_any (λ b. b == 0) bytes.now }
+{
+    bytes.iter().any(|byte| *byte == 0)
+}
+
+/// Whether the text can be a key of a snapshot, or the name of a committed snapshot, of a parent or
+/// of a lease: 1 to 1024 bytes without NUL. Takes no memory.
+pub fn is_key(text: &str) -> bool
+    ensures { result ≡ is_key text.now }
+{
+    is_text(MAX_KEY_BYTES, text)
+}
+
+/// Whether the usage can be a namespace's limit: at most 2^40 blocks and 2^40 inodes.
+pub fn is_limit(limit: Usage) -> bool
+    ensures { result ≡ is_limit limit }
+{
+    limit.blocks <= MAX_LIMIT && limit.inodes <= MAX_LIMIT
+}
+
+fn is_namespace(namespace: &Namespace) -> bool
+    ensures { result ≡ is_namespace namespace.now }
+{
+    is_text(MAX_NAMESPACE_BYTES, namespace.name.as_str()) && is_limit(namespace.limit)
+}
+
+/// Whether each namespace has a name and a limit of their forms.
+pub(crate) fn are_namespaces(namespaces: &[Namespace]) -> bool
+    ensures { result ≡ list_all is_namespace namespaces.now }
+{
+    namespaces.iter().all(is_namespace)
+}
+
+/// Whether the namespace has this name.
+pub(crate) fn has_name(namespace: &Namespace, name: &str) -> bool
+    ensures { result ≡ has_name name.now namespace.now }
+{
+    namespace.name.as_str() == name
+}
+
+fn is_named_in(namespaces: &[Namespace], name: &str) -> bool
+    ensures { result ≡ list_any (has_name name.now) namespaces.now }
+{
+    namespaces.iter().any(|namespace| has_name(namespace, name))
+}
+
+/// Whether no two namespaces have the same name. Its cost grows with the square of their number.
+pub(crate) fn has_distinct_names(namespaces: &[Namespace]) -> bool
+    ensures { result ≡ have_distinct_names namespaces.now }
+{
+    for (place, namespace) in namespaces.iter().enumerate() {
+        if is_named_in(&namespaces[place + 1..], namespace.name.as_str()) {
+            return false;
+        }
+    }
+    true
+}

@@ -1,0 +1,29 @@
+//! The calls of a store of snapshots as plain data, its state, and what one call makes of it.
+//!
+//! The calls are those of containerd's `snapshots.Snapshotter`. What a call answers and leaves is
+//! one definition, `step` in `specs/Step.antt`: it is what the book, the world and the store are
+//! proved to do. The state and all that it is made of are in `specs/State.antt`.
+#![tactic(auto)]
+
+mod call;
+mod config;
+mod entry;
+mod forms;
+mod order;
+mod records;
+mod refusal;
+mod reply;
+mod same;
+mod state;
+
+pub use call::{Call, Given};
+pub use config::{Config, MAX_JOURNAL, MAX_NAMESPACES, Namespace};
+pub use entry::Entry;
+pub use forms::{MAX_KEY_BYTES, MAX_LIMIT, MAX_NAMESPACE_BYTES, is_key, is_limit};
+pub use records::{MAX_SLOTS, Records};
+pub use refusal::Refusal;
+pub use reply::Reply;
+pub use state::State;
+
+#[cfg(test)]
+mod tests;

@@ -1,0 +1,179 @@
+ghost use Rattle.std.specs.Prelude.{◌≡◌, ◌<◌, [], length, option_copied, OnOk, OnErr, OnSome, IfErr, MatchOption, IsTrue, ◌↔◌, vec_len, vec_capacity};
+ghost use Rattle.std.specs.List.{list_any};
+ghost use Rattle.snap_usage.specs.Counted.{count_of};
+ghost use Rattle.snap_call.specs.Records.{record_at, has_key, is_slot, active_at, with_record, without_slot, recharged, committed_as, lowest_free};
+
+use crate::order::{is_named, is_slot, place_for, place_of_slot};
+use snap_layer::Shared;
+use snap_record::{Content, Record, Text};
+use snap_usage::{Usage, count};
+use std::alloc::{AllocFailed, Global};
+use std::marker::Model;
+
+/// At most so many snapshots are active: the slots are 0 to 63.
+pub const MAX_SLOTS: u64 = 64;
+
+/// The records of a store, in order of their namespaces' places and the bytes of their keys.
+/// Contracts see the list.
+///
+/// A search goes over the list, so its cost grows with the number of records. Since the list is
+/// sorted, a search for a key can be a binary one.
+#[derive(Debug, Drop)]
+pub struct Records {
+    list: Vec<Record>,
+}
+
+impl Model for Records {
+    ghost use Rattle.std.specs.Prelude.{List};
+    ghost use Rattle.snap_record.specs.declared.record.Record.{Record};
+
+    ghost Value = { List Record };
+
+    ghost view = { λ r. r.list.items };
+}
+
+impl Records {
+    /// No records. Takes no memory.
+    pub fn new(alloc: Global) -> Records
+        ensures { result ≡ [] }
+    {
+        Records {
+            list: Vec::new(alloc),
+        }
+    }
+
+    /// The records, in their order.
+    pub fn as_slice(&self) -> &[Record]
+        ensures { result.now ≡ self.now }
+    {
+        self.list.as_slice()
+    }
+
+    /// How many records there are.
+    pub fn len(&self) -> usize
+        ensures { result ≡ length self.now }
+    {
+        self.list.len()
+    }
+
+    /// Whether there are no records.
+    pub fn is_empty(&self) -> bool
+        ensures { IsTrue result ↔ (self.now ≡ []) }
+    {
+        self.list.is_empty()
+    }
+
+    /// Whether the namespace at the place has a snapshot of this key. Takes no memory.
+    pub fn has_key(&self, place: usize, key: &str) -> bool
+        ensures { result ≡ has_key place key.now self.now }
+    {
+        self.list.iter().any(|record| is_named(record, place, key))
+    }
+
+    /// The record of this key in the namespace at the place. Takes no memory.
+    pub fn record_at(&self, place: usize, key: &str) -> Option<&Record>
+        ensures { option_copied result ≡ record_at place key.now self.now }
+    {
+        self.list.iter().find(|record| is_named(record, place, key))
+    }
+
+    /// The record that is active in the slot, if the slot is open. Takes no memory.
+    pub fn active_at(&self, slot: u64) -> Option<&Record>
+        ensures { option_copied result ≡ active_at slot self.now }
+    {
+        self.list.iter().find(|record| is_slot(record, slot))
+    }
+
+    /// Whether a snapshot is active in the slot. Takes no memory.
+    pub fn is_open(&self, slot: u64) -> bool
+        ensures { result ≡ list_any (is_slot slot) self.now }
+    {
+        self.list.iter().any(|record| is_slot(record, slot))
+    }
+
+    /// The lowest slot that is not open, if there is one. Takes no memory. It goes over the records
+    /// once for each slot that is open.
+    pub fn lowest_free(&self) -> Option<u64>
+        ensures { result ≡ lowest_free 64 self.now }
+    {
+        for slot in 0..MAX_SLOTS {
+            if !self.is_open(slot) {
+                return Some(slot);
+            }
+        }
+        None
+    }
+
+    /// Puts a record in its place. Where memory is wanting, the records are as they were and the
+    /// error gives the record back.
+    pub fn insert(&mut self, added: Record) -> Result<(), AllocFailed<Record>>
+        ensures ok { OnOk result (self.new ≡ with_record added self.old) }
+        ensures err { OnErr result (self.new ≡ self.old) }
+        ensures value_returned { IfErr result (λ e. e.value ≡ added) }
+    {
+        let place = place_for(&self.list, &added);
+        self.list.insert(place, added)
+    }
+
+    /// Takes the record of a slot away. Where the slot is not open, the records are as they were.
+    /// Takes no memory.
+    pub fn take_slot(&mut self, slot: u64) -> Option<Record>
+        ensures taken { self.new ≡ without_slot slot self.old }
+        ensures record_taken { result ≡ active_at slot self.old }
+    {
+        take_active(&mut self.list, slot)
+    }
+
+    /// Charges the record of a slot for so much. Where the slot is not open, the records are as
+    /// they were. Takes no memory.
+    pub fn recharge(&mut self, slot: u64, to: Usage)
+        ensures { self.new ≡ recharged slot to self.old }
+    {
+        let Some(place) = place_of_slot(&self.list, slot) else {
+            return;
+        };
+        let record = &mut self.list[place];
+        record.content = Content::Active { slot, charged: to };
+    }
+
+    /// Makes the active record of a slot a committed one: it has the name, the layer with its count
+    /// and the number of the journal entry, and stands where the name has its place. Where the slot
+    /// is not open, the records are as they were.
+    ///
+    /// Takes no memory: the record goes into the room that it left. Besides the search its cost is
+    /// that of [`count`].
+    pub fn commit(&mut self, slot: u64, name: Text, layer: Shared, number: u64)
+        ensures { MatchOption (active_at slot self.old) (self.new ≡ self.old) (λ r. self.new ≡ with_record (committed_as name layer number r) (without_slot slot self.old)) }
+    {
+        let Some(mut record) = take_active(&mut self.list, slot) else {
+            return;
+        };
+        let usage = count(layer.layer());
+        record.key = name;
+        record.content = Content::Committed { layer, usage };
+        record.created = number;
+        record.updated = number;
+        put_reserved(&mut self.list, record);
+    }
+}
+
+/// Takes the record of a slot away, and so leaves room for one.
+fn take_active(list: &mut Vec<Record>, slot: u64) -> Option<Record>
+    ensures taken { list.new.items ≡ without_slot slot list.old.items }
+    ensures record_taken { result ≡ active_at slot list.old.items }
+    ensures room { OnSome result (vec_len list.new < vec_capacity list.new) }
+{
+    match place_of_slot(list, slot) {
+        Some(place) => Some(list.remove(place)),
+        None => None,
+    }
+}
+
+/// Puts a record in its place, where the list has room for it.
+fn put_reserved(list: &mut Vec<Record>, added: Record)
+    requires { vec_len list.old < vec_capacity list.old }
+    ensures { list.new.items ≡ with_record added list.old.items }
+{
+    let place = place_for(list, &added);
+    let _ = list.insert(place, added);
+}

@@ -1,0 +1,59 @@
+ghost use Rattle.std.specs.Prelude.{◌≡◌};
+
+use crate::refusal::Refusal;
+use snap_record::{Info, Sequence};
+use snap_usage::Usage;
+use std::alloc::AllocError;
+
+/// What a call answers.
+#[derive(Debug, Drop, PartialEq, Eq)]
+pub enum Reply {
+    Opened,
+    /// The active snapshot's id and slot, and the ids of its ancestors, nearest first.
+    Prepared {
+        id: u32,
+        slot: u64,
+        chain: Sequence<u32>,
+    },
+    /// The charged amount afterwards.
+    Charged {
+        now: Usage,
+    },
+    Trimmed,
+    /// The snapshot's id and its stored usage.
+    Committed {
+        id: u32,
+        usage: Usage,
+    },
+    /// What the snapshot was charged.
+    Discarded(Usage),
+    Info(Info),
+    Usage(Usage),
+    Refused(Refusal),
+}
+
+/// A copy of each id, each text and each label.
+impl Clone for Reply {
+    ghost is_clone = { λ a b. b ≡ a };
+
+    fn clone(&self) -> Result<Reply, AllocError> {
+        Ok(match self {
+            Reply::Opened => Reply::Opened,
+            Reply::Prepared { id, slot, chain } => Reply::Prepared {
+                id: *id,
+                slot: *slot,
+                chain: chain.clone()?,
+            },
+            Reply::Charged { now } => Reply::Charged { now: *now },
+            Reply::Trimmed => Reply::Trimmed,
+            Reply::Committed { id, usage } => Reply::Committed {
+                id: *id,
+                usage: *usage,
+            },
+            Reply::Discarded(usage) => Reply::Discarded(*usage),
+            Reply::Info(info) => Reply::Info(info.clone()?),
+            Reply::Usage(usage) => Reply::Usage(*usage),
+            Reply::Refused(refusal) => Reply::Refused(*refusal),
+        })
+    }
+}

@@ -1,0 +1,68 @@
+ghost use Rattle.std.specs.Prelude.{◌≡◌};
+ghost use Rattle.snap_call.specs.State.{opening, place_of, limit_at};
+
+use crate::config::{Config, Namespace};
+use crate::forms::has_name;
+use crate::records::Records;
+use snap_lease::Leases;
+use snap_record::{Sequence, Text};
+use snap_usage::Usage;
+use std::alloc::Global;
+
+/// The state of a store.
+#[derive(Drop)]
+pub struct State {
+    /// The directory that the snapshots' directories lie in.
+    pub root: Text,
+    pub namespaces: Sequence<Namespace>,
+    pub records: Records,
+    pub leases: Leases,
+    /// The id of the next snapshot.
+    pub next_id: u64,
+    /// How many sessions were opened.
+    pub sessions: u64,
+    /// How many entries were ever recorded.
+    pub entries: u64,
+}
+
+impl State {
+    /// The state of a store that is opened: the parts of the configuration, and no records, leases,
+    /// sessions and entries. Takes no memory.
+    pub fn opening(alloc: Global, config: Config) -> State
+        ensures { result ≡ opening config }
+    {
+        State {
+            root: config.root,
+            namespaces: config.namespaces,
+            records: Records::new(alloc),
+            leases: Leases::new(alloc),
+            next_id: config.first_id as u64,
+            sessions: 0,
+            entries: 0,
+        }
+    }
+
+    /// The place of the namespace of this name, if the store has it. Takes no memory. It goes over
+    /// the namespaces.
+    pub fn place_of(&self, name: &str) -> Option<usize>
+        ensures { result ≡ place_of name.now self.now.namespaces }
+    {
+        let namespaces = self.namespaces.as_slice();
+        namespaces
+            .iter()
+            .position(|namespace| has_name(namespace, name))
+    }
+
+    /// The limit of the namespace at the place; 0/0 past the last one. Takes no memory.
+    pub fn limit_at(&self, place: usize) -> Usage
+        ensures { result ≡ limit_at place self.now.namespaces }
+    {
+        match self.namespaces.as_slice().get(place) {
+            Some(namespace) => namespace.limit,
+            None => Usage {
+                blocks: 0,
+                inodes: 0,
+            },
+        }
+    }
+}

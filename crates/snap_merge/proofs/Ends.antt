@@ -1,0 +1,138 @@
+-- Where a way ends.
+use Rattle.std.proofs.Common.{◌≡◌, ℕ, ◌+◌, ◌≤◌, Bool, true, false, not, List, [], ◌∷◌, ◌++◌, Option, Some, None, Ok, Err, length, take, get_or, refl, sym, ap, subst, ◌∙◌, append_assoc, append-nil, arith}
+use Rattle.std.specs.Prelude.{if◌then◌else◌, is_some, zero, suc, nat_lt, nat_le, ◌&&◌, ◌||◌, ◌==◌}
+use Rattle.std.specs.List.{list_all}
+use Rattle.std.specs.Str.{bytes_eq}
+use Rattle.std.proofs.lemmas.Bool.Decides.{nat_tests}
+use Rattle.std.proofs.lemmas.List.{take_more, take_all}
+use Rattle.snap_path.specs.Text.{Names, IsPath, is_name, is_name_byte, text_below}
+use Rattle.snap_path.proofs.Texts.{IsPath-front}
+use Rattle.snap_layer.specs.Tree.{Tree}
+use Rattle.snap_merge.specs.declared.error.FsError.{FsError}
+use Rattle.snap_merge.specs.declared.error.FsError.TheVariants.{BadPath, NotDir}
+use Rattle.snap_merge.specs.Objects.{Object, dir, file, symlink, seen, is_shown_dir, AreLayers}
+use Rattle.snap_merge.specs.Walk.{walk_on, walk_from}
+use Rattle.snap_merge.specs.Resolving.{Answer, is_here, is_above, above, is_too_long, start_of, words_of, entered, way, following, is_shown_end}
+use Rattle.snap_merge.specs.Rules.{ResolvingRules}
+use Rattle.snap_merge.proofs.Above.{dir_above}
+use Rattle.snap_merge.proofs.Ways.{way_enters}
+
+-- ---- a way leads to a directory or a file
+
+abbrev IsEnd : List Tree → Names → Type 0
+IsEnd s p = is_shown_end (seen s p) ≡ true
+
+dir_is_end : (o : Option Object) → is_shown_dir o ≡ true → is_shown_end o ≡ true
+dir_is_end None e = absurd (cc)
+dir_is_end (Some (dir m)) e = refl
+dir_is_end (Some (file m b)) e = refl
+dir_is_end (Some (symlink t)) e = absurd (cc)
+
+dir_is_some : (o : Option Object) → is_shown_dir o ≡ true → is_some o ≡ true
+dir_is_some None e = absurd (cc)
+dir_is_some (Some x) e = refl
+
+-- above a directory is one
+above_dir : (s : List Tree) → AreLayers s → (p : Names) → is_shown_dir (seen s p) ≡ true → is_shown_dir (seen s (above p)) ≡ true
+above_dir s ok [] e = e
+above_dir s ok (n ∷ ns) e =
+    let parts : n ∷ ns ≡ take (length ns) (n ∷ ns) ++ get_or (n ∷ ns) (length ns) [] ∷ [] =
+    sym (take_all (length ns + 1) (n ∷ ns) (omega arith)) ∙ take_more (n ∷ ns) (length ns) [] (omega arith)
+    in
+    dir_above s ok (take (length ns) (n ∷ ns)) (get_or (n ∷ ns) (length ns) []) (dir_is_some _ (sym (ap (λ (p : Names). is_shown_dir (seen s p)) parts) ∙ e))
+
+start_ends : (s : List Tree) (place : Names) (target : List ℕ) → IsEnd s [] → IsEnd s place → IsEnd s (start_of place target)
+start_ends s place [] root here = here
+start_ends s place (b ∷ bs) root here = elim (b == 47) as (λ t. IsEnd s (if t then [] else place)) [ true ↦ root | false ↦ here ]
+
+same_end : (s : List Tree) (p q : Names) → IsEnd s p → ◌≡◌ {A = Answer} (Ok p) (Ok q) → IsEnd s q
+same_end s p q here e = let same : p ≡ q = cc in subst (IsEnd s) same here
+
+module _ (s : List Tree) (ok : AreLayers s) (root : is_shown_dir (seen s []) ≡ true) (follow : Names → Names → Answer) (goes : (place ws q : Names) → IsEnd s place → follow place ws ≡ Ok q → IsEnd s q) where
+  step_ends : (ws : Names) (later : (place q : Names) → IsEnd s place → way follow s place ws ≡ Ok q → IsEnd s q) (place : Names) (w : List ℕ) (q : Names)
+      → (d h a l : Bool) → is_shown_dir (seen s place) ≡ d → (o : Option Object) → seen s (place ++ w ∷ []) ≡ o
+      → (if not d then Err NotDir else if h then way follow s place ws else if a then way follow s (above place) ws else if l then Err BadPath else entered (λ target. follow (start_of place target) (words_of target ++ ws)) (way follow s (place ++ w ∷ []) ws) o) ≡ Ok q
+      → IsEnd s q
+  step_ends ws later place w q false h a l there o is e = absurd (cc)
+  step_ends ws later place w q true true a l there o is e = later place q (dir_is_end _ there) e
+  step_ends ws later place w q true false true l there o is e = later (above place) q (dir_is_end _ (above_dir s ok place there)) e
+  step_ends ws later place w q true false false true there o is e = absurd (cc)
+  step_ends ws later place w q true false false false there None is e = absurd (cc)
+  step_ends ws later place w q true false false false there (Some (dir m)) is e = later (place ++ w ∷ []) q (ap is_shown_end is) e
+  step_ends ws later place w q true false false false there (Some (file m b)) is e = later (place ++ w ∷ []) q (ap is_shown_end is) e
+  step_ends ws later place w q true false false false there (Some (symlink t)) is e = goes (start_of place t) (words_of t ++ ws) q (start_ends s place t (dir_is_end _ root) (dir_is_end _ there)) e
+
+  way_ends : (ws place q : Names) → IsEnd s place → way follow s place ws ≡ Ok q → IsEnd s q
+  way_ends [] place q here e = same_end s place q here e
+  way_ends (w ∷ ws) place q here e = step_ends ws (way_ends ws) place w q (is_shown_dir (seen s place)) (is_here w) (is_above w) (is_too_long place w) refl (seen s (place ++ w ∷ [])) refl e
+
+following_ends : (s : List Tree) → AreLayers s → is_shown_dir (seen s []) ≡ true → (k : ℕ) (place ws q : Names) → IsEnd s place → following k s place ws ≡ Ok q → IsEnd s q
+following_ends s ok root zero place ws q here e = absurd (cc)
+following_ends s ok root (suc k) place ws q here e = way_ends s ok root (following k s) (following_ends s ok root k) ws place q here e
+
+-- ---- a way without symlinks
+
+name_parts : (a b c d e : Bool) → (a && b && c && not d && not e) ≡ true → (a ≡ true) × (b ≡ true) × (d ≡ false) × (e ≡ false)
+name_parts true true true false false x = (refl, refl, refl, refl)
+name_parts a b c d e x = absurd (cc)
+
+middle_true : (xs : Names) (n : List ℕ) (ys : Names) → list_all is_name (xs ++ n ∷ ys) ≡ true → is_name n ≡ true
+middle_true [] n ys e = by (is_name n) (list_all is_name ys) e
+  where
+    by : (a b : Bool) → (a && b) ≡ true → a ≡ true
+    by true b f = refl
+    by false b f = absurd (cc)
+middle_true (x ∷ xs) n ys e = middle_true xs n ys (by (is_name x) (list_all is_name (xs ++ n ∷ ys)) e)
+  where
+    by : (a b : Bool) → (a && b) ≡ true → b ≡ true
+    by true b f = f
+    by false b f = absurd (cc)
+
+neither : (a b : Bool) → a ≡ false → b ≡ false → (a || b) ≡ false
+neither true b e f = absurd (cc)
+neither false b e f = f
+
+no_word : (n : List ℕ) → is_name n ≡ true → (is_here n ≡ false) × (is_above n ≡ false) × (length n ≤ 255)
+no_word n e =
+    let parts = name_parts (nat_lt 0 (length n)) (nat_le (length n) 255) (list_all is_name_byte n) (bytes_eq n (46 ∷ [])) (bytes_eq n (46 ∷ 46 ∷ [])) e in
+    let some : nat_lt 0 (length n) ≡ true = parts.0 in
+    let few : nat_le (length n) 255 ≡ true = parts.1 in
+    let word : (length n == 0) ≡ false = grind (arith, nat_tests) in
+    (neither _ _ word parts.2, parts.3, grind (arith, nat_tests))
+
+passes : (o : Option Object) (later : Option FsError) → walk_on o later ≡ None → (is_shown_dir o ≡ true) × (later ≡ None)
+passes None later e = absurd (cc)
+passes (Some (dir m)) later e = (refl, e)
+passes (Some (file m b)) later e = absurd (cc)
+passes (Some (symlink t)) later e = absurd (cc)
+
+goes_on : (follow : List ℕ → Answer) (on : Answer) (o : Option Object) → is_shown_end o ≡ true → entered follow on o ≡ on
+goes_on follow on None e = absurd (cc)
+goes_on follow on (Some (dir m)) e = refl
+goes_on follow on (Some (file m b)) e = refl
+goes_on follow on (Some (symlink t)) e = absurd (cc)
+
+next_end : (s : List Tree) (front rest : Names) → walk_from s front rest ≡ None → is_shown_end (seen s (front ++ rest)) ≡ true → is_shown_end (seen s front) ≡ true
+next_end s front [] e f = subst (IsEnd s) (append-nil front) f
+next_end s front (n ∷ rest) e f = dir_is_end _ (passes (seen s front) (walk_from s (front ++ n ∷ []) rest) e).0
+
+way_plain : (follow : Names → Names → Answer) (s : List Tree) (rest front : Names) → IsPath (front ++ rest) → walk_from s front rest ≡ None → is_shown_end (seen s (front ++ rest)) ≡ true → way follow s front rest ≡ Ok (front ++ rest)
+way_plain follow s [] front ok e f = ap (λ (p : Names). Ok p) (sym (append-nil front))
+way_plain follow s (n ∷ rest) front ok e f =
+    let whole : (front ++ n ∷ []) ++ rest ≡ front ++ n ∷ rest = append_assoc front (n ∷ []) rest in
+    let here = passes (seen s front) (walk_from s (front ++ n ∷ []) rest) e in
+    let name = no_word n (middle_true front n rest ok.0) in
+    let short : length (text_below (front ++ n ∷ [])) ≤ 4095 = (IsPath-front (front ++ n ∷ rest) (front ++ n ∷ []) rest ok (sym whole)).1 in
+    let few : length n ≤ 255 = name.2 in
+    let long : nat_lt 255 (length n) ≡ false = grind (arith, nat_tests) in
+    let far : nat_lt 4095 (length (text_below (front ++ n ∷ []))) ≡ false = grind (arith, nat_tests) in
+    let later = way_plain follow s rest (front ++ n ∷ []) (subst IsPath (sym whole) ok) here.1 (subst (IsEnd s) (sym whole) f) in
+    way_enters follow s front n rest here.0 name.0 name.1 (neither _ _ long far)
+    ∙ goes_on _ _ _ (next_end s (front ++ n ∷ []) rest here.1 (subst (IsEnd s) (sym whole) f))
+    ∙ later ∙ ap (λ (p : Names). Ok p) whole
+
+pub resolving_rules : (s : List Tree) → AreLayers s → (p : Names) → IsPath p → ResolvingRules s p
+resolving_rules s ok p path = record {
+  plain = λ e f. way_plain (following 40 s) s p [] path e f;
+  ends = λ q root e. way_ends s ok root (following 40 s) (following_ends s ok root 40) p [] q (dir_is_end _ root) e;
+}

@@ -1,0 +1,7 @@
+pub mod Hiding
+pub mod Views
+pub mod Above
+pub mod Walking
+pub mod Listings
+pub mod Ways
+pub mod Ends

@@ -1,0 +1,9 @@
+pub mod Errors
+pub mod Objects
+pub mod Walk
+pub mod Decision
+pub mod Reading
+pub mod Rules
+pub mod Listing
+pub mod Resolving
+pub mod Arrivals

@@ -1,0 +1,121 @@
+// What one layer says of a path, and the lower layers one after another.
+ghost use Rattle.std.specs.Prelude.{◌≡◌, ◌≤◌, length, take};
+ghost use Rattle.std.specs.Option.{option_map};
+ghost use Rattle.snap_layer.specs.Tree.{body, hides, node_hides};
+ghost use Rattle.snap_merge.specs.Objects.{object, shown, shown_body, seen, AreLayers};
+ghost use Rattle.snap_merge.specs.Decision.{Decides};
+ghost use Rattle.snap_merge.specs.Rules.{LayerRules};
+
+use super::seen::Seen;
+use snap_layer::{Body, Layer, Node, Shared};
+use snap_path::Path;
+
+/// What one layer says of a path.
+#[derive(Clone, Copy)]
+pub(crate) enum Decision<'a> {
+    /// It decides what is seen there, whatever the layers below have.
+    Shows(Option<Seen<'a>>),
+    /// It has nothing to say: what the layers below show is seen.
+    Leaves,
+}
+
+/// What the layers show at the path of the first so many names.
+pub(crate) fn look_below<'a>(lowers: &'a [Shared], path: &Path, names: usize) -> Option<Seen<'a>>
+    requires { names ≤ length path.now }
+    ensures { option_map object result ≡ seen lowers.now (take names path.now) }
+{
+    for shared in lowers {
+        match decide(shared.layer(), path, names) {
+            Decision::Shows(shown) => return shown,
+            Decision::Leaves => {}
+        }
+    }
+    None
+}
+
+/// Goes over the layers. Each is one by `IsLayer`, and its lender says so.
+pub(crate) fn visit(lowers: &[Shared])
+    ensures { AreLayers lowers.now }
+{
+    for shared in lowers {
+        let _ = shared.layer();
+    }
+}
+
+/// What the layer says of the path of the first so many names.
+pub(crate) fn decide<'a>(layer: &'a Layer, path: &Path, names: usize) -> Decision<'a>
+    requires { names ≤ length path.now }
+    ensures { Decides layer.now (take names path.now) result }
+{
+    match layer.at_front(path, names) {
+        Some(node) => Decision::Shows(shown_at(layer, node)),
+        None if hides_front(layer, path, names) => Decision::Shows(None),
+        None => Decision::Leaves,
+    }
+}
+
+/// Whether the layer hides what the layers below have at the path: above the path, in this layer, a
+/// whiteout, a file, a symlink or an opaque directory stands (overlayfs.rst, "whiteouts and opaque
+/// directories"). What stands at the path itself doesn't count.
+///
+/// Takes no memory. Cost: the layer's number of paths times the path's number of names.
+pub fn hides(layer: &Layer, path: &Path) -> bool
+    ensures value { result ≡ hides layer.now path.now }
+    // The rules of overlayfs.rst, for what the layer does at the path.
+    ensures rules { LayerRules layer.now path.now }
+{
+    hides_front(layer, path, path.names().len())
+}
+
+/// The same of the path of the first so many names.
+fn hides_front(layer: &Layer, path: &Path, names: usize) -> bool
+    requires { names ≤ length path.now }
+    ensures { result ≡ hides layer.now (take names path.now) }
+{
+    for front in 0..names {
+        if node_hides(layer.at_front(path, front)) {
+            return true;
+        }
+    }
+    false
+}
+
+/// Whether what stands there hides what the layers below have under it.
+fn node_hides(node: Option<Node>) -> bool
+    ensures { result ≡ node_hides node }
+{
+    match node {
+        None => false,
+        Some(Node::Dir { opaque, .. }) => opaque,
+        Some(Node::File { .. }) => true,
+        Some(Node::Symlink { .. }) => true,
+        Some(Node::Whiteout) => true,
+    }
+}
+
+/// What a node of the layer shows.
+fn shown_at<'a>(layer: &'a Layer, node: Node) -> Option<Seen<'a>>
+    ensures { option_map object result ≡ shown layer.now node }
+{
+    match node {
+        Node::Dir { mode, .. } => Some(Seen::Dir { mode }),
+        Node::File { number } => shown_body(layer, number),
+        Node::Symlink { number } => shown_body(layer, number),
+        Node::Whiteout => None,
+    }
+}
+
+/// What the body with the number shows.
+fn shown_body<'a>(layer: &'a Layer, number: u32) -> Option<Seen<'a>>
+    ensures { option_map object result ≡ shown_body (body layer.now number) }
+{
+    match layer.body(number)? {
+        Body::File { mode, bytes } => Some(Seen::File {
+            mode: *mode,
+            bytes: bytes.as_slice(),
+        }),
+        Body::Symlink { target } => Some(Seen::Symlink {
+            target: target.as_slice(),
+        }),
+    }
+}

@@ -1,0 +1,162 @@
+// Where a path leads when its symlinks are followed.
+ghost use Rattle.std.specs.Prelude.{◌≡◌, ◌≤◌, ◌∷◌, ◌++◌, [], false, length};
+ghost use Rattle.snap_path.specs.Text.{Names, text_below};
+ghost use Rattle.snap_merge.specs.Objects.{seen};
+ghost use Rattle.snap_merge.specs.Walk.{Answers};
+ghost use Rattle.snap_merge.specs.Resolving.{Answer, is_here, is_above, is_too_long, start_of, words_of, entered, way, resolution};
+ghost use Rattle.snap_merge.specs.Arrivals.{Leads, Ends};
+
+use super::error::FsError;
+use super::seen::Seen;
+use super::stack::Stack;
+use super::words::Words;
+use snap_path::Path;
+use std::alloc::Global;
+
+/// The most symlinks that are followed (path_resolution(7)).
+const MOST_LINKS: u32 = 40;
+
+/// The most bytes of a name: `NAME_MAX` of limits.h.
+const MOST_NAME_BYTES: usize = 255;
+
+/// The most bytes of a path's text: `PATH_MAX` of limits.h without its closing NUL.
+const MOST_PATH_BYTES: usize = 4095;
+
+/// How far a way was gone.
+#[derive(Drop)]
+pub(crate) enum Arrival<'a> {
+    /// To this path, where no symlink is.
+    Place(Path),
+    /// To a symlink in the directory, with this target.
+    Link { directory: Path, target: &'a [u8] },
+}
+
+/// Where the path leads from the root.
+pub(crate) fn resolve(stack: &Stack<'_>, alloc: Global, path: &Path) -> Result<Path, FsError>
+    ensures { Answers (resolution stack.now path.now) result }
+{
+    let mut words = Words::of(alloc, path)?;
+    let mut place = Path::root(alloc);
+    let mut links = MOST_LINKS;
+    loop {
+        match advance(stack, alloc, place, &mut words)? {
+            Arrival::Place(place) => return Ok(place),
+            Arrival::Link { directory, target } => {
+                if links == 0 {
+                    return Err(FsError::TooManyLinks);
+                }
+                links -= 1;
+                words.put_target(alloc, target)?;
+                place = start_of(alloc, directory, target);
+            }
+        }
+    }
+}
+
+/// Where a symlink in the directory leads from.
+fn start_of(alloc: Global, directory: Path, target: &[u8]) -> Path
+    ensures { result ≡ start_of directory target.now }
+{
+    match target.first() {
+        Some(b'/') => Path::root(alloc),
+        _ => directory,
+    }
+}
+
+/// Goes on from the place, word by word, to the last one or to a symlink.
+fn advance<'a>(
+    stack: &Stack<'a>,
+    alloc: Global,
+    place: Path,
+    words: &mut Words<'_>,
+) -> Result<Arrival<'a>, FsError>
+    ensures leads { (follow : Names → Names → Answer) → Leads follow stack.now words.new (way follow stack.now place words.old) result }
+    ensures ends { Ends words.new result }
+{
+    let mut place = place;
+    while let Some(word) = words.take() {
+        match step(stack, alloc, place, word)? {
+            Arrival::Place(next) => place = next,
+            Arrival::Link { directory, target } => return Ok(Arrival::Link { directory, target }),
+        }
+    }
+    Ok(Arrival::Place(place))
+}
+
+/// Goes on from the place by one word.
+fn step<'a>(
+    stack: &Stack<'a>,
+    alloc: Global,
+    place: Path,
+    word: &[u8],
+) -> Result<Arrival<'a>, FsError>
+    ensures { (follow : Names → Names → Answer) (ws : Names) → Leads follow stack.now ws (way follow stack.now place (word.now ∷ ws)) result }
+{
+    if !stack.is_dir(&place) {
+        return Err(FsError::NotDir);
+    }
+    if is_here(word) {
+        return Ok(Arrival::Place(place));
+    }
+    if is_above(word) {
+        return Ok(Arrival::Place(place.parent()?.unwrap_or(Path::root(alloc))));
+    }
+    if is_too_long(&place, word) {
+        return Err(FsError::BadPath);
+    }
+    enter(stack, alloc, place, word)
+}
+
+/// Whether the word stands for the directory itself.
+fn is_here(word: &[u8]) -> bool
+    ensures { result ≡ is_here word.now }
+{
+    word.is_empty() || word == b".".as_slice()
+}
+
+/// Whether the word stands for the directory above.
+fn is_above(word: &[u8]) -> bool
+    ensures { result ≡ is_above word.now }
+{
+    word == b"..".as_slice()
+}
+
+/// Whether the word is too long for a name, or the path with it too long for a path.
+fn is_too_long(place: &Path, word: &[u8]) -> bool
+    ensures { result ≡ is_too_long place.now word.now }
+{
+    word.len() > MOST_NAME_BYTES || text_len(place) + 1 + word.len() > MOST_PATH_BYTES
+}
+
+/// The length of the path's text without the `/` that stands for the root.
+fn text_len(place: &Path) -> usize
+    ensures length { result ≡ length (text_below place.now) }
+    ensures short { result ≤ 4095 }
+{
+    if place.names().is_empty() {
+        0
+    } else {
+        place.as_str().len()
+    }
+}
+
+/// Goes on from the directory to its entry of this name.
+fn enter<'a>(
+    stack: &Stack<'a>,
+    alloc: Global,
+    directory: Path,
+    word: &[u8],
+) -> Result<Arrival<'a>, FsError>
+    requires { is_too_long directory word.now ≡ false }
+    ensures { (follow : Names → Names → Answer) (ws : Names) → Leads follow stack.now ws (entered (λ target. follow (start_of directory target) (words_of target ++ ws)) (way follow stack.now (directory ++ word.now ∷ []) ws) (seen stack.now (directory ++ word.now ∷ []))) result }
+{
+    let Some(path) = stack.entry(alloc, &directory, word)? else {
+        return Err(FsError::NotFound);
+    };
+    match stack.look(&path) {
+        Some(Seen::Symlink { target }) => Ok(Arrival::Link { directory, target }),
+        Some(Seen::Dir { .. }) => Ok(Arrival::Place(path)),
+        Some(Seen::File { .. }) => Ok(Arrival::Place(path)),
+        None => Err(FsError::NotFound),
+    }
+}

@@ -1,0 +1,254 @@
+ghost use Rattle.std.specs.Prelude.{◌≡◌, ◌⊎◌, [], ◌∷◌, ◌++◌, ◌≤◌, is_some, false, MatchOption, length, take, IsSome, OnOk, IfOk, IfErr, Ok, Err, Some, None};
+ghost use Rattle.std.specs.Option.{option_map};
+ghost use Rattle.snap_merge.specs.Objects.{object, seen, is_shown_dir, AreLayers};
+ghost use Rattle.snap_merge.specs.Walk.{walk, Answers};
+ghost use Rattle.snap_merge.specs.Reading.{reading};
+ghost use Rattle.snap_merge.specs.Listing.{gathered, names, listing, IsListing};
+ghost use Rattle.snap_merge.specs.Resolving.{is_too_long, resolution};
+ghost use Rattle.snap_merge.specs.Rules.{ResolvingRules};
+ghost use Rattle.snap_path.specs.Text.{IsPath};
+
+use super::error::FsError;
+use super::list::{gather, put_names};
+use super::look::{Decision, decide, look_below, visit};
+use super::resolve::resolve;
+use super::seen::Seen;
+use snap_layer::{Layer, Shared};
+use snap_path::{Name, Path};
+use std::alloc::{AllocError, Global};
+use std::collections::BTreeSet;
+use std::marker::Model;
+
+/// The layers of a file system, the top one first: an upper layer over lower ones, or lower ones
+/// alone. At most 65 are meant, an upper layer and 64 lower ones.
+///
+/// Contracts see the list of the layers. Nothing is merged beforehand: each call looks through the
+/// layers, and what a layer gets later is seen by the next stack over it.
+#[derive(Drop)]
+pub struct Stack<'a> {
+    top: Option<&'a Layer>,
+    lowers: &'a [Shared],
+}
+
+impl<'a> Model for Stack<'a> {
+    ghost use Rattle.std.specs.Prelude.{List, ◌++◌};
+    ghost use Rattle.std.specs.Option.{option_copied, option_to_list};
+    ghost use Rattle.snap_layer.specs.Tree.{Tree};
+
+    ghost Value = { List Tree };
+
+    ghost view = { λ s. option_to_list (option_copied s.top) ++ s.lowers.now };
+}
+
+impl<'a> Stack<'a> {
+    /// The top layer over the lower ones, which stand nearest first (overlayfs.rst, "Multiple lower
+    /// layers"). Takes no memory. The cost is constant.
+    pub fn over(top: &'a Layer, lowers: &'a [Shared]) -> Stack<'a>
+        ensures { result ≡ top.now ∷ lowers.now }
+    {
+        Stack {
+            top: Some(top),
+            lowers,
+        }
+    }
+
+    /// The lower layers alone, the nearest first. Takes no memory. The cost is constant.
+    pub fn of(lowers: &'a [Shared]) -> Stack<'a>
+        ensures { result ≡ lowers.now }
+    {
+        Stack { top: None, lowers }
+    }
+
+    /// What is seen at the path, or nothing. No symlink is followed. Bytes and targets are lent by the
+    /// layer that has them.
+    ///
+    /// Takes no memory. Cost: for each layer down to the one that decides, its number of paths times
+    /// the path's number of names.
+    pub fn look(&self, path: &Path) -> Option<Seen<'a>>
+        ensures { option_map object result ≡ seen self.now path.now }
+    {
+        self.look_front(path, path.names().len())
+    }
+
+    /// What is seen at the path of the first so many names of a path: at a directory above it, without
+    /// a path of its own.
+    ///
+    /// The condition is that the path has as many. Takes no memory. Cost: that of a look.
+    pub fn look_front(&self, path: &Path, names: usize) -> Option<Seen<'a>>
+        requires { names ≤ length path.now }
+        ensures { option_map object result ≡ seen self.now (take names path.now) }
+    {
+        if let Some(top) = self.top {
+            match decide(top, path, names) {
+                Decision::Shows(shown) => return shown,
+                Decision::Leaves => {}
+            }
+        }
+        look_below(self.lowers, path, names)
+    }
+
+    /// Goes over the layers. Each is one by `IsLayer`, and this says so.
+    fn visit(&self)
+        ensures { AreLayers self.now }
+    {
+        if let Some(top) = self.top {
+            let _ = top.next_number();
+        }
+        visit(self.lowers);
+    }
+
+    /// Walks to the path: each directory above it, from the root on, has to be seen. No symlink is
+    /// followed.
+    ///
+    /// `NotFound` at the first of them where nothing is seen, `NotDir` where something else than a
+    /// directory is seen there. What is at the path itself doesn't count. Takes no memory. Cost: that
+    /// of a look for each name.
+    #[tactic(auto, using(crate::proofs::Above::walk_to_seen))]
+    pub fn walk(&self, path: &Path) -> Result<(), FsError>
+        ensures ok { OnOk result (walk self.now path.now ≡ None) }
+        ensures err { IfErr result (λ e. walk self.now path.now ≡ Some e) }
+        // What is seen lies in directories that are seen.
+        ensures reached { IsSome (seen self.now path.now) → walk self.now path.now ≡ None }
+        // Each layer is one by `IsLayer`, and this call says so to a caller.
+        ensures layers { AreLayers self.now }
+    {
+        self.visit();
+        for names in 0..path.names().len() {
+            match self.look_front(path, names) {
+                Some(Seen::Dir { .. }) => {}
+                Some(Seen::File { .. }) => return Err(FsError::NotDir),
+                Some(Seen::Symlink { .. }) => return Err(FsError::NotDir),
+                None => return Err(FsError::NotFound),
+            }
+        }
+        Ok(())
+    }
+
+    /// The bytes of the file at the path, lent by the layer that has them.
+    ///
+    /// The errors of the walk come first; then `NotFound` where nothing is seen, `IsDir` at a
+    /// directory, and `Invalid` at a symlink, which isn't followed. Takes no memory. Cost: that of the
+    /// walk and a look.
+    pub fn read(&self, path: &Path) -> Result<&'a [u8], FsError>
+        ensures ok { IfOk result (λ bytes. reading self.now path.now ≡ Ok bytes.now) }
+        ensures err { IfErr result (λ e. reading self.now path.now ≡ Err e) }
+    {
+        self.walk(path)?;
+        match self.look(path) {
+            Some(Seen::File { bytes, .. }) => Ok(bytes),
+            Some(Seen::Dir { .. }) => Err(FsError::IsDir),
+            Some(Seen::Symlink { .. }) => Err(FsError::Invalid),
+            None => Err(FsError::NotFound),
+        }
+    }
+
+    /// The names in the directory at the path: those at which something is seen, each once and in byte
+    /// order.
+    ///
+    /// The errors of the walk come first; then `NotFound` where nothing is seen, `NotDir` where
+    /// something else than a directory is. `OutOfMemory` where memory for the names, or for a path
+    /// that is looked at, is refused. Cost: for each layer its number of paths, and for each name that
+    /// a layer has in the directory that of a look.
+    pub fn list(&self, alloc: Global, path: &Path) -> Result<Vec<Name>, FsError>
+        ensures ok { IfOk result (λ v. listing self.now path.now ≡ Ok v.items) }
+        ensures err { IfErr result (λ e. (e ≡ FsError.OutOfMemory) ⊎ (listing self.now path.now ≡ Err e)) }
+        // A list has exactly the names at which something is seen, in order.
+        ensures names { IfOk result (λ v. IsListing self.now path.now v.items) }
+    {
+        self.walk(path)?;
+        match self.look(path) {
+            Some(Seen::Dir { .. }) => self.names(alloc, path),
+            Some(Seen::File { .. }) => Err(FsError::NotDir),
+            Some(Seen::Symlink { .. }) => Err(FsError::NotDir),
+            None => Err(FsError::NotFound),
+        }
+    }
+
+    /// The names in the directory at which something is seen.
+    fn names(&self, alloc: Global, path: &Path) -> Result<Vec<Name>, FsError>
+        ensures ok { IfOk result (λ v. v.items ≡ names self.now path.now) }
+        ensures err { IfErr result (λ e. e ≡ FsError.OutOfMemory) }
+    {
+        self.visit();
+        let mut names = Vec::new(alloc);
+        for name in self.gathered(alloc, path)? {
+            if self.is_seen_in(path, &name)? {
+                names.push(name)?;
+            }
+        }
+        Ok(names)
+    }
+
+    /// The names that the layers have in the directory, whiteouts among them.
+    fn gathered(&self, alloc: Global, path: &Path) -> Result<BTreeSet<Name>, AllocError>
+        ensures { IfOk result (λ all. all.keys ≡ gathered self.now path.now []) }
+    {
+        let mut all = BTreeSet::new(alloc);
+        if let Some(top) = self.top {
+            put_names(&mut all, top.children(path)?)?;
+        }
+        gather(&mut all, self.lowers, path)?;
+        Ok(all)
+    }
+
+    /// Whether something is seen in the directory under the name.
+    fn is_seen_in(&self, directory: &Path, name: &Name) -> Result<bool, FsError>
+        requires { IsPath (directory.now ++ name.now ∷ []) }
+        ensures ok { IfOk result (λ b. b ≡ is_some (seen self.now (directory.now ++ name.now ∷ []))) }
+        ensures err { IfErr result (λ e. e ≡ FsError.OutOfMemory) }
+    {
+        Ok(self.look(&directory.join(name)?).is_some())
+    }
+
+    /// Where the path leads when the symlinks on it are followed, the last one too: a path at which no
+    /// symlink is seen. At most 40 are followed. A target that begins with `/` leads from the root,
+    /// another one from the directory that the symlink is in. In targets an empty word and `.` stand
+    /// for the directory itself, and `..` for the one above, which for the root is the root
+    /// (path_resolution(7)).
+    ///
+    /// Word by word, and in this order: `NotDir` where the way goes on from something else than a
+    /// directory; `BadPath` where the word has more than 255 bytes, or the path with it more than 4095;
+    /// `NotFound` where nothing is seen; `TooManyLinks` at the 41st symlink. `OutOfMemory` where memory
+    /// for names, words or paths is refused. Cost: for each word each layer's number of paths, and that
+    /// of two looks.
+    pub fn resolve(&self, alloc: Global, path: &Path) -> Result<Path, FsError>
+        ensures answer { Answers (resolution self.now path.now) result }
+        // A path without symlinks leads to itself, and each path to what is no symlink.
+        ensures rules { ResolvingRules self.now path.now }
+    {
+        self.visit();
+        let _ = path.names();
+        resolve(self, alloc, path)
+    }
+
+    /// Whether a directory is seen at the path.
+    pub(crate) fn is_dir(&self, path: &Path) -> bool
+        ensures { result ≡ is_shown_dir (seen self.now path.now) }
+    {
+        match self.look(path) {
+            Some(Seen::Dir { .. }) => true,
+            Some(Seen::File { .. }) => false,
+            Some(Seen::Symlink { .. }) => false,
+            None => false,
+        }
+    }
+
+    /// The path of the directory's entry of this name, where a layer has one.
+    pub(crate) fn entry(
+        &self,
+        alloc: Global,
+        directory: &Path,
+        word: &[u8],
+    ) -> Result<Option<Path>, FsError>
+        requires { is_too_long directory.now word.now ≡ false }
+        ensures ok { IfOk result (λ o. MatchOption o (seen self.now (directory.now ++ word.now ∷ []) ≡ None) (λ p. p ≡ directory.now ++ word.now ∷ [])) }
+        ensures err { IfErr result (λ e. e ≡ FsError.OutOfMemory) }
+    {
+        for name in self.gathered(alloc, directory)? {
+            if name.as_str().as_bytes() == word {
+                return Ok(Some(directory.join(&name)?));
+            }
+        }
+        Ok(None)
+    }
+}

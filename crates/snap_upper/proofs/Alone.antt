@@ -1,0 +1,119 @@
+-- What a layer with no layer below it shows, and the walk over it.
+use Rattle.std.proofs.Common.{◌≡◌, ℕ, Bool, true, false, cond, List, [], ◌∷◌, ◌++◌, Option, Some, None, is_some, refl, sym, ap, subst, ◌∙◌, append_assoc, append-nil}
+use Rattle.std.proofs.lemmas.Bool.{cond-true}
+use Rattle.snap_path.specs.Text.{Names}
+use Rattle.snap_layer.specs.declared.node.Node.{Node}
+use Rattle.snap_layer.specs.declared.node.Node.TheVariants.{Dir, File, Symlink, Whiteout}
+use Rattle.snap_layer.specs.declared.node.Body.{Body}
+use Rattle.snap_layer.specs.declared.node.Body.TheVariants as body_kinds
+use Rattle.snap_layer.specs.Tree.{Tree, at, body, hides, IsDirAt}
+use Rattle.snap_layer.specs.Layers.{IsLayer, IsFile, IsSymlink}
+use Rattle.snap_layer.specs.Edits.{IsFree}
+use Rattle.snap_merge.specs.declared.error.FsError.{FsError}
+use Rattle.snap_merge.specs.Objects.{Object, dir, file, symlink, seen, seen_over, shown_body, is_shown_dir}
+use Rattle.snap_merge.specs.Walk.{walk_on, walk_from, walk}
+use Rattle.snap_upper.specs.Copying.{below, copied, with_object, with_parents_from, with_parents}
+
+no_bool : true ≡ false → ⊥
+no_bool e = cc
+
+-- ---- any layers
+
+-- a walk without an error passes a directory, and goes on
+pub walk_passes : (o : Option Object) (later : Option FsError) → walk_on o later ≡ None → (is_shown_dir o ≡ true) × (later ≡ None)
+walk_passes None later e = absurd (cc)
+walk_passes (Some (dir m)) later e = (refl, e)
+walk_passes (Some (file m b)) later e = absurd (cc)
+walk_passes (Some (symlink t)) later e = absurd (cc)
+
+-- without a node in the layer, what is below is seen
+pub below_seen : (u : Tree) (ls : List Tree) (p : Names) → at u p ≡ None → seen (u ∷ ls) p ≡ below u ls p
+below_seen u ls p none = ap (λ (o : Option Node). seen_over u o p (seen ls p)) none
+
+-- where the layer has a node nothing is copied
+pub copied_there : (u : Tree) (ls : List Tree) (p : Names) → is_some (at u p) ≡ true → copied u ls p ≡ u
+copied_there u ls p some = cond-true (is_some (at u p)) u (with_object u p (below u ls p)) some
+
+-- ---- a node of a layer
+
+shown_file : (o : Option Body) → IsFile o → is_some (shown_body o) ≡ true
+shown_file None is = absurd is
+shown_file (Some (body_kinds.File m bytes)) is = refl
+shown_file (Some (body_kinds.Symlink target)) is = absurd is
+
+shown_symlink : (o : Option Body) → IsSymlink o → is_some (shown_body o) ≡ true
+shown_symlink None link = absurd link
+shown_symlink (Some (body_kinds.File m bytes)) link = absurd link
+shown_symlink (Some (body_kinds.Symlink target)) link = refl
+
+-- a body is seen as no directory
+pub body_is_no_dir : (o : Option Body) → is_shown_dir (shown_body o) ≡ false
+body_is_no_dir None = refl
+body_is_no_dir (Some (body_kinds.File m bytes)) = refl
+body_is_no_dir (Some (body_kinds.Symlink target)) = refl
+
+pub nothing_under : (h : Bool) → ◌≡◌ {A = Option Object} (cond h None None) None
+nothing_under true = refl
+nothing_under false = refl
+
+module _ (u : Tree) (ls : List Tree) (p : Names) where
+  -- a directory that stands in the layer is seen
+  pub dir_seen : IsDirAt (at u p) → is_shown_dir (seen (u ∷ ls) p) ≡ true
+  dir_seen is = by (at u p) is
+    where
+      by : (o : Option Node) → IsDirAt o → is_shown_dir (seen_over u o p (seen ls p)) ≡ true
+      by None is = absurd is
+      by (Some (Dir m b)) is = refl
+      by (Some (File k)) is = absurd (no_bool (sym is))
+      by (Some (Symlink k)) is = absurd (no_bool (sym is))
+      by (Some Whiteout) is = absurd (no_bool (sym is))
+
+  -- where nothing is seen nothing or a whiteout stands
+  pub free_unseen : IsLayer u → is_some (seen (u ∷ ls) p) ≡ false → IsFree (at u p)
+  free_unseen ok none = by (at u p) refl none
+    where
+      by : (o : Option Node) → at u p ≡ o → is_some (seen_over u o p (seen ls p)) ≡ false → IsFree o
+      by None e none = tt
+      by (Some (Dir m b)) e none = absurd (no_bool none)
+      by (Some (File k)) e none = absurd (no_bool (sym (shown_file (body u k) (ok.nodes p (File k) e)) ∙ none))
+      by (Some (Symlink k)) e none = absurd (no_bool (sym (shown_symlink (body u k) (ok.nodes p (Symlink k) e)) ∙ none))
+      by (Some Whiteout) e none = refl
+
+-- ---- a layer alone
+
+module _ (u : Tree) where
+  -- a directory that is seen stands in the layer
+  pub dir_there : (p : Names) → is_shown_dir (seen (u ∷ []) p) ≡ true → IsDirAt (at u p)
+  dir_there p is = by (at u p) is
+    where
+      by : (o : Option Node) → is_shown_dir (seen_over u o p None) ≡ true → IsDirAt o
+      by None is = absurd (no_bool (sym is ∙ ap is_shown_dir (nothing_under (hides u p))))
+      by (Some (Dir m b)) is = refl
+      by (Some (File k)) is = absurd (no_bool (sym is ∙ body_is_no_dir (body u k)))
+      by (Some (Symlink k)) is = absurd (no_bool (sym is ∙ body_is_no_dir (body u k)))
+      by (Some Whiteout) is = absurd (no_bool (sym is))
+
+  some_dir : (o : Option Node) → IsDirAt o → is_some o ≡ true
+  some_dir None is = absurd is
+  some_dir (Some n) is = refl
+
+  -- the directories above a path that the walk passes stand there
+  pub no_parents_from : (front rest : Names) → walk_from (u ∷ []) front rest ≡ None → with_parents_from u [] front rest ≡ u
+  no_parents_from front [] way = refl
+  no_parents_from front (n ∷ rest) way =
+      let passes = walk_passes (seen (u ∷ []) front) (walk_from (u ∷ []) (front ++ n ∷ []) rest) way in
+      ap (λ (v : Tree). with_parents_from v [] (front ++ n ∷ []) rest) (copied_there u [] front (some_dir (at u front) (dir_there front passes.0)))
+      ∙ no_parents_from (front ++ n ∷ []) rest passes.1
+
+  pub no_parents : (p : Names) → walk (u ∷ []) p ≡ None → with_parents u [] p ≡ u
+  no_parents p way = no_parents_from [] p way
+
+  -- among them its parent
+  parent_from : (rest front : Names) (n : List ℕ) → walk_from (u ∷ []) front (rest ++ n ∷ []) ≡ None → IsDirAt (at u (front ++ rest))
+  parent_from [] front n way = subst (λ (q : Names). IsDirAt (at u q)) (sym (append-nil front)) (dir_there front (walk_passes (seen (u ∷ []) front) None way).0)
+  parent_from (m ∷ rest) front n way =
+      let passes = walk_passes (seen (u ∷ []) front) (walk_from (u ∷ []) (front ++ m ∷ []) (rest ++ n ∷ [])) way in
+      subst (λ (q : Names). IsDirAt (at u q)) (append_assoc front (m ∷ []) rest) (parent_from rest (front ++ m ∷ []) n passes.1)
+
+  pub parent_stands : (p q : Names) (n : List ℕ) → walk (u ∷ []) p ≡ None → p ≡ q ++ n ∷ [] → IsDirAt (at u q)
+  parent_stands p q n way is = parent_from q [] n (ap (λ (r : Names). walk (u ∷ []) r) (sym is) ∙ way)

@@ -1,0 +1,74 @@
+-- Operations over a lower layer, computed.
+use Rattle.std.proofs.Common.{◌≡◌, ℕ, Bool, true, false, List, [], ◌∷◌, Ok, Err, refl}
+use Rattle.snap_path.specs.Text.{Names}
+use Rattle.snap_layer.specs.declared.node.Node.TheVariants.{Dir, File, Whiteout}
+use Rattle.snap_layer.specs.declared.node.Body.TheVariants as body_kinds
+use Rattle.snap_layer.specs.Tree.{Tree}
+use Rattle.snap_layer.specs.Edits.{root_only}
+use Rattle.snap_merge.specs.declared.error.FsError.TheVariants.{Exists, IsDir, NotFound}
+use Rattle.snap_upper.specs.declared.op.Op.TheVariants as op
+use Rattle.snap_upper.specs.After.{after}
+
+abbrev d : List ℕ
+d = 100 ∷ []
+
+abbrev f : List ℕ
+f = 102 ∷ []
+
+abbrev e : List ℕ
+e = 101 ∷ []
+
+abbrev g : List ℕ
+g = 103 ∷ []
+
+-- /d with mode 448, and in it one file of two bytes with the names f and g
+abbrev lower : Tree
+lower = record {
+  entries = ([], Dir 493 false) ∷ (d ∷ [], Dir 448 false) ∷ (d ∷ f ∷ [], File 7) ∷ (d ∷ g ∷ [], File 7) ∷ [];
+  bodies = (7, body_kinds.File 420 (104 ∷ 105 ∷ [])) ∷ [];
+  next = 8;
+}
+
+abbrev empty : Tree
+empty = root_only 493 1
+
+-- a directory is missing above: it is added with its mode, not opaque
+mkdir_below : after (op.Mkdir (d ∷ e ∷ []) 511) empty (lower ∷ []) ≡ Ok (record {
+  entries = ([], Dir 493 false) ∷ (d ∷ [], Dir 448 false) ∷ (d ∷ e ∷ [], Dir 511 false) ∷ [];
+  bodies = [];
+  next = 1;
+})
+mkdir_below = refl
+
+-- in place of a whiteout it is opaque
+mkdir_over_whiteout : after (op.Mkdir (d ∷ []) 511) (record { entries = ([], Dir 493 false) ∷ (d ∷ [], Whiteout) ∷ []; bodies = []; next = 1 }) (lower ∷ []) ≡ Ok (record {
+  entries = ([], Dir 493 false) ∷ (d ∷ [], Dir 511 true) ∷ [];
+  bodies = [];
+  next = 1;
+})
+mkdir_over_whiteout = refl
+
+-- a lower file is copied up under the next number, and its other name stays below
+write_lower : after (op.Write (d ∷ f ∷ []) 3 (33 ∷ [])) empty (lower ∷ []) ≡ Ok (record {
+  entries = ([], Dir 493 false) ∷ (d ∷ [], Dir 448 false) ∷ (d ∷ f ∷ [], File 1) ∷ [];
+  bodies = (1, body_kinds.File 420 (104 ∷ 105 ∷ 0 ∷ 33 ∷ [])) ∷ [];
+  next = 2;
+})
+write_lower = refl
+
+-- no bytes copy up alone, wherever they are written
+write_nothing : after (op.Write (d ∷ f ∷ []) 9 []) empty (lower ∷ []) ≡ Ok (record {
+  entries = ([], Dir 493 false) ∷ (d ∷ [], Dir 448 false) ∷ (d ∷ f ∷ [], File 1) ∷ [];
+  bodies = (1, body_kinds.File 420 (104 ∷ 105 ∷ [])) ∷ [];
+  next = 2;
+})
+write_nothing = refl
+
+create_seen : after (op.Create (d ∷ g ∷ []) 4096) empty (lower ∷ []) ≡ Err Exists
+create_seen = refl
+
+write_to_directory : after (op.Write (d ∷ []) 0 []) empty (lower ∷ []) ≡ Err IsDir
+write_to_directory = refl
+
+create_nowhere : after (op.Create (g ∷ f ∷ []) 420) empty (lower ∷ []) ≡ Err NotFound
+create_nowhere = refl

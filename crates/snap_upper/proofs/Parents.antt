@@ -1,0 +1,85 @@
+-- The directories above a path that are copied up: nothing that is seen changes.
+use Rattle.std.proofs.Common.{◌≡◌, inl, inr, ℕ, ◌+◌, ◌<◌, ◌≤◌, true, false, List, [], ◌∷◌, ◌++◌, length, Option, Some, None, is_some, refl, sym, ap, subst, ◌∙◌, arith, length-append}
+use Rattle.std.specs.Prelude.{option_and_then, if◌then◌else◌}
+use Rattle.snap_path.specs.Text.{Names}
+use Rattle.snap_layer.specs.declared.node.Node.{Node}
+use Rattle.snap_layer.specs.declared.node.Node.TheVariants.{Dir}
+use Rattle.snap_layer.specs.Tree.{Tree, at, number_at, number_of, node_hides}
+use Rattle.snap_layer.specs.Edits.{with_entry}
+use Rattle.snap_layer.proofs.Looks.{Sets, Sets-with_entry, split_path}
+use Rattle.snap_merge.specs.Objects.{Object, dir, file, symlink, seen, is_shown_dir}
+use Rattle.snap_merge.specs.Walk.{walk, walk_from}
+use Rattle.snap_merge.proofs.Views.{seen_node, walk_same}
+use Rattle.snap_upper.specs.Copying.{below, copied, with_object, with_parents, with_parents_from}
+use Rattle.snap_upper.proofs.Alone.{walk_passes, below_seen}
+use Rattle.snap_upper.proofs.Elsewhere.{Puts, shown_same, seen-put_alike}
+
+-- the layer t is u with directories at paths shorter than m that were seen
+pub record AddsParents (u t : Tree) (ls : List Tree) (m : ℕ) : Type 0 where
+  pub bodies : t.bodies ≡ u.bodies
+  pub next : t.next ≡ u.next
+  pub numbers : (q : Names) → number_at t q ≡ number_at u q
+  pub leaves : (q : Names) → m ≤ length q → at t q ≡ at u q
+  pub view : (q : Names) → seen (t ∷ ls) q ≡ seen (u ∷ ls) q
+
+same_layer : (u : Tree) (ls : List Tree) (m : ℕ) → AddsParents u u ls m
+same_layer u ls m = record { bodies = refl; next = refl; numbers = λ q. refl; leaves = λ q far. refl; view = λ q. refl }
+
+both : (u t v : Tree) (ls : List Tree) (m : ℕ) → AddsParents u t ls m → AddsParents t v ls m → AddsParents u v ls m
+both u t v ls m a b = record {
+  bodies = b.bodies ∙ a.bodies;
+  next = b.next ∙ a.next;
+  numbers = λ q. b.numbers q ∙ a.numbers q;
+  leaves = λ q far. b.leaves q far ∙ a.leaves q far;
+  view = λ q. b.view q ∙ a.view q;
+}
+
+-- one directory that was seen from below
+one_dir : (u : Tree) (ls : List Tree) (p : Names) (k m : ℕ) → at u p ≡ None → seen (u ∷ ls) p ≡ Some (dir k) → length p < m → AddsParents u (with_entry u p (Dir k false)) ls m
+one_dir u ls p k m none was short = record {
+  bodies = refl;
+  next = refl;
+  numbers = λ q. elim (split_path q p) [
+    | inl one ↦ ap (λ (x : Names). number_at v x) one.0 ∙ ap (option_and_then number_of) (sets.here) ∙ sym (ap (option_and_then number_of) none) ∙ ap (λ (x : Names). number_at u x) (sym one.0)
+    | inr two ↦ ap (option_and_then number_of) (sets.others q (λ e. two.0 (sym e)))
+  ];
+  leaves = λ q far. sets.others q (λ e. omega (arith, ap length e));
+  view = λ q. elim (split_path q p) [
+    | inl one ↦ ap (seen (v ∷ ls)) one.0 ∙ seen_node v ls p (Dir k false) sets.here ∙ sym was ∙ ap (seen (u ∷ ls)) (sym one.0)
+    | inr two ↦ seen-put_alike u v ls p puts (ap node_hides sets.here ∙ sym (ap node_hides none)) q (λ e. two.0 (sym e))
+  ];
+}
+  where
+    v : Tree
+    v = with_entry u p (Dir k false)
+
+    sets : Sets u (with_entry u p (Dir k false)) p (Some (Dir k false))
+    sets = Sets-with_entry u p (Dir k false)
+
+    puts : Puts u (with_entry u p (Dir k false)) p
+    puts = record { others = λ q apart. sets.others q apart; shows = λ q n apart e. shown_same u (with_entry u p (Dir k false)) n (λ j is. refl) }
+
+dir_copied : (u : Tree) (ls : List Tree) (p : Names) (m : ℕ) → is_shown_dir (seen (u ∷ ls) p) ≡ true → length p < m → AddsParents u (copied u ls p) ls m
+dir_copied u ls p m is short = by (at u p) refl
+  where
+    seen_as : (o : Option Object) → at u p ≡ None → seen (u ∷ ls) p ≡ o → is_shown_dir o ≡ true → AddsParents u (with_object u p o) ls m
+    seen_as None none e is = absurd (cc)
+    seen_as (Some (dir k)) none e is = one_dir u ls p k m none e short
+    seen_as (Some (file k b)) none e is = absurd (cc)
+    seen_as (Some (symlink b)) none e is = absurd (cc)
+
+    by : (o : Option Node) → at u p ≡ o → AddsParents u (if is_some (at u p) then u else with_object u p (below u ls p)) ls m
+    by (Some n) e = subst (λ b. AddsParents u (if b then u else with_object u p (below u ls p)) ls m) (sym (ap is_some e)) (same_layer u ls m)
+    by None e = subst (λ b. AddsParents u (if b then u else with_object u p (below u ls p)) ls m) (sym (ap is_some e)) (seen_as (below u ls p) e (below_seen u ls p e) (sym (ap is_shown_dir (below_seen u ls p e)) ∙ is))
+
+adds_from : (u : Tree) (ls : List Tree) (front rest : Names) (m : ℕ) → length front + length rest ≤ m → walk_from (u ∷ ls) front rest ≡ None → AddsParents u (with_parents_from u ls front rest) ls m
+adds_from u ls front [] m far way = same_layer u ls m
+adds_from u ls front (n ∷ rest) m far way =
+    let passes = walk_passes (seen (u ∷ ls) front) (walk_from (u ∷ ls) (front ++ n ∷ []) rest) way in
+    let step = dir_copied u ls front m passes.0 (omega (arith, far)) in
+    let later = adds_from (copied u ls front) ls (front ++ n ∷ []) rest m (omega (arith, far, length-append front (n ∷ []))) (walk_same (u ∷ ls) (copied u ls front ∷ ls) step.view (front ++ n ∷ []) rest ∙ passes.1) in
+    both u (copied u ls front) (with_parents_from (copied u ls front) ls (front ++ n ∷ []) rest) ls m step later
+
+-- the directories above a path that the walk passes
+pub adds_parents : (u : Tree) (ls : List Tree) (p : Names) → walk (u ∷ ls) p ≡ None → AddsParents u (with_parents u ls p) ls (length p)
+adds_parents u ls p way = adds_from u ls [] p (length p) (omega arith) way

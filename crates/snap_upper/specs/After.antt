@@ -1,0 +1,96 @@
+-- The upper layer after an operation, or the operation's error.
+use Rattle.std.specs.Prelude.{ℕ, ◌+◌, ◌-◌, Bool, false, nat_lt, List, [], ◌∷◌, ◌++◌, length, take, drop, replicate, Option, Some, None, is_some, if◌then◌else◌, Result, Ok, Err}
+use Rattle.snap_layer.specs.declared.node.Node.{Node}
+use Rattle.snap_layer.specs.declared.node.Node.TheVariants as node
+use Rattle.snap_layer.specs.declared.node.Body.{Body}
+use Rattle.snap_layer.specs.declared.node.Body.TheVariants as body_kinds
+use Rattle.snap_layer.specs.Tree.{Tree, at, body, number_at, is_whiteout}
+use Rattle.snap_layer.specs.Counts.{is_within}
+use Rattle.snap_layer.specs.Edits.{with_entry, with_new, with_bytes}
+use Rattle.snap_usage.specs.declared.usage.Usage.{Usage}
+use Rattle.snap_usage.specs.Counted.{count_of}
+use Rattle.snap_merge.specs.declared.error.FsError.{FsError}
+use Rattle.snap_merge.specs.declared.error.FsError.TheVariants.{NotFound, IsDir, Exists, Invalid, TooBig, LayerFull}
+use Rattle.snap_merge.specs.Objects.{Object, dir, file, symlink, seen}
+use Rattle.snap_merge.specs.Walk.{walk}
+use Rattle.snap_upper.specs.declared.op.Op.{Op}
+use Rattle.snap_upper.specs.declared.op.Op.TheVariants.{Mkdir, Create, Write}
+use Rattle.snap_upper.specs.Copying.{with_parents, copied_up}
+
+-- ---- tests
+
+-- the error, where the test holds
+abbrev pub error_if : Bool → FsError → Option FsError
+error_if holds e = if holds then Some e else None
+
+-- the error where no regular file is seen
+abbrev pub file_error : Option Object → Option FsError
+file_error None = Some NotFound
+file_error (Some (dir mode)) = Some IsDir
+file_error (Some (file mode bytes)) = None
+file_error (Some (symlink target)) = Some Invalid
+
+-- the tests of an operation over the layers, in order (mkdir(2), open(2) with O_CREAT and O_EXCL, pwrite(2))
+abbrev pub tests : Op → List Tree → List (Option FsError)
+tests (Mkdir path mode) s = walk s path ∷ error_if (is_some (seen s path)) Exists ∷ error_if (nat_lt 4095 mode) Invalid ∷ []
+tests (Create path mode) s = walk s path ∷ error_if (is_some (seen s path)) Exists ∷ error_if (nat_lt 4095 mode) Invalid ∷ []
+tests (Write path offset bytes) s = walk s path ∷ file_error (seen s path) ∷ error_if (nat_lt 1048576 (offset + length bytes)) TooBig ∷ []
+
+-- the first error of the tests
+abbrev pub first_error : List (Option FsError) → Option FsError
+first_error [] = None
+first_error (None ∷ later) = first_error later
+first_error (Some e ∷ later) = Some e
+
+-- ---- effects
+
+-- a whiteout stands there
+abbrev pub is_whiteout_at : Option Node → Bool
+is_whiteout_at None = false
+is_whiteout_at (Some n) = is_whiteout n
+
+-- the bytes put into the old ones at an offset; a gap before them has zero bytes, and no bytes change nothing (pwrite(2), lseek(2))
+abbrev pub written : List ℕ → ℕ → List ℕ → List ℕ
+written old offset [] = old
+written old offset (b ∷ bs) = take offset old ++ replicate (offset - length old) 0 ++ (b ∷ bs) ++ drop (offset + length (b ∷ bs)) old
+
+-- the bytes of a file
+abbrev pub bytes_of : Option Body → List ℕ
+bytes_of None = []
+bytes_of (Some (body_kinds.File mode bytes)) = bytes
+bytes_of (Some (body_kinds.Symlink target)) = []
+
+-- the layer with other bytes of the file with the number, for all its names
+abbrev pub with_content : Tree → Option ℕ → (List ℕ → List ℕ) → Tree
+with_content t None f = t
+with_content t (Some k) f = with_bytes t k (body t k) (f (bytes_of (body t k)))
+
+-- the effect of an operation on the upper layer
+abbrev pub next_layer : Op → Tree → List Tree → Tree
+next_layer (Mkdir path mode) u lowers = with_entry (with_parents u lowers path) path (node.Dir mode (is_whiteout_at (at u path)))
+next_layer (Create path mode) u lowers = let t = with_parents u lowers path in with_new t path (node.File t.next) (body_kinds.File mode [])
+next_layer (Write path offset bytes) u lowers = let t = copied_up u lowers path in with_content t (number_at t path) (λ old. written old offset bytes)
+
+-- ---- both
+
+-- the next layer, or the error
+abbrev pub Outcome : Type 0
+Outcome = Result Tree FsError
+
+-- the outcome, where there is no error before it
+abbrev pub unless : Option FsError → Outcome → Outcome
+unless None later = later
+unless (Some e) later = Err e
+
+-- the layer, where it has at most 65,536 inodes and its file numbers aren't used up
+abbrev pub limited : Tree → Outcome
+limited t = if is_within t then Ok t else Err LayerFull
+
+-- the next upper layer, or the first error
+abbrev pub after : Op → Tree → List Tree → Outcome
+after op u lowers = unless (first_error (tests op (u ∷ lowers))) (limited (next_layer op u lowers))
+
+-- how much the next layer takes, or the error
+abbrev pub planned : Outcome → Result Usage FsError
+planned (Ok t) = Ok (count_of t)
+planned (Err e) = Err e

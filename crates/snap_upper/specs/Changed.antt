@@ -1,0 +1,43 @@
+-- How an operation changes what is seen.
+use Rattle.std.specs.Prelude.{◌≡◌, ◌⊎◌, ℕ, List, [], ◌∷◌, Option, Some, Ok}
+use Rattle.std.specs.Option.{option_map}
+use Rattle.snap_path.specs.Text.{Names}
+use Rattle.snap_layer.specs.Tree.{Tree, number_at}
+use Rattle.snap_merge.specs.Objects.{Object, dir, file, symlink, seen, AreLayers}
+use Rattle.snap_upper.specs.declared.op.Op.{Op}
+use Rattle.snap_upper.specs.declared.op.Op.TheVariants.{Mkdir, Create, Write}
+use Rattle.snap_upper.specs.After.{written, after}
+
+-- what is seen at each path
+abbrev pub View : Type 0
+View = Names → Option Object
+
+-- w shows the object at the path, and at every other path what v shows
+pub record ShowsAt (v w : View) (p : Names) (o : Option Object) : Type 0 where
+  pub here : w p ≡ o
+  pub others : (q : Names) → (q ≡ p → ⊥) → w q ≡ v q
+
+-- q is the path, or one more of the upper layer's names of the path's file number (link(2))
+abbrev pub IsName : Tree → Names → Names → Type 0
+IsName u p q = (q ≡ p) ⊎ ((k : ℕ) × (number_at u p ≡ Some k) × (number_at u q ≡ Some k))
+
+-- w shows f of what v shows at the path, there and at its file's other names in the upper layer, and at every other path what v shows
+pub record Turns (u : Tree) (v w : View) (p : Names) (f : Object → Object) : Type 0 where
+  pub here : (q : Names) → IsName u p q → w q ≡ option_map f (v p)
+  pub others : (q : Names) → (IsName u p q → ⊥) → w q ≡ v q
+
+-- the object with other bytes, where it is a file
+abbrev pub with_file_bytes : (List ℕ → List ℕ) → Object → Object
+with_file_bytes f (dir mode) = dir mode
+with_file_bytes f (file mode bytes) = file mode (f bytes)
+with_file_bytes f (symlink target) = symlink target
+
+-- how the view v before the operation and the view w after it are related, over the upper layer before
+abbrev pub changed : Op → Tree → View → View → Type 0
+changed (Mkdir path mode) u v w = ShowsAt v w path (Some (dir mode))
+changed (Create path mode) u v w = ShowsAt v w path (Some (file mode []))
+changed (Write path offset bytes) u v w = Turns u v w path (with_file_bytes (λ old. written old offset bytes))
+
+-- with any layers below, an operation that gives a next upper layer changes what is seen as `changed` says
+abbrev pub Changes : Op → Tree → Type 0
+Changes op u = (lowers : List Tree) (v : Tree) → AreLayers lowers → after op u lowers ≡ Ok v → changed op u (seen (u ∷ lowers)) (seen (v ∷ lowers))

@@ -1,0 +1,36 @@
+-- What is copied up into the upper layer before it changes (overlayfs.rst, "Non-directories").
+use Rattle.std.specs.Prelude.{false, List, [], ◌∷◌, ◌++◌, Option, Some, None, is_some, if◌then◌else◌}
+use Rattle.snap_path.specs.Text.{Names}
+use Rattle.snap_layer.specs.declared.node.Node.TheVariants.{Dir, File, Symlink}
+use Rattle.snap_layer.specs.declared.node.Body.TheVariants as body_kinds
+use Rattle.snap_layer.specs.Tree.{Tree, at, hides}
+use Rattle.snap_layer.specs.Edits.{with_entry, with_new}
+use Rattle.snap_merge.specs.Objects.{Object, dir, file, symlink, seen}
+
+-- what the layers below show at the path, where the upper layer doesn't hide it
+abbrev pub below : Tree → List Tree → Names → Option Object
+below u lowers p = if hides u p then None else seen lowers p
+
+-- the layer with the object, if there is one: a directory that isn't opaque, or a file or symlink with the next number
+abbrev pub with_object : Tree → Names → Option Object → Tree
+with_object u p None = u
+with_object u p (Some (dir mode)) = with_entry u p (Dir mode false)
+with_object u p (Some (file mode bytes)) = with_new u p (File u.next) (body_kinds.File mode bytes)
+with_object u p (Some (symlink target)) = with_new u p (Symlink u.next) (body_kinds.Symlink target)
+
+-- the upper layer with what is below at the path, where it has no node there
+abbrev pub copied : Tree → List Tree → Names → Tree
+copied u lowers p = if is_some (at u p) then u else with_object u p (below u lowers p)
+
+-- the upper layer with what is below at the front and at the longer proper prefixes of front ++ rest, where it has no node there
+abbrev pub with_parents_from : Tree → List Tree → Names → Names → Tree
+with_parents_from u lowers front [] = u
+with_parents_from u lowers front (n ∷ rest) = with_parents_from (copied u lowers front) lowers (front ++ n ∷ []) rest
+
+-- the upper layer with all directories above the path, the missing ones with the modes that are seen
+abbrev pub with_parents : Tree → List Tree → Names → Tree
+with_parents u lowers p = with_parents_from u lowers [] p
+
+-- the upper layer with what is seen at the path, and with all directories above it
+abbrev pub copied_up : Tree → List Tree → Names → Tree
+copied_up u lowers p = copied (with_parents u lowers p) lowers p

@@ -1,0 +1,18 @@
+//! File operations on the upper layer of a stack of layers.
+//!
+//! The rules are those of overlayfs (overlayfs.rst) for a process that may do anything. Contracts say
+//! what an operation does by `after`: its first error, or the next upper layer.
+#![tactic(auto)]
+
+mod applying;
+mod checking;
+mod content;
+mod op;
+mod planning;
+
+pub use applying::apply;
+pub use op::Op;
+pub use planning::plan;
+
+#[cfg(test)]
+mod tests;

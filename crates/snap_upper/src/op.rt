@@ -1,0 +1,30 @@
+use snap_layer::Bytes;
+use snap_path::Path;
+
+/// An operation on one file or directory of a stack of layers. It changes the upper layer alone.
+///
+/// Modes are permission bits, at most octal 7777, and are taken as given: there is no umask, and a
+/// parent's set-group-ID bit isn't inherited. No mode refuses an operation.
+#[derive(Clone, Debug, Drop)]
+pub enum Op {
+    /// Makes a directory (mkdir(2)). It is opaque exactly where it takes the place of a whiteout, so
+    /// that what the whiteout hid stays hidden (overlayfs.rst, "whiteouts and opaque directories").
+    Mkdir {
+        path: Path,
+        mode: u32,
+    },
+    /// Makes an empty regular file, where nothing is seen (open(2) with `O_CREAT` and `O_EXCL`). It
+    /// gets the upper layer's next file number.
+    Create {
+        path: Path,
+        mode: u32,
+    },
+    /// Puts the bytes into a regular file at the offset, which is in bytes (pwrite(2)). A gap between
+    /// the file's end and the offset is filled with zero bytes. No bytes change neither the file's
+    /// bytes nor its size.
+    Write {
+        path: Path,
+        offset: u64,
+        bytes: Bytes,
+    },
+}

@@ -1,0 +1,155 @@
+use super::{Op, apply, plan};
+use snap_layer::{Body, Bytes, Layer, Node};
+use snap_merge::FsError;
+use snap_path::Path;
+use snap_usage::{Usage, count};
+use std::alloc::Global;
+use std::process::Abort;
+use std::test::Fail;
+
+fn mkdir(alloc: Global, text: &str, mode: u32) -> Result<Op, Fail> {
+    Ok(Op::Mkdir {
+        path: Path::parse(alloc, text)?,
+        mode,
+    })
+}
+
+fn create(alloc: Global, text: &str, mode: u32) -> Result<Op, Fail> {
+    Ok(Op::Create {
+        path: Path::parse(alloc, text)?,
+        mode,
+    })
+}
+
+fn write(alloc: Global, text: &str, offset: u64, bytes: &[u8]) -> Result<Op, Fail> {
+    Ok(Op::Write {
+        path: Path::parse(alloc, text)?,
+        offset,
+        bytes: Bytes::copy_of(alloc, bytes)?,
+    })
+}
+
+/// The operation is planned and done, and leaves so many blocks and inodes.
+fn does(rt: &impl Abort, layer: &mut Layer, op: Op, blocks: u64, inodes: u64) {
+    let usage = Usage { blocks, inodes };
+    assert_eq!(rt; plan(layer, &op), Ok(usage));
+    assert_eq!(rt; apply(layer, &op), Ok(()));
+    assert_eq!(rt; count(layer), usage);
+}
+
+/// The operation is refused, and the layer stays.
+fn refuses(rt: &impl Abort, layer: &mut Layer, op: Op, error: FsError) -> Result<(), Fail> {
+    let before = layer.copy()?;
+    assert_eq!(rt; plan(layer, &op), Err(error));
+    assert_eq!(rt; apply(layer, &op), Err(error));
+    assert!(rt; *layer == before);
+    Ok(())
+}
+
+fn at(alloc: Global, layer: &Layer, text: &str) -> Result<Option<Node>, Fail> {
+    Ok(layer.at(&Path::parse(alloc, text)?))
+}
+
+#[test]
+fn errors_come_in_order(rt: HostRuntime) -> Result<(), Fail> {
+    let alloc = rt.alloc();
+    let mut layer = Layer::empty(alloc, 493)?;
+    refuses(&rt, &mut layer, create(alloc, "/", 420)?, FsError::Exists)?;
+    refuses(
+        &rt,
+        &mut layer,
+        mkdir(alloc, "/a/b", 493)?,
+        FsError::NotFound,
+    )?;
+    does(&rt, &mut layer, create(alloc, "/f", 420)?, 1, 2);
+    refuses(&rt, &mut layer, mkdir(alloc, "/f/g", 493)?, FsError::NotDir)?;
+    refuses(
+        &rt,
+        &mut layer,
+        create(alloc, "/g", 4096)?,
+        FsError::Invalid,
+    )?;
+    Ok(())
+}
+
+#[test]
+fn a_file_has_at_most_a_mebibyte(rt: HostRuntime) -> Result<(), Fail> {
+    let alloc = rt.alloc();
+    let mut layer = Layer::empty(alloc, 493)?;
+    does(&rt, &mut layer, create(alloc, "/f", 420)?, 1, 2);
+    refuses(
+        &rt,
+        &mut layer,
+        write(alloc, "/f", 1_048_576, b"x")?,
+        FsError::TooBig,
+    )?;
+    does(
+        &rt,
+        &mut layer,
+        write(alloc, "/f", 1_048_575, b"x")?,
+        257,
+        2,
+    );
+    does(&rt, &mut layer, mkdir(alloc, "/d", 493)?, 258, 3);
+    Ok(())
+}
+
+#[test]
+fn bytes_are_written_over_a_gap(rt: HostRuntime) -> Result<(), Fail> {
+    let alloc = rt.alloc();
+    let mut layer = Layer::empty(alloc, 493)?;
+    does(&rt, &mut layer, create(alloc, "/f", 420)?, 1, 2);
+    for (offset, bytes, all) in [
+        (3, b"abc".as_slice(), b"\0\0\0abc".as_slice()),
+        (9, b"".as_slice(), b"\0\0\0abc".as_slice()),
+        (1, b"xy".as_slice(), b"\0xyabc".as_slice()),
+        (5, b"zz".as_slice(), b"\0xyabzz".as_slice()),
+    ] {
+        does(&rt, &mut layer, write(alloc, "/f", offset, bytes)?, 2, 2);
+        let Some(Body::File { mode, bytes }) = layer.body(1) else {
+            return Err("no file").map_err(Fail::from);
+        };
+        assert_eq!(rt; *mode, 420);
+        assert_eq!(rt; bytes.as_slice(), all);
+    }
+    Ok(())
+}
+
+#[test]
+fn a_directory_is_opaque_in_place_of_a_whiteout_alone(rt: HostRuntime) -> Result<(), Fail> {
+    let alloc = rt.alloc();
+    let mut layer = Layer::empty(alloc, 493)?;
+    let white = Path::parse(alloc, "/w")?;
+    assert!(rt; layer.has_place(&white));
+    layer.add_whiteout(&white)?;
+    for (text, mode, opaque) in [("/d", 493, false), ("/w", 448, true)] {
+        let op = mkdir(alloc, text, mode)?;
+        assert_eq!(rt; apply(&mut layer, &op), Ok(()));
+        assert_eq!(rt; at(alloc, &layer, text)?, Some(Node::Dir { mode, opaque }));
+    }
+    Ok(())
+}
+
+#[test]
+fn file_numbers_end(rt: HostRuntime) -> Result<(), Fail> {
+    let alloc = rt.alloc();
+    let mut layer = Layer::empty_from(alloc, 493, 4_294_967_294)?;
+    does(&rt, &mut layer, create(alloc, "/f", 420)?, 1, 2);
+    refuses(
+        &rt,
+        &mut layer,
+        create(alloc, "/g", 420)?,
+        FsError::LayerFull,
+    )?;
+    does(&rt, &mut layer, mkdir(alloc, "/d", 493)?, 2, 3);
+    Ok(())
+}
+
+#[test]
+fn an_operation_is_cloned_and_printed(rt: HostRuntime) -> Result<(), Fail> {
+    let alloc = rt.alloc();
+    let op = mkdir(alloc, "/d", 493)?;
+    let again = format!(in alloc; "{:?}", op.clone()?)?;
+    assert_eq!(rt; again.as_str(), format!(in alloc; "{op:?}")?.as_str());
+    Ok(())
+}
