@@ -1,14 +1,15 @@
 -- What holds of a book whenever no call is under way, and what a recorded call makes of it.
-use Rattle.std.specs.Prelude.{◌≡◌, ℕ, ◌+◌, ◌<◌, ◌≤◌, ◌^◌, List, [], ◌∷◌, ◌++◌, Option, Some, slice_get, length}
+use Rattle.std.specs.Prelude.{◌≡◌, ℕ, ◌+◌, ◌<◌, ◌≤◌, ◌^◌, List, [], ◌∷◌, ◌++◌, Option, Some, slice_get, length, Result, Ok, Err}
 use Rattle.snap_usage.specs.declared.usage.Usage.{Usage}
 use Rattle.snap_ledger.specs.States.{ChargeState}
 use Rattle.snap_call.specs.declared.call.Call.{Call}
+use Rattle.snap_call.specs.declared.call.Call.TheVariants as calls
 use Rattle.snap_call.specs.declared.call.Given.{Given}
 use Rattle.snap_call.specs.declared.entry.Entry.{Entry}
 use Rattle.snap_call.specs.declared.refusal.Refusal.{Refusal}
 use Rattle.snap_call.specs.declared.refusal.Refusal.TheVariants.{BadArgument, NoNamespace, NotFound, AlreadyExists, NotCommitted, NotActive, HasChildren, InUse, Leased, NoLease, LeaseExists, TooDeep, TooManyActives, OverLimit, BelowCharge, NumbersSpent, JournalFull, OutOfMemory}
 use Rattle.snap_call.specs.declared.reply.Reply.{Reply}
-use Rattle.snap_call.specs.declared.reply.Reply.TheVariants.{Refused}
+use Rattle.snap_call.specs.declared.reply.Reply.TheVariants.{Opened, Prepared, Charged, Trimmed, Committed, Discarded, Info, Usage as UsageReply, Refused}
 use Rattle.snap_call.specs.declared.state.State.{State}
 use Rattle.snap_call.specs.Good.{Good}
 use Rattle.snap_call.specs.Journal.{entry, Replays}
@@ -62,6 +63,23 @@ RefusedBy old new n call given (OverLimit blocks inodes) = Recorded old new n ca
 RefusedBy old new n call given BelowCharge = Recorded old new n call given (Refused BelowCharge)
 RefusedBy old new n call given NumbersSpent = Recorded old new n call given (Refused NumbersSpent)
 
+-- a call's reply: a refusal as above, and any other reply is recorded
+abbrev pub AnsweredBy : BookValue → BookValue → ℕ → Call → Given → Reply → Type 0
+AnsweredBy old new n call given (Refused why) = RefusedBy old new n call given why
+AnsweredBy old new n call given Opened = Recorded old new n call given Opened
+AnsweredBy old new n call given (Prepared id slot chain) = Recorded old new n call given (Prepared id slot chain)
+AnsweredBy old new n call given (Charged now) = Recorded old new n call given (Charged now)
+AnsweredBy old new n call given Trimmed = Recorded old new n call given Trimmed
+AnsweredBy old new n call given (Committed id usage) = Recorded old new n call given (Committed id usage)
+AnsweredBy old new n call given (Discarded usage) = Recorded old new n call given (Discarded usage)
+AnsweredBy old new n call given (Info info) = Recorded old new n call given (Info info)
+AnsweredBy old new n call given (UsageReply usage) = Recorded old new n call given (UsageReply usage)
+
+-- the refusal, where the value that was handed in comes back with it
+abbrev pub IsRefusedWith : {X Y : Type 0} → Result X (Refusal × Y) → Refusal → Type 0
+IsRefusedWith (Ok x) why = ⊥
+IsRefusedWith (Err back) why = back.0 ≡ why
+
 -- a refusal that leaves no entry
 abbrev pub IsUnrecorded : Refusal → Type 0
 IsUnrecorded JournalFull = Unit {0}
@@ -86,6 +104,29 @@ IsUnrecorded NumbersSpent = ⊥
 -- a refusal that is recorded
 abbrev pub IsRecorded : Refusal → Type 0
 IsRecorded why = IsUnrecorded why → ⊥
+
+-- a reply that can stand in an entry
+abbrev pub IsInEntry : Reply → Type 0
+IsInEntry (Refused why) = IsRecorded why
+IsInEntry Opened = Unit {0}
+IsInEntry (Prepared id slot chain) = Unit {0}
+IsInEntry (Charged now) = Unit {0}
+IsInEntry Trimmed = Unit {0}
+IsInEntry (Committed id usage) = Unit {0}
+IsInEntry (Discarded usage) = Unit {0}
+IsInEntry (Info info) = Unit {0}
+IsInEntry (UsageReply usage) = Unit {0}
+
+-- a call that asks, and changes nothing but the journal
+abbrev pub Asks : Call → Type 0
+Asks calls.Session = ⊥
+Asks (calls.Prepare namespace key parent labels) = ⊥
+Asks (calls.Charge slot id need want) = ⊥
+Asks (calls.Trim slot id) = ⊥
+Asks (calls.Commit slot id name lease) = ⊥
+Asks (calls.Discard slot id) = ⊥
+Asks (calls.Stat namespace key) = Unit {0}
+Asks (calls.Usage namespace key) = Unit {0}
 
 -- the entries lead from the opening state to this one; each open snapshot has an entry left for its end, and the memory for it; entries are counted from the opening state's, and their numbers stay below 2^62
 pub record Kept (s : State) (j : JournalValue) : Type 0 where

@@ -1,14 +1,21 @@
 // What is asked of a snapshot, and a session more.
-ghost use Rattle.std.specs.Prelude.{◌≡◌, ◌<◌, ◌+◌, ◌^◌, IfOk, IfErr};
+ghost use Rattle.std.specs.Prelude.{◌≡◌, ◌<◌, ◌≤◌, ◌+◌, ◌^◌, ◌↔◌, length, IfOk, IfErr};
+ghost use Rattle.snap_record.specs.Records.{info_of, usage_of};
 ghost use Rattle.snap_record.specs.declared.record.Record.{Record};
-ghost use Rattle.snap_call.specs.Step.{ask, counted, refused};
+ghost use Rattle.snap_call.specs.Records.{open_count};
+ghost use Rattle.snap_call.specs.Step.{ask, counted, refused, step};
+ghost use Rattle.snap_call.specs.declared.call.Given.TheVariants.{Nothing};
+ghost use Rattle.snap_call.specs.declared.refusal.Refusal.TheVariants.{JournalFull};
 ghost use Rattle.snap_call.specs.declared.reply.Reply.{Reply};
-ghost use Rattle.snap_book.specs.Book.{IsRecorded};
+ghost use Rattle.snap_call.specs.declared.reply.Reply.TheVariants as replies;
+ghost use Rattle.snap_book.specs.Book.{AnsweredBy, Asks, IsInEntry, IsRecorded};
 
 use crate::accounts::Accounts;
-use snap_call::{Refusal, is_key};
+use crate::book::Book;
+use snap_call::{Call, Given, Refusal, Reply, is_key};
 use snap_ledger::StoreName;
 use snap_record::Record;
+use std::alloc::AllocError;
 
 impl<N: StoreName> Accounts<N> {
     // The snapshot of the namespace that has this key.
@@ -30,6 +37,41 @@ impl<N: StoreName> Accounts<N> {
         }
     }
 
+    // The reply with its info.
+    fn stat(&self, namespace: &str, key: &str) -> Result<Reply, AllocError>
+        ensures reply { IfOk result (λ r. ask self.now (λ x. replies.Info (info_of x)) namespace.now key.now ≡ (counted self.now, r)) }
+        ensures recorded { IfOk result IsInEntry }
+    {
+        match self.find(namespace, key) {
+            Ok(record) => Ok(Reply::Info(record.info()?)),
+            Err(why) => Ok(Reply::Refused(why)),
+        }
+    }
+
+    // The reply with what it is charged.
+    fn usage(&self, namespace: &str, key: &str) -> Reply
+        ensures reply { ask self.now (λ x. replies.Usage (usage_of x.content)) namespace.now key.now ≡ (counted self.now, result) }
+        ensures recorded { IsInEntry result }
+    {
+        match self.find(namespace, key) {
+            Ok(record) => Reply::Usage(record.content.usage()),
+            Err(why) => Reply::Refused(why),
+        }
+    }
+
+    // The reply to a call that asks.
+    fn reply_to(&self, call: &Call) -> Result<Reply, AllocError>
+        requires { Asks call.now }
+        ensures reply { IfOk result (λ r. step self.now call.now Nothing ≡ (counted self.now, r)) }
+        ensures recorded { IfOk result IsInEntry }
+    {
+        match call {
+            Call::Stat { namespace, key } => self.stat(namespace.as_str(), key.as_str()),
+            Call::Usage { namespace, key } => Ok(self.usage(namespace.as_str(), key.as_str())),
+            _ => Err(AllocError),
+        }
+    }
+
     // One session more.
     pub(crate) fn open_session(&mut self)
         requires sessions { self.old.sessions < 65536 }
@@ -38,5 +80,34 @@ impl<N: StoreName> Accounts<N> {
     {
         self.state.sessions += 1;
         self.state.entries += 1;
+    }
+}
+
+impl<N: StoreName> Book<N> {
+    /// Answers `Stat` or `Usage` (containerd's `Snapshotter.Stat` and `Snapshotter.Usage`): the info of
+    /// a snapshot, or what it is charged, in blocks of 4096 bytes and inodes.
+    ///
+    /// `JournalFull` where each further entry is kept for an open snapshot's end, and then
+    /// `OutOfMemory` where memory for the entry or the reply is refused; these two are not recorded.
+    /// Then, in this order, `BadArgument` for a key that has not its form, `NoNamespace`, `NotFound`.
+    /// Its cost grows with the records, and with the texts and labels of the one that is found.
+    pub fn do_call(&mut self, session: u64, call: Call) -> Reply
+        requires { Asks call }
+        ensures answered { AnsweredBy self.old self.new session call Nothing result }
+        ensures full { (result ≡ replies.Refused JournalFull) ↔ (self.old.limit ≤ length self.old.journal + open_count self.old.state.records) }
+    {
+        if let Err(why) = self.journal.admit(self.accounts.open(), 1) {
+            return Reply::Refused(why);
+        }
+        let Ok(reply) = self.accounts.reply_to(&call) else {
+            return Reply::Refused(Refusal::OutOfMemory);
+        };
+        let Ok(copy) = reply.clone() else {
+            return Reply::Refused(Refusal::OutOfMemory);
+        };
+        match self.note(session, call, Given::Nothing, copy) {
+            Ok(()) => reply,
+            Err(why) => Reply::Refused(why),
+        }
     }
 }

@@ -11,6 +11,7 @@ mod journal;
 mod open;
 mod opening;
 mod prepare;
+mod recording;
 mod slots;
 #[cfg(test)]
 mod tests;

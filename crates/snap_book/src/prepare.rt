@@ -1,15 +1,27 @@
 // A new active snapshot.
-ghost use Rattle.std.specs.Prelude.{◌≡◌, ◌==◌, ◌<◌, ◌≤◌, ◌+◌, ◌^◌, length, true, false, None, IfOk, OnOk, OnErr, IfErr};
+ghost use Rattle.std.specs.Prelude.{◌≡◌, ◌==◌, ◌<◌, ◌≤◌, ◌+◌, ◌^◌, length, true, false, None, Some, [], ◌↔◌, IfOk, OnOk, OnErr, IfErr, IsErrOf};
 ghost use Rattle.snap_ledger.specs.States.{plus};
 ghost use Rattle.snap_call.specs.Records.{charge_of, active_at, lowest_free, has_key, open_count};
 ghost use Rattle.snap_call.specs.State.{covers as covers_of, limit_at, place_of};
 ghost use Rattle.snap_call.specs.Step.{prepare, prepare_in, prepare_slot, prepared, new_active, no_more, one, refused};
-ghost use Rattle.snap_book.specs.Book.{IsRecorded};
+ghost use Rattle.snap_call.specs.Journal.{entry};
+ghost use Rattle.snap_call.specs.Step.{step, IsAllowed};
+ghost use Rattle.snap_call.specs.declared.call.Call.TheVariants as calls;
+ghost use Rattle.snap_call.specs.declared.call.Given.TheVariants.{Nothing};
+ghost use Rattle.snap_call.specs.declared.entry.Entry.{Entry};
+ghost use Rattle.snap_call.specs.declared.reply.Reply.TheVariants.{Prepared};
+ghost use Rattle.snap_call.specs.declared.refusal.Refusal.TheVariants.{JournalFull};
+ghost use Rattle.snap_layer.specs.Edits.{root_only};
+ghost use Rattle.snap_book.specs.Book.{IsRecorded, IsUnrecorded, Recorded, RefusedBy};
 
 use crate::accounts::{Accounts, has_room, sum};
-use snap_call::{Refusal, is_key};
+use crate::active::Active;
+use crate::book::Book;
+use crate::recording::twice;
+use snap_call::{Call, Entry, Given, Refusal, Reply, is_key};
+use snap_layer::Layer;
 use snap_ledger::{Share, StoreName};
-use snap_record::{Content, Labels, Record, Text};
+use snap_record::{Content, Labels, Record, Sequence, Text};
 use snap_usage::Usage;
 use std::alloc::{AllocError, Global};
 
@@ -21,6 +33,49 @@ pub(crate) fn one() -> Usage
         blocks: 1,
         inodes: 1,
     }
+}
+
+// The call, with copies of its texts and labels.
+fn prepare_call(
+    alloc: Global,
+    namespace: &str,
+    key: &str,
+    parent: &str,
+    labels: &Labels,
+) -> Result<Call, AllocError>
+    ensures { IfOk result (λ c. c ≡ calls.Prepare namespace.now key.now parent.now labels.now) }
+{
+    Ok(Call::Prepare {
+        namespace: Text::copy_of(alloc, namespace)?,
+        key: Text::copy_of(alloc, key)?,
+        parent: Text::copy_of(alloc, parent)?,
+        labels: labels.clone()?,
+    })
+}
+
+// What the book keeps of a new snapshot: its record, and its entry with the entry's copy.
+#[derive(Drop)]
+struct Addition {
+    added: Record,
+    entry: Entry,
+    copy: Entry,
+}
+
+// What its writer gets beside the share.
+#[derive(Drop)]
+struct Upper {
+    key: Text,
+    layer: Layer,
+}
+
+// A layer with a root that has the permission bits 755 in octal.
+fn root_upper(alloc: Global, key: &str) -> Result<Upper, AllocError>
+    ensures { IfOk result (λ u. (u.key ≡ key.now) × (u.layer ≡ root_only 493 1)) }
+{
+    Ok(Upper {
+        key: Text::copy_of(alloc, key)?,
+        layer: Layer::empty(alloc, 493)?,
+    })
 }
 
 fn is_none(text: &str) -> bool
@@ -68,6 +123,7 @@ impl<N: StoreName> Accounts<N> {
         labels: &Labels,
     ) -> Result<(usize, u64), Refusal>
         ensures ok { IfOk result (λ p. prepare self.now namespace.now key.now parent.now labels.now ≡ prepared self.now p.0 key.now p.1) }
+        ensures named { IfOk result (λ p. place_of namespace.now self.now.namespaces ≡ Some p.0) }
         ensures place { IfOk result (λ p. p.0 < length self.now.namespaces) }
         ensures new { IfOk result (λ p. has_key p.0 key.now self.now.records ≡ false) }
         ensures low { IfOk result (λ p. p.1 < 64) }
@@ -148,5 +204,149 @@ impl<N: StoreName> Accounts<N> {
         self.totals.set(place, after);
         self.open += 1;
         Ok(self.slots.issue(slot, id, one()))
+    }
+}
+
+impl<N: StoreName> Active<N> {
+    // A new snapshot in its writer's hands.
+    fn fresh(alloc: Global, namespace: usize, upper: Upper, share: Share<N>) -> Active<N>
+        requires slot { share.slot < 64 }
+        requires usage { share.usage ≡ one }
+        requires layer { upper.layer ≡ root_only 493 1 }
+        ensures { result ≡ record { namespace = namespace; key = upper.key; layer = upper.layer; share = share } }
+    {
+        let Upper { key, layer } = upper;
+        Active {
+            alloc,
+            namespace,
+            key,
+            layer,
+            share,
+        }
+    }
+}
+
+impl<N: StoreName> Accounts<N> {
+    // All that is kept of a new snapshot.
+    fn addition_of(
+        &self,
+        alloc: Global,
+        session: u64,
+        call: Call,
+        place: usize,
+        key: &str,
+        slot: u64,
+    ) -> Result<Addition, AllocError>
+        requires numbers { self.now.next_id ≤ 4294967295 }
+        requires entries { self.now.entries < 2 ^ 63 }
+        ensures added { IfOk result (λ k. k.added ≡ new_active self.now place key.now slot) }
+        ensures entry { IfOk result (λ k. k.entry ≡ entry session call Nothing (Prepared self.now.next_id slot [])) }
+        ensures copy { IfOk result (λ k. k.copy ≡ entry session call Nothing (Prepared self.now.next_id slot [])) }
+    {
+        let reply = Reply::Prepared {
+            id: self.state.next_id as u32,
+            slot,
+            chain: Sequence::new(alloc),
+        };
+        let (entry, copy) = twice(session, call, Given::Nothing, reply)?;
+        let added = self.new_record(alloc, place, key, slot)?;
+        Ok(Addition { added, entry, copy })
+    }
+}
+
+impl<N: StoreName> Book<N> {
+    // Adds a snapshot in a free slot, and its entry.
+    fn add(&mut self, place: usize, slot: u64, addition: Addition) -> Result<Share<N>, Refusal>
+        requires place { place < length self.old.state.namespaces }
+        requires new { has_key place addition.added.key self.old.state.records ≡ false }
+        requires low { slot < 64 }
+        requires free { active_at slot self.old.state.records ≡ None }
+        requires fits { covers_of (limit_at place self.old.state.namespaces) (plus (charge_of place self.old.state.records) one) ≡ true }
+        requires numbers { self.old.state.next_id ≤ 4294967295 }
+        requires added { addition.added ≡ new_active self.old.state place addition.added.key slot }
+        requires copy { addition.copy ≡ addition.entry }
+        requires allowed { IsAllowed self.old.state addition.entry.call addition.entry.given }
+        requires reply { addition.entry.reply ≡ Prepared self.old.state.next_id slot [] }
+        requires granted { step self.old.state addition.entry.call addition.entry.given ≡ prepared self.old.state place addition.added.key slot }
+        ensures granted { OnOk result (Recorded self.old self.new addition.entry.session addition.entry.call addition.entry.given addition.entry.reply) }
+        ensures share { IfOk result (λ s. s ≡ record { slot = slot; id = self.old.state.next_id; usage = one }) }
+        ensures unchanged { OnErr result (self.new ≡ self.old) }
+        ensures err { IfErr result IsUnrecorded }
+        ensures full { IsErrOf result JournalFull ↔ (self.old.limit < length self.old.journal + open_count self.old.state.records + 2) }
+    {
+        if let Err(why) = self.journal.admit(self.accounts.open(), 2) {
+            return Err(why);
+        }
+        let Addition { added, entry, copy } = addition;
+        let share = self.accounts.add(place, slot, added)?;
+        self.journal.push(entry, copy);
+        Ok(share)
+    }
+
+    // A snapshot that nothing refuses but memory.
+    fn grant(
+        &mut self,
+        session: u64,
+        call: Call,
+        place: usize,
+        slot: u64,
+        key: &str,
+    ) -> Result<Active<N>, Refusal>
+        requires place { place < length self.old.state.namespaces }
+        requires new { has_key place key.now self.old.state.records ≡ false }
+        requires low { slot < 64 }
+        requires free { active_at slot self.old.state.records ≡ None }
+        requires fits { covers_of (limit_at place self.old.state.namespaces) (plus (charge_of place self.old.state.records) one) ≡ true }
+        requires numbers { self.old.state.next_id ≤ 4294967295 }
+        requires allowed { IsAllowed self.old.state call Nothing }
+        requires granted { step self.old.state call Nothing ≡ prepared self.old.state place key.now slot }
+        ensures granted { IfOk result (λ a. Recorded self.old self.new session call Nothing (Prepared a.share.id a.share.slot [])) }
+        ensures active { IfOk result (λ a. a ≡ record { namespace = place; key = key.now; layer = root_only 493 1; share = record { slot = slot; id = self.old.state.next_id; usage = one } }) }
+        ensures unchanged { OnErr result (self.new ≡ self.old) }
+        ensures err { IfErr result IsUnrecorded }
+        ensures full { IsErrOf result JournalFull → self.old.limit < length self.old.journal + open_count self.old.state.records + 2 }
+    {
+        let addition = self
+            .accounts
+            .addition_of(self.alloc, session, call, place, key, slot)?;
+        let upper = root_upper(self.alloc, key)?;
+        let share = self.add(place, slot, addition)?;
+        Ok(Active::fresh(self.alloc, place, upper, share))
+    }
+
+    /// Makes an active snapshot in the lowest free slot, and charges its namespace 1/1 for the layer's
+    /// root (containerd's `Snapshotter.Prepare`). The root has the permission bits 755 in octal. The
+    /// parent has to be the empty text, and there may be no labels.
+    ///
+    /// `JournalFull` where an entry for the call and one for the snapshot's end are not left, and then
+    /// `OutOfMemory` where memory for the entry is refused. Then, in this order: `BadArgument` for a
+    /// key that has not its form, a parent or labels; `NoNamespace`; `AlreadyExists`;
+    /// `TooManyActives` where all 64 slots are open; `OverLimit` with what is free; `NumbersSpent`
+    /// after the id 4,294,967,295. At last `OutOfMemory` where memory for the snapshot is refused.
+    /// `JournalFull` and `OutOfMemory` leave the book as it was, the others all but the journal. Its
+    /// cost grows with the records and with the texts.
+    pub fn prepare(
+        &mut self,
+        session: u64,
+        namespace: &str,
+        key: &str,
+        parent: &str,
+        labels: &Labels,
+    ) -> Result<Active<N>, Refusal>
+        ensures granted { IfOk result (λ a. Recorded self.old self.new session (calls.Prepare namespace.now key.now parent.now labels.now) Nothing (Prepared a.share.id a.share.slot [])) }
+        // Its namespace has the place that its text has in the configuration.
+        ensures namespace { IfOk result (λ a. place_of namespace.now self.old.state.namespaces ≡ Some a.namespace) }
+        ensures key { IfOk result (λ a. a.key ≡ key.now) }
+        ensures layer { IfOk result (λ a. a.layer ≡ root_only 493 1) }
+        ensures usage { IfOk result (λ a. a.share.usage ≡ one) }
+        ensures refused { IfErr result (λ why. RefusedBy self.old self.new session (calls.Prepare namespace.now key.now parent.now labels.now) Nothing why) }
+        ensures full { IsErrOf result JournalFull ↔ (self.old.limit < length self.old.journal + open_count self.old.state.records + 2) }
+    {
+        self.journal.admit(self.accounts.open(), 2)?;
+        let call = prepare_call(self.alloc, namespace, key, parent, labels)?;
+        match self.accounts.place_and_slot(namespace, key, parent, labels) {
+            Ok((place, slot)) => self.grant(session, call, place, slot, key),
+            Err(why) => Err(self.refuse(session, call, Given::Nothing, why)),
+        }
     }
 }
