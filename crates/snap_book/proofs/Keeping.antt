@@ -44,6 +44,22 @@ kept_push s t j m k e x kept made pushed is allowed moved below room =
       numbers = omega (arith, began, limit, limit_made, kept.numbers);
     }
 
+-- and the call is recorded so
+pub recorded_push : (old : BookValue) (s t : State) (j m k : JournalValue) (e x : Entry) → record { state = s; journal = j.entries; opening = j.opening; limit = j.limit; copy = j.copy } ≡ old → m ≡ record j { room = m.room }
+    → k ≡ record m { entries = m.entries ++ x ∷ []; copy = Some x; room = k.room } → x ≡ e → IsAllowed s e.call e.given → step s e.call e.given ≡ (t, e.reply)
+    → Recorded old (record { state = t; journal = k.entries; opening = k.opening; limit = k.limit; copy = k.copy }) e.session e.call e.given e.reply
+recorded_push old s t j m k e x is_old made pushed is allowed moved =
+    let state : s ≡ old.state = ap (λ (b : BookValue). b.state) is_old in
+    record {
+      allowed = subst (λ (u : State). IsAllowed u e.call e.given) state allowed;
+      state = ap (λ (p : State × Reply). p.0) (sym moved) ∙ ap (λ (u : State). (step u e.call e.given).0) state;
+      answer = ap (λ (p : State × Reply). p.1) (sym moved) ∙ ap (λ (u : State). (step u e.call e.given).1) state;
+      journal = ap (λ (v : JournalValue). v.entries) pushed ∙ ((λ i. (made i).entries ++ is i ∷ []) ∙ ap (λ (b : BookValue). b.journal ++ e ∷ []) is_old);
+      opening = ap (λ (v : JournalValue). v.opening) pushed ∙ (ap (λ (v : JournalValue). v.opening) made ∙ ap (λ (b : BookValue). b.opening) is_old);
+      limit = ap (λ (v : JournalValue). v.limit) pushed ∙ (ap (λ (v : JournalValue). v.limit) made ∙ ap (λ (b : BookValue). b.limit) is_old);
+      copy = ap (λ (v : JournalValue). v.copy) pushed ∙ ap (λ (y : Entry). Some y) is;
+    }
+
 -- a journal without entries, at a state without open snapshots
 pub kept_open : (s : State) (j : JournalValue) → j.entries ≡ [] → j.opening ≡ s → open_count s.records ≡ 0 → s.entries + j.limit ≤ 2 ^ 62 → Kept s j
 kept_open s j none began closed numbers =
