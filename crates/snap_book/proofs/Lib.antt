@@ -4,3 +4,4 @@ pub mod Keeping
 pub mod Rooted
 pub mod Preparing
 pub mod Commits
+pub mod Needs

@@ -4,3 +4,4 @@ pub mod Book
 pub mod Totals
 pub mod Active
 pub mod Held
+pub mod Working

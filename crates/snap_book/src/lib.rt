@@ -15,7 +15,10 @@ mod recording;
 mod slots;
 #[cfg(test)]
 mod tests;
+#[cfg(test)]
+mod tests_working;
 mod totals;
+mod working;
 
 pub use active::{Active, Held, Sealed};
 pub use book::Book;
