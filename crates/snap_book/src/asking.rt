@@ -2,19 +2,23 @@
 ghost use Rattle.std.specs.Prelude.{◌≡◌, ◌<◌, ◌≤◌, ◌+◌, ◌^◌, ◌↔◌, length, IfOk, IfErr};
 ghost use Rattle.snap_record.specs.Records.{info_of, usage_of};
 ghost use Rattle.snap_record.specs.declared.record.Record.{Record};
-ghost use Rattle.snap_call.specs.Records.{open_count};
+ghost use Rattle.std.specs.Option.{option_map};
+ghost use Rattle.snap_call.specs.Records.{charge_of, open_count};
+ghost use Rattle.snap_call.specs.State.{place_of};
 ghost use Rattle.snap_call.specs.Step.{ask, counted, refused, step};
 ghost use Rattle.snap_call.specs.declared.call.Given.TheVariants.{Nothing};
 ghost use Rattle.snap_call.specs.declared.refusal.Refusal.TheVariants.{JournalFull};
 ghost use Rattle.snap_call.specs.declared.reply.Reply.{Reply};
 ghost use Rattle.snap_call.specs.declared.reply.Reply.TheVariants as replies;
+ghost use Rattle.snap_book.specs.Asking.{slot_of};
 ghost use Rattle.snap_book.specs.Book.{AnsweredBy, Asks, IsInEntry, IsRecorded};
 
 use crate::accounts::Accounts;
 use crate::book::Book;
 use snap_call::{Call, Given, Refusal, Reply, is_key};
 use snap_ledger::StoreName;
-use snap_record::Record;
+use snap_record::{Content, Record};
+use snap_usage::Usage;
 use std::alloc::AllocError;
 
 impl<N: StoreName> Accounts<N> {
@@ -108,6 +112,37 @@ impl<N: StoreName> Book<N> {
         match self.note(session, call, Given::Nothing, copy) {
             Ok(()) => reply,
             Err(why) => Reply::Refused(why),
+        }
+    }
+
+    /// What the namespace is charged, in blocks of 4096 bytes and inodes: the stored usages of its
+    /// committed snapshots and the charges of its active ones. `None` where the store has no such
+    /// namespace. Takes no memory. The cost grows with the number of namespaces.
+    pub fn totals(&self, namespace: &str) -> Option<Usage>
+        ensures { result ≡ option_map (λ place. charge_of place self.now.state.records) (place_of namespace.now self.now.state.namespaces) }
+    {
+        match self.accounts.state().place_of(namespace) {
+            Some(place) => Some(self.accounts.total(place)),
+            None => None,
+        }
+    }
+
+    /// The slot and the id of the active snapshot of this key. `NoNamespace` where the store has no
+    /// such namespace, then `NotFound`, then `NotActive` for a view or a committed snapshot. It leaves
+    /// no entry. Takes no memory. The cost grows with the records.
+    pub fn slot_of(&self, namespace: &str, key: &str) -> Result<(u64, u32), Refusal>
+        ensures { result ≡ slot_of self.now.state namespace.now key.now }
+    {
+        let state = self.accounts.state();
+        let Some(place) = state.place_of(namespace) else {
+            return Err(Refusal::NoNamespace);
+        };
+        let Some(found) = state.records.record_at(place, key) else {
+            return Err(Refusal::NotFound);
+        };
+        match &found.content {
+            Content::Active { slot, charged: _ } => Ok((*slot, found.id)),
+            _ => Err(Refusal::NotActive),
         }
     }
 }
