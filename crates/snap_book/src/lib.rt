@@ -16,6 +16,8 @@ mod slots;
 #[cfg(test)]
 mod tests;
 #[cfg(test)]
+mod tests_book;
+#[cfg(test)]
 mod tests_working;
 mod totals;
 mod working;
