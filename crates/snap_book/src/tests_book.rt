@@ -1,4 +1,5 @@
-ghost use Rattle.std.specs.Prelude.{◌≡◌};
+ghost use Rattle.std.specs.Prelude.{◌≡◌, IfOk};
+ghost use Rattle.snap_book.specs.Book.{Asks};
 
 use crate::{Active, Book, Held, Sealed};
 use snap_call::{Call, Config, Namespace, Refusal, Reply};
@@ -87,23 +88,99 @@ fn refused<N: StoreName>(
     }
 }
 
-fn committed<N: StoreName>(
+fn commits<N: StoreName>(
     rt: &impl Abort,
     book: &mut Book<N>,
     name: &str,
     sealed: Sealed<N>,
-) -> Usage {
+    count: Usage,
+) {
     match book.commit(0, name, &None, sealed) {
-        Ok(usage) => usage,
+        Ok(usage) => assert_eq!(rt; usage, count),
         Err((why, _sealed)) => panic!(rt; "{} is not committed: {}", name, why),
     }
 }
 
-fn stat(alloc: Global, key: &str) -> Result<Call, Fail> {
+// A charge with its answer, and the snapshot's share after it.
+fn charges<N: StoreName>(
+    rt: &impl Abort,
+    book: &mut Book<N>,
+    active: &mut Active<N>,
+    amounts: (Usage, Usage),
+    answer: Result<(), Refusal>,
+    share: Usage,
+) {
+    let (need, want) = amounts;
+    assert_eq!(rt; book.charge(0, active, need, want), answer);
+    assert_eq!(rt; active.share(), share);
+}
+
+fn trims<N: StoreName>(rt: &impl Abort, book: &mut Book<N>, active: &mut Active<N>, share: Usage) {
+    assert_eq!(rt; book.trim(0, active), Ok(()));
+    assert_eq!(rt; active.share(), share);
+}
+
+// An operation with its answer, and the count of the layer after it.
+fn applies<N: StoreName>(
+    rt: &impl Abort,
+    active: &mut Active<N>,
+    op: &Op,
+    answer: Result<(), FsError>,
+    count: Usage,
+) {
+    assert_eq!(rt; active.apply(op), answer);
+    assert_eq!(rt; active.count(), count);
+}
+
+fn discards<N: StoreName>(rt: &impl Abort, book: &mut Book<N>, held: Held<N>, usage: Usage) {
+    assert_eq!(rt; book.discard(0, held), usage);
+}
+
+// What namespace a is charged, and how many snapshots are open.
+fn holds<N: StoreName>(rt: &impl Abort, book: &Book<N>, total: Usage, snapshots: u64) {
+    assert_eq!(rt; book.totals("a"), Some(total));
+    assert_eq!(rt; book.open_slots(), snapshots);
+}
+
+fn has<N: StoreName>(rt: &impl Abort, book: &Book<N>, records: usize, entries: usize) {
+    assert_eq!(rt; book.records().len(), records);
+    assert_eq!(rt; book.journal().len(), entries);
+}
+
+fn finds<N: StoreName>(
+    rt: &impl Abort,
+    book: &Book<N>,
+    namespace: &str,
+    key: &str,
+    answer: Result<(u64, u32), Refusal>,
+) {
+    assert_eq!(rt; book.slot_of(namespace, key), answer);
+}
+
+fn stat(alloc: Global, key: &str) -> Result<Call, Fail>
+    ensures { IfOk result Asks }
+{
     Ok(Call::Stat {
         namespace: Text::copy_of(alloc, "a")?,
         key: Text::copy_of(alloc, key)?,
     })
+}
+
+// Whether a snapshot's info is answered; else the refusal has to be this.
+fn asks<N: StoreName>(rt: &impl Abort, book: &mut Book<N>, call: Call, why: Refusal) -> bool
+    requires { Asks call }
+{
+    match book.do_call(0, call) {
+        Reply::Info(_) => true,
+        reply => {
+            assert_eq!(rt; reply, Reply::Refused(why));
+            false
+        }
+    }
+}
+
+fn opens<N: StoreName>(rt: &impl Abort, book: &mut Book<N>, answer: Result<u64, Refusal>) {
+    assert_eq!(rt; book.open_session(), answer);
 }
 
 fn wanted_amounts<N: StoreName>(rt: &impl Abort, alloc: Global, table: NewTable) -> Result<(), Fail>
@@ -111,13 +188,13 @@ fn wanted_amounts<N: StoreName>(rt: &impl Abort, alloc: Global, table: NewTable)
 {
     let mut book = opened::<N>(rt, alloc, table, usage(10, 3), 100, 1)?;
     let mut active = prepared(rt, alloc, &mut book, "a", "k");
-    let both_fit = book.charge(0, &mut active, usage(2, 2), usage(9, 9));
-    assert_eq!(rt; (both_fit, active.share()), (Ok(()), usage(2, 2)));
-    let wanted = book.charge(0, &mut active, usage(1, 1), usage(5, 3));
-    assert_eq!(rt; (wanted, active.share()), (Ok(()), usage(5, 3)));
-    assert_eq!(rt; book.totals("a"), Some(usage(5, 3)));
-    assert_eq!(rt; book.discard(0, Held::Active(active)), usage(5, 3));
-    assert_eq!(rt; book.totals("a"), Some(usage(0, 0)));
+    let too_much = (usage(2, 2), usage(9, 9));
+    charges(rt, &mut book, &mut active, too_much, Ok(()), usage(2, 2));
+    let enough = (usage(1, 1), usage(5, 3));
+    charges(rt, &mut book, &mut active, enough, Ok(()), usage(5, 3));
+    holds(rt, &book, usage(5, 3), 1);
+    discards(rt, &mut book, Held::Active(active), usage(5, 3));
+    holds(rt, &book, usage(0, 0), 0);
     Ok(())
 }
 
@@ -141,34 +218,20 @@ fn planned_and_charged<N: StoreName>(
     let mut book = opened::<N>(rt, alloc, table, usage(100, 100), 100, 1)?;
     let mut active = prepared(rt, alloc, &mut book, "a", "k");
     let need = FsError::NeedsCharge(usage(2, 2));
-    assert_eq!(rt; active.plan(&mkdir), Ok(usage(2, 2)));
-    assert_eq!(rt;
-        (active.apply(&mkdir), active.count()),
-        (Err(need), usage(1, 1))
-    );
-    let charged = book.charge(0, &mut active, usage(4, 4), usage(4, 4));
-    assert_eq!(rt; (charged, active.apply(&mkdir)), (Ok(()), Ok(())));
-    assert_eq!(rt;
-        (active.count(), active.spare()),
-        (usage(2, 2), usage(2, 2))
-    );
-    assert_eq!(rt; book.trim(0, &mut active), Ok(()));
-    assert_eq!(rt;
-        (active.share(), book.totals("a")),
-        (usage(2, 2), Some(usage(2, 2)))
-    );
+    applies(rt, &mut active, &mkdir, Err(need), usage(1, 1));
+    let more = (usage(4, 4), usage(4, 4));
+    charges(rt, &mut book, &mut active, more, Ok(()), usage(4, 4));
+    applies(rt, &mut active, &mkdir, Ok(()), usage(2, 2));
+    trims(rt, &mut book, &mut active, usage(2, 2));
     let over = Refusal::OverLimit {
         free_blocks: 98,
         free_inodes: 98,
     };
-    let refused = book.charge(0, &mut active, usage(101, 1), usage(101, 1));
-    assert_eq!(rt; (refused, active.share()), (Err(over), usage(2, 2)));
-    let sealed = sealed(rt, active);
-    assert_eq!(rt; book.discard(0, Held::Sealed(sealed)), usage(2, 2));
-    assert_eq!(rt;
-        (book.totals("a"), book.open_slots()),
-        (Some(usage(0, 0)), 0)
-    );
+    let far = (usage(101, 1), usage(101, 1));
+    charges(rt, &mut book, &mut active, far, Err(over), usage(2, 2));
+    let held = Held::Sealed(sealed(rt, active));
+    discards(rt, &mut book, held, usage(2, 2));
+    holds(rt, &book, usage(0, 0), 0);
     Ok(())
 }
 
@@ -183,24 +246,17 @@ fn second_name<N: StoreName>(rt: &impl Abort, alloc: Global, table: NewTable) ->
 {
     let mut book = opened::<N>(rt, alloc, table, usage(100, 100), 100, 1)?;
     let first = sealed(rt, prepared(rt, alloc, &mut book, "a", "k"));
-    assert_eq!(rt; committed(rt, &mut book, "base", first), usage(1, 1));
+    commits(rt, &mut book, "base", first, usage(1, 1));
     let second = sealed(rt, prepared(rt, alloc, &mut book, "a", "k"));
     let second = refused(rt, &mut book, "base", second, Refusal::AlreadyExists);
     let second = refused(rt, &mut book, "", second, Refusal::BadArgument);
-    assert_eq!(rt;
-        (second.share(), second.usage()),
-        (usage(1, 1), usage(1, 1))
-    );
-    assert_eq!(rt; book.slot_of("a", "k"), Ok((0, 2)));
-    assert_eq!(rt; committed(rt, &mut book, "c", second), usage(1, 1));
-    assert_eq!(rt; book.slot_of("a", "k"), Err(Refusal::NotFound));
-    assert_eq!(rt; book.slot_of("a", "c"), Err(Refusal::NotActive));
-    assert_eq!(rt; book.slot_of("z", "c"), Err(Refusal::NoNamespace));
-    assert_eq!(rt;
-        (book.totals("a"), book.totals("b")),
-        (Some(usage(2, 2)), Some(usage(0, 0)))
-    );
-    assert_eq!(rt; (book.records().len(), book.journal().len()), (2, 7));
+    finds(rt, &book, "a", "k", Ok((0, 2)));
+    commits(rt, &mut book, "c", second, usage(1, 1));
+    finds(rt, &book, "a", "k", Err(Refusal::NotFound));
+    finds(rt, &book, "a", "c", Err(Refusal::NotActive));
+    finds(rt, &book, "z", "c", Err(Refusal::NoNamespace));
+    holds(rt, &book, usage(2, 2), 0);
+    has(rt, &book, 2, 7);
     Ok(())
 }
 
@@ -216,16 +272,14 @@ fn kept_entry<N: StoreName>(rt: &impl Abort, alloc: Global, table: NewTable) -> 
     let first = stat(alloc, "k")?;
     let second = stat(alloc, "k")?;
     let mut book = opened::<N>(rt, alloc, table, usage(100, 100), 4, 1)?;
-    let active = prepared(rt, alloc, &mut book, "a", "k");
     let full = Refusal::JournalFull;
-    let found = matches!(book.do_call(0, first), Reply::Info(_));
-    assert_eq!(rt;
-        (found, book.do_call(0, second)),
-        (true, Reply::Refused(full))
-    );
+    let active = prepared(rt, alloc, &mut book, "a", "k");
+    assert!(rt; asks(rt, &mut book, first, full));
+    assert!(rt; !asks(rt, &mut book, second, full));
     let sealed = refused(rt, &mut book, "c", sealed(rt, active), full);
-    assert_eq!(rt; book.discard(0, Held::Sealed(sealed)), usage(1, 1));
-    assert_eq!(rt; (book.journal().len(), book.open_session()), (4, Err(full)));
+    discards(rt, &mut book, Held::Sealed(sealed), usage(1, 1));
+    opens(rt, &mut book, Err(full));
+    has(rt, &book, 0, 4);
     Ok(())
 }
 
@@ -240,11 +294,8 @@ fn last_id<N: StoreName>(rt: &impl Abort, alloc: Global, table: NewTable) -> Res
 {
     let mut book = opened::<N>(rt, alloc, table, usage(100, 100), 100, 4_294_967_295)?;
     let last = prepared(rt, alloc, &mut book, "b", "k");
-    assert_eq!(rt;
-        (last.id(), last.slot(), last.namespace()),
-        (4_294_967_295, 0, 1)
-    );
-    assert_eq!(rt; book.discard(0, Held::Active(last)), usage(1, 1));
+    finds(rt, &book, "b", "k", Ok((0, 4_294_967_295)));
+    discards(rt, &mut book, Held::Active(last), usage(1, 1));
     match book.prepare(0, "b", "k", "", &Labels::new(alloc)) {
         Ok(_) => panic!(rt; "there is an id more"),
         Err(why) => assert_eq!(rt; why, Refusal::NumbersSpent),
@@ -263,10 +314,10 @@ fn last_session<N: StoreName>(rt: &impl Abort, alloc: Global, table: NewTable) -
 {
     let mut book = opened::<N>(rt, alloc, table, usage(100, 100), 1_048_576, 1)?;
     for session in 1u64..65_536 {
-        assert_eq!(rt; book.open_session(), Ok(session));
+        opens(rt, &mut book, Ok(session));
     }
-    assert_eq!(rt; book.open_session(), Err(Refusal::NumbersSpent));
-    assert_eq!(rt; (book.sessions(), book.journal().len()), (65_536, 65_536));
+    opens(rt, &mut book, Err(Refusal::NumbersSpent));
+    has(rt, &book, 0, 65_536);
     Ok(())
 }
 
