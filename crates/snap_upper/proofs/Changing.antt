@@ -25,14 +25,14 @@ use Rattle.snap_merge.proofs.Views.{seen_node, seen_alike}
 use Rattle.snap_merge.proofs.Above.{nothing_seen}
 use Rattle.snap_upper.specs.declared.op.Op.{Op}
 use Rattle.snap_upper.specs.declared.op.Op.TheVariants as op
-use Rattle.snap_upper.specs.Copying.{below, with_parents, copied, with_object}
+use Rattle.snap_copyup.specs.Copying.{below, with_parents, copied, with_object}
 use Rattle.snap_upper.specs.After.{after, tests, first_error, limited, unless, next_layer, is_whiteout_at, written, bytes_of, with_content, file_error}
 use Rattle.snap_upper.specs.Changed.{ShowsAt, IsName, Turns, with_file_bytes, changed}
-use Rattle.snap_upper.proofs.Alone.{free_unseen, copied_there, below_seen}
+use Rattle.snap_copyup.proofs.Alone.{free_unseen, copied_there, below_seen}
 use Rattle.snap_upper.proofs.Making.{IsNew, IsNew-passed}
 use Rattle.snap_upper.proofs.Writing.{IsWritable, IsWritable-passed}
-use Rattle.snap_upper.proofs.Elsewhere.{Puts, shown_same, shown_number, seen-put_alike, seen-put_hiding}
-use Rattle.snap_upper.proofs.Parents.{AddsParents, adds_parents}
+use Rattle.snap_copyup.proofs.Elsewhere.{Puts, shown_same, shown_number, seen-put_alike, seen-put_hiding}
+use Rattle.snap_copyup.proofs.Parents.{AddsParents, adds_parents}
 
 none_from : (o : Option Object) → is_some o ≡ false → o ≡ None
 none_from None e = refl

@@ -12,7 +12,7 @@ use Rattle.snap_merge.specs.Walk.{walk}
 use Rattle.snap_merge.specs.declared.error.FsError.TheVariants.{Exists, Invalid}
 use Rattle.snap_upper.specs.declared.op.Op.TheVariants as op
 use Rattle.snap_upper.specs.After.{after, limited, tests, first_error, error_if, next_layer, is_whiteout_at}
-use Rattle.snap_upper.proofs.Alone.{free_unseen, dir_seen, no_parents, parent_stands}
+use Rattle.snap_copyup.proofs.Alone.{free_unseen, dir_seen, no_parents, parent_stands}
 use Rattle.snap_upper.proofs.Outcomes.{test_passes, error_if_passes, after_passes}
 
 -- the tests of a new object have passed

@@ -10,9 +10,9 @@ use Rattle.snap_layer.proofs.Looks.{Sets, Sets-with_entry, split_path}
 use Rattle.snap_merge.specs.Objects.{Object, dir, file, symlink, seen, is_shown_dir}
 use Rattle.snap_merge.specs.Walk.{walk, walk_from}
 use Rattle.snap_merge.proofs.Views.{seen_node, walk_same}
-use Rattle.snap_upper.specs.Copying.{below, copied, with_object, with_parents, with_parents_from}
-use Rattle.snap_upper.proofs.Alone.{walk_passes, below_seen}
-use Rattle.snap_upper.proofs.Elsewhere.{Puts, shown_same, seen-put_alike}
+use Rattle.snap_copyup.specs.Copying.{below, copied, with_object, with_parents, with_parents_from}
+use Rattle.snap_copyup.proofs.Alone.{walk_passes, below_seen}
+use Rattle.snap_copyup.proofs.Elsewhere.{Puts, shown_same, seen-put_alike}
 
 -- the layer t is u with directories at paths shorter than m that were seen
 pub record AddsParents (u t : Tree) (ls : List Tree) (m : ℕ) : Type 0 where
@@ -25,7 +25,7 @@ pub record AddsParents (u t : Tree) (ls : List Tree) (m : ℕ) : Type 0 where
 same_layer : (u : Tree) (ls : List Tree) (m : ℕ) → AddsParents u u ls m
 same_layer u ls m = record { bodies = refl; next = refl; numbers = λ q. refl; leaves = λ q far. refl; view = λ q. refl }
 
-both : (u t v : Tree) (ls : List Tree) (m : ℕ) → AddsParents u t ls m → AddsParents t v ls m → AddsParents u v ls m
+pub both : (u t v : Tree) (ls : List Tree) (m : ℕ) → AddsParents u t ls m → AddsParents t v ls m → AddsParents u v ls m
 both u t v ls m a b = record {
   bodies = b.bodies ∙ a.bodies;
   next = b.next ∙ a.next;
@@ -59,7 +59,7 @@ one_dir u ls p k m none was short = record {
     puts : Puts u (with_entry u p (Dir k false)) p
     puts = record { others = λ q apart. sets.others q apart; shows = λ q n apart e. shown_same u (with_entry u p (Dir k false)) n (λ j is. refl) }
 
-dir_copied : (u : Tree) (ls : List Tree) (p : Names) (m : ℕ) → is_shown_dir (seen (u ∷ ls) p) ≡ true → length p < m → AddsParents u (copied u ls p) ls m
+pub dir_copied : (u : Tree) (ls : List Tree) (p : Names) (m : ℕ) → is_shown_dir (seen (u ∷ ls) p) ≡ true → length p < m → AddsParents u (copied u ls p) ls m
 dir_copied u ls p m is short = by (at u p) refl
   where
     seen_as : (o : Option Object) → at u p ≡ None → seen (u ∷ ls) p ≡ o → is_shown_dir o ≡ true → AddsParents u (with_object u p o) ls m
@@ -72,7 +72,7 @@ dir_copied u ls p m is short = by (at u p) refl
     by (Some n) e = subst (λ b. AddsParents u (if b then u else with_object u p (below u ls p)) ls m) (sym (ap is_some e)) (same_layer u ls m)
     by None e = subst (λ b. AddsParents u (if b then u else with_object u p (below u ls p)) ls m) (sym (ap is_some e)) (seen_as (below u ls p) e (below_seen u ls p e) (sym (ap is_shown_dir (below_seen u ls p e)) ∙ is))
 
-adds_from : (u : Tree) (ls : List Tree) (front rest : Names) (m : ℕ) → length front + length rest ≤ m → walk_from (u ∷ ls) front rest ≡ None → AddsParents u (with_parents_from u ls front rest) ls m
+pub adds_from : (u : Tree) (ls : List Tree) (front rest : Names) (m : ℕ) → length front + length rest ≤ m → walk_from (u ∷ ls) front rest ≡ None → AddsParents u (with_parents_from u ls front rest) ls m
 adds_from u ls front [] m far way = same_layer u ls m
 adds_from u ls front (n ∷ rest) m far way =
     let passes = walk_passes (seen (u ∷ ls) front) (walk_from (u ∷ ls) (front ++ n ∷ []) rest) way in
