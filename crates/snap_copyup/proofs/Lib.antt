@@ -4,3 +4,4 @@ pub mod Parents
 pub mod Growing
 pub mod Wholes
 pub mod Steps
+pub mod Copies

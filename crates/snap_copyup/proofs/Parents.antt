@@ -35,7 +35,7 @@ both u t v ls m a b = record {
 }
 
 -- one directory that was seen from below
-one_dir : (u : Tree) (ls : List Tree) (p : Names) (k m : ℕ) → at u p ≡ None → seen (u ∷ ls) p ≡ Some (dir k) → length p < m → AddsParents u (with_entry u p (Dir k false)) ls m
+pub one_dir : (u : Tree) (ls : List Tree) (p : Names) (k m : ℕ) → at u p ≡ None → seen (u ∷ ls) p ≡ Some (dir k) → length p < m → AddsParents u (with_entry u p (Dir k false)) ls m
 one_dir u ls p k m none was short = record {
   bodies = refl;
   next = refl;

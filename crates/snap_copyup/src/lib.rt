@@ -7,9 +7,11 @@
 #![tactic(auto)]
 
 mod adding;
+mod copying;
 mod looking;
 mod putting;
 
 pub use adding::{ensure_dirs, put};
+pub use copying::copy_up;
 pub use looking::{below, is_pure};
 pub use putting::Last;
