@@ -145,11 +145,13 @@ module _ (u : Tree) (ls : List Tree) (p : Names) (k : ℕ) (lt : k < length p) (
       let later = grows_from v ls (take (k + 1) p) (drop (k + 1) p) once.sorted after_step in
       let whole = grows_from u ls front (drop k p) ok.sorted_paths way in
       let parents = adds_from u ls front (drop k p) (length p) (omega (arith, left)) way in
-      is_within_many (with_last last t p) (omega (arith,
+      is_within_many (with_last last t p) (omega (
+        arith,
         many_from v (omega (arith, adds.next, ok.next.1)) full,
         later.inodes,
         ap inode_count (parents_more u ls p k lt),
-        last_inodes u t ls p ok empty parents whole.sorted last))
+        last_inodes u t ls p ok empty parents whole.sorted last,
+      ))
 
   pub missing_here : (last : Last) → Missing u (copied u ls (take k p)) ls p k (take k p) last
   missing_here last = record {

@@ -11,6 +11,15 @@ use snap_layer::{Layer, Shared};
 use snap_merge::FsError;
 use snap_path::Path;
 
+/// Adds to the layer the directories above the path that it doesn't have, with the modes that are seen,
+/// and none of them opaque (overlayfs.rst, "Non-directories").
+///
+/// The condition is that each directory above the path is seen as one over the lower layers, the nearest
+/// first, so that `Stack::walk` finds no error. `LayerFull` where the layer would have more than 65,536
+/// inodes. `OutOfMemory` where memory for a path or an entry is refused. After either the layer is as it
+/// was: what had been added is taken back, which takes no memory. Cost: for each name of the path the
+/// layer's number of paths, and for each directory that is missing also that of `below`. The calls nest
+/// as deep as the path has names.
 pub fn ensure_dirs(layer: &mut Layer, lowers: &[Shared], path: &Path) -> Result<(), FsError>
     requires { walk (layer.old ∷ lowers.now) path.now ≡ None }
     ensures ok { OnOk result (layer.new ≡ with_parents layer.old lowers.now path.now) }
@@ -22,12 +31,15 @@ pub fn ensure_dirs(layer: &mut Layer, lowers: &[Shared], path: &Path) -> Result<
     put(layer, lowers, path, Last::Nothing)
 }
 
-pub fn put(
-    layer: &mut Layer,
-    lowers: &[Shared],
-    path: &Path,
-    last: Last,
-) -> Result<(), FsError>
+/// Adds to the layer the directories above the path that it doesn't have, as `ensure_dirs` does, and then
+/// what is to stand at the path itself. Either all of it is added or nothing.
+///
+/// The conditions: each directory above the path is seen as one, as in `ensure_dirs`; and what is put is
+/// nothing, or nothing but a whiteout stands at the path, which isn't the root, and the mode, the size or
+/// the target is one that `add_dir`, `add_file` or `add_symlink` takes. `LayerFull` where the layer would
+/// have more than 65,536 inodes, or where the file numbers are used up. `OutOfMemory` where memory is
+/// refused. After either the layer is as it was, and the bytes are gone. Cost: as `ensure_dirs`.
+pub fn put(layer: &mut Layer, lowers: &[Shared], path: &Path, last: Last) -> Result<(), FsError>
     requires way { walk (layer.old ∷ lowers.now) path.now ≡ None }
     requires fit { Fits last layer.old path.now }
     ensures ok { OnOk result (layer.new ≡ with_last last (with_parents layer.old lowers.now path.now) path.now) }
@@ -47,8 +59,8 @@ pub(crate) fn visit(lowers: &[Shared])
     }
 }
 
-/// The same, where the directories with fewer names stand. What it has added it takes back, where it
-/// fails later.
+/// Does what `put` does, where the directories of fewer names stand. Where it fails later, it takes back
+/// what it has added.
 fn put_from(
     layer: &mut Layer,
     lowers: &[Shared],

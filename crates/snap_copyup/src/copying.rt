@@ -15,6 +15,15 @@ use snap_merge::{FsError, Seen};
 use snap_path::Path;
 use std::alloc::{AllocError, Global};
 
+/// Copies up what is seen at the path: the layer gets the directories above it, as by `ensure_dirs`, and,
+/// where it has no node at the path, what is below there: a directory with its mode, not opaque, or a file
+/// or a symlink under the layer's next number, with its own copy of the bytes. Other names of a lower file
+/// stay names of the lower file: a hard link is broken (overlayfs.rst, "Non-standard behavior").
+///
+/// The condition is that of `ensure_dirs`. Where nothing is seen at the path, only the directories are
+/// added. `LayerFull` where the layer would have more than 65,536 inodes, or where a number is needed and
+/// the file numbers are used up. `OutOfMemory` where memory for the bytes, a path or an entry is refused.
+/// After either the layer is as it was. Cost: that of `ensure_dirs` and of `below`, and the file's bytes.
 pub fn copy_up(layer: &mut Layer, lowers: &[Shared], path: &Path) -> Result<(), FsError>
     requires { walk (layer.old ∷ lowers.now) path.now ≡ None }
     ensures ok { OnOk result (layer.new ≡ copied_up layer.old lowers.now path.now) }

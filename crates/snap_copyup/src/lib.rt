@@ -15,3 +15,6 @@ pub use adding::{ensure_dirs, put};
 pub use copying::copy_up;
 pub use looking::{below, is_pure};
 pub use putting::Last;
+
+#[cfg(test)]
+mod tests;

@@ -50,11 +50,7 @@ pub(crate) fn put_last(layer: &mut Layer, path: &Path, last: Last) -> Result<(),
 }
 
 /// Adds the directory that is seen at the path, where the layer has no node, with its mode.
-pub(crate) fn put_parent(
-    layer: &mut Layer,
-    lowers: &[Shared],
-    path: &Path,
-) -> Result<(), FsError>
+pub(crate) fn put_parent(layer: &mut Layer, lowers: &[Shared], path: &Path) -> Result<(), FsError>
     requires layers { AreLayers lowers.now }
     requires nothing { at layer.old path.now ≡ None }
     requires parent { ParentStands layer.old path.now }

@@ -10,6 +10,6 @@ pub returns-clause-view : goal.returns-clause-view
 returns-clause-view c =
     OnOk-weaker c.put.result
     (λ (e : c.put.new.layer ≡ with_parents c.args.layer.now c.args.lowers.now c.args.path.now) q.
-        ap (λ (v : Tree). seen (v ∷ c.args.lowers.now) q) e
-        ∙ (adds_parents c.args.layer.now c.args.lowers.now c.args.path.now c.requires).view q)
+    ap (λ (v : Tree). seen (v ∷ c.args.lowers.now) q) e
+    ∙ (adds_parents c.args.layer.now c.args.lowers.now c.args.path.now c.requires).view q)
     c.put.ensures.ok

@@ -35,6 +35,6 @@ returns-clause-view c =
     let t = with_parents u ls p in
     OnOk-weaker c.put.result
     (λ (e : c.put.new.layer ≡ with_last c.in_ok-last.last (with_parents u ls p) p) q.
-        ap (λ (v : Tree). seen (v ∷ ls) q) (e ∙ ap (λ (l : Last). with_last l t p) c.in_ok-last.ensures ∙ last_copied u ls p c.requires)
-        ∙ copied_view u ls p c.requires c.next_number.ensures.layer c.visit.ensures q)
+    ap (λ (v : Tree). seen (v ∷ ls) q) (e ∙ ap (λ (l : Last). with_last l t p) c.in_ok-last.ensures ∙ last_copied u ls p c.requires)
+    ∙ copied_view u ls p c.requires c.next_number.ensures.layer c.visit.ensures q)
     c.put.ensures.ok
