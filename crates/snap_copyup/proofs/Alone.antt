@@ -1,6 +1,6 @@
 -- What a layer with no layer below it shows, and the walk over it.
-use Rattle.std.proofs.Common.{◌≡◌, ℕ, Bool, true, false, cond, List, [], ◌∷◌, ◌++◌, Option, Some, None, is_some, Result, Ok, Err, OnOk, refl, sym, ap, subst, ◌∙◌, append_assoc, append-nil}
-use Rattle.std.proofs.lemmas.Bool.{cond-true}
+use Rattle.std.proofs.Common.{◌≡◌, Bool, true, false, cond, List, [], ◌∷◌, ◌++◌, Option, Some, None, is_some, Result, Ok, Err, OnOk, refl, sym, ap, ◌∙◌}
+use Rattle.std.proofs.lemmas.Bool.{cond-true, cond-false}
 use Rattle.snap_path.specs.Text.{Names}
 use Rattle.snap_layer.specs.declared.node.Node.{Node}
 use Rattle.snap_layer.specs.declared.node.Node.TheVariants.{Dir, File, Symlink, Whiteout}
@@ -33,6 +33,10 @@ below_seen u ls p none = ap (λ (o : Option Node). seen_over u o p (seen ls p)) 
 -- where the layer has a node nothing is copied
 pub copied_there : (u : Tree) (ls : List Tree) (p : Names) → is_some (at u p) ≡ true → copied u ls p ≡ u
 copied_there u ls p some = cond-true (is_some (at u p)) u (with_object u p (below u ls p)) some
+
+-- and where it has none, what is below is
+pub copied_missing : (u : Tree) (ls : List Tree) (p : Names) → at u p ≡ None → copied u ls p ≡ with_object u p (below u ls p)
+copied_missing u ls p none = cond-false (is_some (at u p)) u (with_object u p (below u ls p)) (ap is_some none)
 
 -- ---- a node of a layer
 
@@ -119,16 +123,6 @@ module _ (u : Tree) where
 
   pub no_parents : (p : Names) → walk (u ∷ []) p ≡ None → with_parents u [] p ≡ u
   no_parents p way = no_parents_from [] p way
-
-  -- among them its parent
-  parent_from : (rest front : Names) (n : List ℕ) → walk_from (u ∷ []) front (rest ++ n ∷ []) ≡ None → IsDirAt (at u (front ++ rest))
-  parent_from [] front n way = subst (λ (q : Names). IsDirAt (at u q)) (sym (append-nil front)) (dir_there front (walk_passes (seen (u ∷ []) front) None way).0)
-  parent_from (m ∷ rest) front n way =
-      let passes = walk_passes (seen (u ∷ []) front) (walk_from (u ∷ []) (front ++ m ∷ []) (rest ++ n ∷ [])) way in
-      subst (λ (q : Names). IsDirAt (at u q)) (append_assoc front (m ∷ []) rest) (parent_from rest (front ++ m ∷ []) n passes.1)
-
-  pub parent_stands : (p q : Names) (n : List ℕ) → walk (u ∷ []) p ≡ None → p ≡ q ++ n ∷ [] → IsDirAt (at u q)
-  parent_stands p q n way is = parent_from q [] n (ap (λ (r : Names). walk (u ∷ []) r) (sym is) ∙ way)
 
 -- ---- results
 

@@ -1,10 +1,9 @@
 -- What is copied up: nothing that is seen changes.
-use Rattle.std.proofs.Common.{◌≡◌, inl, inr, ℕ, ◌+◌, ◌≤◌, Bool, true, false, List, [], ◌∷◌, ◌++◌, length, Option, Some, None, is_some, refl, sym, ap, subst, ◌∙◌, arith, length-append, append-nil}
-use Rattle.std.specs.Prelude.{option_and_then, if◌then◌else◌}
+use Rattle.std.proofs.Common.{◌≡◌, inl, inr, ℕ, ◌+◌, true, false, List, [], ◌∷◌, ◌++◌, length, Option, Some, None, is_some, refl, sym, ap, subst, ◌∙◌, arith, length-append, append-nil}
+use Rattle.std.specs.Prelude.{option_and_then}
 use Rattle.std.specs.Ordering.{nat_cmp}
 use Rattle.std.specs.Map.{lookup}
 use Rattle.std.specs.BTreeMap.{is_at}
-use Rattle.std.proofs.lemmas.Bool.{cond-false}
 use Rattle.snap_path.specs.Text.{Names}
 use Rattle.snap_layer.specs.declared.node.Node.{Node}
 use Rattle.snap_layer.specs.declared.node.Node.TheVariants as node
@@ -12,7 +11,7 @@ use Rattle.snap_layer.specs.declared.node.Body.{Body}
 use Rattle.snap_layer.specs.declared.node.Body.TheVariants as body_kinds
 use Rattle.snap_layer.specs.Tree.{Tree, at, body, number_at, number_of, node_hides}
 use Rattle.snap_layer.specs.Layers.{IsLayer}
-use Rattle.snap_layer.specs.Edits.{IsFree, with_entry, with_new, without, bodies_without, outside}
+use Rattle.snap_layer.specs.Edits.{IsFree, with_new, without, bodies_without, outside}
 use Rattle.snap_layer.proofs.Looks.{split_path}
 use Rattle.snap_layer.proofs.Paths.{split_front}
 use Rattle.snap_layer.proofs.Kept.{has_body, free_has_no_number, free_is_no_dir, nothing_below}
@@ -21,11 +20,9 @@ use Rattle.snap_merge.specs.Objects.{Object, dir, file, symlink, seen, shown_bod
 use Rattle.snap_merge.specs.Walk.{walk}
 use Rattle.snap_merge.proofs.Views.{seen_node}
 use Rattle.snap_merge.proofs.Above.{nothing_seen}
-use Rattle.snap_copyup.specs.declared.putting.Last.{Last}
-use Rattle.snap_copyup.specs.declared.putting.Last.TheVariants.{Nothing, Dir, File, Symlink, Whiteout}
-use Rattle.snap_copyup.specs.Copying.{below, with_object, copied, with_parents, copied_up}
+use Rattle.snap_copyup.specs.Copying.{below, with_object, with_parents, copied_up}
 use Rattle.snap_copyup.specs.Places.{with_last, Fits, last_of}
-use Rattle.snap_copyup.proofs.Alone.{below_seen, copied_there}
+use Rattle.snap_copyup.proofs.Alone.{below_seen, copied_there, copied_missing}
 use Rattle.snap_copyup.proofs.Elsewhere.{Puts, shown_same, shown_number, seen-put_hiding}
 use Rattle.snap_copyup.proofs.Parents.{AddsParents, adds_parents, one_dir}
 use Rattle.snap_copyup.proofs.Wholes.{IsWholeObject, whole_below, vacant}
@@ -105,7 +102,7 @@ module _ (u : Tree) (ls : List Tree) (p : Names) (way : walk (u ∷ ls) p ≡ No
   same_below none = sym (below_seen t ls p (there ∙ none)) ∙ adds.view p ∙ below_seen u ls p none
 
   copied_below : at u p ≡ None → copied_up u ls p ≡ with_object (with_parents u ls p) p (below u ls p)
-  copied_below none = cond-false (is_some (at t p)) t (with_object t p (below t ls p)) (ap is_some (there ∙ none)) ∙ ap (with_object t p) (same_below none)
+  copied_below none = copied_missing t ls p (there ∙ none) ∙ ap (with_object t p) (same_below none)
 
   -- the layer with the directories, and with what a copy-up puts at the path
   pub last_copied : with_last (last_of (at u p) (below u ls p)) (with_parents u ls p) p ≡ copied_up u ls p

@@ -1,27 +1,25 @@
 -- What is added takes inodes.
-use Rattle.std.proofs.Common.{◌≡◌, ℕ, ◌+◌, ◌<◌, ◌≤◌, Bool, true, false, not, List, [], ◌∷◌, ◌++◌, length, Option, Some, None, is_some, refl, sym, ap, subst, ◌∙◌, arith, append-nil, length-append, drop}
+use Rattle.std.proofs.Common.{◌≡◌, ℕ, ◌+◌, ◌≤◌, Bool, true, false, not, List, [], ◌∷◌, ◌++◌, length, Option, Some, None, is_some, refl, sym, ap, subst, ◌∙◌, arith, append-nil, length-append, drop}
 use Rattle.std.specs.Prelude.{option_and_then, if◌then◌else◌}
 use Rattle.std.specs.Ordering.{nat_cmp}
 use Rattle.std.specs.List.Sorted.{IsStrictlySortedBy}
 use Rattle.std.specs.Map.{lookup, keys_of}
 use Rattle.std.specs.BTreeMap.{is_at, insert_entry}
-use Rattle.std.proofs.lemmas.Bool.Decides.{nat_tests}
 use Rattle.snap_path.specs.Text.{Names}
 use Rattle.snap_layer.specs.declared.node.Node.{Node}
 use Rattle.snap_layer.specs.declared.node.Node.TheVariants as node
 use Rattle.snap_layer.specs.declared.node.Body.{Body}
 use Rattle.snap_layer.specs.declared.node.Body.TheVariants as body_kinds
 use Rattle.snap_layer.specs.Tree.{Tree, Bodies, IsDirAt, at, begins, number_of, path_cmp}
-use Rattle.snap_layer.specs.Counts.{inode_count, is_within}
+use Rattle.snap_layer.specs.Counts.{inode_count}
 use Rattle.snap_layer.specs.Layers.{IsLayer}
 use Rattle.snap_layer.specs.Edits.{with_entry, with_new, without, outside, bodies_without}
 use Rattle.snap_layer.proofs.Lists.{sorted-filter}
-use Rattle.snap_layer.proofs.Paths.{begins_rest, begins_itself}
+use Rattle.snap_layer.proofs.Paths.{begins_rest}
 use Rattle.snap_layer.proofs.Looks.{at-without, same_tree}
 use Rattle.snap_layer.proofs.Counting.{inodes_of, inode_count-with_entry, length-insert_new}
 use Rattle.snap_layer.proofs.Kept.{next_is_fresh, nothing_below}
 use Rattle.snap_layer.proofs.Laws.{sorted-with_entry}
-use Rattle.snap_layer.proofs.Replacing.{is_within_many}
 use Rattle.snap_merge.specs.Objects.{Object, dir, file, symlink, seen, is_shown_dir}
 use Rattle.snap_merge.specs.Walk.{walk_from}
 use Rattle.snap_merge.proofs.Views.{walk_same}

@@ -5,3 +5,4 @@ pub mod Growing
 pub mod Wholes
 pub mod Steps
 pub mod Copies
+pub mod Layers

@@ -1,17 +1,17 @@
 -- The directories above a path that are copied up: nothing that is seen changes.
-use Rattle.std.proofs.Common.{◌≡◌, inl, inr, ℕ, ◌+◌, ◌<◌, ◌≤◌, true, false, List, [], ◌∷◌, ◌++◌, length, Option, Some, None, is_some, refl, sym, ap, subst, ◌∙◌, arith, length-append}
+use Rattle.std.proofs.Common.{◌≡◌, inl, inr, ℕ, ◌+◌, ◌<◌, ◌≤◌, true, false, List, [], ◌∷◌, ◌++◌, length, Option, Some, None, is_some, refl, sym, ap, subst, ◌∙◌, arith, length-append, append_assoc, append-nil}
 use Rattle.std.specs.Prelude.{option_and_then, if◌then◌else◌}
 use Rattle.snap_path.specs.Text.{Names}
 use Rattle.snap_layer.specs.declared.node.Node.{Node}
 use Rattle.snap_layer.specs.declared.node.Node.TheVariants.{Dir}
-use Rattle.snap_layer.specs.Tree.{Tree, at, number_at, number_of, node_hides}
+use Rattle.snap_layer.specs.Tree.{Tree, IsDirAt, at, number_at, number_of, node_hides}
 use Rattle.snap_layer.specs.Edits.{with_entry}
 use Rattle.snap_layer.proofs.Looks.{Sets, Sets-with_entry, split_path}
 use Rattle.snap_merge.specs.Objects.{Object, dir, file, symlink, seen, is_shown_dir}
 use Rattle.snap_merge.specs.Walk.{walk, walk_from}
 use Rattle.snap_merge.proofs.Views.{seen_node, walk_same}
 use Rattle.snap_copyup.specs.Copying.{below, copied, with_object, with_parents, with_parents_from}
-use Rattle.snap_copyup.proofs.Alone.{walk_passes, below_seen}
+use Rattle.snap_copyup.proofs.Alone.{walk_passes, below_seen, copied_there, copied_missing, dir_there_over}
 use Rattle.snap_copyup.proofs.Elsewhere.{Puts, shown_same, seen-put_alike}
 
 -- the layer t is u with directories at paths shorter than m that were seen
@@ -83,3 +83,33 @@ adds_from u ls front (n ∷ rest) m far way =
 -- the directories above a path that the walk passes
 pub adds_parents : (u : Tree) (ls : List Tree) (p : Names) → walk (u ∷ ls) p ≡ None → AddsParents u (with_parents u ls p) ls (length p)
 adds_parents u ls p way = adds_from u ls [] p (length p) (omega arith) way
+
+-- ---- the parent
+
+-- a directory that is copied stands in the layer
+pub copied_stands : (u : Tree) (ls : List Tree) (p : Names) → is_shown_dir (seen (u ∷ ls) p) ≡ true → IsDirAt (at (copied u ls p) p)
+copied_stands u ls p is = by (at u p) refl
+  where
+    put : (o : Option Object) → is_shown_dir o ≡ true → IsDirAt (at (with_object u p o) p)
+    put None is = absurd (cc)
+    put (Some (dir k)) is = subst IsDirAt (sym (Sets-with_entry u p (Dir k false)).here) refl
+    put (Some (file k b)) is = absurd (cc)
+    put (Some (symlink b)) is = absurd (cc)
+
+    by : (o : Option Node) → at u p ≡ o → IsDirAt (at (copied u ls p) p)
+    by (Some n) e = subst (λ (v : Tree). IsDirAt (at v p)) (sym (copied_there u ls p (ap is_some e))) (dir_there_over u ls p (ap is_some e) is)
+    by None e = subst (λ (v : Tree). IsDirAt (at v p)) (sym (copied_missing u ls p e)) (put (below u ls p) (sym (ap is_shown_dir (below_seen u ls p e)) ∙ is))
+
+stands_from : (u : Tree) (ls : List Tree) (q front : Names) (n : List ℕ) → walk_from (u ∷ ls) front (q ++ n ∷ []) ≡ None → IsDirAt (at (with_parents_from u ls front (q ++ n ∷ [])) (front ++ q))
+stands_from u ls [] front n way = subst (λ (r : Names). IsDirAt (at (copied u ls front) r)) (sym (append-nil front)) (copied_stands u ls front (walk_passes (seen (u ∷ ls) front) None way).0)
+stands_from u ls (m ∷ q) front n way =
+    let v = copied u ls front in
+    let passes = walk_passes (seen (u ∷ ls) front) (walk_from (u ∷ ls) (front ++ m ∷ []) (q ++ n ∷ [])) way in
+    let step = dir_copied u ls front (length front + 1) passes.0 (omega arith) in
+    subst (λ (r : Names). IsDirAt (at (with_parents_from v ls (front ++ m ∷ []) (q ++ n ∷ [])) r)) (append_assoc front (m ∷ []) q)
+    (stands_from v ls q (front ++ m ∷ []) n (walk_same (u ∷ ls) (v ∷ ls) step.view (front ++ m ∷ []) (q ++ n ∷ []) ∙ passes.1))
+
+-- above a path that the walk passes, its parent stands once the directories are added
+pub parents_stand : (u : Tree) (ls : List Tree) (p : Names) → walk (u ∷ ls) p ≡ None → (q : Names) (n : List ℕ) → p ≡ q ++ n ∷ [] → IsDirAt (at (with_parents u ls p) q)
+parents_stand u ls p way q n is =
+    subst (λ (r : Names). IsDirAt (at (with_parents u ls r) q)) (sym is) (stands_from u ls q [] n (ap (λ (r : Names). walk (u ∷ ls) r) (sym is) ∙ way))

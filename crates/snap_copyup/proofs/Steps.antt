@@ -1,8 +1,6 @@
 -- The directories above a path, added one after another, and taken again.
-use Rattle.std.proofs.Common.{◌≡◌, ◌⊎◌, inl, inr, ℕ, ◌+◌, ◌<◌, ◌≤◌, Bool, true, false, List, [], ◌∷◌, ◌++◌, length, take, drop, get_or, Option, Some, None, IsSome, is_some, refl, sym, ap, subst, ◌∙◌, arith, length-append, length-take}
-use Rattle.std.specs.Prelude.{if◌then◌else◌}
+use Rattle.std.proofs.Common.{◌≡◌, ℕ, ◌+◌, ◌<◌, ◌≤◌, true, false, List, [], ◌∷◌, ◌++◌, length, take, drop, get_or, Option, Some, None, is_some, refl, sym, ap, subst, ◌∙◌, arith, length-append, length-take}
 use Rattle.std.proofs.lemmas.List.{at_drop_more, take_more, take-append-drop}
-use Rattle.std.proofs.lemmas.Bool.{cond-false}
 use Rattle.std.proofs.lemmas.Bool.Decides.{nat_tests}
 use Rattle.snap_path.specs.Text.{Names}
 use Rattle.snap_layer.specs.declared.node.Node.TheVariants as node
@@ -10,23 +8,20 @@ use Rattle.snap_layer.specs.Tree.{Tree, at, IsDirAt}
 use Rattle.snap_layer.specs.Counts.{inode_count, is_within}
 use Rattle.snap_layer.specs.Layers.{IsLayer}
 use Rattle.snap_layer.specs.Edits.{with_entry, without, IsFree, HasRoom, HasPlace, IsTakeable}
-use Rattle.snap_layer.proofs.Looks.{Sets-with_entry}
 use Rattle.snap_layer.proofs.Paths.{snoc_same}
 use Rattle.snap_layer.proofs.Kept.{nothing_below}
 use Rattle.snap_layer.proofs.Laws.{without-with_entry}
 use Rattle.snap_layer.proofs.Replacing.{is_within_many, HasPlace-from_room}
-use Rattle.snap_merge.specs.Objects.{Object, dir, file, symlink, seen, is_shown_dir, AreLayers}
-use Rattle.snap_merge.specs.declared.error.FsError.{FsError}
-use Rattle.snap_merge.specs.declared.error.FsError.TheVariants.{LayerFull, OutOfMemory}
+use Rattle.snap_merge.specs.Objects.{Object, dir, file, symlink, seen, is_shown_dir}
 use Rattle.snap_merge.specs.Walk.{walk_from}
 use Rattle.snap_merge.proofs.Views.{walk_same}
 use Rattle.snap_merge.proofs.Walking.{walk_more}
 use Rattle.snap_copyup.specs.declared.putting.Last.{Last}
 use Rattle.snap_copyup.specs.declared.putting.Last.TheVariants.{Nothing, Dir, File, Symlink, Whiteout}
 use Rattle.snap_copyup.specs.Copying.{below, copied, with_object, with_parents_from}
-use Rattle.snap_copyup.specs.Places.{with_last, IsVacant, Fits, IsRefusal, ParentStands}
-use Rattle.snap_copyup.proofs.Alone.{walk_passes, below_seen, copied_there, dir_there_over, some_dir}
-use Rattle.snap_copyup.proofs.Parents.{AddsParents, adds_from, dir_copied, both}
+use Rattle.snap_copyup.specs.Places.{with_last, IsVacant, Fits, ParentStands}
+use Rattle.snap_copyup.proofs.Alone.{walk_passes, below_seen, copied_there, copied_missing, dir_there_over, some_dir}
+use Rattle.snap_copyup.proofs.Parents.{AddsParents, adds_from, dir_copied, copied_stands}
 use Rattle.snap_copyup.proofs.Growing.{grows_once, grows_from, last_inodes}
 
 -- ---- one name further
@@ -116,12 +111,9 @@ module _ (u : Tree) (ls : List Tree) (p : Names) (k : ℕ) (lt : k < length p) (
     where
       by : (o : Option Object) → below u ls (take k p) ≡ o → is_shown_dir o ≡ true → (mode : ℕ) × (copied u ls (take k p) ≡ with_entry u (take k p) (node.Dir mode false))
       by None e is = absurd (cc)
-      by (Some (dir mode)) e is = (mode, cond-false (is_some (at u front)) u (with_object u front (below u ls front)) (ap is_some none) ∙ ap (with_object u front) e)
+      by (Some (dir mode)) e is = (mode, copied_missing u ls front none ∙ ap (with_object u front) e)
       by (Some (file mode bytes)) e is = absurd (cc)
       by (Some (symlink target)) e is = absurd (cc)
-
-  stands : IsDirAt (at (copied u ls (take k p)) (take k p))
-  stands = subst IsDirAt (sym (ap (λ (t : Tree). at t front) is_dir_with.1 ∙ (Sets-with_entry u front (node.Dir is_dir_with.0 false)).here)) refl
 
   -- nothing stands at the path
   empty : at u p ≡ None
@@ -156,10 +148,10 @@ module _ (u : Tree) (ls : List Tree) (p : Names) (k : ℕ) (lt : k < length p) (
   pub missing_here : (last : Last) → Missing u (copied u ls (take k p)) ls p k (take k p) last
   missing_here last = record {
     way = after_step;
-    parent = parent_next v p k lt stands;
+    parent = parent_next v p k lt (copied_stands u ls front (walk_step u ls p k lt way).0);
     fit = fits_same last u v p (adds.leaves p (omega (arith, short)));
     takeable = record {
-      there = some_dir (at v front) stands;
+      there = some_dir (at v front) (copied_stands u ls front (walk_step u ls p k lt way).0);
       clear = λ n. subst IsFree (sym (adds.leaves (front ++ n ∷ []) (omega (arith, length-append front (n ∷ []))) ∙ nothing_below u ok front (λ is. subst IsDirAt none is) n [])) tt;
       below_root = λ e. subst IsDirAt none (subst (λ (r : Names). IsDirAt (at u r)) (sym e) ok.root);
     };

@@ -1,4 +1,4 @@
-use Rattle.std.proofs.Common.{◌≡◌, ◌∷◌, ◌+◌, ◌<◌, true, false, take, drop, length, refl, sym, ap, subst, ◌∙◌, arith, rules, OnOk, IfErr}
+use Rattle.std.proofs.Common.{◌≡◌, ◌∷◌, ◌<◌, true, false, take, drop, length, refl, sym, ap, subst, ◌∙◌, arith, rules, OnOk, IfErr}
 use Rattle.std.specs.Prelude.{is_some}
 use Rattle.snap_layer.specs.Tree.{Tree, at}
 use Rattle.snap_layer.specs.Edits.{without, IsTakeable}

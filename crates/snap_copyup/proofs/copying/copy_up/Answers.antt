@@ -2,7 +2,7 @@ use Rattle.std.proofs.Common.{◌≡◌, ◌∷◌, sym, ap, subst, ◌∙◌, O
 use Rattle.snap_layer.specs.Tree.{Tree}
 use Rattle.snap_merge.specs.Objects.{seen}
 use Rattle.snap_copyup.specs.declared.putting.Last.{Last}
-use Rattle.snap_copyup.specs.Copying.{with_parents, copied_up}
+use Rattle.snap_copyup.specs.Copying.{with_parents}
 use Rattle.snap_copyup.specs.Places.{with_last, Fits, IsRefusal}
 use Rattle.snap_copyup.proofs.Alone.{OnOk-weaker}
 use Rattle.snap_copyup.proofs.Copies.{last_copied, copied_view, copy_fits}
