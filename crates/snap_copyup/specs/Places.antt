@@ -1,11 +1,11 @@
 -- What is put at a path, once the directories above it stand.
-use Rattle.std.specs.Prelude.{◌≡◌, ◌⊎◌, ℕ, ◌≤◌, true, false, List, [], ◌∷◌, ◌++◌, length, Option, Some, None}
+use Rattle.std.specs.Prelude.{◌≡◌, ◌⊎◌, ℕ, ◌+◌, ◌≤◌, true, false, List, [], ◌∷◌, ◌++◌, length, Option, Some, None}
 use Rattle.snap_path.specs.Text.{Names}
 use Rattle.snap_layer.specs.declared.node.Node.{Node}
 use Rattle.snap_layer.specs.declared.node.Node.TheVariants as node
 use Rattle.snap_layer.specs.declared.node.Body.TheVariants as body_kinds
 use Rattle.snap_layer.specs.Tree.{Tree, at, IsDirAt}
-use Rattle.snap_layer.specs.Counts.{is_within}
+use Rattle.snap_layer.specs.Counts.{inode_count, block_count, is_within}
 use Rattle.snap_layer.specs.Layers.{is_target}
 use Rattle.snap_layer.specs.Edits.{with_entry, with_new, with_node, IsFree}
 use Rattle.snap_merge.specs.Objects.{Object, dir, file, symlink}
@@ -38,6 +38,10 @@ Fits Whiteout t p = IsVacant t p
 -- why a next layer was not made: it would pass the limits of a layer, or memory was refused
 abbrev pub IsRefusal : Tree → FsError → Type 0
 IsRefusal t e = (e ≡ OutOfMemory) ⊎ ((e ≡ LayerFull) × (is_within t ≡ false))
+
+-- the second layer takes so many inodes more than the first, and as many blocks
+abbrev pub TakesMore : ℕ → Tree → Tree → Type 0
+TakesMore n u t = (inode_count t ≡ inode_count u + n) × (block_count t ≡ block_count u + n)
 
 -- the path's parent, if there is one, is a directory of the layer
 abbrev pub ParentStands : Tree → Names → Type 0

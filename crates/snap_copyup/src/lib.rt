@@ -9,11 +9,13 @@
 mod adding;
 mod copying;
 mod looking;
+mod missing;
 mod putting;
 
 pub use adding::{ensure_dirs, put};
 pub use copying::copy_up;
 pub use looking::{below, is_pure};
+pub use missing::missing_dirs;
 pub use putting::Last;
 
 #[cfg(test)]

@@ -1,4 +1,4 @@
-use super::{Last, below, copy_up, ensure_dirs, is_pure, put};
+use super::{Last, below, copy_up, ensure_dirs, is_pure, missing_dirs, put};
 use snap_layer::{Body, Bytes, Layer, Node, Shared};
 use snap_merge::{FsError, Seen, Stack};
 use snap_path::Path;
@@ -247,6 +247,24 @@ fn a_symlink_is_copied_with_its_target(rt: HostRuntime) -> Result<(), Fail> {
         return Err("no symlink").map_err(Fail::from);
     };
     assert_eq!(rt; target.as_slice(), b"d".as_slice());
+    Ok(())
+}
+
+#[test]
+fn missing_directories_are_counted(rt: HostRuntime) -> Result<(), Fail> {
+    let alloc = rt.alloc();
+    let mut layer = Layer::empty(alloc, 493)?;
+    put_dir(&mut layer, &Path::parse(alloc, "/a")?, 493, false)?;
+    for (text, missing) in [
+        ("/", 0),
+        ("/a", 0),
+        ("/a/b", 0),
+        ("/a/b/c", 1),
+        ("/d/e/f", 2),
+    ] {
+        let path = Path::parse(alloc, text)?;
+        assert_eq!(rt; missing_dirs(&layer, &path), missing, "at {text}");
+    }
     Ok(())
 }
 
