@@ -1,4 +1,4 @@
--- What a layer with no layer below it shows, and the walk over it.
+-- What a layer shows, alone and over others, and what is copied where it has a node or none.
 use Rattle.std.proofs.Common.{◌≡◌, Bool, true, false, cond, List, [], ◌∷◌, ◌++◌, Option, Some, None, is_some, Result, Ok, Err, OnOk, refl, sym, ap, ◌∙◌}
 use Rattle.std.proofs.lemmas.Bool.{cond-true, cond-false}
 use Rattle.snap_path.specs.Text.{Names}
