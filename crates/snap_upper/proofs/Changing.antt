@@ -1,5 +1,5 @@
 -- What is seen after an operation.
-use Rattle.std.proofs.Common.{◌≡◌, inl, inr, ℕ, Bool, true, false, List, [], ◌∷◌, ◌++◌, length, Option, Some, None, is_some, Result, Ok, Err, refl, sym, ap, subst, ◌∙◌, arith, length-append, append-nil}
+use Rattle.std.proofs.Common.{◌≡◌, inl, inr, ℕ, Bool, true, false, List, [], ◌∷◌, ◌++◌, length, Option, Some, None, is_some, Result, Ok, Err, refl, sym, ap, subst, ◌∙◌, arith}
 use Rattle.std.specs.Prelude.{option_and_then, if◌then◌else◌}
 use Rattle.std.specs.Option.{option_map}
 use Rattle.std.specs.Ordering.{nat_cmp}
@@ -13,11 +13,10 @@ use Rattle.snap_layer.specs.declared.node.Body.TheVariants as body_kinds
 use Rattle.snap_layer.specs.Tree.{Tree, Bodies, at, body, number_at, number_of, node_hides}
 use Rattle.snap_layer.specs.Counts.{is_within}
 use Rattle.snap_layer.specs.Layers.{IsLayer, IsSymlink}
-use Rattle.snap_layer.specs.Edits.{IsFree, with_entry, with_new, with_body, with_bytes, without, bodies_without, outside}
+use Rattle.snap_layer.specs.Edits.{IsFree, with_entry, with_new, with_body, with_bytes}
 use Rattle.snap_layer.proofs.Looks.{Sets-with_entry, SetsBody-with_body}
-use Rattle.snap_layer.proofs.Paths.{split_front}
-use Rattle.snap_layer.proofs.Kept.{node_with_number, has_body, free_has_no_number, free_is_no_dir, nothing_below}
-use Rattle.snap_layer.proofs.Laws.{Replaces, Replaces-with_new, SetsBody-with_new}
+use Rattle.snap_layer.proofs.Kept.{node_with_number}
+use Rattle.snap_layer.proofs.Laws.{Replaces-with_new, SetsBody-with_new}
 use Rattle.snap_merge.specs.Objects.{Object, dir, file, symlink, seen, shown_body, is_shown_dir, AreLayers}
 use Rattle.snap_merge.specs.declared.error.FsError.{FsError}
 use Rattle.snap_merge.specs.declared.error.FsError.TheVariants.{LayerFull}
@@ -25,14 +24,15 @@ use Rattle.snap_merge.proofs.Views.{seen_node, seen_alike}
 use Rattle.snap_merge.proofs.Above.{nothing_seen}
 use Rattle.snap_upper.specs.declared.op.Op.{Op}
 use Rattle.snap_upper.specs.declared.op.Op.TheVariants as op
-use Rattle.snap_upper.specs.Copying.{below, with_parents, copied, with_object}
+use Rattle.snap_copyup.specs.Copying.{below, with_parents, copied, with_object}
 use Rattle.snap_upper.specs.After.{after, tests, first_error, limited, unless, next_layer, is_whiteout_at, written, bytes_of, with_content, file_error}
 use Rattle.snap_upper.specs.Changed.{ShowsAt, IsName, Turns, with_file_bytes, changed}
-use Rattle.snap_upper.proofs.Alone.{free_unseen, copied_there, below_seen}
+use Rattle.snap_copyup.proofs.Alone.{free_unseen, copied_there, below_seen}
 use Rattle.snap_upper.proofs.Making.{IsNew, IsNew-passed}
 use Rattle.snap_upper.proofs.Writing.{IsWritable, IsWritable-passed}
-use Rattle.snap_upper.proofs.Elsewhere.{Puts, shown_same, shown_number, seen-put_alike, seen-put_hiding}
-use Rattle.snap_upper.proofs.Parents.{AddsParents, adds_parents}
+use Rattle.snap_copyup.proofs.Elsewhere.{Puts, shown_same, shown_number, seen-put_alike, seen-put_hiding}
+use Rattle.snap_copyup.proofs.Parents.{AddsParents, adds_parents}
+use Rattle.snap_copyup.proofs.Copies.{not_next, Puts-with_new, new_shown, new_elsewhere}
 
 none_from : (o : Option Object) → is_some o ≡ false → o ≡ None
 none_from None e = refl
@@ -80,38 +80,6 @@ mkdir_changes u ls p m ok passes = record {
 
 -- ---- a new file
 
-module _ (u t : Tree) (ls : List Tree) (p : Names) (ok : IsLayer u) (free : IsFree (at u p)) (parents : AddsParents u t ls (length p)) (b : Body) where
-  no_number : number_at t p ≡ None
-  no_number = parents.numbers p ∙ free_has_no_number (at u p) free
-
-  bodies_left : (j : ℕ) → body (without t p) j ≡ body t j
-  bodies_left j = ap (λ o. lookup (is_at (nat_cmp j)) (bodies_without o (outside p t.entries) t.bodies)) no_number
-
-  -- no name has the next number
-  not_next : (q : Names) (j : ℕ) → number_at t q ≡ Some j → j ≡ t.next → ⊥
-  not_next q j is same = omega (arith, parents.next, same, (ok.numbers j (has_body u ok q j (sym (parents.numbers q) ∙ is))).1)
-
-  Puts-with_new : Puts t (with_new t p (File t.next) b) p
-  Puts-with_new = record {
-    others = λ q apart. elim (split_front p q) [
-      | inl within ↦ by q apart within.1 within.2
-      | inr out ↦ replaces.others q out.0
-    ];
-    shows = λ q n apart e. shown_same t (with_new t p (File t.next) b) n (λ j is. (SetsBody-with_new t p (File t.next) b).others j (not_next q j (ap (option_and_then number_of) e ∙ is)) ∙ bodies_left j);
-  }
-    where
-      replaces : Replaces t (with_new t p (File t.next) b) p (File t.next)
-      replaces = Replaces-with_new t p (File t.next) b
-
-      by : (q : Names) → (q ≡ p → ⊥) → (rest : Names) → q ≡ p ++ rest → at (with_new t p (File t.next) b) q ≡ at t q
-      by q apart [] is = absurd (apart (is ∙ append-nil p))
-      by q apart (n ∷ r) is =
-          ap (at (with_new t p (File t.next) b)) is ∙ replaces.below n r
-          ∙ sym (ap (at t) is ∙ parents.leaves (p ++ n ∷ r) (omega (arith, length-append p (n ∷ r))) ∙ nothing_below u ok p (free_is_no_dir (at u p) free) n r)
-
-  new_shown : seen (with_new t p (File t.next) b ∷ ls) p ≡ shown_body (Some b)
-  new_shown = seen_node (with_new t p (File t.next) b) ls p (File t.next) (Replaces-with_new t p (File t.next) b).here ∙ ap shown_body (SetsBody-with_new t p (File t.next) b).here
-
 create_changes : (u : Tree) (ls : List Tree) (p : Names) (m : ℕ) → IsLayer u → AreLayers ls → first_error (tests (op.Create p m) (u ∷ ls)) ≡ None
     → ShowsAt (seen (u ∷ ls)) (seen (next_layer (op.Create p m) u ls ∷ ls)) p (Some (file m []))
 create_changes u ls p m ok layers passes =
@@ -120,13 +88,9 @@ create_changes u ls p m ok layers passes =
     let parents = adds_parents u ls p new.way in
     let free = free_unseen u ls p ok new.unseen in
     let b = body_kinds.File m [] in
-    let v = with_new t p (File t.next) b in
     record {
-      here = new_shown u t ls p ok free parents b;
-      others = λ q apart.
-          seen-put_hiding t v ls p (Puts-with_new u t ls p ok free parents b) (ap node_hides (Replaces-with_new t p (File t.next) b).here)
-          (λ n r. parents.view (p ++ n ∷ r) ∙ nothing_seen (u ∷ ls) (ok, layers) r p n (ap is_shown_dir (none_from (seen (u ∷ ls) p) new.unseen))) q apart
-          ∙ parents.view q;
+      here = new_shown u t ls p ok free parents (File t.next) refl b;
+      others = λ q apart. new_elsewhere u t ls p ok free parents (File t.next) refl b layers (ap is_shown_dir (none_from (seen (u ∷ ls) p) new.unseen)) q apart;
     }
 
 -- ---- a file's bytes
@@ -196,13 +160,13 @@ module _ (u t : Tree) (ls : List Tree) (p : Names) (ok : IsLayer u) (layers : Ar
   copy = with_body (with_new t p (File t.next) (body_kinds.File m old)) t.next (body_kinds.File m (g old))
 
   puts_new : Puts t new p
-  puts_new = Puts-with_new u t ls p ok free parents (body_kinds.File m old)
+  puts_new = Puts-with_new u t ls p ok free parents (File t.next) refl (body_kinds.File m old)
 
   puts_copy : Puts t copy p
   puts_copy = record {
     others = λ q apart. puts_new.others q apart;
     shows = λ q n apart e.
-        shown_same new copy n (λ j number. (SetsBody-with_body new t.next (body_kinds.File m (g old))).others j (not_next u t ls p ok free parents (body_kinds.File m old) q j (ap (option_and_then number_of) e ∙ number)))
+        shown_same new copy n (λ j number. (SetsBody-with_body new t.next (body_kinds.File m (g old))).others j (not_next u t ls p ok free parents (File t.next) refl (body_kinds.File m old) q j (ap (option_and_then number_of) e ∙ number)))
         ∙ puts_new.shows q n apart e;
   }
 

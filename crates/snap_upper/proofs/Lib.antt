@@ -1,10 +1,7 @@
-pub mod Alone
 pub mod Outcomes
 pub mod Making
 pub mod Writing
 pub mod Counts
 pub mod Plans
-pub mod Elsewhere
-pub mod Parents
 pub mod Changing
 pub mod Examples

@@ -4,7 +4,7 @@ use Rattle.std.specs.Prelude.{nat_lt}
 use Rattle.snap_path.specs.Text.{Names}
 use Rattle.snap_layer.specs.declared.node.Node.TheVariants.{Dir, File}
 use Rattle.snap_layer.specs.declared.node.Body.TheVariants as body_kinds
-use Rattle.snap_layer.specs.Tree.{Tree, at}
+use Rattle.snap_layer.specs.Tree.{Tree, IsDirAt, at}
 use Rattle.snap_layer.specs.Layers.{IsLayer}
 use Rattle.snap_layer.specs.Edits.{HasRoom, with_entry, with_new}
 use Rattle.snap_merge.specs.Objects.{Object, seen, is_shown_dir}
@@ -12,7 +12,8 @@ use Rattle.snap_merge.specs.Walk.{walk}
 use Rattle.snap_merge.specs.declared.error.FsError.TheVariants.{Exists, Invalid}
 use Rattle.snap_upper.specs.declared.op.Op.TheVariants as op
 use Rattle.snap_upper.specs.After.{after, limited, tests, first_error, error_if, next_layer, is_whiteout_at}
-use Rattle.snap_upper.proofs.Alone.{free_unseen, dir_seen, no_parents, parent_stands}
+use Rattle.snap_copyup.proofs.Alone.{free_unseen, dir_seen, no_parents}
+use Rattle.snap_copyup.proofs.Parents.{parents_stand}
 use Rattle.snap_upper.proofs.Outcomes.{test_passes, error_if_passes, after_passes}
 
 -- the tests of a new object have passed
@@ -48,7 +49,7 @@ module _ (u : Tree) (ok : IsLayer u) (p : Names) (mode : ℕ) (passes : first_er
     free = free_unseen u [] p ok new.unseen;
     above = record {
       below_root = λ root. not_root (subst (λ (q : Names). is_some (seen (u ∷ []) q) ≡ false) root new.unseen);
-      parent = λ q n is. parent_stands u p q n new.way is;
+      parent = λ q n is. subst (λ (t : Tree). IsDirAt (at t q)) (no_parents u p new.way) (parents_stand u [] p new.way q n is);
     };
   }
     where

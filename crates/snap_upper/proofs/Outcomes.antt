@@ -1,5 +1,5 @@
 -- Tests that pass, and outcomes.
-use Rattle.std.proofs.Common.{◌≡◌, ◌⊎◌, Bool, true, false, List, ◌∷◌, Option, Some, None, Result, Ok, Err, IsErrOf, IsErrAnd, IfErr, OnOk, refl, sym, ap, ◌∙◌, inl, inr}
+use Rattle.std.proofs.Common.{◌≡◌, ◌⊎◌, Bool, true, false, List, ◌∷◌, Option, Some, None, Result, Ok, Err, IsErrOf, IsErrAnd, IfErr, refl, sym, ap, ◌∙◌, inl, inr}
 use Rattle.std.specs.Prelude.{if◌then◌else◌}
 use Rattle.snap_layer.specs.declared.error.LayerError.{LayerError}
 use Rattle.snap_layer.specs.declared.error.LayerError.TheVariants as layer_errors
@@ -75,7 +75,3 @@ stack_passes op s z is passes = sym (passes ∙ ap (λ (x : List Tree). first_er
 pub IfErr-edit : {A : Type 0} (r : Result A FsError) (x : LayerError) (t : Tree) (a : Outcome) → IsErrAnd r (OfLayer x) → (x ≡ layer_errors.LayerFull → is_within t ≡ false) → a ≡ limited t → IfErr r (λ e. (e ≡ OutOfMemory) ⊎ (a ≡ Err e))
 IfErr-edit (Ok y) x t a of full is = absurd of
 IfErr-edit (Err e) x t a of full is = edit_error x e t a of full is
-
-pub OnOk-weaker : {A B : Type 0} {P Q : Type 0} (r : Result A B) → (P → Q) → OnOk r P → OnOk r Q
-OnOk-weaker (Ok x) f p = f p
-OnOk-weaker (Err x) f p = p

@@ -17,9 +17,9 @@ use Rattle.snap_merge.specs.Objects.{seen, seen_over, shown_body}
 use Rattle.snap_merge.specs.Walk.{walk}
 use Rattle.snap_merge.specs.declared.error.FsError.TheVariants.{TooBig, Invalid}
 use Rattle.snap_upper.specs.declared.op.Op.TheVariants as op
-use Rattle.snap_upper.specs.Copying.{copied, copied_up}
+use Rattle.snap_copyup.specs.Copying.{copied, copied_up}
 use Rattle.snap_upper.specs.After.{after, limited, tests, first_error, error_if, file_error, written, bytes_of, with_content}
-use Rattle.snap_upper.proofs.Alone.{no_parents, copied_there}
+use Rattle.snap_copyup.proofs.Alone.{no_parents, copied_there}
 use Rattle.snap_upper.proofs.Outcomes.{test_passes, error_if_passes, after_passes}
 
 -- the tests of a write have passed

@@ -15,7 +15,7 @@ use Rattle.snap_merge.specs.Objects.{Object, dir, file, symlink, seen}
 use Rattle.snap_merge.specs.Walk.{walk}
 use Rattle.snap_upper.specs.declared.op.Op.{Op}
 use Rattle.snap_upper.specs.declared.op.Op.TheVariants.{Mkdir, Create, Write}
-use Rattle.snap_upper.specs.Copying.{with_parents, copied_up}
+use Rattle.snap_copyup.specs.Copying.{with_parents, copied_up}
 
 -- ---- tests
 

@@ -1,5 +1,5 @@
 use Rattle.std.proofs.Common.{[]}
-use Rattle.snap_upper.proofs.Outcomes.{OnOk-weaker}
+use Rattle.snap_copyup.proofs.Alone.{OnOk-weaker}
 use Rattle.snap_upper.proofs.Changing.{after_changes}
 use Rattle.snap_upper.proofs.applying.apply.Goals as goal
 

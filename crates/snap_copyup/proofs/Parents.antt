@@ -1,18 +1,18 @@
 -- The directories above a path that are copied up: nothing that is seen changes.
-use Rattle.std.proofs.Common.{◌≡◌, inl, inr, ℕ, ◌+◌, ◌<◌, ◌≤◌, true, false, List, [], ◌∷◌, ◌++◌, length, Option, Some, None, is_some, refl, sym, ap, subst, ◌∙◌, arith, length-append}
+use Rattle.std.proofs.Common.{◌≡◌, inl, inr, ℕ, ◌+◌, ◌<◌, ◌≤◌, true, false, List, [], ◌∷◌, ◌++◌, length, Option, Some, None, is_some, refl, sym, ap, subst, ◌∙◌, arith, length-append, append_assoc, append-nil}
 use Rattle.std.specs.Prelude.{option_and_then, if◌then◌else◌}
 use Rattle.snap_path.specs.Text.{Names}
 use Rattle.snap_layer.specs.declared.node.Node.{Node}
 use Rattle.snap_layer.specs.declared.node.Node.TheVariants.{Dir}
-use Rattle.snap_layer.specs.Tree.{Tree, at, number_at, number_of, node_hides}
+use Rattle.snap_layer.specs.Tree.{Tree, IsDirAt, at, number_at, number_of, node_hides}
 use Rattle.snap_layer.specs.Edits.{with_entry}
 use Rattle.snap_layer.proofs.Looks.{Sets, Sets-with_entry, split_path}
 use Rattle.snap_merge.specs.Objects.{Object, dir, file, symlink, seen, is_shown_dir}
 use Rattle.snap_merge.specs.Walk.{walk, walk_from}
 use Rattle.snap_merge.proofs.Views.{seen_node, walk_same}
-use Rattle.snap_upper.specs.Copying.{below, copied, with_object, with_parents, with_parents_from}
-use Rattle.snap_upper.proofs.Alone.{walk_passes, below_seen}
-use Rattle.snap_upper.proofs.Elsewhere.{Puts, shown_same, seen-put_alike}
+use Rattle.snap_copyup.specs.Copying.{below, copied, with_object, with_parents, with_parents_from}
+use Rattle.snap_copyup.proofs.Alone.{walk_passes, below_seen, copied_there, copied_missing, dir_there_over}
+use Rattle.snap_copyup.proofs.Elsewhere.{Puts, shown_same, seen-put_alike}
 
 -- the layer t is u with directories at paths shorter than m that were seen
 pub record AddsParents (u t : Tree) (ls : List Tree) (m : ℕ) : Type 0 where
@@ -25,7 +25,7 @@ pub record AddsParents (u t : Tree) (ls : List Tree) (m : ℕ) : Type 0 where
 same_layer : (u : Tree) (ls : List Tree) (m : ℕ) → AddsParents u u ls m
 same_layer u ls m = record { bodies = refl; next = refl; numbers = λ q. refl; leaves = λ q far. refl; view = λ q. refl }
 
-both : (u t v : Tree) (ls : List Tree) (m : ℕ) → AddsParents u t ls m → AddsParents t v ls m → AddsParents u v ls m
+pub both : (u t v : Tree) (ls : List Tree) (m : ℕ) → AddsParents u t ls m → AddsParents t v ls m → AddsParents u v ls m
 both u t v ls m a b = record {
   bodies = b.bodies ∙ a.bodies;
   next = b.next ∙ a.next;
@@ -35,7 +35,7 @@ both u t v ls m a b = record {
 }
 
 -- one directory that was seen from below
-one_dir : (u : Tree) (ls : List Tree) (p : Names) (k m : ℕ) → at u p ≡ None → seen (u ∷ ls) p ≡ Some (dir k) → length p < m → AddsParents u (with_entry u p (Dir k false)) ls m
+pub one_dir : (u : Tree) (ls : List Tree) (p : Names) (k m : ℕ) → at u p ≡ None → seen (u ∷ ls) p ≡ Some (dir k) → length p < m → AddsParents u (with_entry u p (Dir k false)) ls m
 one_dir u ls p k m none was short = record {
   bodies = refl;
   next = refl;
@@ -59,7 +59,7 @@ one_dir u ls p k m none was short = record {
     puts : Puts u (with_entry u p (Dir k false)) p
     puts = record { others = λ q apart. sets.others q apart; shows = λ q n apart e. shown_same u (with_entry u p (Dir k false)) n (λ j is. refl) }
 
-dir_copied : (u : Tree) (ls : List Tree) (p : Names) (m : ℕ) → is_shown_dir (seen (u ∷ ls) p) ≡ true → length p < m → AddsParents u (copied u ls p) ls m
+pub dir_copied : (u : Tree) (ls : List Tree) (p : Names) (m : ℕ) → is_shown_dir (seen (u ∷ ls) p) ≡ true → length p < m → AddsParents u (copied u ls p) ls m
 dir_copied u ls p m is short = by (at u p) refl
   where
     seen_as : (o : Option Object) → at u p ≡ None → seen (u ∷ ls) p ≡ o → is_shown_dir o ≡ true → AddsParents u (with_object u p o) ls m
@@ -72,7 +72,7 @@ dir_copied u ls p m is short = by (at u p) refl
     by (Some n) e = subst (λ b. AddsParents u (if b then u else with_object u p (below u ls p)) ls m) (sym (ap is_some e)) (same_layer u ls m)
     by None e = subst (λ b. AddsParents u (if b then u else with_object u p (below u ls p)) ls m) (sym (ap is_some e)) (seen_as (below u ls p) e (below_seen u ls p e) (sym (ap is_shown_dir (below_seen u ls p e)) ∙ is))
 
-adds_from : (u : Tree) (ls : List Tree) (front rest : Names) (m : ℕ) → length front + length rest ≤ m → walk_from (u ∷ ls) front rest ≡ None → AddsParents u (with_parents_from u ls front rest) ls m
+pub adds_from : (u : Tree) (ls : List Tree) (front rest : Names) (m : ℕ) → length front + length rest ≤ m → walk_from (u ∷ ls) front rest ≡ None → AddsParents u (with_parents_from u ls front rest) ls m
 adds_from u ls front [] m far way = same_layer u ls m
 adds_from u ls front (n ∷ rest) m far way =
     let passes = walk_passes (seen (u ∷ ls) front) (walk_from (u ∷ ls) (front ++ n ∷ []) rest) way in
@@ -83,3 +83,33 @@ adds_from u ls front (n ∷ rest) m far way =
 -- the directories above a path that the walk passes
 pub adds_parents : (u : Tree) (ls : List Tree) (p : Names) → walk (u ∷ ls) p ≡ None → AddsParents u (with_parents u ls p) ls (length p)
 adds_parents u ls p way = adds_from u ls [] p (length p) (omega arith) way
+
+-- ---- the parent
+
+-- a directory that is copied stands in the layer
+pub copied_stands : (u : Tree) (ls : List Tree) (p : Names) → is_shown_dir (seen (u ∷ ls) p) ≡ true → IsDirAt (at (copied u ls p) p)
+copied_stands u ls p is = by (at u p) refl
+  where
+    put : (o : Option Object) → is_shown_dir o ≡ true → IsDirAt (at (with_object u p o) p)
+    put None is = absurd (cc)
+    put (Some (dir k)) is = subst IsDirAt (sym (Sets-with_entry u p (Dir k false)).here) refl
+    put (Some (file k b)) is = absurd (cc)
+    put (Some (symlink b)) is = absurd (cc)
+
+    by : (o : Option Node) → at u p ≡ o → IsDirAt (at (copied u ls p) p)
+    by (Some n) e = subst (λ (v : Tree). IsDirAt (at v p)) (sym (copied_there u ls p (ap is_some e))) (dir_there_over u ls p (ap is_some e) is)
+    by None e = subst (λ (v : Tree). IsDirAt (at v p)) (sym (copied_missing u ls p e)) (put (below u ls p) (sym (ap is_shown_dir (below_seen u ls p e)) ∙ is))
+
+stands_from : (u : Tree) (ls : List Tree) (q front : Names) (n : List ℕ) → walk_from (u ∷ ls) front (q ++ n ∷ []) ≡ None → IsDirAt (at (with_parents_from u ls front (q ++ n ∷ [])) (front ++ q))
+stands_from u ls [] front n way = subst (λ (r : Names). IsDirAt (at (copied u ls front) r)) (sym (append-nil front)) (copied_stands u ls front (walk_passes (seen (u ∷ ls) front) None way).0)
+stands_from u ls (m ∷ q) front n way =
+    let v = copied u ls front in
+    let passes = walk_passes (seen (u ∷ ls) front) (walk_from (u ∷ ls) (front ++ m ∷ []) (q ++ n ∷ [])) way in
+    let step = dir_copied u ls front (length front + 1) passes.0 (omega arith) in
+    subst (λ (r : Names). IsDirAt (at (with_parents_from v ls (front ++ m ∷ []) (q ++ n ∷ [])) r)) (append_assoc front (m ∷ []) q)
+    (stands_from v ls q (front ++ m ∷ []) n (walk_same (u ∷ ls) (v ∷ ls) step.view (front ++ m ∷ []) (q ++ n ∷ []) ∙ passes.1))
+
+-- above a path that the walk passes, its parent stands once the directories are added
+pub parents_stand : (u : Tree) (ls : List Tree) (p : Names) → walk (u ∷ ls) p ≡ None → (q : Names) (n : List ℕ) → p ≡ q ++ n ∷ [] → IsDirAt (at (with_parents u ls p) q)
+parents_stand u ls p way q n is =
+    subst (λ (r : Names). IsDirAt (at (with_parents u ls r) q)) (sym is) (stands_from u ls q [] n (ap (λ (r : Names). walk (u ∷ ls) r) (sym is) ∙ way))

@@ -1,6 +1,6 @@
--- What a layer with no layer below it shows, and the walk over it.
-use Rattle.std.proofs.Common.{◌≡◌, ℕ, Bool, true, false, cond, List, [], ◌∷◌, ◌++◌, Option, Some, None, is_some, refl, sym, ap, subst, ◌∙◌, append_assoc, append-nil}
-use Rattle.std.proofs.lemmas.Bool.{cond-true}
+-- What a layer shows, alone and over others, and what is copied where it has a node or none.
+use Rattle.std.proofs.Common.{◌≡◌, Bool, true, false, cond, List, [], ◌∷◌, ◌++◌, Option, Some, None, is_some, Result, Ok, Err, OnOk, refl, sym, ap, ◌∙◌}
+use Rattle.std.proofs.lemmas.Bool.{cond-true, cond-false}
 use Rattle.snap_path.specs.Text.{Names}
 use Rattle.snap_layer.specs.declared.node.Node.{Node}
 use Rattle.snap_layer.specs.declared.node.Node.TheVariants.{Dir, File, Symlink, Whiteout}
@@ -12,7 +12,7 @@ use Rattle.snap_layer.specs.Edits.{IsFree}
 use Rattle.snap_merge.specs.declared.error.FsError.{FsError}
 use Rattle.snap_merge.specs.Objects.{Object, dir, file, symlink, seen, seen_over, shown_body, is_shown_dir}
 use Rattle.snap_merge.specs.Walk.{walk_on, walk_from, walk}
-use Rattle.snap_upper.specs.Copying.{below, copied, with_object, with_parents_from, with_parents}
+use Rattle.snap_copyup.specs.Copying.{below, copied, with_object, with_parents_from, with_parents}
 
 no_bool : true ≡ false → ⊥
 no_bool e = cc
@@ -33,6 +33,10 @@ below_seen u ls p none = ap (λ (o : Option Node). seen_over u o p (seen ls p)) 
 -- where the layer has a node nothing is copied
 pub copied_there : (u : Tree) (ls : List Tree) (p : Names) → is_some (at u p) ≡ true → copied u ls p ≡ u
 copied_there u ls p some = cond-true (is_some (at u p)) u (with_object u p (below u ls p)) some
+
+-- and where it has none, what is below is
+pub copied_missing : (u : Tree) (ls : List Tree) (p : Names) → at u p ≡ None → copied u ls p ≡ with_object u p (below u ls p)
+copied_missing u ls p none = cond-false (is_some (at u p)) u (with_object u p (below u ls p)) (ap is_some none)
 
 -- ---- a node of a layer
 
@@ -79,6 +83,22 @@ module _ (u : Tree) (ls : List Tree) (p : Names) where
       by (Some (Symlink k)) e none = absurd (no_bool (sym (shown_symlink (body u k) (ok.nodes p (Symlink k) e)) ∙ none))
       by (Some Whiteout) e none = refl
 
+-- a directory stands there
+pub some_dir : (o : Option Node) → IsDirAt o → is_some o ≡ true
+some_dir None is = absurd is
+some_dir (Some n) is = refl
+
+-- a node of the layer that is seen as a directory is one
+pub dir_there_over : (u : Tree) (ls : List Tree) (p : Names) → is_some (at u p) ≡ true → is_shown_dir (seen (u ∷ ls) p) ≡ true → IsDirAt (at u p)
+dir_there_over u ls p some is = by (at u p) some is
+  where
+    by : (o : Option Node) → is_some o ≡ true → is_shown_dir (seen_over u o p (seen ls p)) ≡ true → IsDirAt o
+    by None some is = absurd (cc)
+    by (Some (Dir m b)) some is = refl
+    by (Some (File k)) some is = absurd (no_bool (sym is ∙ body_is_no_dir (body u k)))
+    by (Some (Symlink k)) some is = absurd (no_bool (sym is ∙ body_is_no_dir (body u k)))
+    by (Some Whiteout) some is = absurd (no_bool (sym is))
+
 -- ---- a layer alone
 
 module _ (u : Tree) where
@@ -93,10 +113,6 @@ module _ (u : Tree) where
       by (Some (Symlink k)) is = absurd (no_bool (sym is ∙ body_is_no_dir (body u k)))
       by (Some Whiteout) is = absurd (no_bool (sym is))
 
-  some_dir : (o : Option Node) → IsDirAt o → is_some o ≡ true
-  some_dir None is = absurd is
-  some_dir (Some n) is = refl
-
   -- the directories above a path that the walk passes stand there
   pub no_parents_from : (front rest : Names) → walk_from (u ∷ []) front rest ≡ None → with_parents_from u [] front rest ≡ u
   no_parents_from front [] way = refl
@@ -108,12 +124,8 @@ module _ (u : Tree) where
   pub no_parents : (p : Names) → walk (u ∷ []) p ≡ None → with_parents u [] p ≡ u
   no_parents p way = no_parents_from [] p way
 
-  -- among them its parent
-  parent_from : (rest front : Names) (n : List ℕ) → walk_from (u ∷ []) front (rest ++ n ∷ []) ≡ None → IsDirAt (at u (front ++ rest))
-  parent_from [] front n way = subst (λ (q : Names). IsDirAt (at u q)) (sym (append-nil front)) (dir_there front (walk_passes (seen (u ∷ []) front) None way).0)
-  parent_from (m ∷ rest) front n way =
-      let passes = walk_passes (seen (u ∷ []) front) (walk_from (u ∷ []) (front ++ m ∷ []) (rest ++ n ∷ [])) way in
-      subst (λ (q : Names). IsDirAt (at u q)) (append_assoc front (m ∷ []) rest) (parent_from rest (front ++ m ∷ []) n passes.1)
+-- ---- results
 
-  pub parent_stands : (p q : Names) (n : List ℕ) → walk (u ∷ []) p ≡ None → p ≡ q ++ n ∷ [] → IsDirAt (at u q)
-  parent_stands p q n way is = parent_from q [] n (ap (λ (r : Names). walk (u ∷ []) r) (sym is) ∙ way)
+pub OnOk-weaker : {A B : Type 0} {P Q : Type 0} (r : Result A B) → (P → Q) → OnOk r P → OnOk r Q
+OnOk-weaker (Ok x) f p = f p
+OnOk-weaker (Err x) f p = p

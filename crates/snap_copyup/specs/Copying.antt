@@ -1,15 +1,28 @@
 -- What is copied up into the upper layer before it changes (overlayfs.rst, "Non-directories").
-use Rattle.std.specs.Prelude.{false, List, [], ◌∷◌, ◌++◌, Option, Some, None, is_some, if◌then◌else◌}
+use Rattle.std.specs.Prelude.{Bool, false, not, ◌||◌, List, [], ◌∷◌, ◌++◌, Option, Some, None, is_some, if◌then◌else◌}
 use Rattle.snap_path.specs.Text.{Names}
-use Rattle.snap_layer.specs.declared.node.Node.TheVariants.{Dir, File, Symlink}
+use Rattle.snap_layer.specs.declared.node.Node.{Node}
+use Rattle.snap_layer.specs.declared.node.Node.TheVariants.{Dir, File, Symlink, Whiteout}
 use Rattle.snap_layer.specs.declared.node.Body.TheVariants as body_kinds
 use Rattle.snap_layer.specs.Tree.{Tree, at, hides}
 use Rattle.snap_layer.specs.Edits.{with_entry, with_new}
-use Rattle.snap_merge.specs.Objects.{Object, dir, file, symlink, seen}
+use Rattle.snap_merge.specs.Objects.{Object, dir, file, symlink, seen, is_shown_dir}
 
--- what the layers below show at the path, where the upper layer doesn't hide it
+-- what the lower layers show at the path, where the upper layer doesn't hide it
 abbrev pub below : Tree → List Tree → Names → Option Object
 below u lowers p = if hides u p then None else seen lowers p
+
+-- the node is a directory that is opaque, or there is no directory under it
+abbrev pub is_pure_over : Option Node → Option Object → Bool
+is_pure_over None under = false
+is_pure_over (Some (Dir mode opaque)) under = opaque || not (is_shown_dir under)
+is_pure_over (Some (File number)) under = false
+is_pure_over (Some (Symlink number)) under = false
+is_pure_over (Some Whiteout) under = false
+
+-- the upper layer alone has the directory at the path: it is opaque, or no directory is below it (overlayfs.rst, "renaming directories")
+abbrev pub is_pure : Tree → List Tree → Names → Bool
+is_pure u lowers p = is_pure_over (at u p) (below u lowers p)
 
 -- the layer with the object, if there is one: a directory that isn't opaque, or a file or symlink with the next number
 abbrev pub with_object : Tree → Names → Option Object → Tree

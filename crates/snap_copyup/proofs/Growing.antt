@@ -1,0 +1,143 @@
+-- What is added takes inodes.
+use Rattle.std.proofs.Common.{◌≡◌, ℕ, ◌+◌, ◌<◌, ◌≤◌, Bool, true, false, not, List, [], ◌∷◌, ◌++◌, length, Option, Some, None, is_some, refl, sym, ap, subst, ◌∙◌, arith, append-nil, length-append, take, drop}
+use Rattle.std.specs.Prelude.{option_and_then, if◌then◌else◌}
+use Rattle.std.specs.Ordering.{nat_cmp}
+use Rattle.std.specs.List.Sorted.{IsStrictlySortedBy}
+use Rattle.std.specs.Map.{lookup, keys_of}
+use Rattle.std.specs.BTreeMap.{is_at, insert_entry}
+use Rattle.std.proofs.lemmas.List.{at_drop_more, at_drop_all, take_more}
+use Rattle.snap_path.specs.Text.{Names}
+use Rattle.snap_layer.specs.declared.node.Node.{Node}
+use Rattle.snap_layer.specs.declared.node.Node.TheVariants as node
+use Rattle.snap_layer.specs.declared.node.Body.{Body}
+use Rattle.snap_layer.specs.declared.node.Body.TheVariants as body_kinds
+use Rattle.snap_layer.specs.Tree.{Tree, Bodies, IsDirAt, at, begins, number_of, path_cmp}
+use Rattle.snap_layer.specs.Counts.{inode_count, block_count}
+use Rattle.snap_layer.specs.Layers.{IsLayer}
+use Rattle.snap_layer.specs.Edits.{with_entry, with_new, without, outside, bodies_without}
+use Rattle.snap_layer.proofs.Lists.{sorted-filter}
+use Rattle.snap_layer.proofs.Paths.{begins_rest}
+use Rattle.snap_layer.proofs.Looks.{at-without, same_tree}
+use Rattle.snap_layer.proofs.Counting.{inodes_of, weight, dirs, inode_count-with_entry, block_count-with_entry, length-insert_new}
+use Rattle.snap_layer.proofs.Kept.{next_is_fresh, nothing_below}
+use Rattle.snap_layer.proofs.Laws.{sorted-with_entry}
+use Rattle.snap_merge.specs.Objects.{Object, dir, file, symlink, seen, is_shown_dir}
+use Rattle.snap_merge.specs.Walk.{walk, walk_from}
+use Rattle.snap_merge.proofs.Views.{walk_same}
+use Rattle.snap_copyup.specs.declared.putting.Last.{Last}
+use Rattle.snap_copyup.specs.declared.putting.Last.TheVariants.{Nothing, Dir, File, Symlink, Whiteout}
+use Rattle.snap_copyup.specs.Copying.{below, copied, with_object, with_parents_from, with_parents}
+use Rattle.snap_copyup.specs.Places.{with_last, TakesMore}
+use Rattle.snap_copyup.proofs.Alone.{walk_passes, below_seen}
+use Rattle.snap_copyup.proofs.Parents.{AddsParents, dir_copied}
+
+-- ---- directories
+
+-- the directories that are missing in the layer at the front and at the longer proper prefixes of front ++ rest
+abbrev pub missing_from : Tree → Names → Names → ℕ
+missing_from u front [] = 0
+missing_from u front (n ∷ rest) = (if is_some (at u front) then 0 else 1) + missing_from u (front ++ n ∷ []) rest
+
+missing_same : (u v : Tree) (m : ℕ) → ((q : Names) → m ≤ length q → at v q ≡ at u q) → (front rest : Names) → m ≤ length front → missing_from v front rest ≡ missing_from u front rest
+missing_same u v m same front [] far = refl
+missing_same u v m same front (n ∷ rest) far =
+    let here : ◌≡◌ {A = ℕ} (if is_some (at v front) then 0 else 1) (if is_some (at u front) then 0 else 1) = ap (λ (o : Option Node). if is_some o then 0 else 1) (same front far) in
+    let later = missing_same u v m same (front ++ n ∷ []) rest (omega (arith, far, length-append front (n ∷ []))) in
+    λ i. here i + later i
+
+-- the layer t has so many directories more than u, and its paths rise
+pub record Grows (u t : Tree) (n : ℕ) : Type 0 where
+  pub sorted : IsStrictlySortedBy path_cmp (keys_of t.entries)
+  pub inodes : inode_count t ≡ inode_count u + n
+  pub blocks : block_count t ≡ block_count u + n
+
+one_more : (u : Tree) (p : Names) (n : Node) (i : ℕ) → IsStrictlySortedBy path_cmp (keys_of u.entries) → at u p ≡ None → inodes_of (Some n) ≡ i → inode_count (with_entry u p n) ≡ inode_count u + i
+one_more u p n i sorted none is = omega (arith, inode_count-with_entry u p n sorted, ap inodes_of none, is)
+
+one_block : (u : Tree) (p : Names) (mode : ℕ) → IsStrictlySortedBy path_cmp (keys_of u.entries) → at u p ≡ None → block_count (with_entry u p (node.Dir mode false)) ≡ block_count u + 1
+one_block u p mode sorted none = omega (arith, block_count-with_entry u p (node.Dir mode false) sorted, ap (weight dirs) none)
+
+grows_none : (u : Tree) → IsStrictlySortedBy path_cmp (keys_of u.entries) → Grows u u 0
+grows_none u sorted = record { sorted = sorted; inodes = omega arith; blocks = omega arith }
+
+pub grows_once : (u : Tree) (ls : List Tree) (p : Names) → IsStrictlySortedBy path_cmp (keys_of u.entries) → is_shown_dir (seen (u ∷ ls) p) ≡ true → Grows u (copied u ls p) (if is_some (at u p) then 0 else 1)
+grows_once u ls p sorted is = by (at u p) refl
+  where
+    seen_as : (o : Option Object) → at u p ≡ None → is_shown_dir o ≡ true → Grows u (with_object u p o) 1
+    seen_as None none is = absurd (cc)
+    seen_as (Some (dir k)) none is = record { sorted = sorted-with_entry u p (node.Dir k false) sorted; inodes = one_more u p (node.Dir k false) 1 sorted none refl; blocks = one_block u p k sorted none }
+    seen_as (Some (file k b)) none is = absurd (cc)
+    seen_as (Some (symlink b)) none is = absurd (cc)
+
+    by : (o : Option Node) → at u p ≡ o → Grows u (if is_some (at u p) then u else with_object u p (below u ls p)) (if is_some (at u p) then 0 else 1)
+    by (Some n) e = subst (λ b. Grows u (if b then u else with_object u p (below u ls p)) (if b then 0 else 1)) (sym (ap is_some e)) (grows_none u sorted)
+    by None e = subst (λ b. Grows u (if b then u else with_object u p (below u ls p)) (if b then 0 else 1)) (sym (ap is_some e)) (seen_as (below u ls p) e (sym (ap is_shown_dir (below_seen u ls p e)) ∙ is))
+
+pub grows_from : (u : Tree) (ls : List Tree) (front rest : Names) → IsStrictlySortedBy path_cmp (keys_of u.entries) → walk_from (u ∷ ls) front rest ≡ None → Grows u (with_parents_from u ls front rest) (missing_from u front rest)
+grows_from u ls front [] sorted way = grows_none u sorted
+grows_from u ls front (n ∷ rest) sorted way =
+    let passes = walk_passes (seen (u ∷ ls) front) (walk_from (u ∷ ls) (front ++ n ∷ []) rest) way in
+    let once = grows_once u ls front sorted passes.0 in
+    let adds = dir_copied u ls front (length front + 1) passes.0 (omega arith) in
+    let later = grows_from (copied u ls front) ls (front ++ n ∷ []) rest once.sorted (walk_same (u ∷ ls) (copied u ls front ∷ ls) adds.view (front ++ n ∷ []) rest ∙ passes.1) in
+    let same = missing_same u (copied u ls front) (length front + 1) adds.leaves (front ++ n ∷ []) rest (omega (arith, length-append front (n ∷ []))) in
+    record { sorted = later.sorted; inodes = omega (arith, once.inodes, later.inodes, same); blocks = omega (arith, once.blocks, later.blocks, same) }
+
+-- the directories that a path lacks are those that are added
+pub takes_missing : (u : Tree) (ls : List Tree) (p : Names) → IsLayer u → walk (u ∷ ls) p ≡ None → TakesMore (missing_from u [] p) u (with_parents u ls p)
+takes_missing u ls p ok way = let grows = grows_from u ls [] p ok.sorted_paths way in (grows.inodes, grows.blocks)
+
+-- one name further
+pub missing_more : (u : Tree) (p : Names) (k : ℕ) → k < length p → missing_from u (take k p) (drop k p) ≡ (if is_some (at u (take k p)) then 0 else 1) + missing_from u (take (k + 1) p) (drop (k + 1) p)
+missing_more u p k lt =
+    at_drop_more (missing_from u (take k p)) p k [] lt
+    ∙ ap (λ (front : Names). (if is_some (at u (take k p)) then 0 else 1) + missing_from u front (drop (k + 1) p)) (sym (take_more p k [] lt))
+
+-- and the end of the path
+pub missing_end : (u : Tree) (p : Names) (k : ℕ) → length p ≤ k → missing_from u (take k p) (drop k p) ≡ 0
+missing_end u p k far = at_drop_all (missing_from u (take k p)) p k far
+
+-- ---- what is put last
+
+-- where nothing stands at the path or below it nothing is taken
+without_bare : (t : Tree) (p : Names) → IsStrictlySortedBy path_cmp (keys_of t.entries) → ((r : Names) → at t (p ++ r) ≡ None) → without t p ≡ t
+without_bare t p sorted bare =
+    same_tree (without t p) t
+    (sorted-filter path_cmp (λ e. not (begins p e.0)) t.entries sorted)
+    sorted
+    (λ q. at-without t p q ∙ by q (begins p q) refl)
+    (ap (λ o. bodies_without (option_and_then number_of o) (outside p t.entries) t.bodies) (ap (at t) (sym (append-nil p)) ∙ bare []))
+    refl
+  where
+    by : (q : Names) (b : Bool) → begins p q ≡ b → (if b then None else at t q) ≡ at t q
+    by q true e = sym (ap (at t) (begins_rest p q e) ∙ bare (drop (length p) q))
+    by q false e = refl
+
+module _ (u t : Tree) (ls : List Tree) (p : Names) (ok : IsLayer u) (none : at u p ≡ None) (adds : AddsParents u t ls (length p)) (sorted : IsStrictlySortedBy path_cmp (keys_of t.entries)) where
+  bare : (r : Names) → at t (p ++ r) ≡ None
+  bare [] = ap (at t) (append-nil p) ∙ adds.leaves p (omega arith) ∙ none
+  bare (n ∷ r) = adds.leaves (p ++ n ∷ r) (omega (arith, length-append p (n ∷ r))) ∙ nothing_below u ok p (λ is. subst IsDirAt none is) n r
+
+  untaken : without t p ≡ t
+  untaken = without_bare t p sorted bare
+
+  empty : at t p ≡ None
+  empty = ap (at t) (sym (append-nil p)) ∙ bare []
+
+  fresh : lookup (is_at (nat_cmp t.next)) t.bodies ≡ None
+  fresh = (λ i. lookup (is_at (nat_cmp (adds.next i))) (adds.bodies i)) ∙ next_is_fresh u ok
+
+  more_bodies : (b : Body) → length (insert_entry nat_cmp t.bodies t.next b) ≡ length t.bodies + 1
+  more_bodies b = length-insert_new t.bodies t.next b (subst (λ (bs : Bodies). IsStrictlySortedBy nat_cmp (keys_of bs)) (sym adds.bodies) ok.sorted_numbers) fresh
+
+  new_inodes : (n : Node) (b : Body) → inodes_of (Some n) ≡ 0 → inode_count (with_new t p n b) ≡ inode_count t + 1
+  new_inodes n b is =
+      ap (λ (w : Tree). inode_count (record { entries = insert_entry path_cmp w.entries p n; bodies = insert_entry nat_cmp w.bodies t.next b; next = t.next + 1 })) untaken
+      ∙ omega (arith, one_more t p n 0 sorted empty is, more_bodies b)
+
+  pub last_inodes : (last : Last) → inode_count t ≤ inode_count (with_last last t p)
+  last_inodes Nothing = omega arith
+  last_inodes (Dir mode opaque) = omega (arith, one_more t p (node.Dir mode opaque) 1 sorted empty refl)
+  last_inodes (File mode bytes) = omega (arith, new_inodes (node.File t.next) (body_kinds.File mode bytes) refl)
+  last_inodes (Symlink target) = omega (arith, new_inodes (node.Symlink t.next) (body_kinds.Symlink target) refl)
+  last_inodes Whiteout = omega (arith, one_more t p node.Whiteout 1 sorted empty refl, ap (λ (w : Tree). inode_count (with_entry w p node.Whiteout)) untaken)

@@ -1,0 +1,8 @@
+pub mod Alone
+pub mod Elsewhere
+pub mod Parents
+pub mod Growing
+pub mod Wholes
+pub mod Steps
+pub mod Copies
+pub mod Layers

@@ -1,0 +1,56 @@
+-- What is put at a path, once the directories above it stand.
+use Rattle.std.specs.Prelude.{◌≡◌, ◌⊎◌, ℕ, ◌+◌, ◌≤◌, true, false, List, [], ◌∷◌, ◌++◌, length, Option, Some, None}
+use Rattle.snap_path.specs.Text.{Names}
+use Rattle.snap_layer.specs.declared.node.Node.{Node}
+use Rattle.snap_layer.specs.declared.node.Node.TheVariants as node
+use Rattle.snap_layer.specs.declared.node.Body.TheVariants as body_kinds
+use Rattle.snap_layer.specs.Tree.{Tree, at, IsDirAt}
+use Rattle.snap_layer.specs.Counts.{inode_count, block_count, is_within}
+use Rattle.snap_layer.specs.Layers.{is_target}
+use Rattle.snap_layer.specs.Edits.{with_entry, with_new, with_node, IsFree}
+use Rattle.snap_merge.specs.Objects.{Object, dir, file, symlink}
+use Rattle.snap_merge.specs.declared.error.FsError.{FsError}
+use Rattle.snap_merge.specs.declared.error.FsError.TheVariants.{LayerFull, OutOfMemory}
+use Rattle.snap_copyup.specs.declared.putting.Last.{Last}
+use Rattle.snap_copyup.specs.declared.putting.Last.TheVariants.{Nothing, Dir, File, Symlink, Whiteout}
+
+-- the layer with it: a directory, a file or a symlink with the next number, or a whiteout
+abbrev pub with_last : Last → Tree → Names → Tree
+with_last Nothing t p = t
+with_last (Dir mode opaque) t p = with_entry t p (node.Dir mode opaque)
+with_last (File mode bytes) t p = with_new t p (node.File t.next) (body_kinds.File mode bytes)
+with_last (Symlink target) t p = with_new t p (node.Symlink t.next) (body_kinds.Symlink target)
+with_last Whiteout t p = with_node t p node.Whiteout
+
+-- the path is not the root, and nothing or a whiteout stands there
+pub record IsVacant (t : Tree) (p : Names) : Type 0 where
+  pub below_root : p ≡ [] → ⊥
+  pub free : IsFree (at t p)
+
+-- it may be put at the path: there is a place, and its mode, size or target is within the limits of a layer
+abbrev pub Fits : Last → Tree → Names → Type 0
+Fits Nothing t p = Unit {0}
+Fits (Dir mode opaque) t p = IsVacant t p × (mode ≤ 4095)
+Fits (File mode bytes) t p = IsVacant t p × (mode ≤ 4095) × (length bytes ≤ 1048576)
+Fits (Symlink target) t p = IsVacant t p × (is_target target ≡ true)
+Fits Whiteout t p = IsVacant t p
+
+-- why a next layer was not made: it would pass the limits of a layer, or memory was refused
+abbrev pub IsRefusal : Tree → FsError → Type 0
+IsRefusal t e = (e ≡ OutOfMemory) ⊎ ((e ≡ LayerFull) × (is_within t ≡ false))
+
+-- the second layer takes so many inodes more than the first, and as many blocks
+abbrev pub TakesMore : ℕ → Tree → Tree → Type 0
+TakesMore n u t = (inode_count t ≡ inode_count u + n) × (block_count t ≡ block_count u + n)
+
+-- the path's parent, if there is one, is a directory of the layer
+abbrev pub ParentStands : Tree → Names → Type 0
+ParentStands t p = (q : Names) (n : List ℕ) → p ≡ q ++ n ∷ [] → IsDirAt (at t q)
+
+-- what a copy-up puts at a path: what is below, where the layer has no node
+abbrev pub last_of : Option Node → Option Object → Last
+last_of (Some n) under = Nothing
+last_of None None = Nothing
+last_of None (Some (dir mode)) = Dir mode false
+last_of None (Some (file mode bytes)) = File mode bytes
+last_of None (Some (symlink target)) = Symlink target

@@ -1,0 +1,70 @@
+// A copy of what is below at a path.
+ghost use Rattle.std.specs.Prelude.{◌≡◌, ◌∷◌, OnOk, OnErr, IfOk, IfErr, None};
+ghost use Rattle.snap_path.specs.Text.{Names};
+ghost use Rattle.snap_layer.specs.Tree.{at};
+ghost use Rattle.snap_merge.specs.Objects.{seen};
+ghost use Rattle.snap_merge.specs.Walk.{walk};
+ghost use Rattle.snap_copyup.specs.Copying.{below, copied_up};
+ghost use Rattle.snap_copyup.specs.Places.{last_of, IsRefusal};
+
+use super::adding::{put, visit};
+use super::looking::below;
+use super::putting::Last;
+use snap_layer::{Bytes, Layer, Shared};
+use snap_merge::{FsError, Seen};
+use snap_path::Path;
+use std::alloc::{AllocError, Global};
+
+/// Copies up what is seen at the path: the layer gets the directories above it, as by `ensure_dirs`, and,
+/// where it has no node at the path, what is below there: a directory with its mode, not opaque, or a file
+/// or a symlink under the layer's next number, with its own copy of the bytes. Other names of a lower file
+/// stay names of the lower file: a hard link is broken (overlayfs.rst, "Non-standard behavior").
+///
+/// The condition is that of `ensure_dirs`. Where nothing is seen at the path, only the directories are
+/// added. `LayerFull` where the layer would have more than 65,536 inodes, or where a number is needed and
+/// the file numbers are used up. `OutOfMemory` where memory for the bytes, a path or an entry is refused.
+/// After either the layer is as it was. Cost: that of `ensure_dirs` and of `below`, and the file's bytes.
+pub fn copy_up(layer: &mut Layer, lowers: &[Shared], path: &Path) -> Result<(), FsError>
+    requires { walk (layer.old ∷ lowers.now) path.now ≡ None }
+    ensures ok { OnOk result (layer.new ≡ copied_up layer.old lowers.now path.now) }
+    ensures error { IfErr result (λ e. IsRefusal (copied_up layer.old lowers.now path.now) e) }
+    ensures unchanged { OnErr result (layer.new ≡ layer.old) }
+    // Nothing that is seen changes.
+    ensures view { OnOk result ((q : Names) → seen (layer.new ∷ lowers.now) q ≡ seen (layer.old ∷ lowers.now) q) }
+{
+    visit(lowers);
+    let _ = layer.next_number();
+    let last = copy_below(layer, lowers, path)?;
+    put(layer, lowers, path, last)
+}
+
+/// What is below at the path, where the layer has no node there, with a copy of its bytes.
+fn copy_below(layer: &Layer, lowers: &[Shared], path: &Path) -> Result<Last, AllocError>
+    ensures { IfOk result (λ last. last ≡ last_of (at layer.now path.now) (below layer.now lowers.now path.now)) }
+{
+    if layer.at(path).is_some() {
+        return Ok(Last::Nothing);
+    }
+    let alloc = allocator(layer, path)?;
+    match below(layer, lowers, path) {
+        None => Ok(Last::Nothing),
+        Some(Seen::Dir { mode }) => Ok(Last::Dir {
+            mode,
+            opaque: false,
+        }),
+        Some(Seen::File { mode, bytes }) => Ok(Last::File {
+            mode,
+            bytes: Bytes::copy_of(alloc, bytes)?,
+        }),
+        Some(Seen::Symlink { target }) => Ok(Last::Symlink {
+            target: Bytes::copy_of(alloc, target)?,
+        }),
+    }
+}
+
+/// The allocator that the layer keeps, by way of the list of the path's children. Where nothing stands
+/// the list is empty and takes no memory.
+fn allocator(layer: &Layer, path: &Path) -> Result<Global, AllocError> {
+    let children = layer.children(path)?;
+    Ok(*children.allocator())
+}

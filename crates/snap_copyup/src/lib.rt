@@ -1,0 +1,22 @@
+//! What a write to the upper layer of a stack copies up into it first.
+//!
+//! The rules are those of overlayfs (overlayfs.rst, "Non-directories"): before a file of a lower layer
+//! changes, it is copied into the upper layer, and the directories above it are made there. Nothing
+//! that is seen changes by it. Contracts see a layer as a `Tree`, the lower layers as a list of them,
+//! the nearest first.
+#![tactic(auto)]
+
+mod adding;
+mod copying;
+mod looking;
+mod missing;
+mod putting;
+
+pub use adding::{ensure_dirs, put};
+pub use copying::copy_up;
+pub use looking::{below, is_pure};
+pub use missing::missing_dirs;
+pub use putting::Last;
+
+#[cfg(test)]
+mod tests;
