@@ -1,2 +1,3 @@
 pub mod Items
-pub mod Values
+pub mod LineValues
+pub mod Floats

@@ -4,3 +4,4 @@ pub mod Commands
 pub mod Operations
 pub mod Lines
 pub mod Gives
+pub mod Answers

@@ -32,7 +32,7 @@ fn is_empty(bytes: &[u8]) -> bool
 }
 
 /// The value that a line is.
-#[tactic(auto, using(crate::proofs::Values::not_utf8, crate::proofs::Values::not_json, crate::proofs::Values::is_json))]
+#[tactic(auto, using(crate::proofs::LineValues::not_utf8, crate::proofs::LineValues::not_json, crate::proofs::LineValues::is_json))]
 fn value_of(alloc: Global, bytes: &[u8]) -> Result<Value, ReadError>
     ensures { Gives view result (value_of bytes.now) }
 {
