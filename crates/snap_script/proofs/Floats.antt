@@ -1,0 +1,85 @@
+-- No answer has a float.
+use Rattle.std.proofs.Common.{◌≡◌, ℕ, List, [], ◌∷◌, map, Bool, true, false, true≢false, Ordering, Less, Equal, Greater, nat_cmp, refl}
+use Rattle.std.specs.Prelude.{◌||◌}
+use Rattle.std.specs.Ordering.{match_ordering}
+use Rattle.std.specs.Cmp.Lexicographic.{slice_cmp}
+use Rattle.serde_json.specs.Data.{Data, string, Members, no_members, member, put}
+use Rattle.serde_json.specs.View.{items_of}
+use Rattle.serde_json.specs.Written.{has_float, items_have_float, members_have_float}
+use Rattle.snap_usage.specs.declared.usage.Usage.{Usage}
+use Rattle.snap_record.specs.Labels.{Bytes, Label}
+use Rattle.snap_call.specs.declared.refusal.Refusal.{Refusal}
+use Rattle.snap_call.specs.declared.refusal.Refusal.TheVariants as refusals
+use Rattle.snap_script.specs.declared.answer.Answer.{Answer}
+use Rattle.snap_script.specs.declared.answer.Answer.TheVariants as answers
+use Rattle.snap_script.specs.Answers.{number_data, usage_data, labels_onto, totals_onto, refusal_data, answer_data}
+
+first_is : (a b : Bool) → a || b ≡ false → a ≡ false
+first_is false b h = refl
+first_is true b h = h
+
+second_is : (a b : Bool) → a || b ≡ false → b ≡ false
+second_is false b h = h
+second_is true b h = absurd (true≢false h)
+
+both_are : (a b : Bool) → a ≡ false → b ≡ false → a || b ≡ false
+both_are a b h i = rw h i
+
+ids_have_none : (ids : List ℕ) → items_have_float (items_of (map number_data ids)) ≡ false
+ids_have_none [] = refl
+ids_have_none (id ∷ ids) = ids_have_none ids
+
+put_at : (o : Ordering) (k l : List ℕ) (d e : Data) (ms : Members) → has_float d ≡ false → has_float e || members_have_float ms ≡ false → members_have_float (put k d ms) ≡ false
+    → members_have_float (match_ordering o (member k d (member l e ms)) (member l d ms) (member l e (put k d ms))) ≡ false
+put_at Less k l d e ms h i later = both_are _ _ h i
+put_at Equal k l d e ms h i later = both_are _ _ h (second_is (has_float e) _ i)
+put_at Greater k l d e ms h i later = both_are _ _ (first_is _ (members_have_float ms) i) later
+
+-- one more member without a float
+put_has_none : (k : List ℕ) (d : Data) (ms : Members) → has_float d ≡ false → members_have_float ms ≡ false → members_have_float (put k d ms) ≡ false
+put_has_none k d no_members h i = both_are _ _ h refl
+put_has_none k d (member l e ms) h i = put_at (slice_cmp nat_cmp k l) k l d e ms h i (put_has_none k d ms h (second_is (has_float e) _ i))
+
+labels_have_none : (labels : List Label) (found : Members) → members_have_float found ≡ false → members_have_float (labels_onto labels found) ≡ false
+labels_have_none [] found h = h
+labels_have_none (label ∷ labels) found h = labels_have_none labels _ (put_has_none label.0 (string label.1) found refl h)
+
+totals_have_none : (totals : List (Bytes × Usage)) (found : Members) → members_have_float found ≡ false → members_have_float (totals_onto totals found) ≡ false
+totals_have_none [] found h = h
+totals_have_none (total ∷ totals) found h = totals_have_none totals _ (put_has_none total.0 (usage_data total.1) found refl h)
+
+refusal_has_none : (refusal : Refusal) → has_float (refusal_data refusal) ≡ false
+refusal_has_none refusals.BadArgument = refl
+refusal_has_none refusals.NoNamespace = refl
+refusal_has_none refusals.NotFound = refl
+refusal_has_none refusals.AlreadyExists = refl
+refusal_has_none refusals.NotCommitted = refl
+refusal_has_none refusals.NotActive = refl
+refusal_has_none refusals.HasChildren = refl
+refusal_has_none refusals.InUse = refl
+refusal_has_none refusals.Leased = refl
+refusal_has_none refusals.NoLease = refl
+refusal_has_none refusals.LeaseExists = refl
+refusal_has_none refusals.TooDeep = refl
+refusal_has_none refusals.TooManyActives = refl
+refusal_has_none (refusals.OverLimit free_blocks free_inodes) = refl
+refusal_has_none refusals.BelowCharge = refl
+refusal_has_none refusals.NumbersSpent = refl
+refusal_has_none refusals.JournalFull = refl
+refusal_has_none refusals.OutOfMemory = refl
+
+pub no_float : (answer : Answer) → has_float (answer_data answer) ≡ false
+no_float answers.Done = refl
+no_float (answers.Session n) = refl
+no_float (answers.Prepared id slot chain) = both_are _ _ (ids_have_none chain) refl
+no_float (answers.Share share) = refl
+no_float (answers.Committed id usage) = refl
+no_float (answers.Freed freed) = refl
+no_float (answers.Info info) = both_are _ _ (both_are _ _ (labels_have_none info.labels no_members refl) refl) refl
+no_float (answers.Usage usage) = refl
+no_float (answers.Changed count share) = refl
+no_float (answers.Report entries actives records totals) = both_are _ _ (totals_have_none totals no_members refl) refl
+no_float (answers.Refused refusal) = refusal_has_none refusal
+no_float (answers.Failed error) = refl
+no_float answers.NoSession = refl
+no_float answers.NoHand = refl

@@ -1,0 +1,127 @@
+-- The commands of a script. The fields of a command are tested in the order in which they stand.
+use Rattle.std.specs.Prelude.{ℕ, if◌then◌else◌, List, [], Option, Some, None, Result, Ok, Err, codes}
+use Rattle.std.specs.Str.{bytes_eq}
+use Rattle.serde_json.specs.Data.{Data}
+use Rattle.serde_json.specs.Find.{as_str}
+use Rattle.snap_usage.specs.declared.usage.Usage.{Usage}
+use Rattle.snap_record.specs.Labels.{Bytes}
+use Rattle.snap_script.specs.declared.fault.Field.{Field}
+use Rattle.snap_script.specs.declared.fault.Field.TheVariants as fields
+use Rattle.snap_script.specs.declared.fault.Fault.{Fault}
+use Rattle.snap_script.specs.declared.command.Command.{Command}
+use Rattle.snap_script.specs.declared.command.Command.TheVariants as commands
+use Rattle.snap_script.specs.declared.command.FileCommand.{FileCommand}
+use Rattle.snap_script.specs.declared.command.FileCommand.TheVariants as file_commands
+use Rattle.snap_script.specs.declared.verb.Verb.{Verb}
+use Rattle.snap_script.specs.declared.verb.Verb.TheVariants as verbs
+use Rattle.snap_script.specs.Fields.{required, defaulted, number_of, mode_of, some_text_of, usage_of, labels_of, namespaces_of, content_of}
+
+-- what follows a reading that is granted
+infixl 10 ◌>>=◌
+abbrev pub ◌>>=◌ : {A B : Type 0} → Result A Fault → (A → Result B Fault) → Result B Fault
+(Ok a) >>= f = f a
+(Err fault) >>= f = Err fault
+
+-- a text that must be there
+abbrev pub text : Field → Data → Result Bytes Fault
+text field line = required as_str field line
+
+-- open: the directory of the store, its namespaces, and the most entries of its journal. The first id is 1.
+unfoldable pub open_of : Data → Result Command Fault
+open_of line = do
+  root ← text fields.Root line
+  namespaces ← required namespaces_of fields.Namespaces line
+  journal ← defaulted 1048576 number_of fields.Journal line
+  Ok (commands.Open (record { root = root; namespaces = namespaces; journal = journal; first_id = 1 }))
+
+-- prepare: containerd's Prepare
+unfoldable pub prepare_of : Data → Result Command Fault
+prepare_of line = do
+  namespace ← text fields.Namespace line
+  key ← text fields.Key line
+  parent ← text fields.Parent line
+  labels ← defaulted [] labels_of fields.Labels line
+  Ok (commands.Prepare namespace key parent labels)
+
+-- charge: where no amount is wanted, the needed one is
+unfoldable pub charge_of : Data → Result Command Fault
+charge_of line = do
+  namespace ← text fields.Namespace line
+  key ← text fields.Key line
+  need ← required usage_of fields.Need line
+  want ← defaulted need usage_of fields.Want line
+  Ok (commands.Charge namespace key need want)
+
+-- the commands that have a namespace and a key alone
+unfoldable pub keyed_of : (Bytes → Bytes → Command) → Data → Result Command Fault
+keyed_of command line = do
+  namespace ← text fields.Namespace line
+  key ← text fields.Key line
+  Ok (command namespace key)
+
+-- commit: containerd's Commit, under a lease where one is named
+unfoldable pub commit_of : Data → Result Command Fault
+commit_of line = do
+  namespace ← text fields.Namespace line
+  key ← text fields.Key line
+  name ← text fields.Name line
+  lease ← defaulted None some_text_of fields.Lease line
+  Ok (commands.Commit namespace key name lease)
+
+-- the room that a charge asks for beside what an operation needs
+abbrev pub extra_of : Data → Result Usage Fault
+extra_of line = defaulted (record { blocks = 0; inodes = 0 }) usage_of fields.Extra line
+
+-- mkdir, create: a path's text and a mode, octal 755 for a directory and 644 for a file where it is absent
+unfoldable pub made_of : (Bytes → ℕ → FileCommand) → ℕ → Data → Result Command Fault
+made_of operation mode line = do
+  namespace ← text fields.Namespace line
+  key ← text fields.Key line
+  path ← text fields.Path line
+  mode ← defaulted mode mode_of fields.Mode line
+  extra ← extra_of line
+  Ok (commands.File namespace key (operation path mode) extra)
+
+-- write: bytes at an offset
+unfoldable pub write_of : Data → Result Command Fault
+write_of line = do
+  namespace ← text fields.Namespace line
+  key ← text fields.Key line
+  path ← text fields.Path line
+  offset ← defaulted 0 number_of fields.Offset line
+  bytes ← content_of line
+  extra ← extra_of line
+  Ok (commands.File namespace key (file_commands.Write path offset bytes) extra)
+
+-- the command of a line by its verb
+unfoldable pub command_of : Verb → Data → Result Command Fault
+command_of verbs.Open line = open_of line
+command_of verbs.Session line = Ok commands.Session
+command_of verbs.Prepare line = prepare_of line
+command_of verbs.Charge line = charge_of line
+command_of verbs.Trim line = keyed_of commands.Trim line
+command_of verbs.Commit line = commit_of line
+command_of verbs.Discard line = keyed_of commands.Discard line
+command_of verbs.Stat line = keyed_of commands.Stat line
+command_of verbs.Usage line = keyed_of commands.Usage line
+command_of verbs.Mkdir line = made_of file_commands.Mkdir 493 line
+command_of verbs.Create line = made_of file_commands.Create 420 line
+command_of verbs.Write line = write_of line
+command_of verbs.Report line = Ok commands.Report
+
+-- the verb of a word
+unfoldable pub verb_of : List ℕ → Option Verb
+verb_of word =
+    if bytes_eq word (codes "open") then Some verbs.Open else
+    (if bytes_eq word (codes "session") then Some verbs.Session else
+    (if bytes_eq word (codes "prepare") then Some verbs.Prepare else
+    (if bytes_eq word (codes "charge") then Some verbs.Charge else
+    (if bytes_eq word (codes "trim") then Some verbs.Trim else
+    (if bytes_eq word (codes "commit") then Some verbs.Commit else
+    (if bytes_eq word (codes "discard") then Some verbs.Discard else
+    (if bytes_eq word (codes "stat") then Some verbs.Stat else
+    (if bytes_eq word (codes "usage") then Some verbs.Usage else
+    (if bytes_eq word (codes "mkdir") then Some verbs.Mkdir else
+    (if bytes_eq word (codes "create") then Some verbs.Create else
+    (if bytes_eq word (codes "write") then Some verbs.Write else
+    (if bytes_eq word (codes "report") then Some verbs.Report else None))))))))))))

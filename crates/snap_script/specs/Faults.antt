@@ -1,0 +1,38 @@
+-- What a line's faults are called.
+use Rattle.std.specs.Prelude.{ℕ, List, ◌++◌, codes}
+use Rattle.snap_script.specs.declared.fault.Field.{Field}
+use Rattle.snap_script.specs.declared.fault.Field.TheVariants as fields
+use Rattle.snap_script.specs.declared.fault.Fault.{Fault}
+use Rattle.snap_script.specs.declared.fault.Fault.TheVariants as faults
+
+-- a field's name, as it stands in a line
+abbrev pub field_name : Field → List ℕ
+field_name fields.Do = codes "do"
+field_name fields.Session = codes "s"
+field_name fields.Root = codes "root"
+field_name fields.Namespaces = codes "namespaces"
+field_name fields.Journal = codes "journal"
+field_name fields.Namespace = codes "ns"
+field_name fields.Key = codes "key"
+field_name fields.Parent = codes "parent"
+field_name fields.Labels = codes "labels"
+field_name fields.Need = codes "need"
+field_name fields.Want = codes "want"
+field_name fields.Name = codes "name"
+field_name fields.Lease = codes "lease"
+field_name fields.Path = codes "path"
+field_name fields.Mode = codes "mode"
+field_name fields.Offset = codes "offset"
+field_name fields.Text = codes "text"
+field_name fields.Fill = codes "fill"
+field_name fields.Extra = codes "extra"
+
+-- the words for a fault
+abbrev pub fault_words : Fault → List ℕ
+fault_words faults.TooLong = codes "too long"
+fault_words faults.NotJson = codes "not JSON"
+fault_words faults.NotAnObject = codes "not an object"
+fault_words faults.FirstLineMustBeOpen = codes "first line must be open"
+fault_words faults.OpenTwice = codes "open twice"
+fault_words faults.NoSuchCommand = codes "no such command"
+fault_words (faults.BadField field) = codes "bad field " ++ field_name field

@@ -1,0 +1,7 @@
+pub mod Faults
+pub mod Fields
+pub mod Commands
+pub mod Operations
+pub mod Lines
+pub mod Gives
+pub mod Answers

@@ -1,0 +1,57 @@
+-- What a line of a script is.
+use Rattle.std.specs.Prelude.{ℕ, Bool, true, false, ◌||◌, ◌==◌, nat_lt, if◌then◌else◌, List, length, Option, Some, None, Result, Ok, Err}
+use Rattle.std.specs.List.{list_all}
+use Rattle.std.specs.Option.{ok_or, is_some}
+use Rattle.std.specs.Str.{is_utf8}
+use Rattle.serde_json.specs.Data.{Data}
+use Rattle.serde_json.specs.Read.{read}
+use Rattle.serde_json.specs.Find.{as_object}
+use Rattle.snap_script.specs.declared.fault.Field.TheVariants as fields
+use Rattle.snap_script.specs.declared.fault.Fault.{Fault}
+use Rattle.snap_script.specs.declared.fault.Fault.TheVariants.{TooLong, NotJson, NotAnObject, FirstLineMustBeOpen, OpenTwice, NoSuchCommand}
+use Rattle.snap_script.specs.declared.line.Line.{Line}
+use Rattle.snap_script.specs.declared.line.Line.TheVariants as lines
+use Rattle.snap_script.specs.declared.verb.Verb.{Verb}
+use Rattle.snap_script.specs.declared.verb.Verb.TheVariants.{Open}
+use Rattle.snap_script.specs.Fields.{defaulted, number_of}
+use Rattle.snap_script.specs.Commands.{◌>>=◌, text, verb_of, command_of}
+
+-- a space, a tab or a carriage return
+abbrev pub is_space : ℕ → Bool
+is_space byte = byte == 32 || byte == 9 || byte == 13
+
+-- nothing but these
+abbrev pub is_empty : List ℕ → Bool
+is_empty = list_all is_space
+
+-- the value of a line: none where its bytes are no UTF-8 or no JSON
+unfoldable pub value_of : List ℕ → Result Data Fault
+value_of bytes = if is_utf8 bytes then ok_or (read bytes) NotJson else Err NotJson
+
+abbrev pub object_of : Data → Result Data Fault
+object_of line = if is_some (as_object line) then Ok line else Err NotAnObject
+
+-- the first command is open, and no other is
+unfoldable pub allowed : Bool → Option Verb → Result Verb Fault
+allowed false (Some Open) = Ok Open
+allowed false verb = Err FirstLineMustBeOpen
+allowed true (Some Open) = Err OpenTwice
+allowed true (Some verb) = Ok verb
+allowed true None = Err NoSuchCommand
+
+-- the command of a line that isn't empty, with its session, 0 where none is named
+unfoldable pub command_line : Bool → List ℕ → Result Line Fault
+command_line opened bytes = do
+  value ← value_of bytes
+  line ← object_of value
+  word ← text fields.Do line
+  verb ← allowed opened (verb_of word)
+  session ← defaulted 0 number_of fields.Session line
+  command ← command_of verb line
+  Ok (lines.Command session command)
+
+-- a line, without its line feed: at most 16 MiB
+unfoldable pub line_of : Bool → List ℕ → Result Line Fault
+line_of opened bytes =
+    if nat_lt 16777216 (length bytes) then Err TooLong else
+    (if is_empty bytes then Ok lines.Empty else command_line opened bytes)

@@ -1,0 +1,105 @@
+ghost use Rattle.std.specs.Prelude.{◌≡◌, IfOk, string_bytes};
+ghost use Rattle.serde_json.specs.View.{view};
+ghost use Rattle.snap_script.specs.Answers.{answer_data, answer_line};
+
+use crate::names::error_name;
+use crate::values::{
+    changed, committed, done, error, freed, info, prepared, refused, report, session, share, usage,
+};
+use serde_json::Value;
+use snap_call::Refusal;
+use snap_merge::FsError;
+use snap_record::{Info, Sequence, Text};
+use snap_usage::Usage;
+use std::alloc::{AllocError, Global};
+
+/// What a line of a script is answered.
+#[derive(Debug, Drop)]
+pub enum Answer {
+    /// A store was opened: `{"ok":true}`.
+    Done,
+    /// The number of the session that was opened: `{"session":1}`.
+    Session(u64),
+    /// The new snapshot's id and slot, and its ancestors' ids, nearest first:
+    /// `{"chain":[],"id":1,"slot":0}`.
+    Prepared {
+        id: u32,
+        slot: u64,
+        chain: Sequence<u32>,
+    },
+    /// What the snapshot is charged after a charge or a trim: `{"share":[2,2]}`.
+    Share(Usage),
+    /// The committed snapshot's id and usage: `{"id":1,"usage":[4,3]}`.
+    Committed {
+        id: u32,
+        usage: Usage,
+    },
+    /// What a discarded snapshot was charged: `{"freed":[1,1]}`.
+    Freed(Usage),
+    /// A snapshot's info: `{"info":{..}}`.
+    Info(Info),
+    /// What a snapshot is charged: `{"usage":[4,3]}`.
+    Usage(Usage),
+    /// The layer's count and the snapshot's charge after a file command:
+    /// `{"count":[2,2],"share":[2,2]}`.
+    Changed {
+        count: Usage,
+        share: Usage,
+    },
+    /// The journal's entries, the open snapshots, the records, and the total of each namespace:
+    /// `{"entries":8,"open":0,"records":1,"totals":{"a":[4,3]}}`.
+    Report {
+        entries: u64,
+        actives: u64,
+        records: u64,
+        totals: Sequence<(Text, Usage)>,
+    },
+    /// A call was refused: `{"error":"NotFound","from":"book"}`, over the limit with what is free,
+    /// `{"error":"OverLimit","free":[5,0],"from":"book"}`.
+    Refused(Refusal),
+    /// A file operation failed: `{"error":"CrossDevice","from":"file"}`.
+    Failed(FsError),
+    /// No such session was opened: `{"error":"NoSession","from":"world"}`.
+    NoSession,
+    /// Nobody holds such a snapshot: `{"error":"NoHand","from":"world"}`.
+    NoHand,
+}
+
+impl Answer {
+    fn value(&self, alloc: Global) -> Result<Value, AllocError>
+        ensures { IfOk result (λ v. view v ≡ answer_data self.now) }
+    {
+        match self {
+            Answer::Done => done(alloc),
+            Answer::Session(number) => session(alloc, *number),
+            Answer::Prepared { id, slot, chain } => prepared(alloc, *id, *slot, chain.as_slice()),
+            Answer::Share(amount) => share(alloc, *amount),
+            Answer::Committed { id, usage } => committed(alloc, *id, *usage),
+            Answer::Freed(amount) => freed(alloc, *amount),
+            Answer::Info(own) => info(alloc, own),
+            Answer::Usage(amount) => usage(alloc, *amount),
+            Answer::Changed { count, share } => changed(alloc, *count, *share),
+            Answer::Report {
+                entries,
+                actives,
+                records,
+                totals,
+            } => report(alloc, *entries, *actives, *records, totals.as_slice()),
+            Answer::Refused(refusal) => refused(alloc, *refusal),
+            Answer::Failed(own) => error(alloc, error_name(*own), "file"),
+            Answer::NoSession => error(alloc, "NoSession", "world"),
+            Answer::NoHand => error(alloc, "NoHand", "world"),
+        }
+    }
+
+    /// The line of the answer: compact JSON, the keys of each object in byte order, texts escaped as
+    /// `serde_json` escapes them, and a line feed. Its cost and its memory grow with the line.
+    #[tactic(auto, using(crate::proofs::Floats::no_float), unfolding(crate::specs::Answers::answer_line))]
+    pub fn line(&self, alloc: Global) -> Result<String, AllocError>
+        ensures { IfOk result (λ s. string_bytes s ≡ answer_line self.now) }
+    {
+        let mut line = self.value(alloc)?.to_string(alloc)?;
+        line.push('\n')?;
+        Ok(line)
+    }
+}

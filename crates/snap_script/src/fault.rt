@@ -1,0 +1,132 @@
+ghost use Rattle.std.specs.Prelude.{◌≡◌, Some};
+ghost use Rattle.snap_script.specs.Faults.{field_name, fault_words};
+ghost use Rattle.snap_script.specs.declared.fault.ReadError.TheVariants as errors;
+
+use std::alloc::{AllocError, AllocFailed};
+use std::fmt;
+
+/// The fields of a line.
+#[derive(Clone, Copy, Debug, PartialEq, Eq)]
+pub enum Field {
+    /// `do`, the command's word.
+    Do,
+    /// `s`, the number of the session.
+    Session,
+    Root,
+    Namespaces,
+    Journal,
+    /// `ns`, a namespace's name.
+    Namespace,
+    Key,
+    Parent,
+    Labels,
+    Need,
+    Want,
+    Name,
+    Lease,
+    Path,
+    Mode,
+    Offset,
+    Text,
+    Fill,
+    Extra,
+}
+
+/// Why a line is no command. Of several faults, the line has the first in the order below; of
+/// several fields, the first in the order of the command's definition.
+#[derive(Clone, Copy, Debug, PartialEq, Eq)]
+pub enum Fault {
+    /// More than 16,777,216 bytes without the line feed.
+    TooLong,
+    /// No UTF-8, or no JSON as `serde_json` reads it.
+    NotJson,
+    NotAnObject,
+    /// No store was opened, and the command isn't `open`.
+    FirstLineMustBeOpen,
+    /// A store was opened, and the command is `open`.
+    OpenTwice,
+    NoSuchCommand,
+    /// The field is missing and has no default, or its value is of a wrong kind. `BadField(Do)` comes
+    /// before `FirstLineMustBeOpen`.
+    BadField(Field),
+}
+
+/// Why no line was read.
+#[derive(Clone, Copy, Debug, PartialEq, Eq)]
+pub enum ReadError {
+    Fault(Fault),
+    OutOfMemory,
+}
+
+impl Field {
+    /// The field's name, as it stands in a line.
+    pub fn name(self) -> &'static str
+        ensures { result.now ≡ field_name self }
+    {
+        match self {
+            Field::Do => "do",
+            Field::Session => "s",
+            Field::Root => "root",
+            Field::Namespaces => "namespaces",
+            Field::Journal => "journal",
+            Field::Namespace => "ns",
+            Field::Key => "key",
+            Field::Parent => "parent",
+            Field::Labels => "labels",
+            Field::Need => "need",
+            Field::Want => "want",
+            Field::Name => "name",
+            Field::Lease => "lease",
+            Field::Path => "path",
+            Field::Mode => "mode",
+            Field::Offset => "offset",
+            Field::Text => "text",
+            Field::Fill => "fill",
+            Field::Extra => "extra",
+        }
+    }
+}
+
+/// The fault's words; a width or a precision has no effect.
+impl fmt::Display for Fault {
+    ghost output = { λ f. Some (fault_words f) };
+
+    fn fmt<W: fmt::Write>(&self, f: &mut fmt::Formatter<W>) -> fmt::Result {
+        match self {
+            Fault::TooLong => f.write_str("too long"),
+            Fault::NotJson => f.write_str("not JSON"),
+            Fault::NotAnObject => f.write_str("not an object"),
+            Fault::FirstLineMustBeOpen => f.write_str("first line must be open"),
+            Fault::OpenTwice => f.write_str("open twice"),
+            Fault::NoSuchCommand => f.write_str("no such command"),
+            Fault::BadField(field) => {
+                let name = field.name();
+                write!(f, "bad field {name}")
+            }
+        }
+    }
+}
+
+impl From<Fault> for ReadError {
+    ghost from_gives = { λ fault e. e ≡ errors.Fault fault };
+
+    fn from(fault: Fault) -> ReadError {
+        ReadError::Fault(fault)
+    }
+}
+
+impl From<AllocError> for ReadError {
+    ghost from_gives = { λ _ e. e ≡ errors.OutOfMemory };
+
+    fn from(_e: AllocError) -> ReadError {
+        ReadError::OutOfMemory
+    }
+}
+
+impl<T: Drop> From<AllocFailed<T>> for ReadError {
+    ghost from_gives = { λ _ e. e ≡ errors.OutOfMemory };
+
+    fn from(_e: AllocFailed<T>) -> ReadError {
+        ReadError::OutOfMemory
+    }
+}

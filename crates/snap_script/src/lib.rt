@@ -1,0 +1,27 @@
+//! The lines of a script: commands read from JSON, answers written as JSON.
+//!
+//! A line is JSON as `serde_json` reads it. What it says is one definition, `line_of` in
+//! `specs/Lines.antt`, with the commands in `specs/Commands.antt` and the kinds of their fields in
+//! `specs/Fields.antt`.
+#![tactic(auto)]
+
+mod answer;
+mod command;
+mod commands;
+mod fault;
+mod fields;
+mod line;
+mod lists;
+mod names;
+mod values;
+mod verb;
+
+pub use answer::Answer;
+pub use command::{Command, FileCommand};
+pub use fault::{Fault, Field, ReadError};
+pub use line::{Line, MAX_LINE_BYTES, read_line};
+
+#[cfg(test)]
+mod answer_tests;
+#[cfg(test)]
+mod tests;

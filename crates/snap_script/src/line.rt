@@ -1,0 +1,101 @@
+ghost use Rattle.std.specs.Prelude.{◌≡◌};
+ghost use Rattle.serde_json.specs.View.{view};
+ghost use Rattle.snap_script.specs.Lines.{is_empty, value_of, object_of, allowed, command_line, line_of};
+ghost use Rattle.snap_script.specs.Gives.{Gives, GivesAll};
+
+use crate::command::Command;
+use crate::commands::command_of;
+use crate::fault::{Fault, Field, ReadError};
+use crate::fields::{lent_text, number_or};
+use crate::verb::{Verb, verb_of};
+use serde_json::Value;
+use std::alloc::Global;
+
+/// A line has at most so many bytes, without its line feed.
+pub const MAX_LINE_BYTES: usize = 16_777_216;
+
+/// What a line of a script is.
+#[derive(Debug, Drop)]
+pub enum Line {
+    /// Nothing but spaces, tabs and carriage returns.
+    Empty,
+    /// A command, and the number of the session that makes its calls.
+    Command { session: u64, command: Command },
+}
+
+fn is_empty(bytes: &[u8]) -> bool
+    ensures { result ≡ is_empty bytes.now }
+{
+    bytes
+        .iter()
+        .all(|byte| *byte == b' ' || *byte == b'\t' || *byte == b'\r')
+}
+
+/// The value that a line is.
+#[tactic(auto, using(crate::proofs::LineValues::not_utf8, crate::proofs::LineValues::not_json, crate::proofs::LineValues::is_json))]
+fn value_of(alloc: Global, bytes: &[u8]) -> Result<Value, ReadError>
+    ensures { Gives view result (value_of bytes.now) }
+{
+    let Ok(text) = str::from_utf8(bytes) else {
+        return Err(ReadError::Fault(Fault::NotJson));
+    };
+    match Value::from_str(alloc, text) {
+        Ok(value) => Ok(value),
+        Err(e) if e.is_memory() => Err(ReadError::OutOfMemory),
+        Err(_) => Err(ReadError::Fault(Fault::NotJson)),
+    }
+}
+
+fn check_object(value: &Value) -> Result<(), Fault>
+    ensures { GivesAll (λ _. view value.now) result (object_of (view value.now)) }
+{
+    if value.is_object() {
+        Ok(())
+    } else {
+        Err(Fault::NotAnObject)
+    }
+}
+
+/// The verb, where a command of it may stand here.
+#[tactic(auto, unfolding(crate::specs::Lines::allowed))]
+fn allowed(opened: bool, verb: Option<Verb>) -> Result<Verb, Fault>
+    ensures { result ≡ allowed opened verb }
+{
+    match (opened, verb) {
+        (false, Some(Verb::Open)) => Ok(Verb::Open),
+        (false, _) => Err(Fault::FirstLineMustBeOpen),
+        (true, Some(Verb::Open)) => Err(Fault::OpenTwice),
+        (true, Some(verb)) => Ok(verb),
+        (true, None) => Err(Fault::NoSuchCommand),
+    }
+}
+
+#[tactic(auto, unfolding(crate::specs::Lines::command_line))]
+fn command_line(alloc: Global, opened: bool, bytes: &[u8]) -> Result<Line, ReadError>
+    ensures { Gives (λ line. line) result (command_line opened bytes.now) }
+{
+    let line = value_of(alloc, bytes)?;
+    check_object(&line)?;
+    let word = lent_text(Field::Do, &line)?;
+    let verb = allowed(opened, verb_of(word))?;
+    let session = number_or(0, Field::Session, &line)?;
+    let command = command_of(alloc, verb, &line)?;
+    Ok(Line::Command { session, command })
+}
+
+/// Reads a line, which stands here without its line feed. `opened` says whether a store was opened.
+///
+/// `OutOfMemory` where memory for the line's value or for the command was refused. The memory and the
+/// cost grow with the line, and a `fill` takes as many bytes as it asks for.
+#[tactic(auto, unfolding(crate::specs::Lines::line_of))]
+pub fn read_line(alloc: Global, bytes: &[u8], opened: bool) -> Result<Line, ReadError>
+    ensures { Gives (λ line. line) result (line_of opened bytes.now) }
+{
+    if bytes.len() > MAX_LINE_BYTES {
+        return Err(ReadError::Fault(Fault::TooLong));
+    }
+    if is_empty(bytes) {
+        return Ok(Line::Empty);
+    }
+    command_line(alloc, opened, bytes)
+}
