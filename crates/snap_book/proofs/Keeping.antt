@@ -1,14 +1,11 @@
 -- What a recorded call keeps.
 use Rattle.std.proofs.Common.{◌≡◌, ℕ, ◌+◌, ◌<◌, ◌≤◌, ◌^◌, List, [], ◌∷◌, ◌++◌, length, Some, sym, ap, ◌∙◌, subst, arith, length-append}
-use Rattle.snap_usage.specs.declared.usage.Usage.{Usage}
-use Rattle.snap_ledger.specs.States.{ChargeState, free_charge}
 use Rattle.snap_call.specs.declared.entry.Entry.{Entry}
 use Rattle.snap_call.specs.declared.reply.Reply.{Reply}
 use Rattle.snap_call.specs.declared.state.State.{State}
 use Rattle.snap_call.specs.Journal.{Replays}
-use Rattle.snap_call.specs.Records.{charge_at, open_count}
+use Rattle.snap_call.specs.Records.{open_count}
 use Rattle.snap_call.specs.Step.{step, IsAllowed}
-use Rattle.snap_book.specs.Slots.{charge_in}
 use Rattle.snap_call.specs.declared.call.Call.{Call}
 use Rattle.snap_call.specs.declared.call.Given.{Given}
 use Rattle.snap_call.specs.declared.refusal.Refusal.{Refusal}
@@ -19,9 +16,8 @@ use Rattle.snap_call.specs.declared.call.Given.TheVariants.{Nothing}
 use Rattle.std.proofs.Common.{Bool}
 use Rattle.std.proofs.lemmas.Bool.{lt-ltb}
 use Rattle.std.specs.Prelude.{if◌then◌else◌}
-use Rattle.snap_book.specs.Book.{JournalValue, BookValue, Kept, AreAccounts, Recorded, RefusedBy, IsRecorded}
+use Rattle.snap_book.specs.Book.{JournalValue, BookValue, Kept, Recorded, RefusedBy, IsRecorded}
 use Rattle.snap_call.proofs.Replaying.{replays_step, step-entries}
-use Rattle.snap_book.proofs.Rows.{slice_get-found}
 
 -- a call that is recorded: j has room made as m, and then the entry as k
 pub kept_push : (s t : State) (j m k : JournalValue) (e x : Entry) → Kept s j → m ≡ record j { room = m.room } → k ≡ record m { entries = m.entries ++ x ∷ []; copy = Some x; room = k.room } → x ≡ e

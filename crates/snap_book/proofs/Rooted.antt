@@ -1,5 +1,5 @@
 -- A layer has its root, which takes a block and an inode.
-use Rattle.std.proofs.Common.{◌≡◌, ℕ, ◌+◌, ◌≤◌, List, [], ◌∷◌, Bool, true, false, true≢false, Some, None, refl, sym, ap, ◌∙◌, subst, arith}
+use Rattle.std.proofs.Common.{◌≡◌, ℕ, ◌≤◌, [], ◌∷◌, Bool, true, false, Some, None, refl, ap, ◌∙◌, arith}
 use Rattle.std.specs.Prelude.{Option, cond, count_by}
 use Rattle.std.specs.Map.{lookup, values_of}
 use Rattle.std.specs.BTreeMap.{is_at}
@@ -9,7 +9,7 @@ use Rattle.snap_layer.specs.declared.node.Node.{Node}
 use Rattle.snap_layer.specs.Tree.{Tree, Entries, path_cmp, at, is_dir, IsDirAt}
 use Rattle.snap_layer.specs.Counts.{dir_count}
 use Rattle.snap_layer.specs.Layers.{IsLayer}
-use Rattle.snap_usage.specs.Counted.{count_of, Covers}
+use Rattle.snap_usage.specs.Counted.{count_of}
 use Rattle.snap_ledger.specs.States.{CoversOne}
 
 abbrev one_if : Bool → ℕ

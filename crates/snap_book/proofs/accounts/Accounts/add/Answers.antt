@@ -1,4 +1,4 @@
-use Rattle.std.proofs.Common.{◌≡◌, ◌<◌, ◌+◌, ℕ, List, length, set, true, false, None, refl, sym, ap, ◌∙◌, subst, arith}
+use Rattle.std.proofs.Common.{◌≡◌, ◌<◌, ◌+◌, ℕ, List, length, set, true, refl, sym, ap, ◌∙◌, subst, arith}
 use Rattle.snap_usage.specs.declared.usage.Usage.{Usage}
 use Rattle.snap_ledger.specs.States.{ChargeState, plus}
 use Rattle.snap_record.specs.declared.record.Record.{Record}

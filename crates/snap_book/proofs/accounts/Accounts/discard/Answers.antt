@@ -1,5 +1,4 @@
-use Rattle.std.proofs.Common.{◌≡◌, ◌≤◌, ℕ, ◌+◌, List, set, Some, true, refl, sym, ap, ◌∙◌, subst, arith}
-use Rattle.snap_usage.specs.declared.usage.Usage.{Usage}
+use Rattle.std.proofs.Common.{◌≡◌, ℕ, ◌+◌, List, set, Some, refl, sym, ap, ◌∙◌, subst, arith}
 use Rattle.snap_ledger.specs.States.{ShareState, minus, free_charge}
 use Rattle.snap_record.specs.Records.{usage_of}
 use Rattle.snap_record.specs.declared.record.Record.{Record}

@@ -1,8 +1,5 @@
-use Rattle.std.proofs.Common.{◌≡◌, ◌≤◌, ◌+◌, length, refl, sym, ap, ◌∙◌, subst, arith}
+use Rattle.std.proofs.Common.{◌≡◌, refl, sym, ap, ◌∙◌, subst, arith}
 use Rattle.snap_call.specs.declared.entry.Entry.{Entry}
-use Rattle.snap_call.specs.declared.reply.Reply.{Reply}
-use Rattle.snap_call.specs.declared.state.State.{State}
-use Rattle.snap_call.specs.Records.{open_count}
 use Rattle.snap_call.specs.Step.{prepared, step, IsAllowed}
 use Rattle.snap_book.specs.Book.{BookValue}
 use Rattle.snap_book.proofs.Keeping.{kept_push}

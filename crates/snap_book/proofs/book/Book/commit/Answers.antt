@@ -1,4 +1,4 @@
-use Rattle.std.proofs.Common.{◌≡◌, IfOk, sym, ap, ◌∙◌, subst}
+use Rattle.std.proofs.Common.{◌≡◌, IfOk, ap, ◌∙◌, subst}
 use Rattle.snap_usage.specs.Counted.{count_of}
 use Rattle.snap_book.specs.Active.{ActiveValue}
 use Rattle.snap_book.proofs.Commits.{commit_allowed}

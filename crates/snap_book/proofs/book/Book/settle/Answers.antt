@@ -1,7 +1,7 @@
-use Rattle.std.proofs.Common.{◌≡◌, ◌≤◌, ◌+◌, length, false, refl, sym, ap, ◌∙◌, subst, arith}
+use Rattle.std.proofs.Common.{refl, sym, ap, ◌∙◌, subst, arith}
 use Rattle.snap_call.specs.declared.entry.Entry.{Entry}
-use Rattle.snap_call.specs.Records.{active_at, has_key, open_count}
-use Rattle.snap_call.specs.Step.{step, IsAllowed}
+use Rattle.snap_call.specs.Records.{active_at, has_key}
+use Rattle.snap_call.specs.Step.{IsAllowed}
 use Rattle.snap_book.specs.Book.{BookValue}
 use Rattle.snap_book.specs.Totals.{place_if}
 use Rattle.snap_book.proofs.Commits.{settled}
