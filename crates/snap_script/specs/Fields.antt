@@ -1,5 +1,5 @@
 -- What a field of a line has to be. The line's value is the one that serde_json reads.
-use Rattle.std.specs.Prelude.{ℕ, min, ◌&&◌, nat_le, if◌then◌else◌, List, [], ◌∷◌, Option, Some, None, option_map, option_and_then, Result, Ok, replicate, codes}
+use Rattle.std.specs.Prelude.{ℕ, min, ◌&&◌, nat_le, if◌then◌else◌, List, [], ◌∷◌, Option, Some, None, option_map, option_and_then, Result, Ok, replicate}
 use Rattle.std.specs.Option.{ok_or}
 use Rattle.serde_json.specs.Data.{Data, Items, no_items, item, Members, no_members, member}
 use Rattle.serde_json.specs.Find.{get, as_number, as_u64, as_str, as_array, as_object}
@@ -16,7 +16,7 @@ use Rattle.snap_script.specs.Faults.{field_name}
 abbrev pub required : {A : Type 0} → (Data → Option A) → Field → Data → Result A Fault
 required kind field line = ok_or (option_and_then kind (get (field_name field) line)) (BadField field)
 
--- a field of a kind, or the default where it is absent; null is not absent
+-- a field of a kind, or the default where it is absent; one that is null is there
 abbrev pub value_or : {A : Type 0} → A → (Data → Option A) → Field → Option Data → Result A Fault
 value_or default kind field None = Ok default
 value_or default kind field (Some d) = ok_or (kind d) (BadField field)
@@ -97,4 +97,4 @@ content_by (Some d) line = ok_or (as_str d) (BadField fields.Text)
 content_by None line = required fill_of fields.Fill line
 
 abbrev pub content_of : Data → Result Bytes Fault
-content_of line = content_by (get (codes "text") line) line
+content_of line = content_by (get (field_name fields.Text) line) line

@@ -2,7 +2,7 @@
 //!
 //! A line is JSON as `serde_json` reads it. What it says is one definition, `line_of` in
 //! `specs/Lines.antt`, with the commands in `specs/Commands.antt` and the kinds of their fields in
-//! `specs/Fields.antt`.
+//! `specs/Fields.antt`. The line of an answer is `answer_line` in `specs/Answers.antt`.
 #![tactic(auto)]
 
 mod answer;
