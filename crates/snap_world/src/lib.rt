@@ -1,0 +1,11 @@
+//! A store of snapshots and the hands of its writers, in one thread.
+//!
+//! A list of steps is a run of a machine: what each step answers and leaves is one definition, `move`
+//! in `specs/Move.antt`.
+#![tactic(auto)]
+
+mod calls;
+mod hands;
+mod step;
+
+pub use step::{Answer, Step};
