@@ -48,21 +48,21 @@ charged a reply = record { namespace = a.namespace; key = a.key; layer = a.layer
 abbrev pub charged_hand : HandValue → Reply → Option HandValue
 charged_hand h reply = Some (record { snapshot = charged h.snapshot reply; sealed = h.sealed })
 
--- the hand, sealed
-abbrev pub sealed : HandValue → HandValue
-sealed h = record { snapshot = h.snapshot; sealed = true }
+-- the hand of a sealed snapshot
+abbrev pub sealed_hand : ActiveValue → HandValue
+sealed_hand a = record { snapshot = a; sealed = true }
 
 -- a commit takes the hand; where it is refused, the hand stays, sealed
-abbrev pub committed : HandValue → Reply → Option HandValue
-committed h replies.Opened = Some (sealed h)
-committed h (replies.Prepared id slot chain) = Some (sealed h)
-committed h (replies.Charged now) = Some (sealed h)
-committed h replies.Trimmed = Some (sealed h)
-committed h (replies.Committed id usage) = None
-committed h (replies.Discarded usage) = Some (sealed h)
-committed h (replies.Info info) = Some (sealed h)
-committed h (replies.Usage usage) = Some (sealed h)
-committed h (replies.Refused why) = Some (sealed h)
+abbrev pub committed : ActiveValue → Reply → Option HandValue
+committed a replies.Opened = Some (sealed_hand a)
+committed a (replies.Prepared id slot chain) = Some (sealed_hand a)
+committed a (replies.Charged now) = Some (sealed_hand a)
+committed a replies.Trimmed = Some (sealed_hand a)
+committed a (replies.Committed id usage) = None
+committed a (replies.Discarded usage) = Some (sealed_hand a)
+committed a (replies.Info info) = Some (sealed_hand a)
+committed a (replies.Usage usage) = Some (sealed_hand a)
+committed a (replies.Refused why) = Some (sealed_hand a)
 
 -- the hand of a new snapshot in the namespace at a place: the root alone, with the permission bits 755 in octal, and a share of 1/1
 abbrev pub fresh : Bytes → ℕ → ℕ → ℕ → HandValue
@@ -101,12 +101,21 @@ on_found w test next (Some h) = if test h then next h else (w, answers.NoHand)
 abbrev pub on_hand : WorldValue → ℕ → (HandValue → Bool) → (HandValue → WorldValue × Answer) → WorldValue × Answer
 on_hand w slot test next = on_found w test next (hand_at slot w.hands)
 
--- the hand of the snapshot of this id; and one that isn't sealed
+-- whether a hand stands there that meets the test
+abbrev pub meets : (HandValue → Bool) → Option HandValue → Bool
+meets test None = false
+meets test (Some h) = test h
+
+-- the hand of the snapshot of this id
 abbrev pub is_under : ℕ → HandValue → Bool
 is_under id h = h.snapshot.share.id == id
 
+-- its layer may change
+abbrev pub is_unsealed : HandValue → Bool
+is_unsealed h = not h.sealed
+
 abbrev pub is_working : ℕ → HandValue → Bool
-is_working id h = is_under id h && not h.sealed
+is_working id h = is_under id h && is_unsealed h
 
 -- beside an entry for each open snapshot's end the journal has no room for so many more
 abbrev pub is_full : WorldValue → ℕ → Bool
@@ -138,8 +147,8 @@ called w n (calls.Trim slot id) =
     on_hand w slot (is_working id) (λ h. admitted w 1 w.hands
     (recorded w n (calls.Trim slot id) (Count (count_of h.snapshot.layer)) (λ reply. with_hand slot (charged_hand h reply) w.hands)))
 called w n (calls.Commit slot id name lease) =
-    on_hand w slot (is_under id) (λ h. admitted w 1 (with_hand slot (Some (sealed h)) w.hands)
-    (recorded w n (calls.Commit slot id name lease) (Layer h.snapshot.layer) (λ reply. with_hand slot (committed h reply) w.hands)))
+    on_hand w slot (is_under id) (λ h. admitted w 1 (with_hand slot (Some (sealed_hand h.snapshot)) w.hands)
+    (recorded w n (calls.Commit slot id name lease) (Layer h.snapshot.layer) (λ reply. with_hand slot (committed h.snapshot reply) w.hands)))
 called w n (calls.Discard slot id) =
     on_hand w slot (is_under id) (λ h. recorded w n (calls.Discard slot id) Nothing (λ reply. with_hand slot None w.hands))
 called w n (calls.Stat namespace key) = admitted w 1 w.hands (recorded w n (calls.Stat namespace key) Nothing (λ reply. w.hands))
@@ -157,4 +166,4 @@ filed w slot h (Err e) = (w, answers.File (Err e))
 
 abbrev pub move : WorldValue → Step → WorldValue × Answer
 move w (steps.Locked n call) = if is_its_session w.state.sessions n call then called w n call else (w, answers.NoSession)
-move w (steps.Hand slot op) = on_hand w slot (λ h. not h.sealed) (λ h. filed w slot h (worked op h.snapshot.share.usage h.snapshot.layer))
+move w (steps.Hand slot op) = on_hand w slot is_unsealed (λ h. filed w slot h (worked op h.snapshot.share.usage h.snapshot.layer))

@@ -11,11 +11,11 @@ use Rattle.snap_world.specs.declared.step.Step.TheVariants as steps
 use Rattle.snap_world.specs.declared.step.Answer.{Answer}
 use Rattle.snap_world.specs.declared.step.Answer.TheVariants as answers
 use Rattle.snap_world.specs.World.{HandValue, WorldValue, hand_at, with_hand}
-use Rattle.snap_world.specs.Move.{sealed, move}
+use Rattle.snap_world.specs.Move.{sealed_hand, called, move}
 
 -- the world with the hand of the slot sealed
 abbrev pub with_sealed : WorldValue → ℕ → WorldValue
-with_sealed w slot = record w { hands = with_hand slot (option_map sealed (hand_at slot w.hands)) w.hands }
+with_sealed w slot = record w { hands = with_hand slot (option_map (λ h. sealed_hand h.snapshot) (hand_at slot w.hands)) w.hands }
 
 -- what want of memory leaves: the world as it was, where a Commit may have sealed its hand
 abbrev pub IsLeft : WorldValue → Call → WorldValue → Type 0
@@ -27,6 +27,10 @@ IsLeft old (calls.Commit slot id name lease) new = (new ≡ old) ⊎ (new ≡ wi
 IsLeft old (calls.Discard slot id) new = new ≡ old
 IsLeft old (calls.Stat namespace key) new = new ≡ old
 IsLeft old (calls.Usage namespace key) new = new ≡ old
+
+-- a call in its session: its answer and the world after it, or want of memory
+abbrev pub DoesCall : WorldValue → ℕ → Call → Answer → WorldValue → Type 0
+DoesCall old n call answer new = (called old n call ≡ (new, answer)) ⊎ ((answer ≡ answers.Reply (Refused OutOfMemory)) × IsLeft old call new)
 
 -- want of memory, and what it leaves
 abbrev pub IsWant : WorldValue → Step → Answer → WorldValue → Type 0

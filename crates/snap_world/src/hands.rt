@@ -1,9 +1,9 @@
 // The open snapshots of a world, each in the place of its slot. They have to be spent.
-ghost use Rattle.std.specs.Prelude.{◌≡◌, ◌<◌, false, true, replicate, Some, None, IfOk, IfErr, option_copied};
+ghost use Rattle.std.specs.Prelude.{◌≡◌, ◌<◌, false, true, replicate, Some, None, IfOk, IfErr, IfSome, IsSome, MatchOption, option_copied};
 ghost use Rattle.snap_usage.specs.Counted.{count_of};
 ghost use Rattle.snap_book.specs.Held.{share_of};
 ghost use Rattle.snap_world.specs.World.{hand_at, with_hand};
-ghost use Rattle.snap_world.specs.Move.{is_under};
+ghost use Rattle.snap_world.specs.Move.{is_under, is_unsealed, is_working, meets};
 
 use snap_book::{Active, Book, Held, Sealed};
 use snap_ledger::StoreName;
@@ -130,6 +130,7 @@ impl<N: StoreName> Hand<N> {
 
 // A place for each of the 64 slots.
 pub(crate) struct Hands<N: StoreName> {
+    alloc: Global,
     list: Vec<Option<Hand<N>>>,
 }
 
@@ -153,7 +154,12 @@ impl<N: StoreName> Hands<N> {
         for _ in 0..64_u64 {
             list.push_reserved(None);
         }
-        Ok(Hands { list })
+        Ok(Hands { alloc, list })
+    }
+
+    // Where memory comes from.
+    pub(crate) fn alloc(&self) -> Global {
+        self.alloc
     }
 
     // The hand of the slot, if one stands there.
@@ -169,10 +175,86 @@ impl<N: StoreName> Hands<N> {
     // The hand goes out of its place.
     pub(crate) fn take(&mut self, slot: u64) -> Option<Hand<N>>
         ensures taken { result ≡ hand_at slot self.old }
+        ensures low { IfSome result (λ _. slot < 64) }
         ensures rest { self.new ≡ with_hand slot None self.old }
     {
         if slot < 64 {
             self.list[slot as usize].take()
+        } else {
+            None
+        }
+    }
+
+    // Whether the hand of the snapshot of this id stands there.
+    pub(crate) fn has(&self, slot: u64, id: u32) -> bool
+        ensures { result ≡ meets (is_under id) (hand_at slot self.now) }
+    {
+        match self.get(slot) {
+            Some(hand) => hand.is_under(id),
+            None => false,
+        }
+    }
+
+    // Whether a hand stands there that isn't sealed.
+    pub(crate) fn has_unsealed(&self, slot: u64) -> bool
+        ensures { result ≡ meets is_unsealed (hand_at slot self.now) }
+    {
+        match self.get(slot) {
+            Some(hand) => !hand.is_sealed(),
+            None => false,
+        }
+    }
+
+    // Both.
+    pub(crate) fn has_working(&self, slot: u64, id: u32) -> bool
+        ensures { result ≡ meets (is_working id) (hand_at slot self.now) }
+    {
+        match self.get(slot) {
+            Some(hand) => hand.is_under(id) && !hand.is_sealed(),
+            None => false,
+        }
+    }
+
+    // The hand that stands there goes out of its place.
+    pub(crate) fn take_out(&mut self, slot: u64) -> Hand<N>
+        requires { IsSome (hand_at slot self.old) }
+        ensures hand { hand_at slot self.old ≡ Some result }
+        ensures low { slot < 64 }
+        ensures rest { self.new ≡ with_hand slot None self.old }
+    {
+        let taken = self.take(slot);
+        let Some(hand) = taken else { unreachable!() };
+        hand
+    }
+
+    // The snapshot of this id goes out of its place, if it stands there.
+    pub(crate) fn take_under(&mut self, slot: u64, id: u32) -> Option<Hand<N>>
+        ensures { MatchOption result ((meets (is_under id) (hand_at slot self.old) ≡ false) × (self.new ≡ self.old)) (λ h. (hand_at slot self.old ≡ Some h) × (is_under id h ≡ true) × (slot < 64) × (self.new ≡ with_hand slot None self.old)) }
+    {
+        if self.has(slot, id) {
+            Some(self.take_out(slot))
+        } else {
+            None
+        }
+    }
+
+    // And if it isn't sealed.
+    pub(crate) fn take_working(&mut self, slot: u64, id: u32) -> Option<Active<N>>
+        ensures { MatchOption result ((meets (is_working id) (hand_at slot self.old) ≡ false) × (self.new ≡ self.old)) (λ a. (hand_at slot self.old ≡ Some (record { snapshot = a; sealed = false })) × (is_under id (record { snapshot = a; sealed = false }) ≡ true) × (slot < 64) × (self.new ≡ with_hand slot None self.old)) }
+    {
+        if self.has_working(slot, id) {
+            Some(self.take_out(slot).into_active())
+        } else {
+            None
+        }
+    }
+
+    // The snapshot goes out of its place, if one stands there that isn't sealed.
+    pub(crate) fn take_unsealed(&mut self, slot: u64) -> Option<Active<N>>
+        ensures { MatchOption result ((meets is_unsealed (hand_at slot self.old) ≡ false) × (self.new ≡ self.old)) (λ a. (hand_at slot self.old ≡ Some (record { snapshot = a; sealed = false })) × (slot < 64) × (self.new ≡ with_hand slot None self.old)) }
+    {
+        if self.has_unsealed(slot) {
+            Some(self.take_out(slot).into_active())
         } else {
             None
         }
@@ -192,7 +274,7 @@ impl<N: StoreName> Hands<N> {
 
     // All hands are given back to the book.
     pub(crate) fn discard_all(self, book: &mut Book<N>) {
-        let Hands { mut list } = self;
+        let Hands { alloc: _, mut list } = self;
         while let Some(place) = list.pop() {
             if let Some(hand) = place {
                 book.discard(0, hand.into_held());

@@ -6,6 +6,7 @@
 
 mod calls;
 mod hands;
+mod locked;
 mod step;
 
 pub use step::{Answer, Step};

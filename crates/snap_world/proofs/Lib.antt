@@ -1,0 +1,5 @@
+mod Places
+mod Ends
+mod Steps
+mod Hold
+mod Does
