@@ -3,3 +3,4 @@ mod Ends
 mod Steps
 mod Hold
 mod Does
+mod Fitting

@@ -5,8 +5,11 @@
 #![tactic(auto)]
 
 mod calls;
+mod filing;
 mod hands;
 mod locked;
 mod step;
+mod world;
 
 pub use step::{Answer, Step};
+pub use world::{NoMemory, World};

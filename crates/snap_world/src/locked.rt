@@ -7,9 +7,10 @@ ghost use Rattle.snap_call.specs.declared.call.Given.TheVariants.{Nothing, Layer
 ghost use Rattle.snap_call.specs.declared.refusal.Refusal.TheVariants.{JournalFull};
 ghost use Rattle.snap_call.specs.declared.reply.Reply.TheVariants as replies;
 ghost use Rattle.snap_book.specs.Book.{AnsweredBy, Asks};
+ghost use Rattle.snap_world.specs.declared.step.Step.TheVariants.{Locked};
 ghost use Rattle.snap_world.specs.World.{Fits, hand_at, with_hand, world_of};
-ghost use Rattle.snap_world.specs.Move.{called, committed, is_its_session, prepared};
-ghost use Rattle.snap_world.specs.Runs.{DoesCall};
+ghost use Rattle.snap_world.specs.Move.{committed, is_its_session, prepared};
+ghost use Rattle.snap_world.specs.Runs.{DoesCall, Moves};
 
 use crate::calls::{charge_active, trim_active};
 use crate::hands::{Hand, Hands};
@@ -78,6 +79,28 @@ impl<N: StoreName> Hands<N> {
             }
             Err(why) => Reply::Refused(why),
         }
+    }
+
+    fn prepare_as(
+        &mut self,
+        book: &mut Book<N>,
+        session: u64,
+        namespace: &Text,
+        key: &Text,
+        parent: &Text,
+        labels: &Labels,
+    ) -> Answer
+        requires { Fits (world_of book.old self.old) }
+        ensures { DoesCall (world_of book.old self.old) session (calls.Prepare namespace.now key.now parent.now labels.now) result (world_of book.new self.new) }
+    {
+        Answer::Reply(self.prepare(
+            book,
+            session,
+            namespace.as_str(),
+            key.as_str(),
+            parent.as_str(),
+            labels,
+        ))
     }
 
     fn charge(
@@ -173,5 +196,55 @@ impl<N: StoreName> Hands<N> {
         };
         let usage = book.discard(session, hand.into_held());
         Answer::Reply(Reply::Discarded(usage))
+    }
+
+    // A call in its session.
+    fn call(&mut self, book: &mut Book<N>, session: u64, call: &Call) -> Answer
+        requires fits { Fits (world_of book.old self.old) }
+        requires session { is_its_session book.old.state.sessions session call.now ≡ true }
+        ensures { DoesCall (world_of book.old self.old) session call.now result (world_of book.new self.new) }
+    {
+        match call {
+            Call::Session => self.open_session(book),
+            Call::Prepare {
+                namespace,
+                key,
+                parent,
+                labels,
+            } => self.prepare_as(book, session, namespace, key, parent, labels),
+            Call::Charge {
+                slot,
+                id,
+                need,
+                want,
+            } => self.charge(book, session, *slot, *id, *need, *want),
+            Call::Trim { slot, id } => self.trim(book, session, *slot, *id),
+            Call::Commit {
+                slot,
+                id,
+                name,
+                lease,
+            } => self.commit(book, session, *slot, *id, name.as_str(), lease),
+            Call::Discard { slot, id } => self.discard(book, session, *slot, *id),
+            Call::Stat {
+                namespace: _,
+                key: _,
+            } => self.ask(book, session, call),
+            Call::Usage {
+                namespace: _,
+                key: _,
+            } => self.ask(book, session, call),
+        }
+    }
+
+    // A call of the session.
+    pub(crate) fn locked(&mut self, book: &mut Book<N>, session: u64, call: &Call) -> Answer
+        requires { Fits (world_of book.old self.old) }
+        ensures { Moves (world_of book.old self.old) (Locked session call.now) result (world_of book.new self.new) }
+    {
+        if !is_its_session(book.sessions(), session, call) {
+            return Answer::NoSession;
+        }
+        self.call(book, session, call)
     }
 }
