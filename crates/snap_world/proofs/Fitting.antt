@@ -7,6 +7,7 @@ use Rattle.std.proofs.lemmas.Bool.Decides.{eqb_tells}
 use Rattle.snap_layer.specs.Tree.{Tree}
 use Rattle.snap_usage.specs.declared.usage.Usage.{Usage}
 use Rattle.snap_usage.specs.Counted.{Covers, count_of}
+use Rattle.snap_ledger.specs.States.{plus}
 use Rattle.snap_record.specs.Labels.{Bytes, Label}
 use Rattle.snap_record.specs.Records.{usage_of, info_of}
 use Rattle.snap_record.specs.declared.record.Record.{Record}
@@ -14,14 +15,15 @@ use Rattle.snap_call.specs.declared.call.Call.{Call}
 use Rattle.snap_call.specs.declared.call.Call.TheVariants as calls
 use Rattle.snap_call.specs.declared.call.Given.{Given}
 use Rattle.snap_call.specs.declared.call.Given.TheVariants.{Nothing, Count, Layer}
+use Rattle.snap_call.specs.declared.refusal.Refusal.TheVariants.{NumbersSpent}
 use Rattle.snap_call.specs.declared.reply.Reply.{Reply}
 use Rattle.snap_call.specs.declared.reply.Reply.TheVariants as replies
 use Rattle.snap_call.specs.declared.state.State.{State}
 use Rattle.snap_call.specs.Good.{Good}
-use Rattle.snap_call.specs.Records.{active_at, has_key, is_slot, lowest_free, recharged, record_at, with_record, without_slot, committed_as}
+use Rattle.snap_call.specs.Records.{active_at, charge_of, has_key, is_slot, lowest_free, recharged, record_at, with_record, without_slot, committed_as}
 use Rattle.snap_call.specs.Forms.{is_key}
-use Rattle.snap_call.specs.State.{covers, limit_at, place_of}
-use Rattle.snap_call.specs.Step.{IsAllowed, IsCovered, IsOpen, ask, ask_in, ask_record, charge, charge_to, choice, commit_as, commit_under, discard, fits, greater, is_lease_text, new_active, no_more, one, prepare_in, prepare_slot, session, step, trim}
+use Rattle.snap_call.specs.State.{covers, limit_at, over_limit, place_of}
+use Rattle.snap_call.specs.Step.{IsAllowed, IsCovered, IsOpen, ask, ask_in, ask_record, charge, charge_to, choice, commit_as, commit_under, discard, fits, greater, is_lease_text, new_active, no_more, one, prepare_in, prepare_slot, prepared as prepared_state, refused, session, step, trim}
 use Rattle.snap_call.proofs.Kept.{covers-Covers, good_step}
 use Rattle.snap_call.proofs.Lowest.{lowest_free-Some}
 use Rattle.snap_call.proofs.Slots.{Active-is_slot, is_slot-other, active_at-with_record_own, active_at-with_record_other, active_at-without_slot_own, active_at-without_slot_other, active_at-recharged_own, active_at-recharged_other, active_at-committed_own, active_at-committed_other}
@@ -102,46 +104,46 @@ Left f p = AgreeAll (f p.1) p.0.records
 
 left_charge_to : (s : State) (slot : ℕ) (hands : List (Option HandValue)) (h : HandValue) (r : Record) → AgreeAll hands s.records → slot < length hands → hand_at slot hands ≡ Some h → active_at slot s.records ≡ Some r → IsHandOf slot h r
     → (a b : Bool) (needed wanted : Usage) → Covers needed (count_of h.snapshot.layer) → Covers wanted (count_of h.snapshot.layer) → Left (λ reply. with_hand slot (charged_hand h reply) hands) (charge_to s slot r (choice a b needed wanted))
-left_charge_to s slot hands h r agree low at open is true b needed wanted n w = recharges slot wanted hands s.records h r agree low open is w
-left_charge_to s slot hands h r agree low at open is false true needed wanted n w = recharges slot needed hands s.records h r agree low open is n
-left_charge_to s slot hands h r agree low at open is false false needed wanted n w = stays slot h hands s.records agree at
+left_charge_to s slot hands h r agree low at stands is true b needed wanted n w = recharges slot wanted hands s.records h r agree low stands is w
+left_charge_to s slot hands h r agree low at stands is false true needed wanted n w = recharges slot needed hands s.records h r agree low stands is n
+left_charge_to s slot hands h r agree low at stands is false false needed wanted n w = stays slot h hands s.records agree at
 
 left_charge : (s : State) (slot : ℕ) (need want : Usage) (hands : List (Option HandValue)) (h : HandValue) (r : Record) → AgreeAll hands s.records → slot < length hands → hand_at slot hands ≡ Some h → active_at slot s.records ≡ Some r → IsHandOf slot h r
     → Left (λ reply. with_hand slot (charged_hand h reply) hands) (charge s slot need want (active_at slot s.records))
-left_charge s slot need want hands h r agree low at open is =
+left_charge s slot need want hands h r agree low at stands is =
     let held : Covers (usage_of r.content) (count_of h.snapshot.layer) = subst (λ (u : Usage). Covers u (count_of h.snapshot.layer)) is.usage is.covers in
     let needed : Usage = greater (usage_of r.content) need in
     let n : Covers needed (count_of h.snapshot.layer) = more_of (usage_of r.content) need (count_of h.snapshot.layer) held in
-    subst (λ (o : Option Record). Left (λ reply. with_hand slot (charged_hand h reply) hands) (charge s slot need want o)) (sym open)
-    (left_charge_to s slot hands h r agree low at open is _ _ needed (greater needed want) n (more_of needed want (count_of h.snapshot.layer) n))
+    subst (λ (o : Option Record). Left (λ reply. with_hand slot (charged_hand h reply) hands) (charge s slot need want o)) (sym stands)
+    (left_charge_to s slot hands h r agree low at stands is _ _ needed (greater needed want) n (more_of needed want (count_of h.snapshot.layer) n))
 
 left_trim : (s : State) (slot : ℕ) (hands : List (Option HandValue)) (h : HandValue) (r : Record) → AgreeAll hands s.records → slot < length hands → active_at slot s.records ≡ Some r → IsHandOf slot h r
     → Left (λ reply. with_hand slot (charged_hand h reply) hands) (trim s slot (Count (count_of h.snapshot.layer)) (active_at slot s.records))
-left_trim s slot hands h r agree low open is =
-    subst (λ (o : Option Record). Left (λ reply. with_hand slot (charged_hand h reply) hands) (trim s slot (Count (count_of h.snapshot.layer)) o)) (sym open)
-    (recharges slot (count_of h.snapshot.layer) hands s.records h r agree low open is (record { blocks = omega arith; inodes = omega arith }))
+left_trim s slot hands h r agree low stands is =
+    subst (λ (o : Option Record). Left (λ reply. with_hand slot (charged_hand h reply) hands) (trim s slot (Count (count_of h.snapshot.layer)) o)) (sym stands)
+    (recharges slot (count_of h.snapshot.layer) hands s.records h r agree low stands is (record { blocks = omega arith; inodes = omega arith }))
 
 left_under : (s : State) (slot : ℕ) (name : Bytes) (lease : Option Bytes) (hands : List (Option HandValue)) (h : HandValue) (r : Record) → Good s → AgreeAll hands s.records → slot < length hands → active_at slot s.records ≡ Some r → IsHandOf slot h r
     → Left (λ reply. with_hand slot (committed h.snapshot reply) hands) (commit_under s slot name lease h.snapshot.layer r)
-left_under s slot name None hands h r good agree low open is =
-    goes slot hands s.records _ agree low (active_at-committed_own slot name h.snapshot.layer (s.entries + 1) s.records r good.slots) (λ k ne. active_at-committed_other slot k name h.snapshot.layer (s.entries + 1) s.records r ne)
-left_under s slot name (Some lease) hands h r good agree low open is = seals slot hands s.records h r agree low open is
+left_under s slot name None hands h r good agree low stands is =
+    goes slot hands s.records (with_record (committed_as name h.snapshot.layer (s.entries + 1) r) (without_slot slot s.records)) agree low (active_at-committed_own slot name h.snapshot.layer (s.entries + 1) s.records r good.slots) (λ k ne. active_at-committed_other slot k name h.snapshot.layer (s.entries + 1) s.records r ne)
+left_under s slot name (Some lease) hands h r good agree low stands is = seals slot hands s.records h r agree low stands is
 
 left_commit : (s : State) (slot : ℕ) (name : Bytes) (lease : Option Bytes) (hands : List (Option HandValue)) (h : HandValue) (r : Record) → Good s → AgreeAll hands s.records → slot < length hands → active_at slot s.records ≡ Some r → IsHandOf slot h r
     → Left (λ reply. with_hand slot (committed h.snapshot reply) hands) (commit_as s slot name lease h.snapshot.layer (active_at slot s.records))
-left_commit s slot name lease hands h r good agree low open is =
+left_commit s slot name lease hands h r good agree low stands is =
     let f : Reply → List (Option HandValue) = λ reply. with_hand slot (committed h.snapshot reply) hands in
-    let refuses = seals slot hands s.records h r agree low open is in
-    subst (λ (o : Option Record). Left f (commit_as s slot name lease h.snapshot.layer o)) (sym open)
+    let refuses = seals slot hands s.records h r agree low stands is in
+    subst (λ (o : Option Record). Left f (commit_as s slot name lease h.snapshot.layer o)) (sym stands)
     (cases_if (Left f) (is_key name && is_lease_text lease) _ _
-    (λ formed. cases_if (Left f) (has_key r.namespace name s.records) _ _ (λ taken. refuses) (λ new. left_under s slot name lease hands h r good agree low open is))
+    (λ formed. cases_if (Left f) (has_key r.namespace name s.records) _ _ (λ taken. refuses) (λ new. left_under s slot name lease hands h r good agree low stands is))
     (λ bad. refuses))
 
 left_discard : (s : State) (slot : ℕ) (hands : List (Option HandValue)) (r : Record) → Good s → AgreeAll hands s.records → slot < length hands → active_at slot s.records ≡ Some r
     → Left (λ reply. with_hand slot None hands) (discard s slot (active_at slot s.records))
-left_discard s slot hands r good agree low open =
-    subst (λ (o : Option Record). Left (λ reply. with_hand slot None hands) (discard s slot o)) (sym open)
-    (goes slot hands s.records _ agree low (active_at-without_slot_own slot s.records good.slots) (λ k ne. active_at-without_slot_other slot k s.records ne))
+left_discard s slot hands r good agree low stands =
+    subst (λ (o : Option Record). Left (λ reply. with_hand slot None hands) (discard s slot o)) (sym stands)
+    (goes slot hands s.records (without_slot slot s.records) agree low (active_at-without_slot_own slot s.records good.slots) (λ k ne. active_at-without_slot_other slot k s.records ne))
 
 -- ---- other calls
 
@@ -159,22 +161,24 @@ left_ask s hands answer namespace key agree = cases_if (Left (λ reply. hands)) 
 left_session : (s : State) (hands : List (Option HandValue)) → AgreeAll hands s.records → Left (λ reply. hands) (session s)
 left_session s hands agree = cases_if (Left (λ reply. hands)) (nat_lt s.sessions 65536) _ _ (λ e. agree) (λ e. agree)
 
-left_prepare_slot : (s : State) (place : ℕ) (key : Bytes) (hands : List (Option HandValue)) → AgreeAll hands s.records → length hands ≡ 64 → (o : Option ℕ) → lowest_free 64 s.records ≡ o → Left (prepared (Some place) key hands) (prepare_slot s place key o)
-left_prepare_slot s place key hands agree places None e = agree
-left_prepare_slot s place key hands agree places (Some slot) e =
+left_room : (s : State) (place : ℕ) (key : Bytes) (slot : ℕ) (hands : List (Option HandValue)) → AgreeAll hands s.records → length hands ≡ 64 → lowest_free 64 s.records ≡ Some slot → (room few : Bool)
+    → Left (prepared (Some place) key hands) (if room then if few then prepared_state s place key slot else refused s NumbersSpent else refused s (over_limit s place))
+left_room s place key slot hands agree places e true true =
     let lowest = lowest_free-Some s.records slot e in
     let new : Record = new_active s place key slot in
     let own : is_slot slot new ≡ true = Active-is_slot slot one new refl in
     let low : slot < length hands = (let p = lowest.0 in omega (arith, places)) in
-    let f : Reply → List (Option HandValue) = prepared (Some place) key hands in
-    cases_if (Left f) _ _ _
-    (λ room. cases_if (Left f) (nat_le s.next_id 4294967295) _ _
-    (λ few. agree_set slot (Some (fresh key s.next_id slot place)) hands s.records (with_record new s.records) agree low
+    agree_set slot (Some (fresh key s.next_id slot place)) hands s.records (with_record new s.records) agree low
     (subst (λ (x : Option Record). AgreesAt slot (Some (fresh key s.next_id slot place)) x) (sym (active_at-with_record_own slot new s.records own lowest.1))
     (record { namespace = refl; key = refl; slot = refl; id = refl; usage = refl; covers = record { blocks = omega arith; inodes = omega arith } }))
-    (λ k ne. active_at-with_record_other k new s.records (is_slot-other slot k new ne own)))
-    (λ spent. agree))
-    (λ over. agree)
+    (λ k ne. active_at-with_record_other k new s.records (is_slot-other slot k new ne own))
+left_room s place key slot hands agree places e true false = agree
+left_room s place key slot hands agree places e false few = agree
+
+left_prepare_slot : (s : State) (place : ℕ) (key : Bytes) (hands : List (Option HandValue)) → AgreeAll hands s.records → length hands ≡ 64 → (o : Option ℕ) → lowest_free 64 s.records ≡ o → Left (prepared (Some place) key hands) (prepare_slot s place key o)
+left_prepare_slot s place key hands agree places None e = agree
+left_prepare_slot s place key hands agree places (Some slot) e =
+    left_room s place key slot hands agree places e (covers (limit_at place s.namespaces) (plus (charge_of place s.records) one)) (nat_le s.next_id 4294967295)
 
 left_prepare_in : (s : State) (key : Bytes) (hands : List (Option HandValue)) → AgreeAll hands s.records → length hands ≡ 64 → (o : Option ℕ) → Left (prepared o key hands) (prepare_in s key o)
 left_prepare_in s key hands agree places None = agree
@@ -213,13 +217,13 @@ and_left false b e = absurd (cc)
 set_places : (w : WorldValue) (slot : ℕ) (o : Option HandValue) → Fits w → length (with_hand slot o w.hands) ≡ 64
 set_places w slot o fit = length-set w.hands slot o ∙ fit.places
 
--- the slot is open under the id
+-- the slot is stands under the id
 open_under : (w : WorldValue) (slot id : ℕ) (h : HandValue) (r : Record) → active_at slot w.state.records ≡ Some r → IsHandOf slot h r → is_under id h ≡ true → IsOpen id (active_at slot w.state.records)
-open_under w slot id h r open is under = subst (λ (o : Option Record). IsOpen id o) (sym open) (sym is.id ∙ under-id id h under)
+open_under w slot id h r stands is under = subst (λ (o : Option Record). IsOpen id o) (sym stands) (sym is.id ∙ under-id id h under)
 
 covered_under : (w : WorldValue) (slot id : ℕ) (h : HandValue) (r : Record) → active_at slot w.state.records ≡ Some r → IsHandOf slot h r → is_under id h ≡ true → IsCovered id (count_of h.snapshot.layer) (active_at slot w.state.records)
-covered_under w slot id h r open is under =
-    subst (λ (o : Option Record). IsCovered id (count_of h.snapshot.layer) o) (sym open)
+covered_under w slot id h r stands is under =
+    subst (λ (o : Option Record). IsCovered id (count_of h.snapshot.layer) o) (sym stands)
     (sym is.id ∙ under-id id h under, subst (λ (u : Usage). Covers u (count_of h.snapshot.layer)) is.usage is.covers)
 
 fits_called : (w : WorldValue) (n : ℕ) (call : Call) → Fits w → Fits (called w n call).0
@@ -244,26 +248,26 @@ fits_called w n (calls.Prepare namespace key parent labels) fit =
     places (replies.Refused why) = fit.places
 fits_called w n (calls.Charge slot id need want) fit =
     fits_on_hand w slot (is_working id) _ fit
-    (λ h r low at open is test. fits_admitted w 1 w.hands _ fit
-    (fits_recorded w n (calls.Charge slot id need want) Nothing (λ reply. with_hand slot (charged_hand h reply) w.hands) fit (open_under w slot id h r open is (and_left _ _ test)) (λ reply. set_places w slot _ fit)
-    (left_charge w.state slot need want w.hands h r fit.hands (let p = fit.places in omega (arith, low)) at open is)))
+    (λ h r low at stands is test. fits_admitted w 1 w.hands _ fit
+    (fits_recorded w n (calls.Charge slot id need want) Nothing (λ reply. with_hand slot (charged_hand h reply) w.hands) fit (open_under w slot id h r stands is (and_left _ _ test)) (λ reply. set_places w slot _ fit)
+    (left_charge w.state slot need want w.hands h r fit.hands (let p = fit.places in omega (arith, low)) at stands is)))
 fits_called w n (calls.Trim slot id) fit =
     fits_on_hand w slot (is_working id) _ fit
-    (λ h r low at open is test. fits_admitted w 1 w.hands _ fit
-    (fits_recorded w n (calls.Trim slot id) (Count (count_of h.snapshot.layer)) (λ reply. with_hand slot (charged_hand h reply) w.hands) fit (covered_under w slot id h r open is (and_left _ _ test)) (λ reply. set_places w slot _ fit)
-    (left_trim w.state slot w.hands h r fit.hands (let p = fit.places in omega (arith, low)) open is)))
+    (λ h r low at stands is test. fits_admitted w 1 w.hands _ fit
+    (fits_recorded w n (calls.Trim slot id) (Count (count_of h.snapshot.layer)) (λ reply. with_hand slot (charged_hand h reply) w.hands) fit (covered_under w slot id h r stands is (and_left _ _ test)) (λ reply. set_places w slot _ fit)
+    (left_trim w.state slot w.hands h r fit.hands (let p = fit.places in omega (arith, low)) stands is)))
 fits_called w n (calls.Commit slot id name lease) fit =
     fits_on_hand w slot (is_under id) _ fit
-    (λ h r low at open is test. let inside : slot < length w.hands = (let p = fit.places in omega (arith, low)) in
+    (λ h r low at stands is test. let inside : slot < length w.hands = (let p = fit.places in omega (arith, low)) in
     fits_admitted w 1 (with_hand slot (Some (sealed_hand h.snapshot)) w.hands) _
-    (record { good = fit.good; places = set_places w slot _ fit; hands = seals slot w.hands w.state.records h r fit.hands inside open is })
-    (fits_recorded w n (calls.Commit slot id name lease) (Layer h.snapshot.layer) (λ reply. with_hand slot (committed h.snapshot reply) w.hands) fit (covered_under w slot id h r open is test) (λ reply. set_places w slot _ fit)
-    (left_commit w.state slot name lease w.hands h r fit.good fit.hands inside open is)))
+    (record { good = fit.good; places = set_places w slot _ fit; hands = seals slot w.hands w.state.records h r fit.hands inside stands is })
+    (fits_recorded w n (calls.Commit slot id name lease) (Layer h.snapshot.layer) (λ reply. with_hand slot (committed h.snapshot reply) w.hands) fit (covered_under w slot id h r stands is test) (λ reply. set_places w slot _ fit)
+    (left_commit w.state slot name lease w.hands h r fit.good fit.hands inside stands is)))
 fits_called w n (calls.Discard slot id) fit =
     fits_on_hand w slot (is_under id) _ fit
-    (λ h r low at open is test.
-    fits_recorded w n (calls.Discard slot id) Nothing (λ reply. with_hand slot None w.hands) fit (open_under w slot id h r open is test) (λ reply. set_places w slot _ fit)
-    (left_discard w.state slot w.hands r fit.good fit.hands (let p = fit.places in omega (arith, low)) open))
+    (λ h r low at stands is test.
+    fits_recorded w n (calls.Discard slot id) Nothing (λ reply. with_hand slot None w.hands) fit (open_under w slot id h r stands is test) (λ reply. set_places w slot _ fit)
+    (left_discard w.state slot w.hands r fit.good fit.hands (let p = fit.places in omega (arith, low)) stands))
 fits_called w n (calls.Stat namespace key) fit =
     fits_admitted w 1 w.hands _ fit
     (fits_recorded w n (calls.Stat namespace key) Nothing (λ reply. w.hands) fit tt (λ r. fit.places) (left_ask w.state w.hands (λ r. replies.Info (info_of r)) namespace key fit.hands))
@@ -281,12 +285,12 @@ within share (Ok t) next is = at (covers share (count_of t)) refl is
     at false e is = absurd (cc)
 
 fits_filed : (w : WorldValue) (slot : ℕ) (h : HandValue) (r : Record) (o : Outcome) → Fits w → slot < 64 → active_at slot w.state.records ≡ Some r → IsHandOf slot h r → ((next : Tree) → o ≡ Ok next → Covers h.snapshot.share.usage (count_of next)) → Fits (filed w slot h o).0
-fits_filed w slot h r (Err e) fit low open is covers_it = fit
-fits_filed w slot h r (Ok next) fit low open is covers_it = record {
+fits_filed w slot h r (Err e) fit low stands is covers_it = fit
+fits_filed w slot h r (Ok next) fit low stands is covers_it = record {
   good = fit.good;
   places = set_places w slot _ fit;
   hands = agree_set slot _ w.hands w.state.records w.state.records fit.hands (let p = fit.places in omega (arith, low))
-      (subst (λ (x : Option Record). AgreesAt slot (Some (record { snapshot = record { namespace = h.snapshot.namespace; key = h.snapshot.key; layer = next; share = h.snapshot.share }; sealed = h.sealed })) x) (sym open)
+      (subst (λ (x : Option Record). AgreesAt slot (Some (record { snapshot = record { namespace = h.snapshot.namespace; key = h.snapshot.key; layer = next; share = h.snapshot.share }; sealed = h.sealed })) x) (sym stands)
       (record { namespace = is.namespace; key = is.key; slot = is.slot; id = is.id; usage = is.usage; covers = covers_it next refl }))
       (λ k ne. refl);
 }
@@ -296,7 +300,7 @@ pub fits_move : (w : WorldValue) (s : Step) → Fits w → Fits (move w s).0
 fits_move w (steps.Locked n call) fit = cases_if (λ (p : WorldValue × Answer). Fits p.0) (is_its_session w.state.sessions n call) _ _ (λ e. fits_called w n call fit) (λ e. fit)
 fits_move w (steps.Hand slot op) fit =
     fits_on_hand w slot is_unsealed _ fit
-    (λ h r low at open is test. fits_filed w slot h r (worked op h.snapshot.share.usage h.snapshot.layer) fit low open is (λ next e. within h.snapshot.share.usage (after op h.snapshot.layer []) next e))
+    (λ h r low at stands is test. fits_filed w slot h r (worked op h.snapshot.share.usage h.snapshot.layer) fit low stands is (λ next e. within h.snapshot.share.usage (after op h.snapshot.layer []) next e))
 
 fits_sealed : (w : WorldValue) (slot : ℕ) → Fits w → Fits (with_sealed w slot)
 fits_sealed w slot fit = at (hand_at slot w.hands) refl
@@ -323,3 +327,9 @@ pub fits_moves : (w v : WorldValue) (s : Step) (answer : Answer) → Fits w → 
 fits_moves w v s answer fit (inl e) = subst Fits (ap (λ (p : WorldValue × Answer). p.0) e) (fits_move w s fit)
 fits_moves w v (steps.Locked n call) answer fit (inr e) = fits_left w v call fit e.1
 fits_moves w v (steps.Hand slot op) answer fit (inr e) = subst Fits (sym e.1) fit
+
+pub fits_locked : (w v : WorldValue) (n : ℕ) (call : Call) (answer : Answer) → Fits w → Moves w (steps.Locked n call) answer v → Fits v
+fits_locked w v n call answer fit moves = fits_moves w v (steps.Locked n call) answer fit moves
+
+pub fits_file : (w v : WorldValue) (slot : ℕ) (op : Op) (answer : Answer) → Fits w → Moves w (steps.Hand slot op) answer v → Fits v
+fits_file w v slot op answer fit moves = fits_moves w v (steps.Hand slot op) answer fit moves

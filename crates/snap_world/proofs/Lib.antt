@@ -4,3 +4,4 @@ mod Steps
 mod Hold
 mod Does
 mod Fitting
+mod Running
