@@ -11,5 +11,8 @@ returns-in-Ok g c =
 pub returns-in-Err : goal.returns-in-Err
 returns-in-Err g c =
     let found = c.in-Some.ensures in
-    inr (refl, inl (ap (λ (hands : List (Option HandValue)). world_of c.args.book.now hands)
-    (back_again _ _ _ c.args.slot c.in-Some.hand found.0 found.3 (c.put.ensures ∙ ap (λ (h : HandValue). with_hand c.args.slot (Some h) c.take_under.new.self) c.in-Err.ensures.err))))
+    inr (
+      refl,
+      inl (ap (λ (hands : List (Option HandValue)). world_of c.args.book.now hands)
+          (back_again _ _ _ c.args.slot c.in-Some.hand found.0 found.3 (c.put.ensures ∙ ap (λ (h : HandValue). with_hand c.args.slot (Some h) c.take_under.new.self) c.in-Err.ensures.err))),
+    )
