@@ -1,5 +1,7 @@
 -- A world that is opened.
 use Rattle.std.proofs.Common.{◌≡◌, ℕ, zero, suc, ◌<◌, List, [], ◌∷◌, length, replicate, Bool, true, false, Option, None, Some, refl, sym, ap, ◌∙◌, subst}
+use Rattle.std.specs.Prelude.{Result, Ok, Err, IsErrOf}
+use Rattle.snap_call.specs.declared.refusal.Refusal.{Refusal}
 use Rattle.snap_record.specs.declared.record.Record.{Record}
 use Rattle.snap_call.specs.declared.config.Config.{Config}
 use Rattle.snap_call.specs.declared.state.State.{State}
@@ -24,6 +26,10 @@ opened_fits c valid j = record {
   places = refl;
   hands = λ slot low. subst (λ (o : Option HandValue). AgreesAt slot o None) (sym (no_hand 64 slot)) tt;
 }
+
+-- a book that was opened had a valid configuration
+pub was_valid : (b : BookValue) (why : Refusal) (c : Config) → ((is_config c ≡ false) → IsErrOf (Ok b) why) → is_config c ≡ false → ⊥
+was_valid b why c h e = let f : Ok b ≡ Err why = h e in absurd (cc)
 
 -- no hands, and no open slots
 pub fits_opening : (b t : BookValue) (hands : List (Option HandValue)) (c : Config) → (is_config c ≡ false → ⊥) → b ≡ t → t.state ≡ opening c → hands ≡ replicate 64 None → Fits (world_of b hands)
