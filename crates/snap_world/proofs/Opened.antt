@@ -1,8 +1,7 @@
 -- A world that is opened.
-use Rattle.std.proofs.Common.{◌≡◌, ℕ, zero, suc, ◌<◌, List, [], ◌∷◌, length, replicate, Bool, true, false, Option, None, Some, refl, sym, ap, ◌∙◌, subst}
-use Rattle.std.specs.Prelude.{Result, Ok, Err, IsErrOf}
+use Rattle.std.proofs.Common.{◌≡◌, ℕ, zero, suc, List, replicate, Bool, true, false, Option, None, refl, sym, ap, ◌∙◌, subst}
+use Rattle.std.specs.Prelude.{Ok, Err, IsErrOf}
 use Rattle.snap_call.specs.declared.refusal.Refusal.{Refusal}
-use Rattle.snap_record.specs.declared.record.Record.{Record}
 use Rattle.snap_call.specs.declared.config.Config.{Config}
 use Rattle.snap_call.specs.declared.state.State.{State}
 use Rattle.snap_call.specs.Forms.{is_config}

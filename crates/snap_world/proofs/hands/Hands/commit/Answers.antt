@@ -1,4 +1,4 @@
-use Rattle.std.proofs.Common.{◌≡◌, Some, List, Option, inl, inr, refl, ap, ◌∙◌}
+use Rattle.std.proofs.Common.{Some, List, Option, inl, inr, refl, ap, ◌∙◌}
 use Rattle.snap_world.specs.World.{HandValue, with_hand, world_of}
 use Rattle.snap_world.proofs.Does.{commit_does, back_again}
 use Rattle.snap_world.proofs.hands.Hands.commit.Goals as goal

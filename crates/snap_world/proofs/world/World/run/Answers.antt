@@ -1,4 +1,4 @@
-use Rattle.std.proofs.Common.{◌≡◌, arith, subst}
+use Rattle.std.proofs.Common.{arith, subst}
 use Rattle.snap_world.specs.declared.step.Step.{Step}
 use Rattle.snap_world.specs.Runs.{Moves}
 use Rattle.snap_world.proofs.Running.{runs_step}
