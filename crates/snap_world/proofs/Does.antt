@@ -1,0 +1,162 @@
+-- The calls on hands and those that ask, one by one.
+use Rattle.std.proofs.Common.{◌≡◌, ◌⊎◌, inl, inr, ℕ, ◌+◌, ◌≤◌, ◌<◌, List, length, true, false, Bool, Option, None, Some, refl, sym, ap, ◌∙◌, subst, ⊎_elim, arith}
+use Rattle.std.specs.Prelude.{◌↔◌, if◌then◌else◌, Result, Ok, Err, OnOk, OnErr, IfErr}
+use Rattle.std.specs.Option.{option_map}
+use Rattle.snap_usage.specs.declared.usage.Usage.{Usage}
+use Rattle.snap_usage.specs.Counted.{count_of}
+use Rattle.snap_record.specs.Labels.{Bytes, Label}
+use Rattle.snap_call.specs.declared.call.Call.{Call}
+use Rattle.snap_call.specs.declared.call.Call.TheVariants as calls
+use Rattle.snap_call.specs.declared.call.Given.{Given}
+use Rattle.snap_call.specs.declared.call.Given.TheVariants.{Nothing, Count, Layer}
+use Rattle.snap_call.specs.declared.refusal.Refusal.TheVariants.{JournalFull, OutOfMemory}
+use Rattle.snap_call.specs.declared.reply.Reply.{Reply}
+use Rattle.snap_call.specs.declared.reply.Reply.TheVariants.{Refused}
+use Rattle.snap_call.specs.Records.{open_count}
+use Rattle.snap_call.specs.State.{place_of}
+use Rattle.snap_merge.specs.declared.error.FsError.{FsError}
+use Rattle.snap_merge.specs.declared.error.FsError.TheVariants as errors
+use Rattle.snap_upper.specs.declared.op.Op.{Op}
+use Rattle.snap_book.specs.Working.{worked}
+use Rattle.snap_book.specs.Active.{ActiveValue}
+use Rattle.snap_book.specs.Book.{BookValue, AnsweredBy, Asks}
+use Rattle.snap_world.specs.declared.step.Answer.{Answer}
+use Rattle.snap_world.specs.declared.step.Answer.TheVariants as answers
+use Rattle.snap_world.specs.declared.step.Step.TheVariants as steps
+use Rattle.snap_world.specs.World.{HandValue, WorldValue, Fits, hand_at, with_hand, world_of}
+use Rattle.snap_world.specs.Move.{called, charged, committed, filed, is_its_session, is_under, is_unsealed, meets, prepared, sealed_hand}
+use Rattle.snap_world.specs.Runs.{DoesCall, Moves}
+use Rattle.snap_world.proofs.Ends.{ends}
+use Rattle.snap_world.proofs.Hold.{placed, under-id}
+use Rattle.snap_world.proofs.Places.{with_hand-twice, with_hand-again}
+use Rattle.snap_world.proofs.Steps.{admits, charges, found, in_session, missed}
+
+pub charge_does : (old new : BookValue) (hands out after : List (Option HandValue)) (slot n id : ℕ) (need want : Usage) (a b : ActiveValue) (reply : Reply) → Fits (world_of old hands)
+    → hand_at slot hands ≡ Some (record { snapshot = a; sealed = false }) → is_under id (record { snapshot = a; sealed = false }) ≡ true → slot < 64
+    → AnsweredBy old new n (calls.Charge a.share.slot a.share.id need want) Nothing reply → b ≡ charged a reply → (reply ≡ Refused JournalFull) ↔ (old.limit ≤ length old.journal + open_count old.state.records)
+    → out ≡ with_hand slot None hands → after ≡ with_hand slot (Some (record { snapshot = b; sealed = false })) out
+    → DoesCall (world_of old hands) n (calls.Charge slot id need want) (answers.Reply reply) (world_of new after)
+charge_does old new hands out after slot n id need want a b reply fits at under low answered is full gone back =
+    let h : HandValue = record { snapshot = a; sealed = false } in
+    let slot_is : a.share.slot ≡ slot = placed (world_of old hands) slot h fits low at in
+    let id_is : a.share.id ≡ id = under-id id h under in
+    let here : AnsweredBy old new n (calls.Charge slot id need want) Nothing reply =
+    subst (λ (i : ℕ). AnsweredBy old new n (calls.Charge slot i need want) Nothing reply) id_is
+    (subst (λ (k : ℕ). AnsweredBy old new n (calls.Charge k a.share.id need want) Nothing reply) slot_is answered) in
+    charges old new hands out after slot n id (calls.Charge slot id need want) (λ g. Nothing) a b reply at under here is full gone back
+
+pub trim_does : (old new : BookValue) (hands out after : List (Option HandValue)) (slot n id : ℕ) (a b : ActiveValue) (reply : Reply) → Fits (world_of old hands)
+    → hand_at slot hands ≡ Some (record { snapshot = a; sealed = false }) → is_under id (record { snapshot = a; sealed = false }) ≡ true → slot < 64
+    → AnsweredBy old new n (calls.Trim a.share.slot a.share.id) (Count (count_of a.layer)) reply → b ≡ charged a reply → (reply ≡ Refused JournalFull) ↔ (old.limit ≤ length old.journal + open_count old.state.records)
+    → out ≡ with_hand slot None hands → after ≡ with_hand slot (Some (record { snapshot = b; sealed = false })) out
+    → DoesCall (world_of old hands) n (calls.Trim slot id) (answers.Reply reply) (world_of new after)
+trim_does old new hands out after slot n id a b reply fits at under low answered is full gone back =
+    let h : HandValue = record { snapshot = a; sealed = false } in
+    let slot_is : a.share.slot ≡ slot = placed (world_of old hands) slot h fits low at in
+    let id_is : a.share.id ≡ id = under-id id h under in
+    let here : AnsweredBy old new n (calls.Trim slot id) (Count (count_of a.layer)) reply =
+    subst (λ (i : ℕ). AnsweredBy old new n (calls.Trim slot i) (Count (count_of a.layer)) reply) id_is
+    (subst (λ (k : ℕ). AnsweredBy old new n (calls.Trim k a.share.id) (Count (count_of a.layer)) reply) slot_is answered) in
+    charges old new hands out after slot n id (calls.Trim slot id) (λ g. Count (count_of g.snapshot.layer)) a b reply at under here is full gone back
+
+pub commit_does : (old new : BookValue) (hands out after : List (Option HandValue)) (slot n id : ℕ) (name : Bytes) (lease : Option Bytes) (h : HandValue) (a : ActiveValue) (reply : Reply)
+    → hand_at slot hands ≡ Some h → is_under id h ≡ true → a ≡ h.snapshot
+    → AnsweredBy old new n (calls.Commit slot id name lease) (Layer a.layer) reply → (reply ≡ Refused JournalFull) ↔ (old.limit ≤ length old.journal + open_count old.state.records)
+    → out ≡ with_hand slot None hands → after ≡ with_hand slot (committed a reply) out
+    → DoesCall (world_of old hands) n (calls.Commit slot id name lease) (answers.Reply reply) (world_of new after)
+commit_does old new hands out after slot n id name lease h a reply at under is answered full gone back =
+    let call : Call = calls.Commit slot id name lease in
+    let f : Reply → List (Option HandValue) = λ r. with_hand slot (committed h.snapshot r) hands in
+    let left : after ≡ f reply = back ∙ (ap (λ (l : List (Option HandValue)). with_hand slot (committed a reply) l) gone
+    ∙ (with_hand-twice slot None (committed a reply) hands ∙ ap (λ (v : ActiveValue). with_hand slot (committed v reply) hands) is)) in
+    let full_here : (reply ≡ Refused JournalFull) ↔ (old.limit < length old.journal + open_count old.state.records + 1) = (λ e. (let p = full.0 e in omega arith), λ lt. full.1 (omega (arith, lt))) in
+    let here : AnsweredBy old new n call (Layer h.snapshot.layer) reply = subst (λ (v : ActiveValue). AnsweredBy old new n call (Layer v.layer) reply) is answered in
+    ⊎_elim
+    (λ e. inl (found (world_of old hands) slot (is_under id) _ h at under ∙ e))
+    (λ e. inr (ap answers.Reply e.0, inr (λ i. world_of (e.1 i) ((left ∙ (ap f e.0 ∙ ap (λ (o : Option HandValue). with_hand slot (option_map (λ g. sealed_hand g.snapshot) o) hands) (sym at))) i))))
+    (admits old new hands after (f (Refused JournalFull)) 1 n call (Layer h.snapshot.layer) f reply (ends old new n call (Layer h.snapshot.layer) reply here) full_here left refl)
+
+-- a hand that comes back into its place
+pub back_again : (hands out after : List (Option HandValue)) (slot : ℕ) (h : HandValue) → hand_at slot hands ≡ Some h → out ≡ with_hand slot None hands → after ≡ with_hand slot (Some h) out → after ≡ hands
+back_again hands out after slot h at gone back =
+    back ∙ (ap (λ (l : List (Option HandValue)). with_hand slot (Some h) l) gone ∙ (with_hand-twice slot None (Some h) hands ∙ with_hand-again slot (Some h) hands at))
+
+pub asks_does : (old new : BookValue) (hands : List (Option HandValue)) (n : ℕ) (call : Call) (reply : Reply) → Asks call → AnsweredBy old new n call Nothing reply
+    → (reply ≡ Refused JournalFull) ↔ (old.limit ≤ length old.journal + open_count old.state.records) → DoesCall (world_of old hands) n call (answers.Reply reply) (world_of new hands)
+asks_does old new hands n call reply asks answered full = at call asks answered
+  where
+    full_here : (reply ≡ Refused JournalFull) ↔ (old.limit < length old.journal + open_count old.state.records + 1)
+    full_here = (λ e. (let p = full.0 e in omega arith), λ lt. full.1 (omega (arith, lt)))
+
+    at : (call : Call) → Asks call → AnsweredBy old new n call Nothing reply → DoesCall (world_of old hands) n call (answers.Reply reply) (world_of new hands)
+    at calls.Session a h = absurd a
+    at (calls.Prepare namespace key parent labels) a h = absurd a
+    at (calls.Charge slot id need want) a h = absurd a
+    at (calls.Trim slot id) a h = absurd a
+    at (calls.Commit slot id name lease) a h = absurd a
+    at (calls.Discard slot id) a h = absurd a
+    at (calls.Stat namespace key) a h =
+        ⊎_elim (λ e. inl e) (λ e. inr (ap answers.Reply e.0, ap (λ (b : BookValue). world_of b hands) e.1))
+        (admits old new hands hands hands 1 n (calls.Stat namespace key) Nothing (λ r. hands) reply (ends old new n (calls.Stat namespace key) Nothing reply h) full_here refl refl)
+    at (calls.Usage namespace key) a h =
+        ⊎_elim (λ e. inl e) (λ e. inr (ap answers.Reply e.0, ap (λ (b : BookValue). world_of b hands) e.1))
+        (admits old new hands hands hands 1 n (calls.Usage namespace key) Nothing (λ r. hands) reply (ends old new n (calls.Usage namespace key) Nothing reply h) full_here refl refl)
+
+pub prepare_does : (old new : BookValue) (hands after : List (Option HandValue)) (n : ℕ) (namespace key parent : Bytes) (labels : List Label) (reply : Reply) → AnsweredBy old new n (calls.Prepare namespace key parent labels) Nothing reply
+    → after ≡ prepared (place_of namespace old.state.namespaces) key hands reply → (reply ≡ Refused JournalFull) ↔ (old.limit < length old.journal + open_count old.state.records + 2)
+    → DoesCall (world_of old hands) n (calls.Prepare namespace key parent labels) (answers.Reply reply) (world_of new after)
+prepare_does old new hands after n namespace key parent labels reply answered left full =
+    let f : Reply → List (Option HandValue) = prepared (place_of namespace old.state.namespaces) key hands in
+    ⊎_elim (λ e. inl e) (λ e. inr (ap answers.Reply e.0, λ i. world_of (e.1 i) ((left ∙ ap f e.0) i)))
+    (admits old new hands after hands 2 n (calls.Prepare namespace key parent labels) Nothing f reply (ends old new n (calls.Prepare namespace key parent labels) Nothing reply answered) full left refl)
+
+-- a call in its session is a step
+pub does_moves : (w v : WorldValue) (n : ℕ) (call : Call) (answer : Answer) → is_its_session w.state.sessions n call ≡ true → DoesCall w n call answer v → Moves w (steps.Locked n call) answer v
+does_moves w v n call answer own (inl e) = inl (in_session w n call _ own e)
+does_moves w v n call answer own (inr e) = inr e
+
+pub no_session : (w : WorldValue) (n : ℕ) (call : Call) → is_its_session w.state.sessions n call ≡ false → Moves w (steps.Locked n call) answers.NoSession w
+no_session w n call not_own = inl (ap (λ (b : Bool). if b then called w n call else (w, answers.NoSession)) not_own)
+
+-- the session that is opened
+pub session_does : (w v : WorldValue) (m n : ℕ) (answer : Answer) → n ≡ m → DoesCall w m calls.Session answer v → DoesCall w n calls.Session answer v
+session_does w v m n answer e does = subst (λ (k : ℕ). DoesCall w k calls.Session answer v) (sym e) does
+
+-- an operation on the hand that was taken out
+pub file_moves : (b : BookValue) (hands out after : List (Option HandValue)) (slot : ℕ) (op : Op) (a v : ActiveValue) (outcome : Result (Unit {0}) FsError)
+    → hand_at slot hands ≡ Some (record { snapshot = a; sealed = false }) → OnOk outcome (worked op a.share.usage a.layer ≡ Ok v.layer) → OnOk outcome (v ≡ record a { layer = v.layer })
+    → IfErr outcome (λ e. (e ≡ errors.OutOfMemory) ⊎ (worked op a.share.usage a.layer ≡ Err e)) → OnErr outcome (v ≡ a)
+    → out ≡ with_hand slot None hands → after ≡ with_hand slot (Some (record { snapshot = v; sealed = false })) out
+    → Moves (world_of b hands) (steps.Hand slot op) (answers.File outcome) (world_of b after)
+file_moves b hands out after slot op a v (Ok tt) at ok same error unchanged gone back =
+    let h : HandValue = record { snapshot = a; sealed = false } in
+    let w = world_of b hands in
+    let to : HandValue = record { snapshot = v; sealed = false } in
+    let left : after ≡ with_hand slot (Some to) hands = back ∙ (ap (λ (l : List (Option HandValue)). with_hand slot (Some to) l) gone ∙ with_hand-twice slot None (Some to) hands) in
+    inl (found w slot is_unsealed (λ g. filed w slot g (worked op g.snapshot.share.usage g.snapshot.layer)) h at refl
+    ∙ (ap (filed w slot h) ok ∙ (λ i. (world_of b ((ap (λ (x : ActiveValue). with_hand slot (Some (record { snapshot = x; sealed = false })) hands) (sym same) ∙ sym left) i), answers.File (Ok tt)))))
+file_moves b hands out after slot op a v (Err e) at ok same (inl want) unchanged gone back =
+    let h : HandValue = record { snapshot = a; sealed = false } in
+    let left = back_again hands out after slot h at gone (back ∙ ap (λ (x : ActiveValue). with_hand slot (Some (record { snapshot = x; sealed = false })) out) unchanged) in
+    inr (ap (λ (x : FsError). answers.File (Err x)) want, ap (λ (l : List (Option HandValue)). world_of b l) left)
+file_moves b hands out after slot op a v (Err e) at ok same (inr err) unchanged gone back =
+    let h : HandValue = record { snapshot = a; sealed = false } in
+    let w = world_of b hands in
+    let left = back_again hands out after slot h at gone (back ∙ ap (λ (x : ActiveValue). with_hand slot (Some (record { snapshot = x; sealed = false })) out) unchanged) in
+    inl (found w slot is_unsealed (λ g. filed w slot g (worked op g.snapshot.share.usage g.snapshot.layer)) h at refl
+    ∙ (ap (filed w slot h) err ∙ (λ i. (world_of b (sym left i), answers.File (Err e)))))
+
+pub no_file : (b : BookValue) (hands : List (Option HandValue)) (slot : ℕ) (op : Op) → meets is_unsealed (hand_at slot hands) ≡ false → Moves (world_of b hands) (steps.Hand slot op) answers.NoHand (world_of b hands)
+no_file b hands slot op e =
+    let w = world_of b hands in
+    inl (missed w slot is_unsealed (λ g. filed w slot g (worked op g.snapshot.share.usage g.snapshot.layer)) e)
+
+-- the same, where the texts are read first
+pub prepare_does_as : (old new : BookValue) (hands after : List (Option HandValue)) (n : ℕ) (a b c namespace key parent : Bytes) (labels : List Label) (reply : Reply) → a ≡ namespace → b ≡ key → c ≡ parent
+    → AnsweredBy old new n (calls.Prepare a b c labels) Nothing reply → after ≡ prepared (place_of a old.state.namespaces) b hands reply → (reply ≡ Refused JournalFull) ↔ (old.limit < length old.journal + open_count old.state.records + 2)
+    → DoesCall (world_of old hands) n (calls.Prepare namespace key parent labels) (answers.Reply reply) (world_of new after)
+prepare_does_as old new hands after n a b c namespace key parent labels reply is_a is_b is_c answered left full =
+    subst (λ (x : Bytes). DoesCall (world_of old hands) n (calls.Prepare x key parent labels) (answers.Reply reply) (world_of new after)) is_a
+    (subst (λ (x : Bytes). DoesCall (world_of old hands) n (calls.Prepare a x parent labels) (answers.Reply reply) (world_of new after)) is_b
+    (subst (λ (x : Bytes). DoesCall (world_of old hands) n (calls.Prepare a b x labels) (answers.Reply reply) (world_of new after)) is_c
+    (prepare_does old new hands after n a b c labels reply answered left full)))

@@ -1,0 +1,7 @@
+mod Places
+mod Ends
+mod Steps
+mod Hold
+mod Does
+mod Fitting
+mod Running

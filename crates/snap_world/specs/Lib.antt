@@ -1,0 +1,4 @@
+pub mod World
+pub mod Hand
+pub mod Move
+pub mod Runs

@@ -1,0 +1,285 @@
+// The open snapshots of a world, each in the place of its slot. They have to be spent.
+ghost use Rattle.std.specs.Prelude.{◌≡◌, ◌<◌, false, true, replicate, Some, None, IfOk, IfErr, IfSome, IsSome, MatchOption, option_copied};
+ghost use Rattle.snap_usage.specs.Counted.{count_of};
+ghost use Rattle.snap_book.specs.Held.{share_of};
+ghost use Rattle.snap_world.specs.World.{hand_at, with_hand};
+ghost use Rattle.snap_world.specs.Move.{is_under, is_unsealed, is_working, meets};
+
+use snap_book::{Active, Book, Held, Sealed};
+use snap_ledger::StoreName;
+use snap_usage::Usage;
+use std::alloc::{AllocError, Global};
+use std::marker::Model;
+use std::mem;
+
+// An open snapshot, sealed or not, and its id.
+pub(crate) struct Hand<N: StoreName> {
+    id: u32,
+    held: Held<N>,
+}
+
+impl<N: StoreName> Model for Hand<N> {
+    ghost use Rattle.std.specs.Prelude.{◌≡◌};
+    ghost use Rattle.snap_book.specs.Held.{share_of};
+    ghost use Rattle.snap_world.specs.World.{HandValue};
+    ghost use Rattle.snap_world.specs.Hand.{hand_of};
+
+    ghost Value = { HandValue };
+
+    ghost view = { λ h. hand_of h.held };
+
+    ghost invariant = { λ h. h.id ≡ (share_of h.held).id };
+}
+
+impl<N: StoreName> Hand<N> {
+    // A snapshot whose layer may change.
+    pub(crate) fn of(active: Active<N>) -> Hand<N>
+        ensures { result ≡ record { snapshot = active; sealed = false } }
+    {
+        let id = active.id();
+        Hand {
+            id,
+            held: Held::Active(active),
+        }
+    }
+
+    // A sealed one.
+    pub(crate) fn of_sealed(id: u32, sealed: Sealed<N>) -> Hand<N>
+        requires { id ≡ sealed.share.id }
+        ensures { result ≡ record { snapshot = sealed; sealed = true } }
+    {
+        Hand {
+            id,
+            held: Held::Sealed(sealed),
+        }
+    }
+
+    // It is the snapshot of this id.
+    pub(crate) fn is_under(&self, id: u32) -> bool
+        ensures { result ≡ is_under id self.now }
+    {
+        self.id == id
+    }
+
+    pub(crate) fn is_sealed(&self) -> bool
+        ensures { result ≡ self.now.sealed }
+    {
+        match &self.held {
+            Held::Active(_) => false,
+            Held::Sealed(_) => true,
+        }
+    }
+
+    // What its slot is charged.
+    pub(crate) fn share(&self) -> Usage
+        ensures { result ≡ self.now.snapshot.share.usage }
+    {
+        match &self.held {
+            Held::Active(active) => active.share(),
+            Held::Sealed(sealed) => sealed.share(),
+        }
+    }
+
+    // What its layer takes.
+    pub(crate) fn count(&self) -> Usage
+        ensures { result ≡ count_of self.now.snapshot.layer }
+    {
+        match &self.held {
+            Held::Active(active) => active.count(),
+            Held::Sealed(sealed) => sealed.usage(),
+        }
+    }
+
+    // What is given back to the book.
+    pub(crate) fn into_held(self) -> Held<N>
+        ensures { share_of result ≡ self.snapshot.share }
+    {
+        let Hand { id: _, held } = self;
+        held
+    }
+
+    pub(crate) fn into_active(self) -> Active<N>
+        requires { self.sealed ≡ false }
+        ensures { result ≡ self.snapshot }
+    {
+        let Hand { id: _, held } = self;
+        let Held::Active(active) = held else {
+            unreachable!()
+        };
+        active
+    }
+
+    // Its layer does not change any more. Where memory is refused it comes back as it was.
+    pub(crate) fn seal(self) -> Result<Sealed<N>, Hand<N>>
+        ensures ok { IfOk result (λ s. s ≡ self.snapshot) }
+        ensures err { IfErr result (λ h. h ≡ self) }
+    {
+        let Hand { id, held } = self;
+        match held {
+            Held::Active(active) => match active.seal() {
+                Ok(sealed) => Ok(sealed),
+                Err(active) => Err(Hand {
+                    id,
+                    held: Held::Active(active),
+                }),
+            },
+            Held::Sealed(sealed) => Ok(sealed),
+        }
+    }
+}
+
+// A place for each of the 64 slots.
+pub(crate) struct Hands<N: StoreName> {
+    alloc: Global,
+    list: Vec<Option<Hand<N>>>,
+}
+
+impl<N: StoreName> Model for Hands<N> {
+    ghost use Rattle.std.specs.Prelude.{◌≡◌, List, Option, length};
+    ghost use Rattle.snap_world.specs.World.{HandValue};
+
+    ghost Value = { List (Option HandValue) };
+
+    ghost view = { λ h. h.list.items };
+
+    ghost invariant = { λ h. length h.list.items ≡ 64 };
+}
+
+impl<N: StoreName> Hands<N> {
+    // No hands.
+    pub(crate) fn open(alloc: Global) -> Result<Hands<N>, AllocError>
+        ensures { IfOk result (λ hands. hands ≡ replicate 64 None) }
+    {
+        let mut list = Vec::with_capacity(alloc, 64)?;
+        for _ in 0..64_u64 {
+            list.push_reserved(None);
+        }
+        Ok(Hands { alloc, list })
+    }
+
+    // Where memory comes from.
+    pub(crate) fn alloc(&self) -> Global {
+        self.alloc
+    }
+
+    // The hand of the slot, if one stands there.
+    pub(crate) fn get(&self, slot: u64) -> Option<&Hand<N>>
+        ensures { option_copied result ≡ hand_at slot self.now }
+    {
+        match self.list.get(slot as usize) {
+            Some(place) => place.as_ref(),
+            None => None,
+        }
+    }
+
+    // The hand goes out of its place.
+    pub(crate) fn take(&mut self, slot: u64) -> Option<Hand<N>>
+        ensures taken { result ≡ hand_at slot self.old }
+        ensures low { IfSome result (λ _. slot < 64) }
+        ensures rest { self.new ≡ with_hand slot None self.old }
+    {
+        if slot < 64 {
+            self.list[slot as usize].take()
+        } else {
+            None
+        }
+    }
+
+    // Whether the hand of the snapshot of this id stands there.
+    pub(crate) fn has(&self, slot: u64, id: u32) -> bool
+        ensures { result ≡ meets (is_under id) (hand_at slot self.now) }
+    {
+        match self.get(slot) {
+            Some(hand) => hand.is_under(id),
+            None => false,
+        }
+    }
+
+    // Whether a hand stands there that isn't sealed.
+    pub(crate) fn has_unsealed(&self, slot: u64) -> bool
+        ensures { result ≡ meets is_unsealed (hand_at slot self.now) }
+    {
+        match self.get(slot) {
+            Some(hand) => !hand.is_sealed(),
+            None => false,
+        }
+    }
+
+    // Both.
+    pub(crate) fn has_working(&self, slot: u64, id: u32) -> bool
+        ensures { result ≡ meets (is_working id) (hand_at slot self.now) }
+    {
+        match self.get(slot) {
+            Some(hand) => hand.is_under(id) && !hand.is_sealed(),
+            None => false,
+        }
+    }
+
+    // The hand that stands there goes out of its place.
+    pub(crate) fn take_out(&mut self, slot: u64) -> Hand<N>
+        requires { IsSome (hand_at slot self.old) }
+        ensures hand { hand_at slot self.old ≡ Some result }
+        ensures low { slot < 64 }
+        ensures rest { self.new ≡ with_hand slot None self.old }
+    {
+        let taken = self.take(slot);
+        let Some(hand) = taken else { unreachable!() };
+        hand
+    }
+
+    // The snapshot of this id goes out of its place, if it stands there.
+    pub(crate) fn take_under(&mut self, slot: u64, id: u32) -> Option<Hand<N>>
+        ensures { MatchOption result ((meets (is_under id) (hand_at slot self.old) ≡ false) × (self.new ≡ self.old)) (λ h. (hand_at slot self.old ≡ Some h) × (is_under id h ≡ true) × (slot < 64) × (self.new ≡ with_hand slot None self.old)) }
+    {
+        if self.has(slot, id) {
+            Some(self.take_out(slot))
+        } else {
+            None
+        }
+    }
+
+    // And if it isn't sealed.
+    pub(crate) fn take_working(&mut self, slot: u64, id: u32) -> Option<Active<N>>
+        ensures { MatchOption result ((meets (is_working id) (hand_at slot self.old) ≡ false) × (self.new ≡ self.old)) (λ a. (hand_at slot self.old ≡ Some (record { snapshot = a; sealed = false })) × (is_under id (record { snapshot = a; sealed = false }) ≡ true) × (slot < 64) × (self.new ≡ with_hand slot None self.old)) }
+    {
+        if self.has_working(slot, id) {
+            Some(self.take_out(slot).into_active())
+        } else {
+            None
+        }
+    }
+
+    // The snapshot goes out of its place, if one stands there that isn't sealed.
+    pub(crate) fn take_unsealed(&mut self, slot: u64) -> Option<Active<N>>
+        ensures { MatchOption result ((meets is_unsealed (hand_at slot self.old) ≡ false) × (self.new ≡ self.old)) (λ a. (hand_at slot self.old ≡ Some (record { snapshot = a; sealed = false })) × (slot < 64) × (self.new ≡ with_hand slot None self.old)) }
+    {
+        if self.has_unsealed(slot) {
+            Some(self.take_out(slot).into_active())
+        } else {
+            None
+        }
+    }
+
+    // A hand comes into a free place.
+    pub(crate) fn put(&mut self, slot: u64, hand: Hand<N>)
+        requires low { slot < 64 }
+        requires free { hand_at slot self.old ≡ None }
+        ensures { self.new ≡ with_hand slot (Some hand) self.old }
+    {
+        let before = mem::replace(&mut self.list[slot as usize], Some(hand));
+        let None = before else {
+            unreachable!()
+        };
+    }
+
+    // All hands are given back to the book.
+    pub(crate) fn discard_all(self, book: &mut Book<N>) {
+        let Hands { alloc: _, mut list } = self;
+        while let Some(place) = list.pop() {
+            if let Some(hand) = place {
+                book.discard(0, hand.into_held());
+            }
+        }
+        list.destroy_empty();
+    }
+}

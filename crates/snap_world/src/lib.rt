@@ -1,0 +1,15 @@
+//! A store of snapshots and the hands of its writers, in one thread.
+//!
+//! A list of steps is a run of a machine: what each step answers and leaves is one definition, `move`
+//! in `specs/Move.antt`.
+#![tactic(auto)]
+
+mod calls;
+mod filing;
+mod hands;
+mod locked;
+mod step;
+mod world;
+
+pub use step::{Answer, Step};
+pub use world::{NoMemory, World};

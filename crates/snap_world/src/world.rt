@@ -1,0 +1,174 @@
+ghost use Rattle.std.specs.Prelude.{◌≡◌, ◌↔◌, ◌⊎◌, [], None, IfOk, IfErr, OnErr, IsErrOf, false, replicate};
+ghost use Rattle.std.specs.Option.{option_map};
+ghost use Rattle.snap_usage.specs.Counted.{count_of};
+ghost use Rattle.snap_call.specs.Forms.{is_config};
+ghost use Rattle.snap_call.specs.Records.{charge_of, open_count};
+ghost use Rattle.snap_call.specs.State.{opening, place_of};
+ghost use Rattle.snap_call.specs.declared.refusal.Refusal.TheVariants.{BadArgument, OutOfMemory};
+ghost use Rattle.snap_book.specs.Asking.{slot_of};
+ghost use Rattle.snap_world.specs.World.{Fits, hand_at};
+ghost use Rattle.snap_world.specs.Runs.{Moves, Runs};
+
+use crate::hands::Hands;
+use crate::step::{Answer, Step};
+use snap_book::Book;
+use snap_call::{Config, Entry, Refusal};
+use snap_ledger::{NewTable, StoreName};
+use snap_record::Record;
+use snap_usage::Usage;
+use std::alloc::{AllocError, Global};
+use std::marker::Model;
+use thiserror::Error;
+
+/// Memory for the answers was refused.
+#[derive(Clone, Copy, Debug, PartialEq, Eq, Error)]
+#[error("out of memory")]
+pub struct NoMemory;
+
+impl From<AllocError> for NoMemory {
+    ghost from_gives = { λ _ _. Unit {0} };
+
+    fn from(_error: AllocError) -> NoMemory {
+        NoMemory
+    }
+}
+
+/// A store of snapshots and the hands of all its writers, in one thread.
+///
+/// It goes from one state to the next by steps, each of which is a call of a session on the store or
+/// an operation on the layer of an open snapshot. Dropping it discards its open snapshots.
+pub struct World<N: StoreName> {
+    book: Book<N>,
+    hands: Hands<N>,
+}
+
+impl<N: StoreName> Model for World<N> {
+    ghost use Rattle.snap_world.specs.World.{Fits, WorldValue, world_of};
+
+    ghost Value = { WorldValue };
+
+    ghost view = { λ w. world_of w.book w.hands };
+
+    ghost invariant = { λ w. Fits (world_of w.book w.hands) };
+}
+
+impl<N: StoreName> Drop for World<N> {
+    fn drop(self) {
+        let World { mut book, hands } = self;
+        hands.discard_all(&mut book);
+    }
+}
+
+impl<N: StoreName> World<N> {
+    /// A world with the namespaces of the configuration, without snapshots and hands.
+    ///
+    /// `BadArgument` where a part of the configuration has not its form; `OutOfMemory` where memory is
+    /// refused.
+    pub fn open(alloc: Global, table: NewTable, config: Config) -> Result<World<N>, Refusal>
+        requires { table ≡ N.table }
+        ensures opened { IfOk result (λ w. w ≡ record { state = opening config; journal = []; limit = config.journal; hands = replicate 64 None }) }
+        ensures bad { IsErrOf result BadArgument ↔ (is_config config ≡ false) }
+        ensures err { IfErr result (λ why. (why ≡ BadArgument) ⊎ (why ≡ OutOfMemory)) }
+    {
+        let book = Book::open(alloc, table, config)?;
+        let hands = Hands::open(alloc)?;
+        Ok(World { book, hands })
+    }
+
+    // One step.
+    fn take_step(&mut self, step: &Step) -> Answer
+        ensures { Moves self.old step.now result self.new }
+    {
+        match step {
+            Step::Locked(session, call) => self.hands.locked(&mut self.book, *session, call),
+            Step::Hand(slot, op) => self.hands.file(*slot, op),
+        }
+    }
+
+    /// Takes the steps in order. The answers are those of the steps, one for each.
+    ///
+    /// What a step answers, and what it leaves, are the definition `move`'s. A step for which memory is
+    /// refused answers `OutOfMemory` and leaves the world as it was, but for a commit, which may have
+    /// sealed its snapshot's layer. `NoMemory` where memory for the answers is refused: then no step
+    /// was taken.
+    pub fn run(&mut self, alloc: Global, steps: &[Step]) -> Result<Vec<Answer>, NoMemory>
+        ensures run { IfOk result (λ answers. Runs self.old steps.now answers.items self.new) }
+        ensures err { OnErr result (self.new ≡ self.old) }
+    {
+        let mut answers = Vec::with_capacity(alloc, steps.len())?;
+        for step in steps {
+            answers.push_reserved(self.take_step(step));
+        }
+        Ok(answers)
+    }
+
+    /// The slot and the id of the active snapshot of this key. `NoNamespace` where the store has no
+    /// such namespace, then `NotFound`, then `NotActive` for a view or a committed snapshot. It leaves
+    /// no entry. Takes no memory. The cost grows with the records.
+    pub fn hand(&self, namespace: &str, key: &str) -> Result<(u64, u32), Refusal>
+        ensures { result ≡ slot_of self.now.state namespace.now key.now }
+    {
+        self.book.slot_of(namespace, key)
+    }
+
+    /// What the layer of the slot's snapshot takes, sealed or not. `None` where the slot isn't open.
+    /// Takes no memory. The cost is one pass over the layer's paths and bodies.
+    pub fn count(&self, slot: u64) -> Option<Usage>
+        ensures { result ≡ option_map (λ h. count_of h.snapshot.layer) (hand_at slot self.now.hands) }
+    {
+        match self.hands.get(slot) {
+            Some(hand) => Some(hand.count()),
+            None => None,
+        }
+    }
+
+    /// What the slot's snapshot is charged. `None` where the slot isn't open. Takes no memory. The cost
+    /// is constant.
+    pub fn share(&self, slot: u64) -> Option<Usage>
+        ensures { result ≡ option_map (λ h. h.snapshot.share.usage) (hand_at slot self.now.hands) }
+    {
+        match self.hands.get(slot) {
+            Some(hand) => Some(hand.share()),
+            None => None,
+        }
+    }
+
+    /// What the namespace is charged, in blocks of 4096 bytes and inodes. `None` where the store has no
+    /// such namespace. Takes no memory. The cost grows with the number of namespaces.
+    pub fn totals(&self, namespace: &str) -> Option<Usage>
+        ensures { result ≡ option_map (λ place. charge_of place self.now.state.records) (place_of namespace.now self.now.state.namespaces) }
+    {
+        self.book.totals(namespace)
+    }
+
+    /// How many snapshots are open. Takes no memory. The cost is constant.
+    pub fn open_slots(&self) -> u64
+        ensures { result ≡ open_count self.now.state.records }
+    {
+        self.book.open_slots()
+    }
+
+    /// The records of all snapshots, in order of their namespaces' places and the bytes of their keys.
+    /// Takes no memory. The cost is constant.
+    pub fn records(&self) -> &[Record]
+        ensures records { result.now ≡ self.now.state.records }
+        // What holds of every world.
+        ensures fits { Fits self.now }
+    {
+        self.book.records()
+    }
+
+    /// The entries of the round. Takes no memory. The cost is constant.
+    pub fn journal(&self) -> &[Entry]
+        ensures { result.now ≡ self.now.journal }
+    {
+        self.book.journal()
+    }
+
+    /// How many sessions were opened in the round. Takes no memory. The cost is constant.
+    pub fn sessions(&self) -> u64
+        ensures { result ≡ self.now.state.sessions }
+    {
+        self.book.sessions()
+    }
+}
