@@ -1,0 +1,1 @@
+use snap_ledger::StoreName;
