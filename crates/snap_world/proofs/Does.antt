@@ -7,9 +7,8 @@ use Rattle.snap_usage.specs.Counted.{count_of}
 use Rattle.snap_record.specs.Labels.{Bytes, Label}
 use Rattle.snap_call.specs.declared.call.Call.{Call}
 use Rattle.snap_call.specs.declared.call.Call.TheVariants as calls
-use Rattle.snap_call.specs.declared.call.Given.{Given}
 use Rattle.snap_call.specs.declared.call.Given.TheVariants.{Nothing, Count, Layer}
-use Rattle.snap_call.specs.declared.refusal.Refusal.TheVariants.{JournalFull, OutOfMemory}
+use Rattle.snap_call.specs.declared.refusal.Refusal.TheVariants.{JournalFull}
 use Rattle.snap_call.specs.declared.reply.Reply.{Reply}
 use Rattle.snap_call.specs.declared.reply.Reply.TheVariants.{Refused}
 use Rattle.snap_call.specs.Records.{open_count}

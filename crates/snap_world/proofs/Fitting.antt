@@ -1,5 +1,5 @@
 -- Each step keeps the hands those of the open slots.
-use Rattle.std.proofs.Common.{◌≡◌, ◌≢◌, ◌⊎◌, inl, inr, ℕ, ◌+◌, ◌≤◌, ◌<◌, List, [], ◌∷◌, length, true, false, Bool, Option, None, Some, eqb, refl, sym, ap, ◌∙◌, subst, ⊎_elim, arith, length-set}
+use Rattle.std.proofs.Common.{◌≡◌, ◌≢◌, inl, inr, ℕ, ◌+◌, ◌≤◌, ◌<◌, List, [], length, true, false, Bool, Option, None, Some, eqb, refl, sym, ap, ◌∙◌, subst, ⊎_elim, arith, length-set}
 use Rattle.std.specs.Prelude.{if◌then◌else◌, ◌&&◌, nat_lt, nat_le, max, Ok, Err}
 use Rattle.std.proofs.Math.Nat.{le-max_left}
 use Rattle.std.proofs.lemmas.Bool.{ltb-true}
@@ -23,7 +23,7 @@ use Rattle.snap_call.specs.Good.{Good}
 use Rattle.snap_call.specs.Records.{active_at, charge_of, has_key, is_slot, lowest_free, recharged, record_at, with_record, without_slot, committed_as}
 use Rattle.snap_call.specs.Forms.{is_key}
 use Rattle.snap_call.specs.State.{covers, limit_at, over_limit, place_of}
-use Rattle.snap_call.specs.Step.{IsAllowed, IsCovered, IsOpen, ask, ask_in, ask_record, charge, charge_to, choice, commit_as, commit_under, discard, fits, greater, is_lease_text, new_active, no_more, one, prepare_in, prepare_slot, prepared as prepared_state, refused, session, step, trim}
+use Rattle.snap_call.specs.Step.{IsAllowed, IsCovered, IsOpen, ask, ask_in, ask_record, charge, charge_to, choice, commit_as, commit_under, discard, greater, is_lease_text, new_active, no_more, one, prepare_in, prepare_slot, prepared as prepared_state, refused, session, step, trim}
 use Rattle.snap_call.proofs.Kept.{covers-Covers, good_step}
 use Rattle.snap_call.proofs.Lowest.{lowest_free-Some}
 use Rattle.snap_call.proofs.Slots.{Active-is_slot, is_slot-other, active_at-with_record_own, active_at-with_record_other, active_at-without_slot_own, active_at-without_slot_other, active_at-recharged_own, active_at-recharged_other, active_at-committed_own, active_at-committed_other}
@@ -31,14 +31,12 @@ use Rattle.std.specs.Option.{option_map}
 use Rattle.snap_merge.specs.declared.error.FsError.TheVariants.{NeedsCharge}
 use Rattle.snap_upper.specs.declared.op.Op.{Op}
 use Rattle.snap_upper.specs.After.{Outcome, after}
-use Rattle.snap_book.specs.Active.{ActiveValue}
 use Rattle.snap_book.specs.Working.{within_share, worked}
 use Rattle.snap_world.specs.declared.step.Answer.{Answer}
-use Rattle.snap_world.specs.declared.step.Answer.TheVariants as answers
 use Rattle.snap_world.specs.declared.step.Step.{Step}
 use Rattle.snap_world.specs.declared.step.Step.TheVariants as steps
 use Rattle.snap_world.specs.World.{AgreesAt, Fits, HandValue, IsHandOf, WorldValue, hand_at, with_hand}
-use Rattle.snap_world.specs.Move.{admitted, called, charged_hand, committed, filed, fresh, is_under, is_unsealed, is_working, is_its_session, move, on_found, on_hand, opened, prepared, recorded, sealed_hand}
+use Rattle.snap_world.specs.Move.{admitted, called, charged_hand, committed, filed, fresh, is_under, is_unsealed, is_working, is_its_session, move, on_found, on_hand, prepared, recorded, sealed_hand}
 use Rattle.snap_world.specs.Runs.{IsLeft, Moves, with_sealed}
 use Rattle.snap_world.proofs.Hold.{holds, under-id}
 use Rattle.snap_world.proofs.Places.{hand_at-low, hand_at-other, hand_at-own, with_hand-again}

@@ -1,6 +1,6 @@
 -- What a world that fits says of one slot.
-use Rattle.std.proofs.Common.{◌≡◌, ℕ, ◌<◌, List, true, false, Bool, Option, None, Some, refl, sym, ap, ◌∙◌, subst}
-use Rattle.std.specs.Prelude.{if◌then◌else◌, ◌≤◌, nat_le}
+use Rattle.std.proofs.Common.{◌≡◌, ℕ, ◌<◌, List, true, false, Bool, Option, None, Some, refl, ap, subst}
+use Rattle.std.specs.Prelude.{if◌then◌else◌}
 use Rattle.std.proofs.lemmas.Bool.{eqb-true}
 use Rattle.snap_record.specs.Labels.{Bytes, Label}
 use Rattle.snap_record.specs.declared.record.Record.{Record}
@@ -9,7 +9,6 @@ use Rattle.snap_call.specs.declared.call.Given.TheVariants.{Nothing}
 use Rattle.snap_call.specs.declared.refusal.Refusal.TheVariants.{NumbersSpent, BadArgument, AlreadyExists}
 use Rattle.snap_call.specs.declared.reply.Reply.TheVariants.{Prepared}
 use Rattle.snap_call.specs.declared.state.State.{State}
-use Rattle.snap_call.specs.Forms.{is_key}
 use Rattle.snap_call.specs.Records.{active_at, has_key, lowest_free}
 use Rattle.snap_call.specs.State.{place_of, over_limit}
 use Rattle.snap_call.specs.Step.{step, prepare_slot, prepare_in, prepared, refused}

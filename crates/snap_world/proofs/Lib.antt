@@ -4,4 +4,5 @@ mod Steps
 mod Hold
 mod Does
 mod Fitting
+mod Opened
 mod Running

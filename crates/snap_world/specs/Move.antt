@@ -1,5 +1,5 @@
 -- What one step answers, and the world after it. The cases of each call stand in the order in which they are tested.
-use Rattle.std.specs.Prelude.{◌≡◌, ℕ, ◌+◌, ◌==◌, Bool, true, false, not, ◌&&◌, nat_lt, if◌then◌else◌, List, [], ◌∷◌, ◌++◌, length, Option, None, Some, Ok, Err}
+use Rattle.std.specs.Prelude.{ℕ, ◌+◌, ◌==◌, Bool, true, false, not, ◌&&◌, nat_lt, if◌then◌else◌, List, [], ◌∷◌, ◌++◌, length, Option, None, Some, Ok, Err}
 use Rattle.std.specs.Option.{option_map}
 use Rattle.snap_layer.specs.Edits.{root_only}
 use Rattle.snap_usage.specs.declared.usage.Usage.{Usage}
@@ -16,7 +16,6 @@ use Rattle.snap_call.specs.Journal.{entry}
 use Rattle.snap_call.specs.Records.{open_count}
 use Rattle.snap_call.specs.State.{place_of}
 use Rattle.snap_call.specs.Step.{step, one}
-use Rattle.snap_upper.specs.declared.op.Op.{Op}
 use Rattle.snap_upper.specs.After.{Outcome}
 use Rattle.snap_book.specs.Active.{ActiveValue}
 use Rattle.snap_book.specs.Working.{worked}

@@ -1,5 +1,5 @@
 -- Lists of steps.
-use Rattle.std.specs.Prelude.{◌≡◌, ◌⊎◌, ℕ, List, [], ◌∷◌, Option, None, Some, Err}
+use Rattle.std.specs.Prelude.{◌≡◌, ◌⊎◌, ℕ, List, [], ◌∷◌, Err}
 use Rattle.std.specs.Option.{option_map}
 use Rattle.snap_merge.specs.declared.error.FsError.TheVariants as errors
 use Rattle.snap_call.specs.declared.call.Call.{Call}
@@ -10,7 +10,7 @@ use Rattle.snap_world.specs.declared.step.Step.{Step}
 use Rattle.snap_world.specs.declared.step.Step.TheVariants as steps
 use Rattle.snap_world.specs.declared.step.Answer.{Answer}
 use Rattle.snap_world.specs.declared.step.Answer.TheVariants as answers
-use Rattle.snap_world.specs.World.{HandValue, WorldValue, hand_at, with_hand}
+use Rattle.snap_world.specs.World.{WorldValue, hand_at, with_hand}
 use Rattle.snap_world.specs.Move.{sealed_hand, called, move}
 
 -- the world with the hand of the slot sealed

@@ -267,9 +267,7 @@ impl<N: StoreName> Hands<N> {
         ensures { self.new ≡ with_hand slot (Some hand) self.old }
     {
         let before = mem::replace(&mut self.list[slot as usize], Some(hand));
-        let None = before else {
-            unreachable!()
-        };
+        let None = before else { unreachable!() };
     }
 
     // All hands are given back to the book.

@@ -9,6 +9,8 @@ mod filing;
 mod hands;
 mod locked;
 mod step;
+#[cfg(test)]
+mod tests;
 mod world;
 
 pub use step::{Answer, Step};

@@ -1,4 +1,4 @@
-use Rattle.std.proofs.Common.{◌≡◌, Some, List, Option, inl, inr, refl, ap, ◌∙◌}
+use Rattle.std.proofs.Common.{Some, List, Option, inl, inr, refl, ap, ◌∙◌}
 use Rattle.snap_world.specs.World.{HandValue, with_hand, world_of}
 use Rattle.snap_world.proofs.Does.{commit_does, back_again}
 use Rattle.snap_world.proofs.hands.Hands.commit.Goals as goal
@@ -11,5 +11,8 @@ returns-in-Ok g c =
 pub returns-in-Err : goal.returns-in-Err
 returns-in-Err g c =
     let found = c.in-Some.ensures in
-    inr (refl, inl (ap (λ (hands : List (Option HandValue)). world_of c.args.book.now hands)
-    (back_again _ _ _ c.args.slot c.in-Some.hand found.0 found.3 (c.put.ensures ∙ ap (λ (h : HandValue). with_hand c.args.slot (Some h) c.take_under.new.self) c.in-Err.ensures.err))))
+    inr (
+      refl,
+      inl (ap (λ (hands : List (Option HandValue)). world_of c.args.book.now hands)
+          (back_again _ _ _ c.args.slot c.in-Some.hand found.0 found.3 (c.put.ensures ∙ ap (λ (h : HandValue). with_hand c.args.slot (Some h) c.take_under.new.self) c.in-Err.ensures.err))),
+    )

@@ -1,6 +1,6 @@
-use Rattle.std.proofs.Common.{◌≡◌, Some, ap, ◌∙◌}
+use Rattle.std.proofs.Common.{Some, ap, ◌∙◌}
 use Rattle.snap_world.specs.World.{HandValue, with_hand}
-use Rattle.snap_world.proofs.Does.{file_moves, no_file}
+use Rattle.snap_world.proofs.Does.{file_moves}
 use Rattle.snap_world.proofs.hands.Hands.file.Goals as goal
 
 pub returns : goal.returns

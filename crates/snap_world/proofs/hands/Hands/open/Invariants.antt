@@ -1,4 +1,4 @@
-use Rattle.std.proofs.Common.{◌≡◌, ◌≤◌, ◌+◌, replicate, None, vec_len}
+use Rattle.std.proofs.Common.{◌≡◌, ◌≤◌, replicate, None, vec_len}
 use Rattle.std.specs.Vec.{vec_capacity}
 use Rattle.snap_world.proofs.hands.Hands.open.Given as goal
 

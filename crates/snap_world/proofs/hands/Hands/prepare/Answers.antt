@@ -1,4 +1,4 @@
-use Rattle.std.proofs.Common.{◌≡◌, ℕ, None, ap, ◌∙◌}
+use Rattle.std.proofs.Common.{ℕ, ap, ◌∙◌}
 use Rattle.snap_world.specs.World.{hand_at, world_of}
 use Rattle.snap_world.proofs.Hold.{prepared_free}
 use Rattle.snap_world.proofs.hands.Hands.prepare.Goals as goal

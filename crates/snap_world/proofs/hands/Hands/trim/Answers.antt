@@ -1,4 +1,4 @@
-use Rattle.std.proofs.Common.{◌≡◌, Some, ap, ◌∙◌}
+use Rattle.std.proofs.Common.{Some, ap, ◌∙◌}
 use Rattle.snap_world.specs.World.{HandValue, with_hand}
 use Rattle.snap_world.proofs.Does.{trim_does}
 use Rattle.snap_world.proofs.hands.Hands.trim.Goals as goal
