@@ -108,20 +108,20 @@ is_charged step_answers.NoSession = false
 is_charged step_answers.NoHand = false
 
 -- after the charge: the operation again, where it was granted
-abbrev pub recharged : ℕ → ℕ → Op → WorldValue × StepAnswer → WorldValue × Answer
-recharged session slot op after = if is_charged after.1 then stepped session slot (Hand slot op) after.0 else telling session slot after
+abbrev pub recharged : ℕ → ℕ → Step → WorldValue × StepAnswer → WorldValue × Answer
+recharged session slot operation after = if is_charged after.1 then stepped session slot operation after.0 else telling session slot after
 
 -- after the operation: a charge where one is needed
-abbrev pub charged_for : ℕ → ℕ → ℕ → Op → Usage → WorldValue × StepAnswer → Option Usage → WorldValue × Answer
-charged_for session slot id op extra after None = telling session slot after
-charged_for session slot id op extra after (Some need) = recharged session slot op (move after.0 (Locked session (calls.Charge slot id need (wanted need extra))))
+abbrev pub charged_for : ℕ → ℕ → ℕ → Step → Usage → WorldValue × StepAnswer → Option Usage → WorldValue × Answer
+charged_for session slot id operation extra after None = telling session slot after
+charged_for session slot id operation extra after (Some need) = recharged session slot operation (move after.0 (Locked session (calls.Charge slot id need (wanted need extra))))
 
-abbrev pub worked : ℕ → ℕ → ℕ → Op → Usage → WorldValue × StepAnswer → WorldValue × Answer
-worked session slot id op extra after = charged_for session slot id op extra after (need_of after.1)
+abbrev pub worked : ℕ → ℕ → ℕ → Step → Usage → WorldValue × StepAnswer → WorldValue × Answer
+worked session slot id operation extra after = charged_for session slot id operation extra after (need_of after.1)
 
 -- an operation, once its path is read
-abbrev pub filed : ℕ → ℕ → ℕ → Result Op FsError → Usage → WorldValue → WorldValue × Answer
-filed session slot id (Ok op) extra w = worked session slot id op extra (move w (Hand slot op))
+unfoldable pub filed : ℕ → ℕ → ℕ → Result Op FsError → Usage → WorldValue → WorldValue × Answer
+filed session slot id (Ok op) extra w = worked session slot id (Hand slot op) extra (move w (Hand slot op))
 filed session slot id (Err e) extra w = (w, answers.Failed e)
 
 -- ---- commands on a store
@@ -146,16 +146,20 @@ on_store s n commands.Report = (s.world, report s)
 
 -- ---- opening
 
--- the store stands where its first session is opened
-abbrev pub granted : List Bytes → WorldValue → Reply → Option StoreValue × Answer
-granted names w replies.Opened = (Some (record { world = w; names = names }), answers.Done)
-granted names w reply = (None, told_reply 0 0 w reply)
+-- the answer that a session was opened
+abbrev pub is_start : Reply → Bool
+is_start replies.Opened = true
+is_start reply = false
 
+abbrev pub is_started : StepAnswer → Bool
+is_started (step_answers.Reply reply) = is_start reply
+is_started (step_answers.File outcome) = false
+is_started step_answers.NoSession = false
+is_started step_answers.NoHand = false
+
+-- the store stands where its first session was opened
 abbrev pub started : List Bytes → WorldValue × StepAnswer → Option StoreValue × Answer
-started names (w, step_answers.Reply reply) = granted names w reply
-started names (w, step_answers.File outcome) = (None, told_outcome 0 w outcome)
-started names (w, step_answers.NoSession) = (None, answers.NoSession)
-started names (w, step_answers.NoHand) = (None, answers.NoHand)
+started names after = if is_started after.1 then (Some (record { world = after.0; names = names }), answers.Done) else (None, told 0 0 after.0 after.1)
 
 -- a world of the configuration, and its session 0
 abbrev pub opened : Config → Option StoreValue × Answer

@@ -13,6 +13,7 @@ use snap_script::Answer;
 use snap_usage::Usage;
 use snap_world::{Answer as StepAnswer, Step, World};
 use std::alloc::Global;
+use std::slice;
 
 const NOTHING: Usage = Usage {
     blocks: 0,
@@ -53,12 +54,14 @@ fn is_want(answer: &StepAnswer) -> bool
 pub(crate) fn take_step<N: StoreName>(
     alloc: Global,
     world: &mut World<N>,
-    step: Step,
+    step: &Step,
 ) -> Result<StepAnswer, Want>
-    ensures { IfOk result (λ answer. move world.old step ≡ (world.new, answer)) }
+    ensures { IfOk result (λ answer. move world.old step.now ≡ (world.new, answer)) }
 {
-    let mut given = world.run(alloc, &[step])?;
-    let answer = given.pop().ok_or(Want)?;
+    let mut given = world.run(alloc, slice::from_ref(step))?;
+    let Some(answer) = given.pop() else {
+        return Err(Want);
+    };
     if is_want(&answer) {
         return Err(Want);
     }
@@ -81,11 +84,7 @@ fn told_reply<N: StoreName>(session: u64, slot: u64, world: &World<N>, reply: Re
     }
 }
 
-fn told_outcome<N: StoreName>(
-    slot: u64,
-    world: &World<N>,
-    outcome: Result<(), FsError>,
-) -> Answer
+fn told_outcome<N: StoreName>(slot: u64, world: &World<N>, outcome: Result<(), FsError>) -> Answer
     ensures { result ≡ told_outcome slot world.now outcome }
 {
     match outcome {
@@ -120,9 +119,9 @@ pub(crate) fn stepped<N: StoreName>(
     world: &mut World<N>,
     session: u64,
     slot: u64,
-    step: Step,
+    step: &Step,
 ) -> Result<Answer, Want>
-    ensures { IfOk result (λ answer. stepped session slot step world.old ≡ (world.new, answer)) }
+    ensures { IfOk result (λ answer. stepped session slot step.now world.old ≡ (world.new, answer)) }
 {
     let answer = take_step(alloc, world, step)?;
     Ok(told(session, slot, world, answer))

@@ -1,1 +1,0 @@
-use snap_ledger::StoreName;
