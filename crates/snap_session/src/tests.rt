@@ -16,7 +16,12 @@ fn said<N: StoreName>(
     line: &str,
 ) -> Result<String, Fail> {
     match read_line(alloc, line.as_bytes(), session.is_open()) {
-        Ok(Line::Command { session: n, command }) => match session.act(n, command) {
+        Ok(
+            Line::Command {
+                session: n,
+                command,
+            },
+        ) => match session.act(n, command) {
             Ok(answer) => Ok(answer.line(alloc)?),
             Err(_) => panic!(rt; "no memory for {}", line),
         },
@@ -144,10 +149,7 @@ fn charges<N: StoreName>(rt: &impl Abort, alloc: Global, table: NewTable) -> Res
             r#"{"do":"charge","ns":"a","key":"k","need":[2,2],"want":[5,6]}"#,
             r#"{"share":[5,6]}"#,
         ),
-        (
-            r#"{"do":"trim","ns":"a","key":"k"}"#,
-            r#"{"share":[1,1]}"#,
-        ),
+        (r#"{"do":"trim","ns":"a","key":"k"}"#, r#"{"share":[1,1]}"#),
         (
             r#"{"do":"mkdir","ns":"a","key":"k","path":"x"}"#,
             r#"{"error":"BadPath","from":"file"}"#,
