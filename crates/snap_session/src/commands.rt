@@ -16,21 +16,14 @@ use snap_usage::Usage;
 use snap_world::{Step, World};
 use std::alloc::Global;
 
-pub(crate) fn session<N: StoreName>(alloc: Global, world: &mut World<N>) -> Result<Answer, Want>
+pub(crate) fn session<N: StoreName>(world: &mut World<N>) -> Result<Answer, Want>
     ensures { IfOk result (λ answer. stepped world.old.state.sessions 0 (Locked world.old.state.sessions calls.Session) world.old ≡ (world.new, answer)) }
 {
     let number = world.sessions();
-    stepped(
-        alloc,
-        world,
-        number,
-        0,
-        &Step::Locked(number, Call::Session),
-    )
+    stepped(world, number, 0, &Step::Locked(number, Call::Session))
 }
 
 pub(crate) fn prepare<N: StoreName>(
-    alloc: Global,
     world: &mut World<N>,
     n: u64,
     namespace: Text,
@@ -46,11 +39,10 @@ pub(crate) fn prepare<N: StoreName>(
         parent,
         labels,
     };
-    stepped(alloc, world, n, 0, &Step::Locked(n, call))
+    stepped(world, n, 0, &Step::Locked(n, call))
 }
 
 pub(crate) fn stat<N: StoreName>(
-    alloc: Global,
     world: &mut World<N>,
     n: u64,
     namespace: Text,
@@ -59,11 +51,10 @@ pub(crate) fn stat<N: StoreName>(
     ensures { IfOk result (λ answer. stepped n 0 (Locked n (calls.Stat namespace key)) world.old ≡ (world.new, answer)) }
 {
     let call = Call::Stat { namespace, key };
-    stepped(alloc, world, n, 0, &Step::Locked(n, call))
+    stepped(world, n, 0, &Step::Locked(n, call))
 }
 
 pub(crate) fn usage<N: StoreName>(
-    alloc: Global,
     world: &mut World<N>,
     n: u64,
     namespace: Text,
@@ -72,11 +63,10 @@ pub(crate) fn usage<N: StoreName>(
     ensures { IfOk result (λ answer. stepped n 0 (Locked n (calls.Usage namespace key)) world.old ≡ (world.new, answer)) }
 {
     let call = Call::Usage { namespace, key };
-    stepped(alloc, world, n, 0, &Step::Locked(n, call))
+    stepped(world, n, 0, &Step::Locked(n, call))
 }
 
 pub(crate) fn charge<N: StoreName>(
-    alloc: Global,
     world: &mut World<N>,
     n: u64,
     namespace: Text,
@@ -96,11 +86,10 @@ pub(crate) fn charge<N: StoreName>(
         need,
         want,
     };
-    stepped(alloc, world, n, slot, &Step::Locked(n, call))
+    stepped(world, n, slot, &Step::Locked(n, call))
 }
 
 pub(crate) fn trim<N: StoreName>(
-    alloc: Global,
     world: &mut World<N>,
     n: u64,
     namespace: Text,
@@ -113,11 +102,10 @@ pub(crate) fn trim<N: StoreName>(
         Err(why) => return Ok(Answer::Refused(why)),
     };
     let call = Call::Trim { slot, id };
-    stepped(alloc, world, n, slot, &Step::Locked(n, call))
+    stepped(world, n, slot, &Step::Locked(n, call))
 }
 
 pub(crate) fn commit<N: StoreName>(
-    alloc: Global,
     world: &mut World<N>,
     n: u64,
     namespace: Text,
@@ -137,11 +125,10 @@ pub(crate) fn commit<N: StoreName>(
         name,
         lease,
     };
-    stepped(alloc, world, n, slot, &Step::Locked(n, call))
+    stepped(world, n, slot, &Step::Locked(n, call))
 }
 
 pub(crate) fn discard<N: StoreName>(
-    alloc: Global,
     world: &mut World<N>,
     n: u64,
     namespace: Text,
@@ -154,7 +141,7 @@ pub(crate) fn discard<N: StoreName>(
         Err(why) => return Ok(Answer::Refused(why)),
     };
     let call = Call::Discard { slot, id };
-    stepped(alloc, world, n, slot, &Step::Locked(n, call))
+    stepped(world, n, slot, &Step::Locked(n, call))
 }
 
 // What the namespace of this name is charged.

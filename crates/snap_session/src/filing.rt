@@ -57,7 +57,6 @@ fn is_charged(answer: &StepAnswer) -> bool
 
 // The charge, and the operation again where it was granted.
 fn recharged<N: StoreName>(
-    alloc: Global,
     world: &mut World<N>,
     n: u64,
     slot: u64,
@@ -66,16 +65,15 @@ fn recharged<N: StoreName>(
 ) -> Result<Answer, Want>
     ensures { IfOk result (λ answer. recharged n slot operation.now (move world.old charge.now) ≡ (world.new, answer)) }
 {
-    let answer = take_step(alloc, world, charge)?;
+    let answer = take_step(world, charge)?;
     if is_charged(&answer) {
-        return stepped(alloc, world, n, slot, operation);
+        return stepped(world, n, slot, operation);
     }
     Ok(told(n, slot, world, answer))
 }
 
 // The operation, with a charge where one is needed.
 fn worked<N: StoreName>(
-    alloc: Global,
     world: &mut World<N>,
     n: u64,
     slot: u64,
@@ -86,7 +84,7 @@ fn worked<N: StoreName>(
     ensures { IfOk result (λ answer. worked n slot id (Hand slot op) extra (move world.old (Hand slot op)) ≡ (world.new, answer)) }
 {
     let operation = Step::Hand(slot, op);
-    let answer = take_step(alloc, world, &operation)?;
+    let answer = take_step(world, &operation)?;
     let Some(need) = need_of(&answer) else {
         return Ok(told(n, slot, world, answer));
     };
@@ -96,7 +94,7 @@ fn worked<N: StoreName>(
         need,
         want: wanted(need, extra),
     };
-    recharged(alloc, world, n, slot, &Step::Locked(n, call), &operation)
+    recharged(world, n, slot, &Step::Locked(n, call), &operation)
 }
 
 #[tactic(auto, unfolding(crate::specs::Commands::filed))]
@@ -112,7 +110,7 @@ fn filed<N: StoreName>(
     ensures { IfOk result (λ answer. filed n slot id (operation_of operation) extra world.old ≡ (world.new, answer)) }
 {
     match operation.into_operation(alloc) {
-        Ok(op) => worked(alloc, world, n, slot, id, op, extra),
+        Ok(op) => worked(world, n, slot, id, op, extra),
         Err(FsError::OutOfMemory) => Err(Want),
         Err(error) => Ok(Answer::Failed(error)),
     }

@@ -73,7 +73,7 @@ impl<N: StoreName> Session<N> {
         let Ok(mut world) = World::open(self.alloc, table, config) else {
             return Err(Want);
         };
-        let answer = take_step(self.alloc, &mut world, &Step::Locked(0, Call::Session))?;
+        let answer = take_step(&mut world, &Step::Locked(0, Call::Session))?;
         if is_started(&answer) {
             self.store = Some(Store { world, names });
             return Ok(Answer::Done);

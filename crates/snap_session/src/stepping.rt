@@ -12,7 +12,6 @@ use snap_merge::FsError;
 use snap_script::Answer;
 use snap_usage::Usage;
 use snap_world::{Answer as StepAnswer, Step, World};
-use std::alloc::Global;
 use std::slice;
 
 const NOTHING: Usage = Usage {
@@ -51,14 +50,10 @@ fn is_want(answer: &StepAnswer) -> bool
 }
 
 // One step.
-pub(crate) fn take_step<N: StoreName>(
-    alloc: Global,
-    world: &mut World<N>,
-    step: &Step,
-) -> Result<StepAnswer, Want>
+pub(crate) fn take_step<N: StoreName>(world: &mut World<N>, step: &Step) -> Result<StepAnswer, Want>
     ensures { IfOk result (λ answer. move world.old step.now ≡ (world.new, answer)) }
 {
-    let mut given = world.run(alloc, slice::from_ref(step))?;
+    let mut given = world.run(slice::from_ref(step))?;
     let Some(answer) = given.pop() else {
         return Err(Want);
     };
@@ -115,7 +110,6 @@ pub(crate) fn told<N: StoreName>(
 
 // One step, and what a script says of it.
 pub(crate) fn stepped<N: StoreName>(
-    alloc: Global,
     world: &mut World<N>,
     session: u64,
     slot: u64,
@@ -123,6 +117,6 @@ pub(crate) fn stepped<N: StoreName>(
 ) -> Result<Answer, Want>
     ensures { IfOk result (λ answer. stepped session slot step.now world.old ≡ (world.new, answer)) }
 {
-    let answer = take_step(alloc, world, step)?;
+    let answer = take_step(world, step)?;
     Ok(told(session, slot, world, answer))
 }

@@ -48,29 +48,29 @@ impl<N: StoreName> Store<N> {
         let world = &mut self.world;
         match command {
             Command::Open { config: _ } => Ok(Answer::Refused(Refusal::BadArgument)),
-            Command::Session => session(alloc, world),
+            Command::Session => session(world),
             Command::Prepare {
                 namespace,
                 key,
                 parent,
                 labels,
-            } => prepare(alloc, world, n, namespace, key, parent, labels),
+            } => prepare(world, n, namespace, key, parent, labels),
             Command::Charge {
                 namespace,
                 key,
                 need,
                 want,
-            } => charge(alloc, world, n, namespace, key, need, want),
-            Command::Trim { namespace, key } => trim(alloc, world, n, namespace, key),
+            } => charge(world, n, namespace, key, need, want),
+            Command::Trim { namespace, key } => trim(world, n, namespace, key),
             Command::Commit {
                 namespace,
                 key,
                 name,
                 lease,
-            } => commit(alloc, world, n, namespace, key, name, lease),
-            Command::Discard { namespace, key } => discard(alloc, world, n, namespace, key),
-            Command::Stat { namespace, key } => stat(alloc, world, n, namespace, key),
-            Command::Usage { namespace, key } => usage(alloc, world, n, namespace, key),
+            } => commit(world, n, namespace, key, name, lease),
+            Command::Discard { namespace, key } => discard(world, n, namespace, key),
+            Command::Stat { namespace, key } => stat(world, n, namespace, key),
+            Command::Usage { namespace, key } => usage(world, n, namespace, key),
             Command::File {
                 namespace,
                 key,

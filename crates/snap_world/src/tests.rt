@@ -182,7 +182,7 @@ fn runs<N: StoreName>(
 ) -> Result<(), Fail> {
     let steps = steps_of(alloc, lines)?;
     let answers = answers_of(alloc, lines)?;
-    let Ok(given) = world.run(alloc, steps.as_slice()) else {
+    let Ok(given) = world.run(steps.as_slice()) else {
         panic!(rt; "no memory for the answers");
     };
     assert_eq!(rt; given.as_slice(), answers.as_slice());

@@ -90,12 +90,12 @@ impl<N: StoreName> World<N> {
     /// What a step answers, and what it leaves, are the definition `move`'s. A step for which memory is
     /// refused answers `OutOfMemory` and leaves the world as it was, but for a commit, which may have
     /// sealed its snapshot's layer. `NoMemory` where memory for the answers is refused: then no step
-    /// was taken.
-    pub fn run(&mut self, alloc: Global, steps: &[Step]) -> Result<Vec<Answer>, NoMemory>
+    /// was taken. The cost is that of the steps.
+    pub fn run(&mut self, steps: &[Step]) -> Result<Vec<Answer>, NoMemory>
         ensures run { IfOk result (λ answers. Runs self.old steps.now answers.items self.new) }
         ensures err { OnErr result (self.new ≡ self.old) }
     {
-        let mut answers = Vec::with_capacity(alloc, steps.len())?;
+        let mut answers = Vec::with_capacity(self.hands.alloc(), steps.len())?;
         for step in steps {
             answers.push_reserved(self.take_step(step));
         }
