@@ -1,5 +1,5 @@
 -- One step of a world, without want of memory.
-use Rattle.std.proofs.Common.{◌≡◌, ◌⊎◌, inl, inr, List, [], ◌∷◌, ◌++◌, Bool, true, false, refl, sym, ap, ◌∙◌, subst}
+use Rattle.std.proofs.Common.{◌≡◌, inl, inr, List, [], ◌∷◌, ◌++◌, true, false, sym, ap, subst}
 use Rattle.snap_world.specs.declared.step.Step.{Step}
 use Rattle.snap_world.specs.declared.step.Step.TheVariants.{Locked, Hand}
 use Rattle.snap_world.specs.declared.step.Answer.{Answer}

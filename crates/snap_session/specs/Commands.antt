@@ -24,7 +24,6 @@ use Rattle.snap_script.specs.declared.answer.Answer.{Answer}
 use Rattle.snap_script.specs.declared.answer.Answer.TheVariants as answers
 use Rattle.snap_script.specs.declared.command.Command.{Command}
 use Rattle.snap_script.specs.declared.command.Command.TheVariants as commands
-use Rattle.snap_script.specs.declared.command.FileCommand.{FileCommand}
 use Rattle.snap_script.specs.Operations.{operation_of}
 use Rattle.snap_session.specs.Store.{StoreValue, fresh, names_of, share_at, count_at, totals_of}
 

@@ -1,5 +1,5 @@
 -- What a script answers, line for line, and its first fault.
-use Rattle.std.specs.Prelude.{◌≡◌, ℕ, ◌+◌, ◌||◌, List, [], ◌∷◌, ◌++◌, length, Bool, true, false, Option, Some, None, is_some, Result, Ok, Err, nat_lt, String, string_bytes, if◌then◌else◌}
+use Rattle.std.specs.Prelude.{◌≡◌, ℕ, ◌+◌, ◌||◌, List, [], ◌∷◌, ◌++◌, length, Bool, Option, Some, None, is_some, Result, Ok, Err, nat_lt, String, string_bytes, if◌then◌else◌}
 use Rattle.std.specs.Io.KnownBytes.{Appends}
 use Rattle.std.specs.declared.alloc.Global.{Global}
 use Rattle.snap_script.specs.declared.answer.Answer.{Answer}
@@ -25,41 +25,41 @@ max_bytes = 1073741824
 pub record Place : Type 0 where
   pub lines : ℕ
   pub bytes : ℕ
-  pub stage : Option StoreValue
+  pub store : Option StoreValue
 
 abbrev pub start : Place
-start = record { lines = 0; bytes = 0; stage = None }
+start = record { lines = 0; bytes = 0; store = None }
 
 -- what is written, and the fault that ends it
-pub record Story : Type 0 where
+pub record Transcript : Type 0 where
   pub text : List ℕ
   pub fault : Option LineFault
 
-abbrev pub after : List ℕ → Story → Story
+abbrev pub after : List ℕ → Transcript → Transcript
 after text s = record { text = text ++ s.text; fault = s.fault }
 
 -- the store after a line, and the text of the line's answer
 pub record Effect : Type 0 where
-  pub stage : Option StoreValue
+  pub store : Option StoreValue
   pub text : List ℕ
 
 abbrev pub effect_done : Option StoreValue × Answer → Effect
-effect_done after = record { stage = after.0; text = answer_line after.1 }
+effect_done after = record { store = after.0; text = answer_line after.1 }
 
 abbrev pub effect_line : Option StoreValue → Result Line Fault → Result Effect Fault
-effect_line stage (Ok Empty) = Ok (record { stage = stage; text = [] })
-effect_line stage (Ok (Command session command)) = Ok (effect_done (done stage session command))
-effect_line stage (Err fault) = Err fault
+effect_line store (Ok Empty) = Ok (record { store = store; text = [] })
+effect_line store (Ok (Command session command)) = Ok (effect_done (done store session command))
+effect_line store (Err fault) = Err fault
 
 -- what the bytes of a line do: an empty line nothing, any other its command
 unfoldable pub effect_of : Option StoreValue → List ℕ → Result Effect Fault
-effect_of stage bytes = effect_line stage (line_of (is_some stage) bytes)
+effect_of store bytes = effect_line store (line_of (is_some store) bytes)
 
 abbrev pub is_too_long : Place → List ℕ → Bool
 is_too_long p line = nat_lt max_line (length (body line)) || nat_lt max_bytes (p.bytes + length line)
 
 unfoldable pub effect_at : Place → List ℕ → Result Effect Fault
-effect_at p line = if is_too_long p line then Err TooLong else effect_of p.stage (body line)
+effect_at p line = if is_too_long p line then Err TooLong else effect_of p.store (body line)
 
 -- the bytes of an answer that there may be
 abbrev pub bytes_of : Option (String Global) → List ℕ
@@ -67,23 +67,23 @@ bytes_of None = []
 bytes_of (Some s) = string_bytes s
 
 abbrev pub place_after : Place → List ℕ → Option StoreValue → Place
-place_after p line stage = record { lines = p.lines + 1; bytes = p.bytes + length line; stage = stage }
+place_after p line store = record { lines = p.lines + 1; bytes = p.bytes + length line; store = store }
 
-abbrev pub failed : Place → Fault → Story
+abbrev pub failed : Place → Fault → Transcript
 failed p c = record { text = []; fault = Some (record { line = p.lines + 1; cause = c }) }
 
-abbrev pub goes_on : Place → List ℕ → Result Effect Fault → (Place → Story) → Story
+abbrev pub goes_on : Place → List ℕ → Result Effect Fault → (Place → Transcript) → Transcript
 goes_on p line (Err c) more = failed p c
-goes_on p line (Ok e) more = after e.text (more (place_after p line e.stage))
+goes_on p line (Ok e) more = after e.text (more (place_after p line e.store))
 
--- the story of the lines that are left
-abbrev pub story : Place → List (List ℕ) → Story
-story p [] = record { text = []; fault = None }
-story p (line ∷ lines) = goes_on p line (effect_at p line) (λ q. story q lines)
+-- the transcript of the lines that are left
+abbrev pub transcript_from : Place → List (List ℕ) → Transcript
+transcript_from p [] = record { text = []; fault = None }
+transcript_from p (line ∷ lines) = goes_on p line (effect_at p line) (λ q. transcript_from q lines)
 
--- the story of a script
-unfoldable pub script : List ℕ → Story
-script bytes = story start (lines_of bytes)
+-- the transcript of a script
+unfoldable pub script : List ℕ → Transcript
+script bytes = transcript_from start (lines_of bytes)
 
 -- ---- on the way
 
@@ -92,16 +92,16 @@ pub record Run : Type 0 where
   pub place : Place
   pub pending : List ℕ
 
-unfoldable pub tale : Run → List ℕ → Story
-tale r rest = story r.place (lines_of (r.pending ++ rest))
+unfoldable pub transcript_on : Run → List ℕ → Transcript
+transcript_on r rest = transcript_from r.place (lines_of (r.pending ++ rest))
 
 -- bytes lead from r to q, and this is written on the way
 abbrev pub Leads : Run → List ℕ → Run → List ℕ → Type 0
-Leads r bytes q written = (rest : List ℕ) → tale r (bytes ++ rest) ≡ after written (tale q rest)
+Leads r bytes q written = (rest : List ℕ) → transcript_on r (bytes ++ rest) ≡ after written (transcript_on q rest)
 
 -- bytes lead to a fault
 abbrev pub Faults : Run → List ℕ → LineFault → List ℕ → Type 0
-Faults r bytes f written = (rest : List ℕ) → tale r (bytes ++ rest) ≡ record { text = written; fault = Some f }
+Faults r bytes f written = (rest : List ℕ) → transcript_on r (bytes ++ rest) ≡ record { text = written; fault = Some f }
 
 -- bytes lead from r to q, and what is written on the way goes to the output
 abbrev pub Goes : Run → List ℕ → Run → Option (List ℕ) → Option (List ℕ) → Type 0
@@ -111,8 +111,8 @@ Goes r bytes q before behind = (written : List ℕ) × Appends before behind wri
 abbrev pub Ends : Run → List ℕ → LineFault → Option (List ℕ) → Option (List ℕ) → Type 0
 Ends r bytes f before behind = (written : List ℕ) × Appends before behind written × Faults r bytes f written
 
--- the output takes the text of a story that has this fault
-abbrev pub Tells : Story → Option LineFault → Option (List ℕ) → Option (List ℕ) → Type 0
+-- the output takes the text of a transcript that has this fault
+abbrev pub Tells : Transcript → Option LineFault → Option (List ℕ) → Option (List ℕ) → Type 0
 Tells s fault before behind = (s.fault ≡ fault) × Appends before behind s.text
 
 -- the line that has come
@@ -121,5 +121,5 @@ line_in r ended = if ended then r.pending ++ 10 ∷ [] else r.pending
 
 -- a line was taken, and its answer went to the output
 abbrev pub Takes : Run → List ℕ → Run → Option (List ℕ) → Option (List ℕ) → Type 0
-Takes r line q before behind = (text : List ℕ) × (effect_at r.place line ≡ Ok (record { stage = q.place.stage; text = text }))
-    × (q ≡ record { place = place_after r.place line q.place.stage; pending = [] }) × Appends before behind text
+Takes r line q before behind = (text : List ℕ) × (effect_at r.place line ≡ Ok (record { store = q.place.store; text = text }))
+    × (q ≡ record { place = place_after r.place line q.place.store; pending = [] }) × Appends before behind text

@@ -1,5 +1,5 @@
 -- The store that a script has opened.
-use Rattle.std.specs.Prelude.{ℕ, List, [], ◌∷◌, Option, None, Some, replicate, map}
+use Rattle.std.specs.Prelude.{ℕ, List, [], Option, None, Some, replicate, map}
 use Rattle.std.specs.Option.{option_map}
 use Rattle.snap_usage.specs.declared.usage.Usage.{Usage}
 use Rattle.snap_usage.specs.Counted.{count_of}

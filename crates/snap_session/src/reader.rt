@@ -1,7 +1,7 @@
 // The lines of an input, one after another.
 ghost use Rattle.std.specs.Prelude.{Some, None, ◌≡◌, ◌<◌, ◌≤◌, ◌+◌, ℕ, [], ◌∷◌, ◌++◌, length, true, false, Ok, Err, OnOk, IfOk, if◌then◌else◌, string_bytes};
 ghost use Rattle.std.specs.Io.KnownBytes.{Appends};
-ghost use Rattle.snap_session.specs.Script.{Run, start, Takes, Goes, Ends, Tells, line_in, tale, effect_of, effect_at, bytes_of, max_bytes};
+ghost use Rattle.snap_session.specs.Script.{Run, start, Takes, Goes, Ends, Tells, line_in, transcript_on, effect_of, effect_at, bytes_of, max_bytes};
 ghost use Rattle.snap_session.specs.declared.stop.LineFault.{LineFault};
 
 use crate::session::Session;
@@ -33,7 +33,7 @@ fn effect_of<N: StoreName>(
     bytes: &[u8],
 ) -> Result<Option<String>, Stop>
     requires { lines ≤ max_bytes }
-    ensures ok { IfOk result (λ said. effect_of session.old bytes.now ≡ Ok (record { stage = session.new; text = bytes_of said })) }
+    ensures ok { IfOk result (λ said. effect_of session.old bytes.now ≡ Ok (record { store = session.new; text = bytes_of said })) }
     ensures fault { (f : LineFault) → result ≡ Err (Stop.Line f)
         → (effect_of session.old bytes.now ≡ Err f.cause) × (f.line ≡ lines + 1) }
 {
@@ -88,7 +88,7 @@ impl<N: StoreName> Model for Reader<N> {
     ghost Value = { Run };
 
     ghost view = { λ s. record {
-      place = record { lines = s.lines; bytes = s.bytes; stage = s.session };
+      place = record { lines = s.lines; bytes = s.bytes; store = s.session };
       pending = s.pending.items;
     } };
 
@@ -163,9 +163,9 @@ impl<N: StoreName> Reader<N> {
 
     // Takes the end of the input.
     pub(crate) fn finish<W: Write>(&mut self, output: &mut W) -> Result<(), Stop>
-        ensures ok { OnOk result (Tells (tale self.old []) None (W.contents output.old) (W.contents output.new)) }
+        ensures ok { OnOk result (Tells (transcript_on self.old []) None (W.contents output.old) (W.contents output.new)) }
         ensures fault { (f : LineFault) → result ≡ Err (Stop.Line f)
-            → Tells (tale self.old []) (Some f) (W.contents output.old) (W.contents output.new) }
+            → Tells (transcript_on self.old []) (Some f) (W.contents output.old) (W.contents output.new) }
     {
         if self.pending.as_slice().is_empty() {
             return Ok(());

@@ -1,4 +1,3 @@
-use Rattle.std.proofs.Common.{◌≡◌}
 use Rattle.std.proofs.lemmas.Result.{err_from_is_err_and}
 use Rattle.snap_session.proofs.ScriptLaws.{goes_kept}
 use Rattle.snap_session.proofs.running.take_read.Goals as goal

@@ -1,4 +1,4 @@
-use Rattle.std.proofs.Common.{◌≡◌, sym, ◌∙◌}
+use Rattle.std.proofs.Common.{sym, ◌∙◌}
 use Rattle.snap_session.proofs.Moving.{one_step}
 use Rattle.snap_session.proofs.stepping.take_step.Goals as goal
 

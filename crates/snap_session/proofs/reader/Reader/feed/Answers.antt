@@ -1,6 +1,6 @@
-use Rattle.std.proofs.Common.{◌≡◌, ◌<◌, length, refl, arith}
+use Rattle.std.proofs.Common.{◌<◌, length, refl, arith}
 use Rattle.std.proofs.lemmas.Result.{err_from_is_err_and}
-use Rattle.snap_session.proofs.ScriptLaws.{goes_none, goes_more, ends_more}
+use Rattle.snap_session.proofs.ScriptLaws.{goes_more, ends_more}
 use Rattle.snap_session.proofs.reader.Reader.feed.Goals as goal
 
 pub returns-in_err-take_byte-clause-fault : goal.returns-in_err-take_byte-clause-fault

@@ -1,8 +1,7 @@
-use Rattle.std.proofs.Common.{◌≡◌, ℕ, ◌+◌, ◌<◌, List, [], ◌∷◌, length, true, false, Bool, None, Some, refl, sym, ap, ◌∙◌, arith, subst, Option}
+use Rattle.std.proofs.Common.{◌≡◌, ℕ, List, [], length, true, false, Some, sym, ap, ◌∙◌, subst, Option}
 use Rattle.std.specs.Prelude.{◌==◌}
 use Rattle.snap_session.specs.Lines.{is_open}
-use Rattle.snap_session.specs.Script.{Run, tale, Tells}
-use Rattle.snap_session.specs.declared.stop.LineFault.{LineFault}
+use Rattle.snap_session.specs.Script.{Run, transcript_on, Tells}
 use Rattle.snap_session.proofs.ScriptLaws.{on_ok, empty_list, more_list, end_none, end_ok, end_err}
 use Rattle.snap_session.proofs.reader.Reader.finish.Goals as goal
 
@@ -23,5 +22,5 @@ returns-clause-fault g c = λ f is.
     let no_feed = subst (λ (z : Run). is_open z.pending ≡ true) c.self.view_is c.self.invariant.3 in
     let known = c.take_line.ensures.fault f is in
     let x = g.W.Write.contents c.args.output.now in
-    subst (λ (y : Option (List ℕ)). Tells (tale c.args.self.now []) (Some f) x y) (sym known.2)
+    subst (λ (y : Option (List ℕ)). Tells (transcript_on c.args.self.now []) (Some f) x y) (sym known.2)
     (end_err c.args.self.now f x no_feed (more_list _ e) known.0 known.1)

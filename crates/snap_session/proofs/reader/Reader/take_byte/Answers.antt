@@ -1,9 +1,8 @@
-use Rattle.std.proofs.Common.{◌≡◌, ℕ, ◌+◌, List, [], ◌∷◌, length, true, refl, sym, ap, ◌∙◌, arith, subst, Option}
+use Rattle.std.proofs.Common.{◌≡◌, ℕ, ◌+◌, List, [], ◌∷◌, length, true, sym, ap, ◌∙◌, subst, Option}
 use Rattle.std.proofs.lemmas.Bool.{ne_eqb}
 use Rattle.snap_script.specs.declared.fault.Fault.TheVariants.{TooLong}
 use Rattle.snap_session.specs.Lines.{is_open}
 use Rattle.snap_session.specs.Script.{Run, Goes, Ends}
-use Rattle.snap_session.specs.declared.stop.LineFault.{LineFault}
 use Rattle.snap_session.proofs.ScriptLaws.{on_ok, newline_goes, newline_ends, byte_run, long_ends}
 use Rattle.snap_session.proofs.reader.Reader.take_byte.Goals as goal
 
