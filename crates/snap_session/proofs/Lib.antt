@@ -1,0 +1,5 @@
+pub mod Moving
+pub mod KnownLaws
+pub mod LineLaws
+pub mod ScriptLaws
+pub mod ReplayLaws

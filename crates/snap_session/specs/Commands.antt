@@ -1,0 +1,180 @@
+-- What a command of a script answers, and the store after it.
+use Rattle.std.specs.Prelude.{ℕ, ◌+◌, min, Bool, true, false, List, length, Option, None, Some, Result, Ok, Err, if◌then◌else◌}
+use Rattle.snap_usage.specs.declared.usage.Usage.{Usage}
+use Rattle.snap_merge.specs.declared.error.FsError.{FsError}
+use Rattle.snap_merge.specs.declared.error.FsError.TheVariants.{NeedsCharge}
+use Rattle.snap_upper.specs.declared.op.Op.{Op}
+use Rattle.snap_record.specs.Labels.{Bytes}
+use Rattle.snap_call.specs.declared.call.Call.TheVariants as calls
+use Rattle.snap_call.specs.declared.config.Config.{Config}
+use Rattle.snap_call.specs.declared.refusal.Refusal.{Refusal}
+use Rattle.snap_call.specs.declared.refusal.Refusal.TheVariants.{BadArgument}
+use Rattle.snap_call.specs.declared.reply.Reply.{Reply}
+use Rattle.snap_call.specs.declared.reply.Reply.TheVariants as replies
+use Rattle.snap_call.specs.Forms.{is_config}
+use Rattle.snap_call.specs.Records.{open_count}
+use Rattle.snap_book.specs.Asking.{slot_of}
+use Rattle.snap_world.specs.declared.step.Step.{Step}
+use Rattle.snap_world.specs.declared.step.Step.TheVariants.{Locked, Hand}
+use Rattle.snap_world.specs.declared.step.Answer.{Answer as StepAnswer}
+use Rattle.snap_world.specs.declared.step.Answer.TheVariants as step_answers
+use Rattle.snap_world.specs.World.{WorldValue}
+use Rattle.snap_world.specs.Move.{move}
+use Rattle.snap_script.specs.declared.answer.Answer.{Answer}
+use Rattle.snap_script.specs.declared.answer.Answer.TheVariants as answers
+use Rattle.snap_script.specs.declared.command.Command.{Command}
+use Rattle.snap_script.specs.declared.command.Command.TheVariants as commands
+use Rattle.snap_script.specs.Operations.{operation_of}
+use Rattle.snap_session.specs.Store.{StoreValue, fresh, names_of, share_at, count_at, totals_of}
+
+-- ---- one step, and its answer
+
+-- the script's answer for a reply; the slot is that of the call, the session the one that was asked for
+abbrev pub told_reply : ℕ → ℕ → WorldValue → Reply → Answer
+told_reply session slot w replies.Opened = answers.Session session
+told_reply session slot w (replies.Prepared id at chain) = answers.Prepared id at chain
+told_reply session slot w (replies.Charged now) = answers.Share now
+told_reply session slot w replies.Trimmed = answers.Share (share_at slot w)
+told_reply session slot w (replies.Committed id usage) = answers.Committed id usage
+told_reply session slot w (replies.Discarded usage) = answers.Freed usage
+told_reply session slot w (replies.Info info) = answers.Info info
+told_reply session slot w (replies.Usage usage) = answers.Usage usage
+told_reply session slot w (replies.Refused why) = answers.Refused why
+
+-- and for the outcome of an operation
+abbrev pub told_outcome : ℕ → WorldValue → Result Unit FsError → Answer
+told_outcome slot w (Ok done) = answers.Changed (count_at slot w) (share_at slot w)
+told_outcome slot w (Err e) = answers.Failed e
+
+-- the script's answer for that of a step; counts and shares are those after the step
+abbrev pub told : ℕ → ℕ → WorldValue → StepAnswer → Answer
+told session slot w (step_answers.Reply reply) = told_reply session slot w reply
+told session slot w (step_answers.File outcome) = told_outcome slot w outcome
+told session slot w step_answers.NoSession = answers.NoSession
+told session slot w step_answers.NoHand = answers.NoHand
+
+-- after a step
+abbrev pub telling : ℕ → ℕ → WorldValue × StepAnswer → WorldValue × Answer
+telling session slot after = (after.0, told session slot after.0 after.1)
+
+-- one step, and its answer
+abbrev pub stepped : ℕ → ℕ → Step → WorldValue → WorldValue × Answer
+stepped session slot step w = telling session slot (move w step)
+
+-- ---- commands on an active snapshot
+
+-- with the slot and the id of the snapshot, or why there is none; no step is made where there is none
+abbrev pub on_found : WorldValue → (ℕ → ℕ → WorldValue × Answer) → Result (ℕ × ℕ) Refusal → WorldValue × Answer
+on_found w next (Ok found) = next found.0 found.1
+on_found w next (Err why) = (w, answers.Refused why)
+
+abbrev pub on_key : WorldValue → Bytes → Bytes → (ℕ → ℕ → WorldValue × Answer) → WorldValue × Answer
+on_key w namespace key next = on_found w next (slot_of w.state namespace key)
+
+-- ---- file commands
+
+-- the need, and what is wanted beyond it: at most 2^40 of each quantity; numbers end at 2^64 - 1
+abbrev pub more : ℕ → ℕ → ℕ
+more need extra = min (need + min extra 1099511627776) 18446744073709551615
+
+abbrev pub wanted : Usage → Usage → Usage
+wanted need extra = record { blocks = more need.blocks extra.blocks; inodes = more need.inodes extra.inodes }
+
+-- the charge that an operation needs
+abbrev pub need_by : FsError → Option Usage
+need_by (NeedsCharge need) = Some need
+need_by e = None
+
+abbrev pub need_in : Result Unit FsError → Option Usage
+need_in (Ok done) = None
+need_in (Err e) = need_by e
+
+abbrev pub need_of : StepAnswer → Option Usage
+need_of (step_answers.Reply reply) = None
+need_of (step_answers.File outcome) = need_in outcome
+need_of step_answers.NoSession = None
+need_of step_answers.NoHand = None
+
+-- the reply grants a charge
+abbrev pub is_charge : Reply → Bool
+is_charge (replies.Charged now) = true
+is_charge reply = false
+
+abbrev pub is_charged : StepAnswer → Bool
+is_charged (step_answers.Reply reply) = is_charge reply
+is_charged (step_answers.File outcome) = false
+is_charged step_answers.NoSession = false
+is_charged step_answers.NoHand = false
+
+-- after the charge: the operation again, where it was granted
+abbrev pub recharged : ℕ → ℕ → Step → WorldValue × StepAnswer → WorldValue × Answer
+recharged session slot operation after = if is_charged after.1 then stepped session slot operation after.0 else telling session slot after
+
+-- after the operation: a charge where one is needed
+abbrev pub charged_for : ℕ → ℕ → ℕ → Step → Usage → WorldValue × StepAnswer → Option Usage → WorldValue × Answer
+charged_for session slot id operation extra after None = telling session slot after
+charged_for session slot id operation extra after (Some need) = recharged session slot operation (move after.0 (Locked session (calls.Charge slot id need (wanted need extra))))
+
+abbrev pub worked : ℕ → ℕ → ℕ → Step → Usage → WorldValue × StepAnswer → WorldValue × Answer
+worked session slot id operation extra after = charged_for session slot id operation extra after (need_of after.1)
+
+-- an operation, once its path is read
+unfoldable pub filed : ℕ → ℕ → ℕ → Result Op FsError → Usage → WorldValue → WorldValue × Answer
+filed session slot id (Ok op) extra w = worked session slot id (Hand slot op) extra (move w (Hand slot op))
+filed session slot id (Err e) extra w = (w, answers.Failed e)
+
+-- ---- commands on a store
+
+-- entries of the round, open snapshots, records, totals
+abbrev pub report : StoreValue → Answer
+report s = answers.Report (length s.world.journal) (open_count s.world.state.records) (length s.world.state.records) (totals_of s.world s.names)
+
+-- a command by a session. A store that stands isn't opened again: no line of a script asks for that
+abbrev pub on_store : StoreValue → ℕ → Command → WorldValue × Answer
+on_store s n (commands.Open config) = (s.world, answers.Refused BadArgument)
+on_store s n commands.Session = stepped s.world.state.sessions 0 (Locked s.world.state.sessions calls.Session) s.world
+on_store s n (commands.Prepare namespace key parent labels) = stepped n 0 (Locked n (calls.Prepare namespace key parent labels)) s.world
+on_store s n (commands.Charge namespace key need want) = on_key s.world namespace key (λ slot id. stepped n slot (Locked n (calls.Charge slot id need want)) s.world)
+on_store s n (commands.Trim namespace key) = on_key s.world namespace key (λ slot id. stepped n slot (Locked n (calls.Trim slot id)) s.world)
+on_store s n (commands.Commit namespace key name lease) = on_key s.world namespace key (λ slot id. stepped n slot (Locked n (calls.Commit slot id name lease)) s.world)
+on_store s n (commands.Discard namespace key) = on_key s.world namespace key (λ slot id. stepped n slot (Locked n (calls.Discard slot id)) s.world)
+on_store s n (commands.Stat namespace key) = stepped n 0 (Locked n (calls.Stat namespace key)) s.world
+on_store s n (commands.Usage namespace key) = stepped n 0 (Locked n (calls.Usage namespace key)) s.world
+on_store s n (commands.File namespace key operation extra) = on_key s.world namespace key (λ slot id. filed n slot id (operation_of operation) extra s.world)
+on_store s n commands.Report = (s.world, report s)
+
+-- ---- opening
+
+-- the answer that a session was opened
+abbrev pub is_start : Reply → Bool
+is_start replies.Opened = true
+is_start reply = false
+
+abbrev pub is_started : StepAnswer → Bool
+is_started (step_answers.Reply reply) = is_start reply
+is_started (step_answers.File outcome) = false
+is_started step_answers.NoSession = false
+is_started step_answers.NoHand = false
+
+-- the store stands where its first session was opened
+abbrev pub started : List Bytes → WorldValue × StepAnswer → Option StoreValue × Answer
+started names after = if is_started after.1 then (Some (record { world = after.0; names = names }), answers.Done) else (None, told 0 0 after.0 after.1)
+
+-- a world of the configuration, and its session 0
+abbrev pub opened : Config → Option StoreValue × Answer
+opened c = if is_config c then started (names_of c.namespaces) (move (fresh c) (Locked 0 calls.Session)) else (None, answers.Refused BadArgument)
+
+-- ---- a command
+
+abbrev pub kept : StoreValue → WorldValue × Answer → Option StoreValue × Answer
+kept s after = (Some (record { world = after.0; names = s.names }), after.1)
+
+-- without a store no session is open
+abbrev pub on_none : Command → Option StoreValue × Answer
+on_none (commands.Open config) = opened config
+on_none command = (None, answers.NoSession)
+
+-- a command in the session n: the store after it, and the answer
+abbrev pub done : Option StoreValue → ℕ → Command → Option StoreValue × Answer
+done None n command = on_none command
+done (Some s) n command = kept s (on_store s n command)

@@ -1,0 +1,125 @@
+-- What a script answers, line for line, and its first fault.
+use Rattle.std.specs.Prelude.{◌≡◌, ℕ, ◌+◌, ◌||◌, List, [], ◌∷◌, ◌++◌, length, Bool, Option, Some, None, is_some, Result, Ok, Err, nat_lt, String, string_bytes, if◌then◌else◌}
+use Rattle.std.specs.Io.KnownBytes.{Appends}
+use Rattle.std.specs.declared.alloc.Global.{Global}
+use Rattle.snap_script.specs.declared.answer.Answer.{Answer}
+use Rattle.snap_script.specs.declared.fault.Fault.{Fault}
+use Rattle.snap_script.specs.declared.fault.Fault.TheVariants.{TooLong}
+use Rattle.snap_script.specs.declared.line.Line.{Line}
+use Rattle.snap_script.specs.declared.line.Line.TheVariants.{Empty, Command}
+use Rattle.snap_script.specs.Answers.{answer_line}
+use Rattle.snap_script.specs.Lines.{line_of}
+use Rattle.snap_session.specs.Store.{StoreValue}
+use Rattle.snap_session.specs.Commands.{done}
+use Rattle.snap_session.specs.Lines.{lines_of, body}
+use Rattle.snap_session.specs.declared.stop.LineFault.{LineFault}
+
+-- a line has at most 16 MiB without its line feed, and all lines have at most 1 GiB with them
+abbrev pub max_line : ℕ
+max_line = 16777216
+
+abbrev pub max_bytes : ℕ
+max_bytes = 1073741824
+
+-- how many lines are behind, how many bytes they had, and the store
+pub record Place : Type 0 where
+  pub lines : ℕ
+  pub bytes : ℕ
+  pub store : Option StoreValue
+
+abbrev pub start : Place
+start = record { lines = 0; bytes = 0; store = None }
+
+-- what is written, and the fault that ends it
+pub record Transcript : Type 0 where
+  pub text : List ℕ
+  pub fault : Option LineFault
+
+abbrev pub after : List ℕ → Transcript → Transcript
+after text s = record { text = text ++ s.text; fault = s.fault }
+
+-- the store after a line, and the text of the line's answer
+pub record Effect : Type 0 where
+  pub store : Option StoreValue
+  pub text : List ℕ
+
+abbrev pub effect_done : Option StoreValue × Answer → Effect
+effect_done after = record { store = after.0; text = answer_line after.1 }
+
+abbrev pub effect_line : Option StoreValue → Result Line Fault → Result Effect Fault
+effect_line store (Ok Empty) = Ok (record { store = store; text = [] })
+effect_line store (Ok (Command session command)) = Ok (effect_done (done store session command))
+effect_line store (Err fault) = Err fault
+
+-- what the bytes of a line do: an empty line nothing, any other its command
+unfoldable pub effect_of : Option StoreValue → List ℕ → Result Effect Fault
+effect_of store bytes = effect_line store (line_of (is_some store) bytes)
+
+abbrev pub is_too_long : Place → List ℕ → Bool
+is_too_long p line = nat_lt max_line (length (body line)) || nat_lt max_bytes (p.bytes + length line)
+
+unfoldable pub effect_at : Place → List ℕ → Result Effect Fault
+effect_at p line = if is_too_long p line then Err TooLong else effect_of p.store (body line)
+
+-- the bytes of an answer that there may be
+abbrev pub bytes_of : Option (String Global) → List ℕ
+bytes_of None = []
+bytes_of (Some s) = string_bytes s
+
+abbrev pub place_after : Place → List ℕ → Option StoreValue → Place
+place_after p line store = record { lines = p.lines + 1; bytes = p.bytes + length line; store = store }
+
+abbrev pub failed : Place → Fault → Transcript
+failed p c = record { text = []; fault = Some (record { line = p.lines + 1; cause = c }) }
+
+abbrev pub goes_on : Place → List ℕ → Result Effect Fault → (Place → Transcript) → Transcript
+goes_on p line (Err c) more = failed p c
+goes_on p line (Ok e) more = after e.text (more (place_after p line e.store))
+
+-- the transcript of the lines that are left
+abbrev pub transcript_from : Place → List (List ℕ) → Transcript
+transcript_from p [] = record { text = []; fault = None }
+transcript_from p (line ∷ lines) = goes_on p line (effect_at p line) (λ q. transcript_from q lines)
+
+-- the transcript of a script
+unfoldable pub script : List ℕ → Transcript
+script bytes = transcript_from start (lines_of bytes)
+
+-- ---- on the way
+
+-- a place within a line, of which pending has come
+pub record Run : Type 0 where
+  pub place : Place
+  pub pending : List ℕ
+
+unfoldable pub transcript_on : Run → List ℕ → Transcript
+transcript_on r rest = transcript_from r.place (lines_of (r.pending ++ rest))
+
+-- bytes lead from r to q, and this is written on the way
+abbrev pub Leads : Run → List ℕ → Run → List ℕ → Type 0
+Leads r bytes q written = (rest : List ℕ) → transcript_on r (bytes ++ rest) ≡ after written (transcript_on q rest)
+
+-- bytes lead to a fault
+abbrev pub Faults : Run → List ℕ → LineFault → List ℕ → Type 0
+Faults r bytes f written = (rest : List ℕ) → transcript_on r (bytes ++ rest) ≡ record { text = written; fault = Some f }
+
+-- bytes lead from r to q, and what is written on the way goes to the output
+abbrev pub Goes : Run → List ℕ → Run → Option (List ℕ) → Option (List ℕ) → Type 0
+Goes r bytes q before behind = (written : List ℕ) × Appends before behind written × Leads r bytes q written
+
+-- bytes lead to a fault, and what is written before it goes to the output
+abbrev pub Ends : Run → List ℕ → LineFault → Option (List ℕ) → Option (List ℕ) → Type 0
+Ends r bytes f before behind = (written : List ℕ) × Appends before behind written × Faults r bytes f written
+
+-- the output takes the text of a transcript that has this fault
+abbrev pub Tells : Transcript → Option LineFault → Option (List ℕ) → Option (List ℕ) → Type 0
+Tells s fault before behind = (s.fault ≡ fault) × Appends before behind s.text
+
+-- the line that has come
+abbrev pub line_in : Run → Bool → List ℕ
+line_in r ended = if ended then r.pending ++ 10 ∷ [] else r.pending
+
+-- a line was taken, and its answer went to the output
+abbrev pub Takes : Run → List ℕ → Run → Option (List ℕ) → Option (List ℕ) → Type 0
+Takes r line q before behind = (text : List ℕ) × (effect_at r.place line ≡ Ok (record { store = q.place.store; text = text }))
+    × (q ≡ record { place = place_after r.place line q.place.store; pending = [] }) × Appends before behind text

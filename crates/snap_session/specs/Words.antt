@@ -1,0 +1,22 @@
+-- What an end is called, and the status of the program.
+use Rattle.std.specs.Prelude.{ℕ, List, ◌++◌, codes, decimal}
+use Rattle.snap_script.specs.Faults.{fault_words}
+use Rattle.snap_session.specs.declared.stop.LineFault.{LineFault}
+use Rattle.snap_session.specs.declared.stop.Stop.{Stop}
+use Rattle.snap_session.specs.declared.stop.Stop.TheVariants.{Line, InputFailed, OutputFailed, OutOfMemory}
+
+-- the line and its fault
+abbrev pub line_words : LineFault → List ℕ
+line_words f = codes "line " ++ (decimal f.line ++ (codes ": " ++ fault_words f.cause))
+
+abbrev pub words_of : Stop → List ℕ
+words_of (Line f) = line_words f
+words_of InputFailed = codes "input failed"
+words_of OutputFailed = codes "output failed"
+words_of OutOfMemory = codes "want of memory"
+
+abbrev pub status_of : Stop → ℕ
+status_of (Line f) = 2
+status_of InputFailed = 3
+status_of OutputFailed = 3
+status_of OutOfMemory = 4

@@ -1,0 +1,26 @@
+//! The run of a script: its lines are read from an input, each command acts on a store, and the line
+//! of each answer is written to an output.
+//!
+//! What is written is one definition, `script` in `specs/Script.antt`, a recursion over the lines.
+//! What a command does is `done` in `specs/Commands.antt`, over the steps of a world.
+#![tactic(auto)]
+
+mod commands;
+mod filing;
+mod reader;
+mod running;
+mod session;
+mod stepping;
+mod stop;
+mod store;
+mod want;
+
+pub use running::{replay, replay_within};
+pub use session::Session;
+pub use stop::{LineFault, Stop};
+pub use want::Want;
+
+#[cfg(test)]
+mod running_tests;
+#[cfg(test)]
+mod tests;

@@ -1,0 +1,115 @@
+ghost use Rattle.std.specs.Prelude.{◌≡◌, IfOk, None, true, is_some};
+ghost use Rattle.snap_call.specs.Forms.{is_config};
+ghost use Rattle.snap_session.specs.Commands.{is_started, opened, done};
+
+use crate::stepping::{take_step, told};
+use crate::store::{Store, names_of};
+use crate::want::Want;
+use snap_call::{Call, Config, Refusal, Reply};
+use snap_ledger::{NewTable, StoreName};
+use snap_script::{Answer, Command};
+use snap_world::{Answer as StepAnswer, Step, World};
+use std::alloc::Global;
+use std::marker::Model;
+
+/// The store of a script, once it has opened one. Contracts see the store.
+///
+/// The table names the store, and goes to the first one that is opened.
+#[derive(Drop)]
+pub struct Session<N: StoreName> {
+    alloc: Global,
+    table: Option<NewTable>,
+    store: Option<Store<N>>,
+}
+
+impl<N: StoreName> Model for Session<N> {
+    ghost use Rattle.std.specs.Prelude.{◌≡◌, Option, IfSome};
+    ghost use Rattle.snap_session.specs.Store.{StoreValue};
+
+    ghost Value = { Option StoreValue };
+
+    ghost view = { λ s. s.store };
+
+    ghost invariant = { λ s. IfSome s.table (λ t. t ≡ N.table) };
+}
+
+fn is_started(answer: &StepAnswer) -> bool
+    ensures { result ≡ is_started answer.now }
+{
+    match answer {
+        StepAnswer::Reply(Reply::Opened) => true,
+        _ => false,
+    }
+}
+
+impl<N: StoreName> Session<N> {
+    /// A script that has opened no store. Takes no memory.
+    pub fn new(alloc: Global, table: NewTable) -> Session<N>
+        requires { table ≡ N.table }
+        ensures { result ≡ None }
+    {
+        Session {
+            alloc,
+            table: Some(table),
+            store: None,
+        }
+    }
+
+    /// Whether a store stands. Takes no memory.
+    pub fn is_open(&self) -> bool
+        ensures { result ≡ is_some self.now }
+    {
+        self.store.is_some()
+    }
+
+    // A world of the configuration, which has its form, and its session 0.
+    fn start(&mut self, config: Config) -> Result<Answer, Want>
+        requires valid { is_config config ≡ true }
+        requires none { self.old ≡ None }
+        ensures { IfOk result (λ answer. opened config ≡ (self.new, answer)) }
+    {
+        let names = names_of(self.alloc, config.namespaces.as_slice())?;
+        let table = self.table.take().ok_or(Want)?;
+        let Ok(mut world) = World::open(self.alloc, table, config) else {
+            return Err(Want);
+        };
+        let answer = take_step(&mut world, &Step::Locked(0, Call::Session))?;
+        if is_started(&answer) {
+            self.store = Some(Store { world, names });
+            return Ok(Answer::Done);
+        }
+        Ok(told(0, 0, &world, answer))
+    }
+
+    // The first command.
+    fn open(&mut self, config: Config) -> Result<Answer, Want>
+        requires { self.old ≡ None }
+        ensures { IfOk result (λ answer. opened config ≡ (self.new, answer)) }
+    {
+        if !config.is_valid() {
+            return Ok(Answer::Refused(Refusal::BadArgument));
+        }
+        if config.journal == 0 {
+            return Ok(Answer::Refused(Refusal::JournalFull));
+        }
+        self.start(config)
+    }
+
+    /// A command by a session of this number: its answer, and what it makes of the store.
+    ///
+    /// Without a store every command but `Open` is answered `NoSession`; with one, `Open` is refused as
+    /// a bad argument and the store stays. No line of a script asks for either. `Want` where memory was
+    /// refused; the run of a script ends with it, and nothing is said of the store. The cost is that
+    /// of the command's steps, at most three.
+    pub fn act(&mut self, n: u64, command: Command) -> Result<Answer, Want>
+        ensures { IfOk result (λ answer. done self.old n command ≡ (self.new, answer)) }
+    {
+        match &mut self.store {
+            Some(store) => store.act(self.alloc, n, command),
+            None => match command {
+                Command::Open { config } => self.open(config),
+                _ => Ok(Answer::NoSession),
+            },
+        }
+    }
+}

@@ -1,0 +1,122 @@
+// One step of the world, and what a script says of it.
+ghost use Rattle.std.specs.Prelude.{◌≡◌, IfOk};
+ghost use Rattle.snap_world.specs.Move.{move};
+ghost use Rattle.snap_session.specs.Store.{share_at, count_at};
+ghost use Rattle.snap_session.specs.Wanting.{is_want};
+ghost use Rattle.snap_session.specs.Commands.{told, told_reply, told_outcome, stepped};
+
+use crate::want::Want;
+use snap_call::{Refusal, Reply};
+use snap_ledger::StoreName;
+use snap_merge::FsError;
+use snap_script::Answer;
+use snap_usage::Usage;
+use snap_world::{Answer as StepAnswer, Step, World};
+use std::slice;
+
+const NOTHING: Usage = Usage {
+    blocks: 0,
+    inodes: 0,
+};
+
+// What the snapshot in the slot is charged.
+pub(crate) fn share_at<N: StoreName>(world: &World<N>, slot: u64) -> Usage
+    ensures { result ≡ share_at slot world.now }
+{
+    match world.share(slot) {
+        Some(share) => share,
+        None => NOTHING,
+    }
+}
+
+// What the layer of the snapshot in the slot takes.
+pub(crate) fn count_at<N: StoreName>(world: &World<N>, slot: u64) -> Usage
+    ensures { result ≡ count_at slot world.now }
+{
+    match world.count(slot) {
+        Some(count) => count,
+        None => NOTHING,
+    }
+}
+
+fn is_want(answer: &StepAnswer) -> bool
+    ensures { result ≡ is_want answer.now }
+{
+    match answer {
+        StepAnswer::Reply(Reply::Refused(Refusal::OutOfMemory)) => true,
+        StepAnswer::File(Err(FsError::OutOfMemory)) => true,
+        _ => false,
+    }
+}
+
+// One step.
+pub(crate) fn take_step<N: StoreName>(world: &mut World<N>, step: &Step) -> Result<StepAnswer, Want>
+    ensures { IfOk result (λ answer. move world.old step.now ≡ (world.new, answer)) }
+{
+    let mut given = world.run(slice::from_ref(step))?;
+    let Some(answer) = given.pop() else {
+        return Err(Want);
+    };
+    if is_want(&answer) {
+        return Err(Want);
+    }
+    Ok(answer)
+}
+
+fn told_reply<N: StoreName>(session: u64, slot: u64, world: &World<N>, reply: Reply) -> Answer
+    ensures { result ≡ told_reply session slot world.now reply }
+{
+    match reply {
+        Reply::Opened => Answer::Session(session),
+        Reply::Prepared { id, slot, chain } => Answer::Prepared { id, slot, chain },
+        Reply::Charged { now } => Answer::Share(now),
+        Reply::Trimmed => Answer::Share(share_at(world, slot)),
+        Reply::Committed { id, usage } => Answer::Committed { id, usage },
+        Reply::Discarded(usage) => Answer::Freed(usage),
+        Reply::Info(info) => Answer::Info(info),
+        Reply::Usage(usage) => Answer::Usage(usage),
+        Reply::Refused(why) => Answer::Refused(why),
+    }
+}
+
+fn told_outcome<N: StoreName>(slot: u64, world: &World<N>, outcome: Result<(), FsError>) -> Answer
+    ensures { result ≡ told_outcome slot world.now outcome }
+{
+    match outcome {
+        Ok(()) => Answer::Changed {
+            count: count_at(world, slot),
+            share: share_at(world, slot),
+        },
+        Err(error) => Answer::Failed(error),
+    }
+}
+
+// What a script says of the answer of a step on the slot.
+pub(crate) fn told<N: StoreName>(
+    session: u64,
+    slot: u64,
+    world: &World<N>,
+    answer: StepAnswer,
+) -> Answer
+    ensures { result ≡ told session slot world.now answer }
+{
+    match answer {
+        StepAnswer::Reply(reply) => told_reply(session, slot, world, reply),
+        StepAnswer::File(outcome) => told_outcome(slot, world, outcome),
+        StepAnswer::NoSession => Answer::NoSession,
+        StepAnswer::NoHand => Answer::NoHand,
+    }
+}
+
+// One step, and what a script says of it.
+pub(crate) fn stepped<N: StoreName>(
+    world: &mut World<N>,
+    session: u64,
+    slot: u64,
+    step: &Step,
+) -> Result<Answer, Want>
+    ensures { IfOk result (λ answer. stepped session slot step.now world.old ≡ (world.new, answer)) }
+{
+    let answer = take_step(world, step)?;
+    Ok(told(session, slot, world, answer))
+}
