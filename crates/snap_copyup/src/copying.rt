@@ -13,7 +13,7 @@ use super::putting::Last;
 use snap_layer::{Bytes, Layer, Shared};
 use snap_merge::{FsError, Seen};
 use snap_path::Path;
-use std::alloc::{AllocError, Global};
+use std::alloc::AllocError;
 
 /// Copies up what is seen at the path: the layer gets the directories above it, as by `ensure_dirs`, and,
 /// where it has no node at the path, what is below there: a directory with its mode, not opaque, or a file
@@ -45,7 +45,7 @@ fn copy_below(layer: &Layer, lowers: &[Shared], path: &Path) -> Result<Last, All
     if layer.at(path).is_some() {
         return Ok(Last::Nothing);
     }
-    let alloc = allocator(layer, path)?;
+    let alloc = layer.alloc();
     match below(layer, lowers, path) {
         None => Ok(Last::Nothing),
         Some(Seen::Dir { mode }) => Ok(Last::Dir {
@@ -60,11 +60,4 @@ fn copy_below(layer: &Layer, lowers: &[Shared], path: &Path) -> Result<Last, All
             target: Bytes::copy_of(alloc, target)?,
         }),
     }
-}
-
-/// The allocator that the layer keeps, by way of the list of the path's children. Where nothing stands
-/// the list is empty and takes no memory.
-fn allocator(layer: &Layer, path: &Path) -> Result<Global, AllocError> {
-    let children = layer.children(path)?;
-    Ok(*children.allocator())
 }

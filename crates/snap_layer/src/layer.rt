@@ -194,6 +194,11 @@ impl Layer {
         self.next
     }
 
+    /// The allocator that the layer keeps. The cost is constant.
+    pub fn alloc(&self) -> Global {
+        self.alloc
+    }
+
     /// How many directories and how many whiteouts there are, counted from scratch.
     ///
     /// Takes no memory. Cost: the number of paths.

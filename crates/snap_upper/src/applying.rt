@@ -6,7 +6,7 @@ ghost use Rattle.snap_upper.specs.After.{after};
 ghost use Rattle.snap_upper.specs.Changed.{changed, Changes};
 
 use super::checking::{check_new, check_write};
-use super::content::{allocator, file_bytes, is_whiteout, written};
+use super::content::{file_bytes, is_whiteout, written};
 use super::op::Op;
 use snap_layer::{Bytes, Layer};
 use snap_merge::{FsError, Stack};
@@ -74,7 +74,7 @@ fn create(layer: &mut Layer, path: &Path, mode: u32) -> Result<(), FsError>
 {
     check_new(&Stack::over(layer, &[]), path, mode)?;
     let _ = layer.next_number();
-    let empty = Bytes::new(Vec::new(allocator(layer, path)?));
+    let empty = Bytes::new(Vec::new(layer.alloc()));
     layer.add_file(path, mode, empty)?;
     Ok(())
 }
@@ -86,7 +86,7 @@ fn write(layer: &mut Layer, path: &Path, offset: u64, bytes: &Bytes) -> Result<(
 {
     let number = check_write(layer, path, offset, bytes)?;
     let _ = layer.next_number();
-    let alloc = allocator(layer, path)?;
+    let alloc = layer.alloc();
     let old = file_bytes(layer, number);
     let content = written(alloc, old, offset as usize, bytes.as_slice())?;
     layer.set_bytes(number, content);

@@ -28,13 +28,6 @@ pub(crate) fn file_bytes(layer: &Layer, number: u32) -> &[u8]
     }
 }
 
-/// The allocator that the layer keeps, by way of the list of the path's children. Below a file, and
-/// where one is to be made, nothing stands, so the list is empty and takes no memory.
-pub(crate) fn allocator(layer: &Layer, path: &Path) -> Result<Global, AllocError> {
-    let below = layer.children(path)?;
-    Ok(*below.allocator())
-}
-
 /// The old bytes with the new ones put at the offset, over a gap of zero bytes.
 pub(crate) fn written(
     alloc: Global,
