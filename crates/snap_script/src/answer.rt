@@ -57,11 +57,11 @@ pub enum Answer {
     /// A call was refused: `{"error":"NotFound","from":"book"}`, over the limit with what is free,
     /// `{"error":"OverLimit","free":[5,0],"from":"book"}`.
     Refused(Refusal),
-    /// A file operation failed: `{"error":"CrossDevice","from":"file"}`.
+    /// A file operation failed: `{"error":"Exists","from":"file"}`.
     Failed(FsError),
     /// No such session was opened: `{"error":"NoSession","from":"world"}`.
     NoSession,
-    /// Nobody holds such a snapshot: `{"error":"NoHand","from":"world"}`.
+    /// Nobody holds such a snapshot, or it is sealed: `{"error":"NoHand","from":"world"}`.
     NoHand,
 }
 

@@ -36,7 +36,7 @@ pub enum Field {
 /// several fields, the first in the order of the command's definition.
 #[derive(Clone, Copy, Debug, PartialEq, Eq)]
 pub enum Fault {
-    /// More than 16,777,216 bytes without the line feed.
+    /// More than 16,777,216 bytes without the line feed; a reader of a whole input may have more limits.
     TooLong,
     /// No UTF-8, or no JSON as `serde_json` reads it.
     NotJson,

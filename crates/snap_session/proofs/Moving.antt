@@ -17,9 +17,9 @@ is_moved old new s a f (inl e) = e
 is_moved old new s a f (inr h) = let t = want_tells old new s a h in absurd (cc)
 
 last_moved : (old new : WorldValue) (s : Step) (rest : List Answer) (a : Answer) → Runs old (s ∷ []) (rest ++ a ∷ []) new → is_want a ≡ false → move old s ≡ (new, a)
-last_moved old new s [] a h f = is_moved old new s a f (subst (λ (w : WorldValue). Moves old s a w) (sym h.2) h.1)
-last_moved old new s (b ∷ []) a h f = absurd h.2
-last_moved old new s (b ∷ c ∷ more) a h f = absurd h.2
+last_moved old new s [] a h f = is_moved old new s a f (subst (λ (w : WorldValue). Moves old s a w) (sym h.3) h.1)
+last_moved old new s (b ∷ []) a h f = absurd h.3
+last_moved old new s (b ∷ c ∷ more) a h f = absurd h.3
 
 -- the only answer of a list of one step
 pub one_step : (old new : WorldValue) (s : Step) (ss : List Step) (answers rest : List Answer) (a : Answer) → ss ≡ s ∷ [] → answers ≡ rest ++ a ∷ [] → Runs old ss answers new → is_want a ≡ false → move old s ≡ (new, a)

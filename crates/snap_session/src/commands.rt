@@ -7,16 +7,15 @@ ghost use Rattle.snap_session.specs.Commands.{stepped, on_key, report};
 
 use crate::stepping::stepped;
 use crate::store::Store;
-use crate::want::Want;
 use snap_call::Call;
 use snap_ledger::StoreName;
 use snap_record::{Labels, Sequence, Text};
 use snap_script::Answer;
 use snap_usage::Usage;
-use snap_world::{Step, World};
+use snap_world::{NoMemory, Step, World};
 use std::alloc::Global;
 
-pub(crate) fn session<N: StoreName>(world: &mut World<N>) -> Result<Answer, Want>
+pub(crate) fn session<N: StoreName>(world: &mut World<N>) -> Result<Answer, NoMemory>
     ensures { IfOk result (λ answer. stepped world.old.state.sessions 0 (Locked world.old.state.sessions calls.Session) world.old ≡ (world.new, answer)) }
 {
     let number = world.sessions();
@@ -30,7 +29,7 @@ pub(crate) fn prepare<N: StoreName>(
     key: Text,
     parent: Text,
     labels: Labels,
-) -> Result<Answer, Want>
+) -> Result<Answer, NoMemory>
     ensures { IfOk result (λ answer. stepped n 0 (Locked n (calls.Prepare namespace key parent labels)) world.old ≡ (world.new, answer)) }
 {
     let call = Call::Prepare {
@@ -47,7 +46,7 @@ pub(crate) fn stat<N: StoreName>(
     n: u64,
     namespace: Text,
     key: Text,
-) -> Result<Answer, Want>
+) -> Result<Answer, NoMemory>
     ensures { IfOk result (λ answer. stepped n 0 (Locked n (calls.Stat namespace key)) world.old ≡ (world.new, answer)) }
 {
     let call = Call::Stat { namespace, key };
@@ -59,7 +58,7 @@ pub(crate) fn usage<N: StoreName>(
     n: u64,
     namespace: Text,
     key: Text,
-) -> Result<Answer, Want>
+) -> Result<Answer, NoMemory>
     ensures { IfOk result (λ answer. stepped n 0 (Locked n (calls.Usage namespace key)) world.old ≡ (world.new, answer)) }
 {
     let call = Call::Usage { namespace, key };
@@ -73,7 +72,7 @@ pub(crate) fn charge<N: StoreName>(
     key: Text,
     need: Usage,
     want: Usage,
-) -> Result<Answer, Want>
+) -> Result<Answer, NoMemory>
     ensures { IfOk result (λ answer. on_key world.old namespace key (λ slot id. stepped n slot (Locked n (calls.Charge slot id need want)) world.old) ≡ (world.new, answer)) }
 {
     let (slot, id) = match world.hand(namespace.as_str(), key.as_str()) {
@@ -94,7 +93,7 @@ pub(crate) fn trim<N: StoreName>(
     n: u64,
     namespace: Text,
     key: Text,
-) -> Result<Answer, Want>
+) -> Result<Answer, NoMemory>
     ensures { IfOk result (λ answer. on_key world.old namespace key (λ slot id. stepped n slot (Locked n (calls.Trim slot id)) world.old) ≡ (world.new, answer)) }
 {
     let (slot, id) = match world.hand(namespace.as_str(), key.as_str()) {
@@ -112,7 +111,7 @@ pub(crate) fn commit<N: StoreName>(
     key: Text,
     name: Text,
     lease: Option<Text>,
-) -> Result<Answer, Want>
+) -> Result<Answer, NoMemory>
     ensures { IfOk result (λ answer. on_key world.old namespace key (λ slot id. stepped n slot (Locked n (calls.Commit slot id name lease)) world.old) ≡ (world.new, answer)) }
 {
     let (slot, id) = match world.hand(namespace.as_str(), key.as_str()) {
@@ -133,7 +132,7 @@ pub(crate) fn discard<N: StoreName>(
     n: u64,
     namespace: Text,
     key: Text,
-) -> Result<Answer, Want>
+) -> Result<Answer, NoMemory>
     ensures { IfOk result (λ answer. on_key world.old namespace key (λ slot id. stepped n slot (Locked n (calls.Discard slot id)) world.old) ≡ (world.new, answer)) }
 {
     let (slot, id) = match world.hand(namespace.as_str(), key.as_str()) {
@@ -161,7 +160,7 @@ fn totals_of<N: StoreName>(
     alloc: Global,
     world: &World<N>,
     names: &[Text],
-) -> Result<Sequence<(Text, Usage)>, Want>
+) -> Result<Sequence<(Text, Usage)>, NoMemory>
     ensures { IfOk result (λ totals. totals ≡ totals_of world.now names.now) }
 {
     let mut totals = Sequence::new(alloc);
@@ -172,7 +171,7 @@ fn totals_of<N: StoreName>(
     Ok(totals)
 }
 
-pub(crate) fn report<N: StoreName>(alloc: Global, store: &Store<N>) -> Result<Answer, Want>
+pub(crate) fn report<N: StoreName>(alloc: Global, store: &Store<N>) -> Result<Answer, NoMemory>
     ensures { IfOk result (λ answer. answer ≡ report store.now) }
 {
     let world = &store.world;

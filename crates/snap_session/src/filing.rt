@@ -6,24 +6,21 @@ ghost use Rattle.snap_script.specs.Operations.{operation_of};
 ghost use Rattle.snap_session.specs.Commands.{on_key, more, wanted, need_of, is_charged, recharged, worked, filed};
 
 use crate::stepping::{stepped, take_step, told};
-use crate::want::Want;
-use snap_call::{Call, Reply};
+use snap_call::{Call, MAX_LIMIT, Reply};
 use snap_ledger::StoreName;
 use snap_merge::FsError;
 use snap_record::Text;
 use snap_script::{Answer, FileCommand};
 use snap_upper::Op;
 use snap_usage::Usage;
-use snap_world::{Answer as StepAnswer, Step, World};
+use snap_world::{Answer as StepAnswer, NoMemory, Step, World};
 use std::alloc::Global;
 
-// The most that is wanted beyond the need, of each quantity.
-const MAX_EXTRA: u64 = 1_099_511_627_776;
-
+// What is needed and the extra, which is cut to the greatest limit first.
 fn more(need: u64, extra: u64) -> u64
     ensures { result ≡ more need extra }
 {
-    need.saturating_add(extra.min(MAX_EXTRA))
+    need.saturating_add(extra.min(MAX_LIMIT))
 }
 
 // The need and the extra amount.
@@ -62,7 +59,7 @@ fn recharged<N: StoreName>(
     slot: u64,
     charge: &Step,
     operation: &Step,
-) -> Result<Answer, Want>
+) -> Result<Answer, NoMemory>
     ensures { IfOk result (λ answer. recharged n slot operation.now (move world.old charge.now) ≡ (world.new, answer)) }
 {
     let answer = take_step(world, charge)?;
@@ -80,7 +77,7 @@ fn worked<N: StoreName>(
     id: u32,
     op: Op,
     extra: Usage,
-) -> Result<Answer, Want>
+) -> Result<Answer, NoMemory>
     ensures { IfOk result (λ answer. worked n slot id (Hand slot op) extra (move world.old (Hand slot op)) ≡ (world.new, answer)) }
 {
     let operation = Step::Hand(slot, op);
@@ -106,12 +103,12 @@ fn filed<N: StoreName>(
     id: u32,
     operation: FileCommand,
     extra: Usage,
-) -> Result<Answer, Want>
+) -> Result<Answer, NoMemory>
     ensures { IfOk result (λ answer. filed n slot id (operation_of operation) extra world.old ≡ (world.new, answer)) }
 {
     match operation.into_operation(alloc) {
         Ok(op) => worked(world, n, slot, id, op, extra),
-        Err(FsError::OutOfMemory) => Err(Want),
+        Err(FsError::OutOfMemory) => Err(NoMemory),
         Err(error) => Ok(Answer::Failed(error)),
     }
 }
@@ -124,7 +121,7 @@ pub(crate) fn file<N: StoreName>(
     key: Text,
     operation: FileCommand,
     extra: Usage,
-) -> Result<Answer, Want>
+) -> Result<Answer, NoMemory>
     ensures { IfOk result (λ answer. on_key world.old namespace key (λ slot id. filed n slot id (operation_of operation) extra world.old) ≡ (world.new, answer)) }
 {
     match world.hand(namespace.as_str(), key.as_str()) {

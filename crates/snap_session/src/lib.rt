@@ -13,12 +13,11 @@ mod session;
 mod stepping;
 mod stop;
 mod store;
-mod want;
 
 pub use running::{replay, replay_within};
 pub use session::Session;
+pub use snap_world::NoMemory;
 pub use stop::{LineFault, Stop};
-pub use want::Want;
 
 #[cfg(test)]
 mod running_tests;

@@ -7,12 +7,10 @@ ghost use Rattle.snap_session.specs.declared.stop.LineFault.{LineFault};
 use crate::session::Session;
 use crate::stop::{LineFault, Stop};
 use snap_ledger::{NewTable, StoreName};
-use snap_script::{Fault, Line, ReadError, read_line};
+use snap_script::{Fault, Line, MAX_LINE_BYTES, ReadError, read_line};
 use std::alloc::Global;
 use std::io::Write;
 use std::marker::Model;
-
-const MAX_LINE: usize = 16_777_216;
 
 const MAX_BYTES: usize = 1_073_741_824;
 
@@ -138,11 +136,12 @@ impl<N: StoreName> Reader<N> {
         ensures fault { (f : LineFault) → result ≡ Err (Stop.Line f)
             → Ends self.old (b ∷ []) f (W.contents output.old) (W.contents output.new) }
     {
+        // With a field read, the proof knows the type's invariant.
         let _ = &self.alloc;
         if b == b'\n' {
             return self.take_line(true, output);
         }
-        if self.pending.as_slice().len() == MAX_LINE {
+        if self.pending.as_slice().len() == MAX_LINE_BYTES {
             return Err(fault(self.lines, Fault::TooLong));
         }
         self.pending.push(b)?;

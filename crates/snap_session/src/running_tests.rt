@@ -6,7 +6,12 @@ use std::test::Fail;
 
 const OPEN: &[u8] = b"{\"do\":\"open\",\"root\":\"/r\",\"namespaces\":[]}\n";
 
-// Gives one line, and then fails.
+const THREE: &[u8] = br#"{"do":"open","root":"/r","namespaces":[]}
+{"do":"report"}
+{"do":"session"}
+"#;
+
+// Gives three lines, and then fails.
 #[derive(Drop)]
 struct Broken(usize);
 
@@ -16,8 +21,20 @@ impl io::Read for Broken {
         if self.0 > 1 {
             return Err(io::Error::from(io::ErrorKind::TimedOut));
         }
-        let count = OPEN.len().min(buf.len());
-        buf[..count].copy_from_slice(&OPEN[..count]);
+        let count = THREE.len().min(buf.len());
+        buf[..count].copy_from_slice(&THREE[..count]);
+        Ok(count)
+    }
+}
+
+// Gives a space at each read.
+#[derive(Drop)]
+struct Spaces;
+
+impl io::Read for Spaces {
+    fn read(&mut self, buf: &mut [u8]) -> io::Result<usize> {
+        let count = buf.len().min(1);
+        buf[..count].fill(b' ');
         Ok(count)
     }
 }
@@ -37,12 +54,24 @@ impl io::Write for Full {
 }
 
 #[test]
-fn an_answer_is_out_before_a_read_fails(rt: HostRuntime) -> Result<(), Fail> {
+fn answers_are_out_before_a_read_fails(rt: HostRuntime) -> Result<(), Fail> {
     let alloc = rt.alloc();
     let mut output = BufWriter::new(alloc, Vec::new(alloc))?;
     let ended = replay(alloc, &mut Broken(0), &mut output);
     assert_eq!(rt; ended, Err(Stop::InputFailed));
-    assert_eq!(rt; output.get_ref().as_slice(), b"{\"ok\":true}\n".as_slice());
+    let answers = br#"{"ok":true}
+{"entries":1,"open":0,"records":0,"totals":{}}
+{"session":1}
+"#;
+    assert_eq!(rt; output.get_ref().as_slice(), answers.as_slice());
+    Ok(())
+}
+
+#[test]
+fn endless_spaces(rt: HostRuntime) -> Result<(), Fail> {
+    let mut output = Vec::new(rt.alloc());
+    let ended = replay_within(rt.alloc(), &mut Spaces, &mut output, 100);
+    assert_eq!(rt; (ended, output.len()), (Err(Stop::InputFailed), 0));
     Ok(())
 }
 

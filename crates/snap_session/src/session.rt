@@ -4,11 +4,10 @@ ghost use Rattle.snap_session.specs.Commands.{is_started, opened, done};
 
 use crate::stepping::{take_step, told};
 use crate::store::{Store, names_of};
-use crate::want::Want;
 use snap_call::{Call, Config, Refusal, Reply};
 use snap_ledger::{NewTable, StoreName};
 use snap_script::{Answer, Command};
-use snap_world::{Answer as StepAnswer, Step, World};
+use snap_world::{Answer as StepAnswer, NoMemory, Step, World};
 use std::alloc::Global;
 use std::marker::Model;
 
@@ -63,15 +62,15 @@ impl<N: StoreName> Session<N> {
     }
 
     // A world of the configuration, which has its form, and its session 0.
-    fn start(&mut self, config: Config) -> Result<Answer, Want>
+    fn start(&mut self, config: Config) -> Result<Answer, NoMemory>
         requires valid { is_config config ≡ true }
         requires none { self.old ≡ None }
         ensures { IfOk result (λ answer. opened config ≡ (self.new, answer)) }
     {
         let names = names_of(self.alloc, config.namespaces.as_slice())?;
-        let table = self.table.take().ok_or(Want)?;
+        let table = self.table.take().ok_or(NoMemory)?;
         let Ok(mut world) = World::open(self.alloc, table, config) else {
-            return Err(Want);
+            return Err(NoMemory);
         };
         let answer = take_step(&mut world, &Step::Locked(0, Call::Session))?;
         if is_started(&answer) {
@@ -82,7 +81,7 @@ impl<N: StoreName> Session<N> {
     }
 
     // The first command.
-    fn open(&mut self, config: Config) -> Result<Answer, Want>
+    fn open(&mut self, config: Config) -> Result<Answer, NoMemory>
         requires { self.old ≡ None }
         ensures { IfOk result (λ answer. opened config ≡ (self.new, answer)) }
     {
@@ -98,10 +97,11 @@ impl<N: StoreName> Session<N> {
     /// A command by a session of this number: its answer, and what it makes of the store.
     ///
     /// Without a store every command but `Open` is answered `NoSession`; with one, `Open` is refused as
-    /// a bad argument and the store stays. No line of a script asks for either. `Want` where memory was
-    /// refused; the run of a script ends with it, and nothing is said of the store. The cost is that
-    /// of the command's steps, at most three.
-    pub fn act(&mut self, n: u64, command: Command) -> Result<Answer, Want>
+    /// a bad argument and the store stays. No line of a script asks for either. `NoMemory` where memory was
+    /// refused; the run of a script ends with it, and nothing is said of the store. An `Open` that it
+    /// ends has spent the store's name, so a later one answers `NoMemory` too. The cost is that of the
+    /// command's steps, at most three.
+    pub fn act(&mut self, n: u64, command: Command) -> Result<Answer, NoMemory>
         ensures { IfOk result (λ answer. done self.old n command ≡ (self.new, answer)) }
     {
         match &mut self.store {

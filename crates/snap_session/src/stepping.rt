@@ -5,13 +5,12 @@ ghost use Rattle.snap_session.specs.Store.{share_at, count_at};
 ghost use Rattle.snap_session.specs.Wanting.{is_want};
 ghost use Rattle.snap_session.specs.Commands.{told, told_reply, told_outcome, stepped};
 
-use crate::want::Want;
 use snap_call::{Refusal, Reply};
 use snap_ledger::StoreName;
 use snap_merge::FsError;
 use snap_script::Answer;
 use snap_usage::Usage;
-use snap_world::{Answer as StepAnswer, Step, World};
+use snap_world::{Answer as StepAnswer, NoMemory, Step, World};
 use std::slice;
 
 const NOTHING: Usage = Usage {
@@ -50,15 +49,18 @@ fn is_want(answer: &StepAnswer) -> bool
 }
 
 // One step.
-pub(crate) fn take_step<N: StoreName>(world: &mut World<N>, step: &Step) -> Result<StepAnswer, Want>
+pub(crate) fn take_step<N: StoreName>(
+    world: &mut World<N>,
+    step: &Step,
+) -> Result<StepAnswer, NoMemory>
     ensures { IfOk result (λ answer. move world.old step.now ≡ (world.new, answer)) }
 {
     let mut given = world.run(slice::from_ref(step))?;
     let Some(answer) = given.pop() else {
-        return Err(Want);
+        return Err(NoMemory);
     };
     if is_want(&answer) {
-        return Err(Want);
+        return Err(NoMemory);
     }
     Ok(answer)
 }
@@ -114,7 +116,7 @@ pub(crate) fn stepped<N: StoreName>(
     session: u64,
     slot: u64,
     step: &Step,
-) -> Result<Answer, Want>
+) -> Result<Answer, NoMemory>
     ensures { IfOk result (λ answer. stepped session slot step.now world.old ≡ (world.new, answer)) }
 {
     let answer = take_step(world, step)?;

@@ -5,12 +5,11 @@ ghost use Rattle.snap_session.specs.Commands.{kept, on_store};
 
 use crate::commands::{charge, commit, discard, prepare, report, session, stat, trim, usage};
 use crate::filing::file;
-use crate::want::Want;
 use snap_call::{Namespace, Refusal};
 use snap_ledger::StoreName;
 use snap_record::{Sequence, Text};
 use snap_script::{Answer, Command};
-use snap_world::World;
+use snap_world::{NoMemory, World};
 use std::alloc::Global;
 use std::marker::Model;
 
@@ -30,7 +29,7 @@ impl<N: StoreName> Model for Store<N> {
 }
 
 // The names of the namespaces, in their order.
-pub(crate) fn names_of(alloc: Global, namespaces: &[Namespace]) -> Result<Sequence<Text>, Want>
+pub(crate) fn names_of(alloc: Global, namespaces: &[Namespace]) -> Result<Sequence<Text>, NoMemory>
     ensures { IfOk result (λ names. names ≡ names_of namespaces.now) }
 {
     let mut names = Sequence::new(alloc);
@@ -42,7 +41,12 @@ pub(crate) fn names_of(alloc: Global, namespaces: &[Namespace]) -> Result<Sequen
 
 impl<N: StoreName> Store<N> {
     // A command by a session of this number.
-    pub(crate) fn act(&mut self, alloc: Global, n: u64, command: Command) -> Result<Answer, Want>
+    pub(crate) fn act(
+        &mut self,
+        alloc: Global,
+        n: u64,
+        command: Command,
+    ) -> Result<Answer, NoMemory>
         ensures { IfOk result (λ answer. kept self.old (on_store self.old n command) ≡ (Some self.new, answer)) }
     {
         let world = &mut self.world;

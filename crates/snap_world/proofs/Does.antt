@@ -72,7 +72,7 @@ commit_does old new hands out after slot n id name lease h a reply at under is a
     let here : AnsweredBy old new n call (Layer h.snapshot.layer) reply = subst (λ (v : ActiveValue). AnsweredBy old new n call (Layer v.layer) reply) is answered in
     ⊎_elim
     (λ e. inl (found (world_of old hands) slot (is_under id) _ h at under ∙ e))
-    (λ e. inr (ap answers.Reply e.0, inr (λ i. world_of (e.1 i) ((left ∙ (ap f e.0 ∙ ap (λ (o : Option HandValue). with_hand slot (option_map (λ g. sealed_hand g.snapshot) o) hands) (sym at))) i))))
+    (λ e. inr (ap answers.Reply e.0, (ap (meets (is_under id)) at ∙ under, inr (λ i. world_of (e.1 i) ((left ∙ (ap f e.0 ∙ ap (λ (o : Option HandValue). with_hand slot (option_map (λ g. sealed_hand g.snapshot) o) hands) (sym at))) i)))))
     (admits old new hands after (f (Refused JournalFull)) 1 n call (Layer h.snapshot.layer) f reply (ends old new n call (Layer h.snapshot.layer) reply here) full_here left refl)
 
 -- a hand that comes back into its place
@@ -112,7 +112,7 @@ prepare_does old new hands after n namespace key parent labels reply answered le
 -- a call in its session is a step
 pub does_moves : (w v : WorldValue) (n : ℕ) (call : Call) (answer : Answer) → is_its_session w.state.sessions n call ≡ true → DoesCall w n call answer v → Moves w (steps.Locked n call) answer v
 does_moves w v n call answer own (inl e) = inl (in_session w n call _ own e)
-does_moves w v n call answer own (inr e) = inr e
+does_moves w v n call answer own (inr e) = inr (e.0, own, e.1)
 
 pub no_session : (w : WorldValue) (n : ℕ) (call : Call) → is_its_session w.state.sessions n call ≡ false → Moves w (steps.Locked n call) answers.NoSession w
 no_session w n call not_own = inl (ap (λ (b : Bool). if b then called w n call else (w, answers.NoSession)) not_own)
@@ -137,7 +137,7 @@ file_moves b hands out after slot op a v (Ok tt) at ok same error unchanged gone
 file_moves b hands out after slot op a v (Err e) at ok same (inl want) unchanged gone back =
     let h : HandValue = record { snapshot = a; sealed = false } in
     let left = back_again hands out after slot h at gone (back ∙ ap (λ (x : ActiveValue). with_hand slot (Some (record { snapshot = x; sealed = false })) out) unchanged) in
-    inr (ap (λ (x : FsError). answers.File (Err x)) want, ap (λ (l : List (Option HandValue)). world_of b l) left)
+    inr (ap (λ (x : FsError). answers.File (Err x)) want, ap (meets is_unsealed) at, ap (λ (l : List (Option HandValue)). world_of b l) left)
 file_moves b hands out after slot op a v (Err e) at ok same (inr err) unchanged gone back =
     let h : HandValue = record { snapshot = a; sealed = false } in
     let w = world_of b hands in

@@ -313,18 +313,17 @@ fits_sealed w slot fit = at (hand_at slot w.hands) refl
 fits_left : (w v : WorldValue) (call : Call) → Fits w → IsLeft w call v → Fits v
 fits_left w v calls.Session fit e = subst Fits (sym e) fit
 fits_left w v (calls.Prepare namespace key parent labels) fit e = subst Fits (sym e) fit
-fits_left w v (calls.Charge slot id need want) fit e = subst Fits (sym e) fit
-fits_left w v (calls.Trim slot id) fit e = subst Fits (sym e) fit
-fits_left w v (calls.Commit slot id name lease) fit (inl e) = subst Fits (sym e) fit
-fits_left w v (calls.Commit slot id name lease) fit (inr e) = subst Fits (sym e) (fits_sealed w slot fit)
-fits_left w v (calls.Discard slot id) fit e = subst Fits (sym e) fit
+fits_left w v (calls.Charge slot id need want) fit h = subst Fits (sym h.1) fit
+fits_left w v (calls.Trim slot id) fit h = subst Fits (sym h.1) fit
+fits_left w v (calls.Commit slot id name lease) fit h = ⊎_elim (λ e. subst Fits (sym e) fit) (λ e. subst Fits (sym e) (fits_sealed w slot fit)) h.1
+fits_left w v (calls.Discard slot id) fit h = absurd h
 fits_left w v (calls.Stat namespace key) fit e = subst Fits (sym e) fit
 fits_left w v (calls.Usage namespace key) fit e = subst Fits (sym e) fit
 
 pub fits_moves : (w v : WorldValue) (s : Step) (answer : Answer) → Fits w → Moves w s answer v → Fits v
 fits_moves w v s answer fit (inl e) = subst Fits (ap (λ (p : WorldValue × Answer). p.0) e) (fits_move w s fit)
-fits_moves w v (steps.Locked n call) answer fit (inr e) = fits_left w v call fit e.1
-fits_moves w v (steps.Hand slot op) answer fit (inr e) = subst Fits (sym e.1) fit
+fits_moves w v (steps.Locked n call) answer fit (inr e) = fits_left w v call fit e.2
+fits_moves w v (steps.Hand slot op) answer fit (inr e) = subst Fits (sym e.2) fit
 
 pub fits_locked : (w v : WorldValue) (n : ℕ) (call : Call) (answer : Answer) → Fits w → Moves w (steps.Locked n call) answer v → Fits v
 fits_locked w v n call answer fit moves = fits_moves w v (steps.Locked n call) answer fit moves

@@ -3,17 +3,17 @@ use Rattle.std.proofs.Common.{◌≡◌, List, [], ◌∷◌, ◌++◌, ℕ, ◌
 use Rattle.std.proofs.lemmas.List.{take_more}
 use Rattle.snap_world.specs.declared.step.Step.{Step}
 use Rattle.snap_world.specs.declared.step.Answer.{Answer}
-use Rattle.snap_world.specs.World.{WorldValue}
+use Rattle.snap_world.specs.World.{WorldValue, Fits}
 use Rattle.snap_world.specs.Runs.{Moves, Runs}
 
-runs_push : (ss : List Step) (rs : List Answer) (old mid new : WorldValue) (s : Step) (a : Answer) → Runs old ss rs mid → Moves mid s a new → Runs old (ss ++ s ∷ []) (rs ++ a ∷ []) new
-runs_push [] [] old mid new s a h m = (new, subst (λ (w : WorldValue). Moves w s a new) h m, refl)
-runs_push [] (r ∷ rs) old mid new s a h m = absurd h
-runs_push (t ∷ ts) [] old mid new s a h m = absurd h
-runs_push (t ∷ ts) (r ∷ rs) old mid new s a h m = (h.0, h.1, runs_push ts rs h.0 mid new s a h.2 m)
+runs_push : (ss : List Step) (rs : List Answer) (old mid new : WorldValue) (s : Step) (a : Answer) → Runs old ss rs mid → Moves mid s a new → Fits new → Runs old (ss ++ s ∷ []) (rs ++ a ∷ []) new
+runs_push [] [] old mid new s a h m fit = (new, subst (λ (w : WorldValue). Moves w s a new) h m, fit, refl)
+runs_push [] (r ∷ rs) old mid new s a h m fit = absurd h
+runs_push (t ∷ ts) [] old mid new s a h m fit = absurd h
+runs_push (t ∷ ts) (r ∷ rs) old mid new s a h m fit = (h.0, h.1, h.2, runs_push ts rs h.0 mid new s a h.3 m fit)
 
-pub runs_step : (steps : List Step) (i : ℕ) (d : Step) (rs more : List Answer) (old mid new : WorldValue) (a : Answer) → i < length steps → Runs old (take i steps) rs mid → Moves mid (get_or steps i d) a new → more ≡ rs ++ a ∷ []
+pub runs_step : (steps : List Step) (i : ℕ) (d : Step) (rs more : List Answer) (old mid new : WorldValue) (a : Answer) → i < length steps → Runs old (take i steps) rs mid → Moves mid (get_or steps i d) a new → Fits new → more ≡ rs ++ a ∷ []
     → Runs old (take (i + 1) steps) more new
-runs_step steps i d rs more old mid new a lt h m e =
+runs_step steps i d rs more old mid new a lt h m fit e =
     subst (λ (ss : List Step). Runs old ss more new) (sym (take_more steps i d lt))
-    (subst (λ (as' : List Answer). Runs old (take i steps ++ get_or steps i d ∷ []) as' new) (sym e) (runs_push (take i steps) rs old mid new (get_or steps i d) a h m))
+    (subst (λ (as' : List Answer). Runs old (take i steps ++ get_or steps i d ∷ []) as' new) (sym e) (runs_push (take i steps) rs old mid new (get_or steps i d) a h m fit))

@@ -71,7 +71,7 @@ pub charges : (old new : BookValue) (hands out after : List (Option HandValue)) 
     → AnsweredBy old new n call (given (record { snapshot = a; sealed = false })) reply → b ≡ charged a reply → (reply ≡ Refused JournalFull) ↔ (old.limit ≤ length old.journal + open_count old.state.records)
     → out ≡ with_hand slot None hands → after ≡ with_hand slot (Some (record { snapshot = b; sealed = false })) out
     → (on_hand (world_of old hands) slot (is_working id) (λ h. admitted (world_of old hands) 1 hands (recorded (world_of old hands) n call (given h) (λ r. with_hand slot (charged_hand h r) hands))) ≡ (world_of new after, answers.Reply reply))
-    ⊎ ((answers.Reply reply ≡ answers.Reply (Refused OutOfMemory)) × (world_of new after ≡ world_of old hands))
+    ⊎ ((answers.Reply reply ≡ answers.Reply (Refused OutOfMemory)) × ((meets (is_working id) (hand_at slot hands) ≡ true) × (world_of new after ≡ world_of old hands)))
 charges old new hands out after slot n id call given a b reply at under answered is full gone back =
     let h : HandValue = record { snapshot = a; sealed = false } in
     let f : Reply → List (Option HandValue) = λ r. with_hand slot (charged_hand h r) hands in
@@ -81,5 +81,5 @@ charges old new hands out after slot n id call given a b reply at under answered
     let full_here : (reply ≡ Refused JournalFull) ↔ (old.limit < length old.journal + open_count old.state.records + 1) = (λ e. (let p = full.0 e in omega arith), λ lt. full.1 (omega (arith, lt))) in
     ⊎_elim
     (λ e. inl (found (world_of old hands) slot (is_working id) _ h at (ap (λ (t : Bool). t && true) under) ∙ e))
-    (λ e. inr (ap answers.Reply e.0, λ i. world_of (e.1 i) ((left ∙ (ap f e.0 ∙ same OutOfMemory)) i)))
+    (λ e. inr (ap answers.Reply e.0, (ap (meets (is_working id)) at ∙ ap (λ (t : Bool). t && true) under, λ i. world_of (e.1 i) ((left ∙ (ap f e.0 ∙ same OutOfMemory)) i))))
     (admits old new hands after hands 1 n call (given h) f reply (ends old new n call (given h) reply answered) full_here left (same JournalFull))

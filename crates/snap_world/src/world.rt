@@ -16,11 +16,11 @@ use snap_call::{Config, Entry, Refusal};
 use snap_ledger::{NewTable, StoreName};
 use snap_record::Record;
 use snap_usage::Usage;
-use std::alloc::{AllocError, Global};
+use std::alloc::{AllocError, AllocFailed, Global};
 use std::marker::Model;
 use thiserror::Error;
 
-/// Memory for the answers was refused.
+/// Memory was refused.
 #[derive(Clone, Copy, Debug, PartialEq, Eq, Error)]
 #[error("out of memory")]
 pub struct NoMemory;
@@ -29,6 +29,14 @@ impl From<AllocError> for NoMemory {
     ghost from_gives = { λ _ _. Unit {0} };
 
     fn from(_error: AllocError) -> NoMemory {
+        NoMemory
+    }
+}
+
+impl<T: Drop> From<AllocFailed<T>> for NoMemory {
+    ghost from_gives = { λ _ _. Unit {0} };
+
+    fn from(_error: AllocFailed<T>) -> NoMemory {
         NoMemory
     }
 }
@@ -77,7 +85,8 @@ impl<N: StoreName> World<N> {
 
     // One step.
     fn take_step(&mut self, step: &Step) -> Answer
-        ensures { Moves self.old step.now result self.new }
+        ensures moves { Moves self.old step.now result self.new }
+        ensures fits { Fits self.new }
     {
         match step {
             Step::Locked(session, call) => self.hands.locked(&mut self.book, *session, call),

@@ -21,12 +21,12 @@ returns-then-b-eq10-clause-fault g c = λ f e.
     (subst (λ (y : Option (List ℕ)). Ends c.args.self.now (10 ∷ []) f x y) (sym known.2)
     (newline_ends c.args.self.now f x no_feed known.0 known.1))
 
-pub returns-then-as_slice-eq-MAX_LINE-clause-fault : goal.returns-then-as_slice-eq-MAX_LINE-clause-fault
-returns-then-as_slice-eq-MAX_LINE-clause-fault g c = λ f e.
+pub returns-then-as_slice-eq-MAX_LINE_BYTES-clause-fault : goal.returns-then-as_slice-eq-MAX_LINE_BYTES-clause-fault
+returns-then-as_slice-eq-MAX_LINE_BYTES-clause-fault g c = λ f e.
     let no_feed = subst (λ (z : Run). is_open z.pending ≡ true) c.self.view_is c.self.invariant.3 in
     let is : f ≡ record { line = c.self.inside.lines + 1; cause = TooLong } = cc in
     long_ends c.args.self.now c.args.b f _ no_feed (ne_eqb _ _ c.if-b-eq10.false)
-    (ap (λ (z : Run). length z.pending) (sym c.self.view_is) ∙ ap length (sym c.as_slice.ensures.value) ∙ c.if-as_slice-eq-MAX_LINE.true) (is ∙ ap (λ (z : Run). record { line = z.place.lines + 1; cause = TooLong }) c.self.view_is)
+    (ap (λ (z : Run). length z.pending) (sym c.self.view_is) ∙ ap length (sym c.as_slice.ensures.value) ∙ c.if-as_slice-eq-MAX_LINE_BYTES.true) (is ∙ ap (λ (z : Run). record { line = z.place.lines + 1; cause = TooLong }) c.self.view_is)
 
 pub returns-clause-ok : goal.returns-clause-ok
 returns-clause-ok g c = byte_run _ _ _ _ _ _ c.self.view_is c.args.b _ c.in_ok-push.ensures.items

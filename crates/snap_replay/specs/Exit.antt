@@ -1,0 +1,9 @@
+-- The status of the program.
+use Rattle.std.specs.Prelude.{ℕ, Unit, Result, Ok, Err}
+use Rattle.snap_session.specs.declared.stop.Stop.{Stop}
+use Rattle.snap_session.specs.Words.{status_of}
+
+-- 0 where a run ended well, else the status of its end
+abbrev pub exit_of : Result (Unit {0}) Stop → ℕ
+exit_of (Ok done) = 0
+exit_of (Err stop) = status_of stop

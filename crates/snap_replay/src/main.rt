@@ -1,0 +1,86 @@
+//! The program `snap_replay`: `snap_replay run` replays a script of a store of snapshots, from standard
+//! input to standard output.
+//!
+//! What is read and written is `replay`'s, of the crate `snap_session`; here are the words of the command
+//! line, the standard streams and the status.
+#![tactic(auto)]
+
+mod words;
+
+ghost use Rattle.snap_replay.specs.Exit.{exit_of};
+ghost use Rattle.std.specs.Prelude.{◌≡◌};
+
+use clap::error::ErrorKind as WordsErrorKind;
+use snap_session::{Stop, replay};
+use std::io::{BufWriter, ErrorKind};
+use std::process::ExitCode;
+use std::{env, io};
+use words::{Task, task_of};
+
+// The status of bad words.
+const BAD_WORDS: u8 = 2;
+
+fn replayed(rt: &HostRuntime) -> Result<(), Stop> {
+    let alloc = rt.alloc();
+    let mut input = rt.reader();
+    let Ok(mut output) = BufWriter::new(alloc, io::writer(rt)) else {
+        return Err(Stop::OutOfMemory);
+    };
+    replay(alloc, &mut input, &mut output)
+}
+
+// The status of a run that ended so; the words for it go to standard error.
+fn status(rt: &HostRuntime, ended: Result<(), Stop>) -> u8
+    ensures { result ≡ exit_of ended }
+{
+    match ended {
+        Ok(()) => 0,
+        Err(stop) => {
+            let _ = rt.eprintln(stop);
+            stop.status()
+        }
+    }
+}
+
+// The words of the command line.
+fn words_of(rt: &HostRuntime) -> Result<Vec<String>, u8> {
+    let args = match env::args(rt) {
+        Ok(args) => args,
+        Err(e) if e.kind() == ErrorKind::OutOfMemory => {
+            return Err(status(rt, Err(Stop::OutOfMemory)));
+        }
+        Err(_) => {
+            let _ = rt.eprintln("error: an argument is no text");
+            return Err(BAD_WORDS);
+        }
+    };
+    match args.collect::<Vec<String>>(rt.alloc()) {
+        Ok(words) => Ok(words),
+        Err(_) => Err(status(rt, Err(Stop::OutOfMemory))),
+    }
+}
+
+// Does what the words ask for.
+fn run(rt: &HostRuntime, words: &[String]) -> u8 {
+    match task_of(rt.alloc(), words) {
+        Ok(Some(Task::Run)) => status(rt, replayed(rt)),
+        Ok(None) => {
+            let _ = rt.eprintln("error: no command");
+            BAD_WORDS
+        }
+        Err(error) if error.kind() == WordsErrorKind::OutOfMemory => {
+            status(rt, Err(Stop::OutOfMemory))
+        }
+        Err(error) => {
+            let _ = rt.eprint(&error);
+            BAD_WORDS
+        }
+    }
+}
+
+fn main(rt: HostRuntime) -> ExitCode {
+    match words_of(&rt) {
+        Ok(words) => ExitCode::from(run(&rt, words.as_slice())),
+        Err(status) => ExitCode::from(status),
+    }
+}
