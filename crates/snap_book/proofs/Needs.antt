@@ -10,6 +10,7 @@ use Rattle.snap_merge.specs.declared.error.FsError.TheVariants.{Exists, Invalid,
 use Rattle.snap_merge.specs.Objects.{Object, dir, file, symlink, seen}
 use Rattle.snap_merge.specs.Walk.{walk, walk_from, walk_on}
 use Rattle.snap_upper.specs.declared.op.Op.{Op}
+use Rattle.snap_upper.specs.declared.planning.Planned.{Planned}
 use Rattle.snap_upper.specs.declared.op.Op.TheVariants.{Mkdir, Create, Write}
 use Rattle.snap_upper.specs.After.{Outcome, after, tests, first_error, error_if, file_error, unless, limited, next_layer, planned}
 
@@ -93,12 +94,12 @@ module _ (need : Usage) where
       by (Err x) never e = never (cc)
 
 -- a result that has the error of the plan asks for no charge, and the plan has no count
-pub plan_refused : {A : Type 0} (r : Result A FsError) (plan : Result Usage FsError) (x : FsError) (need : Usage) (P : Type 0) → (plan ≡ Err (NeedsCharge need) → ⊥) → plan ≡ Err x → IsErrAnd r (λ y. y ≡ x) → IsErrOf r (NeedsCharge need) ↔ ((plan ≡ Ok need) × P)
+pub plan_refused : {A : Type 0} (r : Result A FsError) (plan : Result Planned FsError) (x : FsError) (need : Usage) (P : Type 0) → (plan ≡ Err (NeedsCharge need) → ⊥) → plan ≡ Err x → IsErrAnd r (λ y. y ≡ x) → IsErrOf r (NeedsCharge need) ↔ ((plan ≡ Ok (record { after = need })) × P)
 plan_refused (Ok v) plan x need P never was is = absurd is
 plan_refused {A = A} (Err y) plan x need P never was is = (λ asks. absurd (never (was ∙ ap (λ (z : FsError). Err z) (sym is ∙ same y asks))), λ both. absurd (no_value x (sym was ∙ both.0)))
   where
     same : (z : FsError) → ◌≡◌ {A = Result A FsError} (Err z) (Err (NeedsCharge need)) → z ≡ NeedsCharge need
     same z e = cc
 
-    no_value : (z : FsError) → ◌≡◌ {A = Result Usage FsError} (Err z) (Ok need) → ⊥
+    no_value : (z : FsError) → ◌≡◌ {A = Result Planned FsError} (Err z) (Ok (record { after = need })) → ⊥
     no_value z e = cc

@@ -8,28 +8,27 @@ use Rattle.std.specs.BTreeMap.{is_at}
 use Rattle.snap_path.specs.Text.{Names}
 use Rattle.snap_layer.specs.declared.node.Node.{Node}
 use Rattle.snap_layer.specs.declared.node.Node.TheVariants.{Dir, File, Symlink, Whiteout}
-use Rattle.snap_layer.specs.declared.node.Body.{Body}
 use Rattle.snap_layer.specs.declared.node.Body.TheVariants as body_kinds
 use Rattle.snap_layer.specs.Tree.{Tree, Bodies, at, body, number_at, number_of, node_hides}
 use Rattle.snap_layer.specs.Counts.{is_within}
-use Rattle.snap_layer.specs.Layers.{IsLayer, IsSymlink}
-use Rattle.snap_layer.specs.Edits.{IsFree, with_entry, with_new, with_body, with_bytes}
+use Rattle.snap_layer.specs.Layers.{IsLayer}
+use Rattle.snap_layer.specs.Edits.{IsFree, with_entry, with_new, with_body}
 use Rattle.snap_layer.proofs.Looks.{Sets-with_entry, SetsBody-with_body}
 use Rattle.snap_layer.proofs.Kept.{node_with_number}
-use Rattle.snap_layer.proofs.Laws.{Replaces-with_new, SetsBody-with_new}
-use Rattle.snap_merge.specs.Objects.{Object, dir, file, symlink, seen, shown_body, is_shown_dir, AreLayers}
+use Rattle.snap_layer.proofs.Laws.{Replaces-with_new}
+use Rattle.snap_merge.specs.Objects.{Object, dir, file, seen, shown_body, is_shown_dir, AreLayers}
 use Rattle.snap_merge.specs.declared.error.FsError.{FsError}
 use Rattle.snap_merge.specs.declared.error.FsError.TheVariants.{LayerFull}
 use Rattle.snap_merge.proofs.Views.{seen_node, seen_alike}
 use Rattle.snap_merge.proofs.Above.{nothing_seen}
 use Rattle.snap_upper.specs.declared.op.Op.{Op}
 use Rattle.snap_upper.specs.declared.op.Op.TheVariants as op
-use Rattle.snap_copyup.specs.Copying.{below, with_parents, copied, with_object}
-use Rattle.snap_upper.specs.After.{after, tests, first_error, limited, unless, next_layer, is_whiteout_at, written, bytes_of, with_content, file_error}
+use Rattle.snap_copyup.specs.Copying.{with_parents}
+use Rattle.snap_upper.specs.After.{after, tests, first_error, limited, unless, next_layer, is_whiteout_at, written}
 use Rattle.snap_upper.specs.Changed.{ShowsAt, IsName, Turns, with_file_bytes, changed}
-use Rattle.snap_copyup.proofs.Alone.{free_unseen, copied_there, below_seen}
+use Rattle.snap_copyup.proofs.Alone.{free_unseen}
 use Rattle.snap_upper.proofs.Making.{IsNew, IsNew-passed}
-use Rattle.snap_upper.proofs.Writing.{IsWritable, IsWritable-passed}
+use Rattle.snap_upper.proofs.Writing.{IsWritable, IsWritable-passed, seen_file, own_or_lower, own_layer, copy_layer}
 use Rattle.snap_copyup.proofs.Elsewhere.{Puts, shown_same, shown_number, seen-put_alike, seen-put_hiding}
 use Rattle.snap_copyup.proofs.Parents.{AddsParents, adds_parents}
 use Rattle.snap_copyup.proofs.Copies.{not_next, Puts-with_new, new_shown, new_elsewhere}
@@ -94,25 +93,6 @@ create_changes u ls p m ok layers passes =
     }
 
 -- ---- a file's bytes
-
-seen_file : (o : Option Object) → file_error o ≡ None → (m : ℕ) × (old : List ℕ) × (o ≡ Some (file m old))
-seen_file None e = absurd (cc)
-seen_file (Some (dir m)) e = absurd (cc)
-seen_file (Some (file m old)) e = (m, old, refl)
-seen_file (Some (symlink target)) e = absurd (cc)
-
-body_shown : (o : Option Body) (m : ℕ) (old : List ℕ) → shown_body o ≡ Some (file m old) → o ≡ Some (body_kinds.File m old)
-body_shown None m old e = absurd (cc)
-body_shown (Some (body_kinds.File n bytes)) m old e =
-    let mode : n ≡ m = cc in
-    let same : bytes ≡ old = cc in
-    λ i. Some (body_kinds.File (mode i) (same i))
-body_shown (Some (body_kinds.Symlink target)) m old e = absurd (cc)
-
-symlink_shown : (o : Option Body) (m : ℕ) (old : List ℕ) → IsSymlink o → shown_body o ≡ Some (file m old) → ⊥
-symlink_shown None m old is e = is
-symlink_shown (Some (body_kinds.File n bytes)) m old is e = is
-symlink_shown (Some (body_kinds.Symlink target)) m old is e = cc
 
 module _ (u t : Tree) (ls : List Tree) (p : Names) (parents : AddsParents u t ls (length p)) (k m : ℕ) (old : List ℕ) (g : List ℕ → List ℕ) (is : at u p ≡ Some (File k)) (file_is : body u k ≡ Some (body_kinds.File m old)) where
   abbrev own : Tree
@@ -193,21 +173,6 @@ module _ (u t : Tree) (ls : List Tree) (p : Names) (ok : IsLayer u) (layers : Ar
 
 -- ---- the next layer of a write
 
-own_layer : (t : Tree) (ls : List Tree) (p : Names) (k m : ℕ) (old : List ℕ) (g : List ℕ → List ℕ) → at t p ≡ Some (File k) → body t k ≡ Some (body_kinds.File m old) → with_content (copied t ls p) (number_at (copied t ls p) p) g ≡ with_body t k (body_kinds.File m (g old))
-own_layer t ls p k m old g is file_is =
-    ap (λ (v : Tree). with_content v (number_at v p) g) (copied_there t ls p (ap is_some is))
-    ∙ ap (λ (o : Option ℕ). with_content t o g) (ap (option_and_then number_of) is)
-    ∙ ap (λ (o : Option Body). with_bytes t k o (g (bytes_of o))) file_is
-
-copy_layer : (t : Tree) (ls : List Tree) (p : Names) (m : ℕ) (old : List ℕ) (g : List ℕ → List ℕ) → at t p ≡ None → seen (t ∷ ls) p ≡ Some (file m old)
-    → with_content (copied t ls p) (number_at (copied t ls p) p) g ≡ with_body (with_new t p (File t.next) (body_kinds.File m old)) t.next (body_kinds.File m (g old))
-copy_layer t ls p m old g none was =
-    let b = body_kinds.File m old in
-    let v = with_new t p (File t.next) b in
-    ap (λ (w : Tree). with_content w (number_at w p) g) (ap (λ (h : Bool). if h then t else with_object t p (below t ls p)) (ap is_some none) ∙ ap (with_object t p) (sym (below_seen t ls p none) ∙ was))
-    ∙ ap (λ (o : Option ℕ). with_content v o g) (ap (option_and_then number_of) (Replaces-with_new t p (File t.next) b).here)
-    ∙ ap (λ (o : Option Body). with_bytes v t.next o (g (bytes_of o))) (SetsBody-with_new t p (File t.next) b).here
-
 module _ (u : Tree) (ls : List Tree) (p : Names) (offset : ℕ) (bytes : List ℕ) (ok : IsLayer u) (layers : AreLayers ls) (passes : first_error (tests (op.Write p offset bytes) (u ∷ ls)) ≡ None) where
   ready : IsWritable (u ∷ ls) p offset bytes
   ready = IsWritable-passed (u ∷ ls) p offset bytes passes
@@ -222,7 +187,7 @@ module _ (u : Tree) (ls : List Tree) (p : Names) (offset : ℕ) (bytes : List �
   g old = written old offset bytes
 
   write_changes : Turns u (seen (u ∷ ls)) (seen (next_layer (op.Write p offset bytes) u ls ∷ ls)) p (with_file_bytes (λ old. written old offset bytes))
-  write_changes = let f = seen_file (seen (u ∷ ls) p) ready.file in by (at u p) f.0 f.1 refl f.2
+  write_changes = let f = seen_file (seen (u ∷ ls) p) ready.file in by f.0 f.1 f.2
     where
       Goal : Tree → Type 0
       Goal v = Turns u (seen (u ∷ ls)) (seen (v ∷ ls)) p (with_file_bytes (λ old. written old offset bytes))
@@ -230,14 +195,11 @@ module _ (u : Tree) (ls : List Tree) (p : Names) (offset : ℕ) (bytes : List �
       there : (o : Option Node) → at u p ≡ o → at (with_parents u ls p) p ≡ o
       there o e = parents.leaves p (omega arith) ∙ e
 
-      by : (o : Option Node) (m : ℕ) (old : List ℕ) → at u p ≡ o → seen (u ∷ ls) p ≡ Some (file m old) → Turns u (seen (u ∷ ls)) (seen (next_layer (op.Write p offset bytes) u ls ∷ ls)) p (with_file_bytes (λ old. written old offset bytes))
-      by None m old e was = subst Goal (sym (copy_layer t ls p m old g (there None e) (parents.view p ∙ was))) (copy_changes u t ls p ok layers parents m old g e was)
-      by (Some (File k)) m old e was =
-          let is = body_shown (body u k) m old (sym (seen_node u ls p (File k) e) ∙ was) in
-          subst Goal (sym (own_layer t ls p k m old g (there (Some (File k)) e) (ap (λ (bs : Bodies). lookup (is_at (nat_cmp k)) bs) parents.bodies ∙ is))) (own_changes u t ls p parents k m old g e is)
-      by (Some (Dir n b)) m old e was = let other = sym (seen_node u ls p (Dir n b) e) ∙ was in absurd (cc)
-      by (Some (Symlink k)) m old e was = absurd (symlink_shown (body u k) m old (ok.nodes p (Symlink k) e) (sym (seen_node u ls p (Symlink k) e) ∙ was))
-      by (Some Whiteout) m old e was = let other = sym (seen_node u ls p Whiteout e) ∙ was in absurd (cc)
+      by : (m : ℕ) (old : List ℕ) → seen (u ∷ ls) p ≡ Some (file m old) → Turns u (seen (u ∷ ls)) (seen (next_layer (op.Write p offset bytes) u ls ∷ ls)) p (with_file_bytes (λ old. written old offset bytes))
+      by m old was = elim (own_or_lower u ls p m old ok was) [
+        | inl none ↦ subst Goal (sym (copy_layer t ls p m old g (there None none) (parents.view p ∙ was))) (copy_changes u t ls p ok layers parents m old g none was)
+        | inr name ↦ subst Goal (sym (own_layer t ls p name.0 m old g (there (Some (File name.0)) name.1) (ap (λ (bs : Bodies). lookup (is_at (nat_cmp name.0)) bs) parents.bodies ∙ name.2))) (own_changes u t ls p parents name.0 m old g name.1 name.2)
+      ]
 
 -- ---- any operation
 

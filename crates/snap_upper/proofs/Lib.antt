@@ -1,7 +1,6 @@
 pub mod Outcomes
+pub mod Growth
 pub mod Making
 pub mod Writing
-pub mod Counts
-pub mod Plans
 pub mod Changing
 pub mod Examples

@@ -7,7 +7,6 @@ use Rattle.snap_layer.specs.declared.node.Body.TheVariants as body_kinds
 use Rattle.snap_layer.specs.Tree.{Tree, at, body, number_at, is_whiteout}
 use Rattle.snap_layer.specs.Counts.{is_within}
 use Rattle.snap_layer.specs.Edits.{with_entry, with_new, with_bytes}
-use Rattle.snap_usage.specs.declared.usage.Usage.{Usage}
 use Rattle.snap_usage.specs.Counted.{count_of}
 use Rattle.snap_merge.specs.declared.error.FsError.{FsError}
 use Rattle.snap_merge.specs.declared.error.FsError.TheVariants.{NotFound, IsDir, Exists, Invalid, TooBig, LayerFull}
@@ -15,6 +14,7 @@ use Rattle.snap_merge.specs.Objects.{Object, dir, file, symlink, seen}
 use Rattle.snap_merge.specs.Walk.{walk}
 use Rattle.snap_upper.specs.declared.op.Op.{Op}
 use Rattle.snap_upper.specs.declared.op.Op.TheVariants.{Mkdir, Create, Write}
+use Rattle.snap_upper.specs.declared.planning.Planned.{Planned}
 use Rattle.snap_copyup.specs.Copying.{with_parents, copied_up}
 
 -- ---- tests
@@ -91,6 +91,6 @@ abbrev pub after : Op → Tree → List Tree → Outcome
 after op u lowers = unless (first_error (tests op (u ∷ lowers))) (limited (next_layer op u lowers))
 
 -- how much the next layer takes, or the error
-abbrev pub planned : Outcome → Result Usage FsError
-planned (Ok t) = Ok (count_of t)
+abbrev pub planned : Outcome → Result Planned FsError
+planned (Ok t) = Ok (record { after = count_of t })
 planned (Err e) = Err e

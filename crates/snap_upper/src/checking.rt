@@ -1,14 +1,12 @@
 // The tests that an operation has to pass.
 ghost use Rattle.std.specs.Prelude.{◌≡◌, [], ◌∷◌, Some, IfOk};
 ghost use Rattle.std.specs.Result.{result_err};
-ghost use Rattle.snap_layer.specs.Tree.{at};
-ghost use Rattle.snap_layer.specs.declared.node.Node.TheVariants as node;
-ghost use Rattle.snap_merge.specs.Objects.{seen};
+ghost use Rattle.snap_merge.specs.Objects.{file, seen, AreLayers};
 ghost use Rattle.snap_upper.specs.declared.op.Op.TheVariants as op;
 ghost use Rattle.snap_upper.specs.After.{tests, first_error, file_error};
 
-use snap_layer::{Bytes, Layer, Node};
-use snap_merge::{FsError, Stack};
+use snap_layer::{Bytes, Shared};
+use snap_merge::{FsError, Seen, Stack};
 use snap_path::Path;
 
 /// The greatest mode: the permission bits, the set-ID bits and the sticky bit.
@@ -17,9 +15,26 @@ const GREATEST_MODE: u32 = 0o7777;
 /// The most bytes of a file.
 const MOST_BYTES: u64 = 1_048_576;
 
+/// A regular file that is seen.
+#[derive(Clone, Copy)]
+pub(crate) struct Found<'a> {
+    pub(crate) mode: u32,
+    pub(crate) bytes: &'a [u8],
+}
+
+/// Goes over the layers. Each is one by `IsLayer`, and its lender says so.
+pub(crate) fn visit(lowers: &[Shared])
+    ensures { AreLayers lowers.now }
+{
+    for shared in lowers {
+        let _ = shared.layer();
+    }
+}
+
 /// Tests whether an object with the mode can be made at the path.
 pub(crate) fn check_new(stack: &Stack<'_>, path: &Path, mode: u32) -> Result<(), FsError>
-    ensures { result_err result ≡ first_error (tests (op.Mkdir path.now mode) stack.now) }
+    ensures error { result_err result ≡ first_error (tests (op.Mkdir path.now mode) stack.now) }
+    ensures layers { AreLayers stack.now }
 {
     stack.walk(path)?;
     if stack.look(path).is_some() {
@@ -31,36 +46,35 @@ pub(crate) fn check_new(stack: &Stack<'_>, path: &Path, mode: u32) -> Result<(),
     Ok(())
 }
 
-/// The number of the path's file, where the bytes can be put into it at the offset. No layer is below.
-pub(crate) fn check_write(
-    layer: &Layer,
+/// The file that is seen at the path, where the bytes can be put into it at the offset.
+pub(crate) fn check_write<'a>(
+    stack: &Stack<'a>,
     path: &Path,
     offset: u64,
     bytes: &Bytes,
-) -> Result<u32, FsError>
-    ensures error { result_err result ≡ first_error (tests (op.Write path.now offset bytes.now) (layer.now ∷ [])) }
-    ensures number { IfOk result (λ k. at layer.now path.now ≡ Some (node.File k)) }
+) -> Result<Found<'a>, FsError>
+    ensures error { result_err result ≡ first_error (tests (op.Write path.now offset bytes.now) stack.now) }
+    ensures found { IfOk result (λ f. seen stack.now path.now ≡ Some (file f.mode f.bytes.now)) }
+    ensures layers { AreLayers stack.now }
 {
-    Stack::over(layer, &[]).walk(path)?;
-    let number = file_number(layer, path)?;
+    stack.walk(path)?;
+    let found = find_file(stack, path)?;
     let end = offset.saturating_add(bytes.as_slice().len() as u64);
     if end > MOST_BYTES {
         return Err(FsError::TooBig);
     }
-    Ok(number)
+    Ok(found)
 }
 
-/// The number of the regular file at the path. No layer is below.
-fn file_number(layer: &Layer, path: &Path) -> Result<u32, FsError>
-    ensures error { result_err result ≡ file_error (seen (layer.now ∷ []) path.now) }
-    ensures number { IfOk result (λ k. at layer.now path.now ≡ Some (node.File k)) }
+/// The regular file that is seen at the path.
+fn find_file<'a>(stack: &Stack<'a>, path: &Path) -> Result<Found<'a>, FsError>
+    ensures error { result_err result ≡ file_error (seen stack.now path.now) }
+    ensures found { IfOk result (λ f. seen stack.now path.now ≡ Some (file f.mode f.bytes.now)) }
 {
-    let _ = layer.next_number();
-    match layer.at(path) {
-        Some(Node::File { number }) => Ok(number),
-        Some(Node::Dir { .. }) => Err(FsError::IsDir),
-        Some(Node::Symlink { .. }) => Err(FsError::Invalid),
-        Some(Node::Whiteout) => Err(FsError::NotFound),
+    match stack.look(path) {
+        Some(Seen::File { mode, bytes }) => Ok(Found { mode, bytes }),
+        Some(Seen::Dir { .. }) => Err(FsError::IsDir),
+        Some(Seen::Symlink { .. }) => Err(FsError::Invalid),
         None => Err(FsError::NotFound),
     }
 }

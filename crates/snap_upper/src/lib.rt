@@ -7,12 +7,13 @@
 mod applying;
 mod checking;
 mod content;
+mod growing;
 mod op;
 mod planning;
 
 pub use applying::apply;
 pub use op::Op;
-pub use planning::plan;
+pub use planning::{Planned, plan};
 
 #[cfg(test)]
 mod tests;
