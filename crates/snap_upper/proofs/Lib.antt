@@ -2,5 +2,6 @@ pub mod Outcomes
 pub mod Growth
 pub mod Making
 pub mod Writing
+pub mod Modes
 pub mod Changing
 pub mod Examples

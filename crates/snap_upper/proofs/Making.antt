@@ -1,6 +1,9 @@
 -- A directory or a file that is made.
-use Rattle.std.proofs.Common.{◌≡◌, ℕ, ◌≤◌, Bool, true, false, List, [], ◌∷◌, Option, Some, None, is_some, refl, sym, ap, subst, ◌∙◌, ltb-false}
-use Rattle.std.specs.Prelude.{nat_lt}
+use Rattle.std.proofs.Common.{◌≡◌, ℕ, ◌≤◌, Bool, true, false, List, [], ◌∷◌, length, Option, Some, None, is_some, refl, sym, ap, subst, ◌∙◌, arith, ltb-false}
+use Rattle.std.specs.Prelude.{nat_lt, nat_le, not, ◌&&◌, ◌||◌, ◌==◌}
+use Rattle.std.specs.List.{list_any}
+use Rattle.std.proofs.lemmas.Bool.Decides.{nat_tests}
+use Rattle.snap_layer.specs.Layers.{is_target}
 use Rattle.snap_path.specs.Text.{Names}
 use Rattle.snap_layer.specs.declared.node.Node.TheVariants.{Dir}
 use Rattle.snap_layer.specs.Tree.{Tree, at}
@@ -11,9 +14,9 @@ use Rattle.snap_copyup.specs.Copying.{with_parents}
 use Rattle.snap_copyup.specs.Places.{with_last, IsVacant}
 use Rattle.snap_merge.specs.Objects.{Object, seen, is_shown_dir}
 use Rattle.snap_merge.specs.Walk.{walk}
-use Rattle.snap_merge.specs.declared.error.FsError.TheVariants.{Exists, Invalid}
+use Rattle.snap_merge.specs.declared.error.FsError.TheVariants.{Exists, Invalid, TooBig}
 use Rattle.snap_upper.specs.declared.op.Op.TheVariants as op
-use Rattle.snap_upper.specs.After.{after, limited, tests, first_error, error_if, is_whiteout_at}
+use Rattle.snap_upper.specs.After.{after, limited, tests, first_error, error_if, is_whiteout_at, is_no_target}
 use Rattle.snap_copyup.proofs.Alone.{free_unseen, dir_seen}
 use Rattle.snap_upper.proofs.Outcomes.{test_passes, error_if_passes, after_passes}
 
@@ -62,3 +65,43 @@ module _ (u : Tree) (ls : List Tree) (p : Names) (mode : ℕ) where
 
     pub file_after : (bytes : List ℕ) → bytes ≡ [] → limited (with_last (last.File mode bytes) (with_parents u ls p) p) ≡ after (op.Create p mode) u ls
     file_after bytes none = ap (λ (bs : List ℕ). limited (with_last (last.File mode bs) (with_parents u ls p) p)) none ∙ sym (after_passes (op.Create p mode) u ls passes)
+
+-- ---- symlinks
+
+-- the tests of a new symlink have passed
+pub record IsNewSymlink (s : List Tree) (p : Names) (target : List ℕ) : Type 0 where
+  pub way : walk s p ≡ None
+  pub unseen : is_some (seen s p) ≡ false
+  pub target_is : is_target target ≡ true
+
+either_false : (a b : Bool) → (a || b) ≡ false → (a ≡ false) × (b ≡ false)
+either_false true b e = absurd (cc)
+either_false false b e = (refl, e)
+
+nat_from : (n : ℕ) → (n == 0) ≡ false → nat_lt 0 n ≡ true
+nat_from n e = grind (arith, nat_tests)
+
+short_target : (n : ℕ) → nat_lt 4095 n ≡ false → nat_le n 4095 ≡ true
+short_target n e = grind (arith, nat_tests)
+
+target_from : (target : List ℕ) → is_no_target target ≡ false → nat_lt 4095 (length target) ≡ false → is_target target ≡ true
+target_from target e short =
+    let parts = either_false (length target == 0) (list_any (λ b. b == 0) target) e in
+    λ i. nat_from (length target) parts.0 i && short_target (length target) short i && not (parts.1 i)
+
+pub IsNewSymlink-passed : (s : List Tree) (p : Names) (target : List ℕ) → first_error (tests (op.Symlink p target) s) ≡ None → IsNewSymlink s p target
+IsNewSymlink-passed s p target passes =
+    let big = error_if (nat_lt 4095 (length target)) TooBig in
+    let bad = error_if (is_no_target target) Invalid in
+    let first = test_passes (walk s p) (error_if (is_some (seen s p)) Exists ∷ bad ∷ big ∷ []) passes in
+    let second = test_passes (error_if (is_some (seen s p)) Exists) (bad ∷ big ∷ []) first.1 in
+    let third = test_passes bad (big ∷ []) second.1 in
+    let fourth = test_passes big [] third.1 in
+    record {
+      way = first.0;
+      unseen = error_if_passes (is_some (seen s p)) Exists second.0;
+      target_is = target_from target (error_if_passes (is_no_target target) Invalid third.0) (error_if_passes (nat_lt 4095 (length target)) TooBig fourth.0);
+    }
+
+pub symlink_after : (u : Tree) (ls : List Tree) (p : Names) (target copy : List ℕ) → first_error (tests (op.Symlink p target) (u ∷ ls)) ≡ None → copy ≡ target → limited (with_last (last.Symlink copy) (with_parents u ls p) p) ≡ after (op.Symlink p target) u ls
+symlink_after u ls p target copy passes is = ap (λ (bs : List ℕ). limited (with_last (last.Symlink bs) (with_parents u ls p) p)) is ∙ sym (after_passes (op.Symlink p target) u ls passes)

@@ -38,7 +38,7 @@ use Rattle.snap_copyup.proofs.Wholes.{IsWholeObject, whole_seen}
 use Rattle.snap_copyup.proofs.Layers.{no_missing}
 use Rattle.snap_upper.specs.declared.op.Op.TheVariants as op
 use Rattle.snap_upper.specs.declared.planning.Planned.{Planned}
-use Rattle.snap_upper.specs.After.{limited, planned, tests, first_error, error_if, file_error, written, bytes_of, with_content}
+use Rattle.snap_upper.specs.After.{limited, planned, tests, first_error, error_if, file_error, written, resized, bytes_of, with_content}
 use Rattle.snap_upper.proofs.Outcomes.{test_passes, error_if_passes, planned_fits}
 
 -- the tests of a write have passed
@@ -73,6 +73,30 @@ pub written_fits : (s : List Tree) (p : Names) (mode : ℕ) (old : List ℕ) (of
 written_fits s p mode old offset bytes layers was short =
     let whole = subst IsWholeObject was (whole_seen s layers p) in
     (whole.0, written_short old offset bytes 1048576 whole.1 short)
+
+-- the tests of a truncation have passed
+pub record IsSizable (s : List Tree) (p : Names) (size : ℕ) : Type 0 where
+  pub way : walk s p ≡ None
+  pub file : file_error (seen s p) ≡ None
+  pub short : size ≤ 1048576
+
+pub IsSizable-passed : (s : List Tree) (p : Names) (size : ℕ) → first_error (tests (op.Truncate p size) s) ≡ None → IsSizable s p size
+IsSizable-passed s p size passes =
+    let last = error_if (nat_lt 1048576 size) TooBig in
+    let first = test_passes (walk s p) (file_error (seen s p) ∷ last ∷ []) passes in
+    let second = test_passes (file_error (seen s p)) (last ∷ []) first.1 in
+    let third = test_passes last [] second.1 in
+    record {
+      way = first.0;
+      file = second.0;
+      short = short_end size (error_if_passes (nat_lt 1048576 size) TooBig third.0);
+    }
+
+pub resized_length : (old : List ℕ) (size : ℕ) → length (resized old size) ≡ size
+resized_length old size = grind (arith, common_steps)
+
+pub resized_fits : (s : List Tree) (p : Names) (mode : ℕ) (old : List ℕ) (size : ℕ) → AreLayers s → seen s p ≡ Some (file mode old) → size ≤ 1048576 → (mode ≤ 4095) × (length (resized old size) ≤ 1048576)
+resized_fits s p mode old size layers was short = ((subst IsWholeObject was (whole_seen s layers p)).0, omega (arith, resized_length old size, short))
 
 -- a value put twice under one key
 insert_twice : {K X : Type 0} (R : K → K → Ordering) → IsTotalOrder R → (es : List (K × X)) (k : K) (v w : X) → insert_entry R (insert_entry R es k v) k w ≡ insert_entry R es k w

@@ -5,9 +5,9 @@ ghost use Rattle.snap_upper.specs.declared.op.Op.TheVariants as op;
 ghost use Rattle.snap_upper.specs.After.{after};
 ghost use Rattle.snap_upper.specs.Changed.{changed, Changes};
 
-use super::checking::{check_new, check_write, visit};
-use super::content::{is_whiteout, written};
-use super::growing::{fill, grow};
+use super::checking::{check_mode, check_new, check_symlink, check_truncate, check_write, visit};
+use super::content::{is_whiteout, resized, written};
+use super::growing::{copy_with, fill, grow};
 use super::op::Op;
 use snap_copyup::Last;
 use snap_layer::{Bytes, Layer, Shared};
@@ -20,9 +20,11 @@ use snap_path::Path;
 ///
 /// Errors, in this order, of the first that applies:
 /// - `NotFound`, `NotDir`: above the path, from the root on, nothing is seen, or no directory.
-/// - `Exists`: something is seen where a directory or a file is to be made; `NotFound`, `IsDir`,
-///   `Invalid`: nothing, a directory or a symlink is seen where bytes are to be written.
-/// - `Invalid`: the mode is above octal 7777; `TooBig`: the file would have more than 1,048,576 bytes.
+/// - `Exists`: something is seen where a directory, a file or a symlink is to be made; `NotFound`,
+///   `IsDir`, `Invalid`: nothing, a directory or a symlink is seen where a file's bytes are to be
+///   changed; `NotFound`, `Invalid`: nothing or a symlink is seen where a mode is to be set.
+/// - `Invalid`: the mode is above octal 7777, or the target is empty or has a NUL; `TooBig`: the file
+///   would have more than 1,048,576 bytes, or the target has more than 4095.
 /// - `LayerFull`: the layer would have more than 65,536 inodes, or a new file's number would pass
 ///   4,294,967,294.
 /// - `OutOfMemory`: a growth was refused.
@@ -57,6 +59,9 @@ fn change(layer: &mut Layer, lowers: &[Shared], op: &Op) -> Result<(), FsError>
             offset,
             bytes,
         } => write(layer, lowers, path, *offset, bytes),
+        Op::Truncate { path, size } => truncate(layer, lowers, path, *size),
+        Op::SetMode { path, mode } => set_mode(layer, lowers, path, *mode),
+        Op::Symlink { path, target } => symlink(layer, lowers, path, target),
     }
 }
 
@@ -98,4 +103,43 @@ fn write(
     let mode = found.mode;
     let content = written(alloc, found.bytes, offset as usize, bytes.as_slice())?;
     fill(layer, lowers, path, mode, content)
+}
+
+fn truncate(layer: &mut Layer, lowers: &[Shared], path: &Path, size: u64) -> Result<(), FsError>
+    ensures ok { OnOk result (after (op.Truncate path.now size) layer.old lowers.now ≡ Ok layer.new) }
+    ensures error { IfErr result (λ e. (e ≡ FsError.OutOfMemory) ⊎ (after (op.Truncate path.now size) layer.old lowers.now ≡ Err e)) }
+    ensures unchanged { OnErr result (layer.new ≡ layer.old) }
+{
+    let found = check_truncate(&Stack::over(layer, lowers), path, size)?;
+    let alloc = layer.alloc();
+    let mode = found.mode;
+    let content = resized(alloc, found.bytes, size as usize)?;
+    fill(layer, lowers, path, mode, content)
+}
+
+fn set_mode(layer: &mut Layer, lowers: &[Shared], path: &Path, mode: u32) -> Result<(), FsError>
+    ensures ok { OnOk result (after (op.SetMode path.now mode) layer.old lowers.now ≡ Ok layer.new) }
+    ensures error { IfErr result (λ e. (e ≡ FsError.OutOfMemory) ⊎ (after (op.SetMode path.now mode) layer.old lowers.now ≡ Err e)) }
+    ensures unchanged { OnErr result (layer.new ≡ layer.old) }
+{
+    let found = check_mode(&Stack::over(layer, lowers), path, mode)?;
+    let _ = layer.next_number();
+    if layer.at(path).is_some() {
+        layer.set_mode(path, mode);
+        let _ = layer.next_number();
+        return Ok(());
+    }
+    let last = copy_with(layer.alloc(), found, mode)?;
+    grow(layer, lowers, path, last)
+}
+
+fn symlink(layer: &mut Layer, lowers: &[Shared], path: &Path, target: &Bytes) -> Result<(), FsError>
+    ensures ok { OnOk result (after (op.Symlink path.now target.now) layer.old lowers.now ≡ Ok layer.new) }
+    ensures error { IfErr result (λ e. (e ≡ FsError.OutOfMemory) ⊎ (after (op.Symlink path.now target.now) layer.old lowers.now ≡ Err e)) }
+    ensures unchanged { OnErr result (layer.new ≡ layer.old) }
+{
+    check_symlink(&Stack::over(layer, lowers), path, target)?;
+    let _ = layer.next_number();
+    let target = Bytes::copy_of(layer.alloc(), target.as_slice())?;
+    grow(layer, lowers, path, Last::Symlink { target })
 }

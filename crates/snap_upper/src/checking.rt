@@ -1,9 +1,13 @@
 // The tests that an operation has to pass.
-ghost use Rattle.std.specs.Prelude.{◌≡◌, [], ◌∷◌, Some, IfOk};
+ghost use Rattle.std.specs.Prelude.{◌≡◌, ◌==◌, [], ◌∷◌, is_some, Some, IfOk};
 ghost use Rattle.std.specs.Result.{result_err};
+ghost use Rattle.snap_merge.specs.declared.error.FsError.{FsError};
 ghost use Rattle.snap_merge.specs.Objects.{file, seen, AreLayers};
+ghost use Rattle.snap_merge.specs.Walk.{walk};
 ghost use Rattle.snap_upper.specs.declared.op.Op.TheVariants as op;
-ghost use Rattle.snap_upper.specs.After.{tests, first_error, file_error};
+ghost use Rattle.std.specs.List.{list_any};
+ghost use Rattle.snap_upper.specs.After.{tests, first_error, error_if, file_error, mode_error, is_no_target};
+ghost use Rattle.snap_upper.specs.Adding.{IsFound};
 
 use snap_layer::{Bytes, Shared};
 use snap_merge::{FsError, Seen, Stack};
@@ -14,6 +18,9 @@ const GREATEST_MODE: u32 = 0o7777;
 
 /// The most bytes of a file.
 const MOST_BYTES: u64 = 1_048_576;
+
+/// The most bytes of a symlink's target (limits.h, `PATH_MAX` without the closing NUL).
+const MOST_TARGET: usize = 4095;
 
 /// A regular file that is seen.
 #[derive(Clone, Copy)]
@@ -31,15 +38,24 @@ pub(crate) fn visit(lowers: &[Shared])
     }
 }
 
-/// Tests whether an object with the mode can be made at the path.
-pub(crate) fn check_new(stack: &Stack<'_>, path: &Path, mode: u32) -> Result<(), FsError>
-    ensures error { result_err result ≡ first_error (tests (op.Mkdir path.now mode) stack.now) }
+/// Walks to the path, at which nothing may be seen.
+fn check_unseen(stack: &Stack<'_>, path: &Path) -> Result<(), FsError>
+    ensures error { result_err result ≡ first_error (walk stack.now path.now ∷ error_if (is_some (seen stack.now path.now)) FsError.Exists ∷ []) }
     ensures layers { AreLayers stack.now }
 {
     stack.walk(path)?;
     if stack.look(path).is_some() {
         return Err(FsError::Exists);
     }
+    Ok(())
+}
+
+/// Tests whether an object with the mode can be made at the path.
+pub(crate) fn check_new(stack: &Stack<'_>, path: &Path, mode: u32) -> Result<(), FsError>
+    ensures error { result_err result ≡ first_error (tests (op.Mkdir path.now mode) stack.now) }
+    ensures layers { AreLayers stack.now }
+{
+    check_unseen(stack, path)?;
     if mode > GREATEST_MODE {
         return Err(FsError::Invalid);
     }
@@ -66,15 +82,92 @@ pub(crate) fn check_write<'a>(
     Ok(found)
 }
 
+/// The file that is seen at the path, where it can be given so many bytes.
+pub(crate) fn check_truncate<'a>(
+    stack: &Stack<'a>,
+    path: &Path,
+    size: u64,
+) -> Result<Found<'a>, FsError>
+    ensures error { result_err result ≡ first_error (tests (op.Truncate path.now size) stack.now) }
+    ensures found { IfOk result (λ f. seen stack.now path.now ≡ Some (file f.mode f.bytes.now)) }
+    ensures layers { AreLayers stack.now }
+{
+    stack.walk(path)?;
+    let found = find_file(stack, path)?;
+    if size > MOST_BYTES {
+        return Err(FsError::TooBig);
+    }
+    Ok(found)
+}
+
+/// The file that is seen at the path, or nothing for a directory, where it can be given the mode.
+pub(crate) fn check_mode<'a>(
+    stack: &Stack<'a>,
+    path: &Path,
+    mode: u32,
+) -> Result<Option<Found<'a>>, FsError>
+    ensures error { result_err result ≡ first_error (tests (op.SetMode path.now mode) stack.now) }
+    ensures found { IfOk result (λ f. IsFound f (seen stack.now path.now)) }
+    ensures layers { AreLayers stack.now }
+{
+    stack.walk(path)?;
+    let found = find(stack, path)?;
+    if mode > GREATEST_MODE {
+        return Err(FsError::Invalid);
+    }
+    Ok(found)
+}
+
+/// Tests whether a symlink with the target can be made at the path.
+pub(crate) fn check_symlink(stack: &Stack<'_>, path: &Path, target: &Bytes) -> Result<(), FsError>
+    ensures error { result_err result ≡ first_error (tests (op.Symlink path.now target.now) stack.now) }
+    ensures layers { AreLayers stack.now }
+{
+    check_unseen(stack, path)?;
+    let bytes = target.as_slice();
+    if is_no_target(bytes) {
+        return Err(FsError::Invalid);
+    }
+    if bytes.len() > MOST_TARGET {
+        return Err(FsError::TooBig);
+    }
+    Ok(())
+}
+
+/// Whether the bytes are empty or have a NUL.
+fn is_no_target(bytes: &[u8]) -> bool
+    ensures { result ≡ is_no_target bytes.now }
+{
+    bytes.len() == 0 || has_nul(bytes)
+}
+
+fn has_nul(bytes: &[u8]) -> bool
+    ensures { result ≡ list_any (λ b. b == 0) bytes.now }
+{
+    bytes.iter().any(|byte| *byte == 0)
+}
+
+/// The file that is seen at the path, or nothing for a directory.
+fn find<'a>(stack: &Stack<'a>, path: &Path) -> Result<Option<Found<'a>>, FsError>
+    ensures error { result_err result ≡ mode_error (seen stack.now path.now) }
+    ensures found { IfOk result (λ f. IsFound f (seen stack.now path.now)) }
+{
+    match stack.look(path) {
+        Some(Seen::File { mode, bytes }) => Ok(Some(Found { mode, bytes })),
+        Some(Seen::Dir { .. }) => Ok(None),
+        Some(Seen::Symlink { .. }) => Err(FsError::Invalid),
+        None => Err(FsError::NotFound),
+    }
+}
+
 /// The regular file that is seen at the path.
 fn find_file<'a>(stack: &Stack<'a>, path: &Path) -> Result<Found<'a>, FsError>
     ensures error { result_err result ≡ file_error (seen stack.now path.now) }
     ensures found { IfOk result (λ f. seen stack.now path.now ≡ Some (file f.mode f.bytes.now)) }
 {
-    match stack.look(path) {
-        Some(Seen::File { mode, bytes }) => Ok(Found { mode, bytes }),
-        Some(Seen::Dir { .. }) => Err(FsError::IsDir),
-        Some(Seen::Symlink { .. }) => Err(FsError::Invalid),
-        None => Err(FsError::NotFound),
+    match find(stack, path) {
+        Ok(Some(found)) => Ok(found),
+        Ok(None) => Err(FsError::IsDir),
+        Err(error) => Err(error),
     }
 }

@@ -1,7 +1,7 @@
 // What stands at a path of a layer, and a file's bytes.
 ghost use Rattle.std.specs.Prelude.{◌≡◌, ◌+◌, ◌≤◌, IfOk, length};
 ghost use Rattle.snap_layer.specs.Tree.{number_at};
-ghost use Rattle.snap_upper.specs.After.{is_whiteout_at, written};
+ghost use Rattle.snap_upper.specs.After.{is_whiteout_at, written, resized};
 
 use snap_layer::{Bytes, Layer, Node};
 use snap_path::Path;
@@ -45,5 +45,15 @@ pub(crate) fn written(
     if end < old.len() {
         items.extend_from_slice(&old[end..])?;
     }
+    Ok(Bytes::new(items))
+}
+
+/// The old bytes cut to so many, or with zero bytes after them.
+pub(crate) fn resized(alloc: Global, old: &[u8], size: usize) -> Result<Bytes, AllocError>
+    ensures { IfOk result (λ b. b ≡ resized old.now size) }
+{
+    let mut items = Vec::new(alloc);
+    items.extend_from_slice(&old[..size.min(old.len())])?;
+    items.resize(size, 0)?;
     Ok(Bytes::new(items))
 }

@@ -1,5 +1,5 @@
 // What an operation adds to the upper layer.
-ghost use Rattle.std.specs.Prelude.{◌≡◌, ◌⊎◌, ◌∷◌, ◌≤◌, ℕ, List, OnOk, OnErr, IfErr, Ok, Err, Some, None, length};
+ghost use Rattle.std.specs.Prelude.{◌≡◌, ◌⊎◌, ◌∷◌, ◌≤◌, ℕ, List, OnOk, OnErr, IfOk, IfErr, Ok, Err, Some, None, length};
 ghost use Rattle.snap_layer.specs.Tree.{number_at};
 ghost use Rattle.snap_merge.specs.declared.error.FsError.{FsError};
 ghost use Rattle.snap_merge.specs.Objects.{file, seen};
@@ -7,12 +7,15 @@ ghost use Rattle.snap_merge.specs.Walk.{walk};
 ghost use Rattle.snap_copyup.specs.Copying.{with_parents, copied_up};
 ghost use Rattle.snap_copyup.specs.Places.{with_last, Fits};
 ghost use Rattle.snap_upper.specs.After.{limited, with_content};
+ghost use Rattle.snap_upper.specs.Adding.{with_its_mode};
 
+use super::checking::Found;
 use super::content::own_number;
 use snap_copyup::{Last, put};
 use snap_layer::{Bytes, Layer, Shared};
 use snap_merge::FsError;
 use snap_path::Path;
+use std::alloc::{AllocError, Global};
 
 /// Puts it at the path, with the directories that are missing above it.
 pub(crate) fn grow(
@@ -58,5 +61,25 @@ pub(crate) fn fill(
             return Ok(());
         }
         None => return grow(layer, lowers, path, Last::File { mode, bytes }),
+    }
+}
+
+/// A directory that isn't opaque, or a copy of the file that was found, with the mode.
+pub(crate) fn copy_with(
+    alloc: Global,
+    found: Option<Found<'_>>,
+    mode: u32,
+) -> Result<Last, AllocError>
+    ensures { IfOk result (λ last. last ≡ with_its_mode found.entry mode) }
+{
+    match found {
+        None => Ok(Last::Dir {
+            mode,
+            opaque: false,
+        }),
+        Some(file) => Ok(Last::File {
+            mode,
+            bytes: Bytes::copy_of(alloc, file.bytes)?,
+        }),
     }
 }

@@ -27,4 +27,21 @@ pub enum Op {
         offset: u64,
         bytes: Bytes,
     },
+    /// Cuts a regular file to so many bytes, or fills it with zero bytes up to so many (truncate(2)).
+    Truncate {
+        path: Path,
+        size: u64,
+    },
+    /// Sets the mode of a directory, or of a regular file for all its names in the upper layer
+    /// (chmod(2)).
+    SetMode {
+        path: Path,
+        mode: u32,
+    },
+    /// Makes a symlink, where nothing is seen (symlink(2)). The target is kept as it is given, and need
+    /// not be seen. It gets the upper layer's next file number.
+    Symlink {
+        path: Path,
+        target: Bytes,
+    },
 }

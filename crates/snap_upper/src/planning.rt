@@ -10,7 +10,7 @@ ghost use Rattle.snap_upper.specs.declared.op.Op.TheVariants as op;
 ghost use Rattle.snap_upper.specs.After.{after, planned, limited, with_content, written};
 ghost use Rattle.snap_upper.specs.Adding.{Takes};
 
-use super::checking::{Found, check_new, check_write};
+use super::checking::{Found, check_mode, check_new, check_symlink, check_truncate, check_write};
 use super::content::{is_whiteout, own_number};
 use super::op::Op;
 use snap_copyup::missing_dirs;
@@ -45,6 +45,9 @@ pub fn plan(layer: &Layer, lowers: &[Shared], op: &Op) -> Result<Planned, FsErro
             offset,
             bytes,
         } => plan_write(layer, lowers, path, *offset, bytes),
+        Op::Truncate { path, size } => plan_truncate(layer, lowers, path, *size),
+        Op::SetMode { path, mode } => plan_mode(layer, lowers, path, *mode),
+        Op::Symlink { path, target } => plan_symlink(layer, lowers, path, target),
     }
 }
 
@@ -77,6 +80,51 @@ fn plan_write(
     let _ = layer.next_number();
     let new = size_after(found.bytes.len(), offset as usize, bytes.as_slice());
     plan_filling(layer, lowers, path, found, new)
+}
+
+fn plan_truncate(
+    layer: &Layer,
+    lowers: &[Shared],
+    path: &Path,
+    size: u64,
+) -> Result<Planned, FsError>
+    ensures { result ≡ planned (after (op.Truncate path.now size) layer.now lowers.now) }
+{
+    let found = check_truncate(&Stack::over(layer, lowers), path, size)?;
+    let _ = layer.next_number();
+    plan_filling(layer, lowers, path, found, size as usize)
+}
+
+fn plan_mode(layer: &Layer, lowers: &[Shared], path: &Path, mode: u32) -> Result<Planned, FsError>
+    ensures { result ≡ planned (after (op.SetMode path.now mode) layer.now lowers.now) }
+{
+    let found = check_mode(&Stack::over(layer, lowers), path, mode)?;
+    let _ = layer.next_number();
+    if layer.at(path).is_some() {
+        let after = count(layer);
+        return Ok(Planned { after });
+    }
+    let _ = path.names();
+    match found {
+        None => return plan_growth(layer, path, 1, false),
+        Some(file) => {
+            let blocks = blocks_of(file.bytes.len() as u64);
+            return plan_growth(layer, path, blocks, true);
+        }
+    }
+}
+
+fn plan_symlink(
+    layer: &Layer,
+    lowers: &[Shared],
+    path: &Path,
+    target: &Bytes,
+) -> Result<Planned, FsError>
+    ensures { result ≡ planned (after (op.Symlink path.now target.now) layer.now lowers.now) }
+{
+    check_symlink(&Stack::over(layer, lowers), path, target)?;
+    let _ = layer.next_number();
+    plan_growth(layer, path, 0, true)
 }
 
 /// How much the layer takes where what takes so many blocks, and a file number where `numbered` says so,

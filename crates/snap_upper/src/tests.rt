@@ -29,6 +29,27 @@ fn write(alloc: Global, text: &str, offset: u64, bytes: &[u8]) -> Result<Op, Fai
     })
 }
 
+fn truncate(alloc: Global, text: &str, size: u64) -> Result<Op, Fail> {
+    Ok(Op::Truncate {
+        path: Path::parse(alloc, text)?,
+        size,
+    })
+}
+
+fn set_mode(alloc: Global, text: &str, mode: u32) -> Result<Op, Fail> {
+    Ok(Op::SetMode {
+        path: Path::parse(alloc, text)?,
+        mode,
+    })
+}
+
+fn symlink(alloc: Global, text: &str, target: &[u8]) -> Result<Op, Fail> {
+    Ok(Op::Symlink {
+        path: Path::parse(alloc, text)?,
+        target: Bytes::copy_of(alloc, target)?,
+    })
+}
+
 /// The operation is planned and done, and leaves so many blocks and inodes.
 fn does(rt: &impl Abort, layer: &mut Layer, lowers: &[Shared], op: Op, blocks: u64, inodes: u64) {
     let usage = Usage { blocks, inodes };
@@ -291,5 +312,60 @@ fn directories_above_are_added(rt: HostRuntime) -> Result<(), Fail> {
         4,
     );
     assert_eq!(rt; read(alloc, &layer, &lowers, "/etc/x")?, (Some(104), 2));
+    Ok(())
+}
+
+#[test]
+fn a_file_is_truncated(rt: HostRuntime) -> Result<(), Fail> {
+    let alloc = rt.alloc();
+    let mut layer = Layer::empty(alloc, 493)?;
+    let bytes = vec![in alloc; 7u8; 4097]?;
+    does(&rt, &mut layer, &[], create(alloc, "/f", 420)?, 1, 2);
+    let all = write(alloc, "/f", 0, bytes.as_slice())?;
+    does(&rt, &mut layer, &[], all, 3, 2);
+    does(&rt, &mut layer, &[], truncate(alloc, "/f", 0)?, 1, 2);
+    does(&rt, &mut layer, &[], truncate(alloc, "/f", 3)?, 2, 2);
+    assert_eq!(rt; read(alloc, &layer, &[], "/f")?, (Some(0), 3));
+    Ok(())
+}
+
+#[test]
+fn a_mode_is_set(rt: HostRuntime) -> Result<(), Fail> {
+    let alloc = rt.alloc();
+    let mut layer = Layer::empty(alloc, 493)?;
+    does(&rt, &mut layer, &[], create(alloc, "/f", 420)?, 1, 2);
+    does(&rt, &mut layer, &[], set_mode(alloc, "/f", 384)?, 1, 2);
+    let Some(Body::File { mode, .. }) = layer.body(1) else {
+        return Err("no file").map_err(Fail::from);
+    };
+    assert_eq!(rt; *mode, 384);
+    Ok(())
+}
+
+#[test]
+fn a_symlink_has_a_target(rt: HostRuntime) -> Result<(), Fail> {
+    let alloc = rt.alloc();
+    let mut layer = Layer::empty(alloc, 493)?;
+    let none = symlink(alloc, "/g", b"")?;
+    refuses(&rt, &mut layer, &[], none, FsError::Invalid)?;
+    does(&rt, &mut layer, &[], symlink(alloc, "/g", b"d")?, 1, 2);
+    let other = set_mode(alloc, "/g", 420)?;
+    refuses(&rt, &mut layer, &[], other, FsError::Invalid)
+}
+
+#[test]
+fn a_lower_directory_gets_a_mode(rt: HostRuntime) -> Result<(), Fail> {
+    let alloc = rt.alloc();
+    let base = made(alloc, &[mkdir(alloc, "/etc", 448)?])?;
+    let lowers = [shared(alloc, base)?];
+    let mut layer = Layer::empty(alloc, 493)?;
+    let op = set_mode(alloc, "/etc", 493)?;
+    does(&rt, &mut layer, &lowers, op, 2, 2);
+    let mode = 493;
+    let opaque = false;
+    assert_eq!(rt;
+        at(alloc, &layer, "/etc")?,
+        Some(Node::Dir { mode, opaque })
+    );
     Ok(())
 }
