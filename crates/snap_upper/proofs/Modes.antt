@@ -1,5 +1,5 @@
 -- A mode that is set.
-use Rattle.std.proofs.Common.{◌≡◌, ℕ, ◌≤◌, Bool, true, false, List, [], ◌∷◌, length, Option, Some, None, is_some, Result, Ok, Err, refl, sym, ap, subst, ◌∙◌, arith, ltb-false}
+use Rattle.std.proofs.Common.{◌≡◌, ℕ, ◌≤◌, true, false, List, [], ◌∷◌, Option, Some, None, is_some, Result, Ok, refl, sym, ap, subst, ◌∙◌, arith, ltb-false}
 use Rattle.std.specs.Prelude.{nat_lt}
 use Rattle.snap_path.specs.Text.{Names}
 use Rattle.snap_layer.specs.declared.node.Node.{Node}

@@ -1,6 +1,9 @@
 -- Tests that pass, and outcomes.
 use Rattle.std.proofs.Common.{◌≡◌, ◌⊎◌, Bool, true, false, List, ◌∷◌, Option, Some, None, Result, Ok, Err, refl, sym, ap, ◌∙◌, inl, inr}
 use Rattle.std.specs.Prelude.{if◌then◌else◌}
+use Rattle.snap_layer.specs.declared.error.LayerError.{LayerError}
+use Rattle.snap_layer.specs.declared.error.LayerError.TheVariants as layer_errors
+use Rattle.snap_merge.specs.Errors.{OfLayer}
 use Rattle.snap_layer.specs.Tree.{Tree}
 use Rattle.snap_layer.specs.Counts.{is_within, inode_count, block_count}
 use Rattle.snap_layer.specs.Layers.{IsLayer}
@@ -62,3 +65,8 @@ refused t e (inr full) = inr (limited_full t full.1 ∙ ap (λ (y : FsError). Er
 -- the tests that the stack's check has passed
 pub stack_passes : (op : Op) (s z : List Tree) → s ≡ z → None ≡ first_error (tests op s) → first_error (tests op z) ≡ None
 stack_passes op s z is passes = sym (passes ∙ ap (λ (x : List Tree). first_error (tests op x)) is)
+
+-- why an edit was not made is its outcome's error
+pub edit_refused : (x : LayerError) (e : FsError) (t : Tree) → OfLayer x e → (x ≡ layer_errors.LayerFull → is_within t ≡ false) → (e ≡ OutOfMemory) ⊎ (limited t ≡ Err e)
+edit_refused layer_errors.LayerFull e t of full = inr (limited_full t (full refl) ∙ ap (λ (y : FsError). Err y) (sym of))
+edit_refused layer_errors.OutOfMemory e t of full = inl of

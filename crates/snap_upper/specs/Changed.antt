@@ -1,11 +1,11 @@
 -- How an operation changes what is seen.
-use Rattle.std.specs.Prelude.{◌≡◌, ◌⊎◌, ℕ, List, [], ◌∷◌, Option, Some, Ok}
+use Rattle.std.specs.Prelude.{◌≡◌, ◌⊎◌, ℕ, List, [], ◌∷◌, Option, Some, None, Ok}
 use Rattle.std.specs.Option.{option_map}
 use Rattle.snap_path.specs.Text.{Names}
 use Rattle.snap_layer.specs.Tree.{Tree, number_at}
 use Rattle.snap_merge.specs.Objects.{Object, dir, file, symlink, seen, AreLayers}
 use Rattle.snap_upper.specs.declared.op.Op.{Op}
-use Rattle.snap_upper.specs.declared.op.Op.TheVariants.{Mkdir, Create, Write, Truncate, SetMode, Symlink}
+use Rattle.snap_upper.specs.declared.op.Op.TheVariants.{Mkdir, Create, Write, Truncate, SetMode, Symlink, Unlink, Rmdir}
 use Rattle.snap_upper.specs.After.{written, resized, after}
 
 -- what is seen at each path
@@ -46,6 +46,8 @@ changed (Write path offset bytes) u v w = Turns u v w path (with_file_bytes (λ 
 changed (Truncate path size) u v w = Turns u v w path (with_file_bytes (λ old. resized old size))
 changed (SetMode path mode) u v w = Turns u v w path (with_object_mode mode)
 changed (Symlink path target) u v w = ShowsAt v w path (Some (symlink target))
+changed (Unlink path) u v w = ShowsAt v w path None
+changed (Rmdir path) u v w = ShowsAt v w path None
 
 -- with any layers below, an operation that gives a next upper layer changes what is seen as `changed` says
 abbrev pub Changes : Op → Tree → Type 0

@@ -5,8 +5,12 @@ ghost use Rattle.snap_upper.specs.declared.op.Op.TheVariants as op;
 ghost use Rattle.snap_upper.specs.After.{after};
 ghost use Rattle.snap_upper.specs.Changed.{changed, Changes};
 
-use super::checking::{check_mode, check_new, check_symlink, check_truncate, check_write, visit};
+use super::checking::{
+    check_mode, check_new, check_rmdir, check_symlink, check_truncate, check_unlink, check_write,
+    visit,
+};
 use super::content::{is_whiteout, resized, written};
+use super::erasing::erase;
 use super::growing::{copy_with, fill, grow};
 use super::op::Op;
 use snap_copyup::Last;
@@ -22,7 +26,9 @@ use snap_path::Path;
 /// - `NotFound`, `NotDir`: above the path, from the root on, nothing is seen, or no directory.
 /// - `Exists`: something is seen where a directory, a file or a symlink is to be made; `NotFound`,
 ///   `IsDir`, `Invalid`: nothing, a directory or a symlink is seen where a file's bytes are to be
-///   changed; `NotFound`, `Invalid`: nothing or a symlink is seen where a mode is to be set.
+///   changed; `NotFound`, `Invalid`: nothing or a symlink is seen where a mode is to be set; `NotFound`,
+///   `IsDir`: nothing or a directory is seen where a name is to be taken; `Invalid`, `NotFound`, `NotDir`,
+///   `NotEmpty`: the root, nothing, no directory or a directory with names where one is to be taken.
 /// - `Invalid`: the mode is above octal 7777, or the target is empty or has a NUL; `TooBig`: the file
 ///   would have more than 1,048,576 bytes, or the target has more than 4095.
 /// - `LayerFull`: the layer would have more than 65,536 inodes, or a new file's number would pass
@@ -62,6 +68,8 @@ fn change(layer: &mut Layer, lowers: &[Shared], op: &Op) -> Result<(), FsError>
         Op::Truncate { path, size } => truncate(layer, lowers, path, *size),
         Op::SetMode { path, mode } => set_mode(layer, lowers, path, *mode),
         Op::Symlink { path, target } => symlink(layer, lowers, path, target),
+        Op::Unlink { path } => unlink(layer, lowers, path),
+        Op::Rmdir { path } => rmdir(layer, lowers, path),
     }
 }
 
@@ -142,4 +150,24 @@ fn symlink(layer: &mut Layer, lowers: &[Shared], path: &Path, target: &Bytes) ->
     let _ = layer.next_number();
     let target = Bytes::copy_of(layer.alloc(), target.as_slice())?;
     grow(layer, lowers, path, Last::Symlink { target })
+}
+
+fn unlink(layer: &mut Layer, lowers: &[Shared], path: &Path) -> Result<(), FsError>
+    ensures ok { OnOk result (after (op.Unlink path.now) layer.old lowers.now ≡ Ok layer.new) }
+    ensures error { IfErr result (λ e. (e ≡ FsError.OutOfMemory) ⊎ (after (op.Unlink path.now) layer.old lowers.now ≡ Err e)) }
+    ensures unchanged { OnErr result (layer.new ≡ layer.old) }
+{
+    check_unlink(&Stack::over(layer, lowers), path)?;
+    let _ = layer.next_number();
+    erase(layer, lowers, path)
+}
+
+fn rmdir(layer: &mut Layer, lowers: &[Shared], path: &Path) -> Result<(), FsError>
+    ensures ok { OnOk result (after (op.Rmdir path.now) layer.old lowers.now ≡ Ok layer.new) }
+    ensures error { IfErr result (λ e. (e ≡ FsError.OutOfMemory) ⊎ (after (op.Rmdir path.now) layer.old lowers.now ≡ Err e)) }
+    ensures unchanged { OnErr result (layer.new ≡ layer.old) }
+{
+    check_rmdir(&Stack::over(layer, lowers), layer.alloc(), path)?;
+    let _ = layer.next_number();
+    erase(layer, lowers, path)
 }

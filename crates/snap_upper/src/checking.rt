@@ -1,17 +1,18 @@
 // The tests that an operation has to pass.
-ghost use Rattle.std.specs.Prelude.{◌≡◌, ◌==◌, [], ◌∷◌, is_some, Some, IfOk};
+ghost use Rattle.std.specs.Prelude.{◌≡◌, ◌⊎◌, ◌==◌, [], ◌∷◌, is_some, Some, None, OnOk, IfOk, IfErr};
 ghost use Rattle.std.specs.Result.{result_err};
 ghost use Rattle.snap_merge.specs.declared.error.FsError.{FsError};
 ghost use Rattle.snap_merge.specs.Objects.{file, seen, AreLayers};
 ghost use Rattle.snap_merge.specs.Walk.{walk};
 ghost use Rattle.snap_upper.specs.declared.op.Op.TheVariants as op;
 ghost use Rattle.std.specs.List.{list_any};
-ghost use Rattle.snap_upper.specs.After.{tests, first_error, error_if, file_error, mode_error, is_no_target};
+ghost use Rattle.snap_upper.specs.After.{tests, first_error, error_if, file_error, mode_error, name_error, dir_error, is_no_target};
 ghost use Rattle.snap_upper.specs.Adding.{IsFound};
 
 use snap_layer::{Bytes, Shared};
 use snap_merge::{FsError, Seen, Stack};
 use snap_path::Path;
+use std::alloc::Global;
 
 /// The greatest mode: the permission bits, the set-ID bits and the sticky bit.
 const GREATEST_MODE: u32 = 0o7777;
@@ -169,5 +170,49 @@ fn find_file<'a>(stack: &Stack<'a>, path: &Path) -> Result<Found<'a>, FsError>
         Ok(Some(found)) => Ok(found),
         Ok(None) => Err(FsError::IsDir),
         Err(error) => Err(error),
+    }
+}
+
+/// Tests whether the name at the path can be taken.
+pub(crate) fn check_unlink(stack: &Stack<'_>, path: &Path) -> Result<(), FsError>
+    ensures error { result_err result ≡ first_error (tests (op.Unlink path.now) stack.now) }
+    ensures layers { AreLayers stack.now }
+{
+    stack.walk(path)?;
+    match stack.look(path) {
+        Some(Seen::File { .. }) => Ok(()),
+        Some(Seen::Symlink { .. }) => Ok(()),
+        Some(Seen::Dir { .. }) => Err(FsError::IsDir),
+        None => Err(FsError::NotFound),
+    }
+}
+
+/// Tests whether the directory at the path can be taken. The list of its names takes memory.
+pub(crate) fn check_rmdir(stack: &Stack<'_>, alloc: Global, path: &Path) -> Result<(), FsError>
+    ensures ok { OnOk result (first_error (tests (op.Rmdir path.now) stack.now) ≡ None) }
+    ensures error { IfErr result (λ e. (e ≡ FsError.OutOfMemory) ⊎ (first_error (tests (op.Rmdir path.now) stack.now) ≡ Some e)) }
+    ensures layers { AreLayers stack.now }
+{
+    stack.walk(path)?;
+    if path.names().is_empty() {
+        return Err(FsError::Invalid);
+    }
+    check_dir(stack, path)?;
+    let names = stack.list(alloc, path)?;
+    if !names.is_empty() {
+        return Err(FsError::NotEmpty);
+    }
+    Ok(())
+}
+
+/// Tests whether a directory is seen at the path.
+fn check_dir(stack: &Stack<'_>, path: &Path) -> Result<(), FsError>
+    ensures { result_err result ≡ dir_error (seen stack.now path.now) }
+{
+    match stack.look(path) {
+        Some(Seen::Dir { .. }) => Ok(()),
+        Some(Seen::File { .. }) => Err(FsError::NotDir),
+        Some(Seen::Symlink { .. }) => Err(FsError::NotDir),
+        None => Err(FsError::NotFound),
     }
 }

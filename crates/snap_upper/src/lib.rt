@@ -7,6 +7,7 @@
 mod applying;
 mod checking;
 mod content;
+mod erasing;
 mod growing;
 mod op;
 mod planning;

@@ -44,4 +44,15 @@ pub enum Op {
         path: Path,
         target: Bytes,
     },
+    /// Takes a name of a file or a symlink (unlink(2)). A file goes with its last name in the upper
+    /// layer. Where a lower layer shows something there, a whiteout is put (overlayfs.rst, "whiteouts
+    /// and opaque directories").
+    Unlink {
+        path: Path,
+    },
+    /// Takes a directory in which nothing is seen, with the whiteouts in it (rmdir(2)). A whiteout is
+    /// put as in `Unlink`.
+    Rmdir {
+        path: Path,
+    },
 }

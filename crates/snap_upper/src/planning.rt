@@ -1,15 +1,16 @@
-ghost use Rattle.std.specs.Prelude.{◌≡◌, ◌∷◌, ◌+◌, ◌≤◌, ℕ, List, Some, None, length};
+ghost use Rattle.std.specs.Prelude.{◌≡◌, ◌∷◌, ◌+◌, ◌≤◌, ℕ, List, Some, None, true, length};
 ghost use Rattle.snap_layer.specs.Tree.{Tree, at, number_at};
 ghost use Rattle.snap_layer.specs.Edits.{IsFree};
 ghost use Rattle.snap_merge.specs.Objects.{file, seen, AreLayers};
-ghost use Rattle.snap_merge.specs.Walk.{walk};
+ghost use Rattle.snap_merge.specs.Walk.{walk, Answers};
 ghost use Rattle.snap_copyup.specs.declared.putting.Last.{Last};
 ghost use Rattle.snap_copyup.specs.Copying.{with_parents, copied_up};
 ghost use Rattle.snap_copyup.specs.Places.{with_last, Fits};
 ghost use Rattle.snap_upper.specs.declared.op.Op.TheVariants as op;
-ghost use Rattle.snap_upper.specs.After.{after, planned, limited, with_content, written};
+ghost use Rattle.snap_upper.specs.After.{after, planned, limited, with_content, written, is_planned_in_place};
 ghost use Rattle.snap_upper.specs.Adding.{Takes};
 
+use super::applying::apply;
 use super::checking::{Found, check_mode, check_new, check_symlink, check_truncate, check_write};
 use super::content::{is_whiteout, own_number};
 use super::op::Op;
@@ -31,11 +32,15 @@ pub struct Planned {
 
 /// How much the layer would take after the operation over the lower layers, which stand nearest first.
 ///
-/// The errors are those of `apply`, in the same order, but for `OutOfMemory`: it takes no memory. It
-/// changes nothing, and the next layer isn't built. Cost: for each name of the path a look through the
-/// layers, and the number of the layer's files.
+/// The errors are those of `apply`, in the same order. It changes nothing. For `Mkdir`, `Create`, `Write`,
+/// `Truncate`, `SetMode` and `Symlink` it takes no memory, and the next layer isn't built. Cost: for each
+/// name of the path a look through the layers, and the number of the layer's files.
+///
+/// The other operations are done on a copy of the layer, so a plan of them takes memory (`OutOfMemory`),
+/// and its cost is also the layer's size with all bytes of its files.
 pub fn plan(layer: &Layer, lowers: &[Shared], op: &Op) -> Result<Planned, FsError>
-    ensures { result ≡ planned (after op.now layer.now lowers.now) }
+    ensures answer { Answers (planned (after op.now layer.now lowers.now)) result }
+    ensures sure { is_planned_in_place op.now ≡ true → result ≡ planned (after op.now layer.now lowers.now) }
 {
     match op {
         Op::Mkdir { path, mode } => plan_mkdir(layer, lowers, path, *mode),
@@ -48,7 +53,21 @@ pub fn plan(layer: &Layer, lowers: &[Shared], op: &Op) -> Result<Planned, FsErro
         Op::Truncate { path, size } => plan_truncate(layer, lowers, path, *size),
         Op::SetMode { path, mode } => plan_mode(layer, lowers, path, *mode),
         Op::Symlink { path, target } => plan_symlink(layer, lowers, path, target),
+        Op::Unlink { .. } => plan_on_copy(layer, lowers, op),
+        Op::Rmdir { .. } => plan_on_copy(layer, lowers, op),
     }
+}
+
+/// Does the operation on a copy of the layer, and counts what that takes.
+fn plan_on_copy(layer: &Layer, lowers: &[Shared], op: &Op) -> Result<Planned, FsError>
+    ensures { Answers (planned (after op.now layer.now lowers.now)) result }
+{
+    let mut next = layer.copy()?;
+    if let Err(error) = apply(&mut next, lowers, op) {
+        return Err(error);
+    }
+    let after = count(&next);
+    Ok(Planned { after })
 }
 
 fn plan_mkdir(layer: &Layer, lowers: &[Shared], path: &Path, mode: u32) -> Result<Planned, FsError>

@@ -50,6 +50,16 @@ fn symlink(alloc: Global, text: &str, target: &[u8]) -> Result<Op, Fail> {
     })
 }
 
+fn unlink(alloc: Global, text: &str) -> Result<Op, Fail> {
+    let path = Path::parse(alloc, text)?;
+    Ok(Op::Unlink { path })
+}
+
+fn rmdir(alloc: Global, text: &str) -> Result<Op, Fail> {
+    let path = Path::parse(alloc, text)?;
+    Ok(Op::Rmdir { path })
+}
+
 /// The operation is planned and done, and leaves so many blocks and inodes.
 fn does(rt: &impl Abort, layer: &mut Layer, lowers: &[Shared], op: Op, blocks: u64, inodes: u64) {
     let usage = Usage { blocks, inodes };
@@ -367,5 +377,106 @@ fn a_lower_directory_gets_a_mode(rt: HostRuntime) -> Result<(), Fail> {
         at(alloc, &layer, "/etc")?,
         Some(Node::Dir { mode, opaque })
     );
+    Ok(())
+}
+
+/// A lower layer with the file /etc/x of 5000 bytes in a directory.
+fn etc(alloc: Global) -> Result<Shared, Fail> {
+    let bytes = vec![in alloc; 120u8; 5000]?;
+    let ops = [
+        mkdir(alloc, "/etc", 493)?,
+        create(alloc, "/etc/x", 420)?,
+        write(alloc, "/etc/x", 0, bytes.as_slice())?,
+    ];
+    shared(alloc, made(alloc, &ops)?)
+}
+
+/// How many names the directory has.
+fn names(alloc: Global, layer: &Layer, lowers: &[Shared], text: &str) -> Result<usize, Fail> {
+    match Stack::over(layer, lowers).list(alloc, &Path::parse(alloc, text)?) {
+        Ok(names) => Ok(names.len()),
+        Err(_) => Err("no list").map_err(Fail::from),
+    }
+}
+
+#[test]
+fn a_lower_file_is_whited_out(rt: HostRuntime) -> Result<(), Fail> {
+    let alloc = rt.alloc();
+    let lowers = [etc(alloc)?];
+    let mut layer = Layer::empty(alloc, 493)?;
+    does(&rt, &mut layer, &lowers, unlink(alloc, "/etc/x")?, 2, 3);
+    assert_eq!(rt; names(alloc, &layer, &lowers, "/etc")?, 0);
+    assert_eq!(rt; at(alloc, &layer, "/etc/x")?, Some(Node::Whiteout));
+    let again = unlink(alloc, "/etc/x")?;
+    refuses(&rt, &mut layer, &lowers, again, FsError::NotFound)
+}
+
+#[test]
+fn a_directory_over_a_whiteout_is_empty(rt: HostRuntime) -> Result<(), Fail> {
+    let alloc = rt.alloc();
+    let lowers = [etc(alloc)?];
+    let mut layer = Layer::empty(alloc, 493)?;
+    does(&rt, &mut layer, &lowers, unlink(alloc, "/etc/x")?, 2, 3);
+    does(&rt, &mut layer, &lowers, mkdir(alloc, "/etc/x", 493)?, 3, 3);
+    let mode = 493;
+    let opaque = true;
+    assert_eq!(rt;
+        at(alloc, &layer, "/etc/x")?,
+        Some(Node::Dir { mode, opaque })
+    );
+    assert_eq!(rt; names(alloc, &layer, &lowers, "/etc/x")?, 0);
+    Ok(())
+}
+
+/// A layer over one with /a/b, from which both are removed.
+fn removed(rt: &impl Abort, alloc: Global, lowers: &[Shared]) -> Result<Layer, Fail> {
+    let mut layer = Layer::empty(alloc, 493)?;
+    does(rt, &mut layer, lowers, unlink(alloc, "/a/b")?, 2, 3);
+    does(rt, &mut layer, lowers, rmdir(alloc, "/a")?, 1, 2);
+    assert_eq!(rt; at(alloc, &layer, "/a")?, Some(Node::Whiteout));
+    Ok(layer)
+}
+
+#[test]
+fn a_whiteout_of_a_middle_layer_hides(rt: HostRuntime) -> Result<(), Fail> {
+    let alloc = rt.alloc();
+    let ops = [mkdir(alloc, "/a", 493)?, create(alloc, "/a/b", 420)?];
+    let base = shared(alloc, made(alloc, &ops)?)?;
+    let middle = removed(&rt, alloc, &[base.again()?])?;
+    let lowers = [shared(alloc, middle)?, base];
+    let mut layer = Layer::empty(alloc, 493)?;
+    does(&rt, &mut layer, &lowers, mkdir(alloc, "/a", 493)?, 2, 2);
+    let mode = 493;
+    let opaque = false;
+    assert_eq!(rt; at(alloc, &layer, "/a")?, Some(Node::Dir { mode, opaque }));
+    assert_eq!(rt; names(alloc, &layer, &lowers, "/a")?, 0);
+    Ok(())
+}
+
+#[test]
+fn a_file_stays_under_its_other_name(rt: HostRuntime) -> Result<(), Fail> {
+    let alloc = rt.alloc();
+    let lower = linked(alloc)?;
+    let mut layer = lower.layer().copy()?;
+    does(&rt, &mut layer, &[], unlink(alloc, "/p")?, 3, 2);
+    assert_eq!(rt; read(alloc, &layer, &[], "/q")?, (Some(7), 4097));
+    does(&rt, &mut layer, &[], unlink(alloc, "/q")?, 1, 1);
+    Ok(())
+}
+
+#[test]
+fn the_root_and_directories_with_names_stay(rt: HostRuntime) -> Result<(), Fail> {
+    let alloc = rt.alloc();
+    let lowers = [etc(alloc)?];
+    let mut layer = Layer::empty(alloc, 493)?;
+    for (op, error) in [
+        (unlink(alloc, "/")?, FsError::IsDir),
+        (rmdir(alloc, "/")?, FsError::Invalid),
+        (rmdir(alloc, "/etc/x")?, FsError::NotDir),
+        (rmdir(alloc, "/etc")?, FsError::NotEmpty),
+        (rmdir(alloc, "/no")?, FsError::NotFound),
+    ] {
+        refuses(&rt, &mut layer, &lowers, op, error)?;
+    }
     Ok(())
 }

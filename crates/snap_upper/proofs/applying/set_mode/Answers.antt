@@ -1,7 +1,6 @@
-use Rattle.std.proofs.Common.{◌≡◌, ◌⊎◌, ◌∷◌, false, true, Option, Ok, Err, OnOk, IfErr, sym, ap, subst, ◌∙◌}
+use Rattle.std.proofs.Common.{◌≡◌, ◌⊎◌, ◌∷◌, false, true, Ok, Err, OnOk, IfErr, sym, ap, subst, ◌∙◌}
 use Rattle.std.specs.Prelude.{is_some}
-use Rattle.snap_layer.specs.declared.node.Node.{Node}
-use Rattle.snap_layer.specs.Tree.{Tree, at}
+use Rattle.snap_layer.specs.Tree.{at}
 use Rattle.snap_merge.specs.Objects.{seen, AreLayers}
 use Rattle.snap_merge.specs.declared.error.FsError.TheVariants.{OutOfMemory}
 use Rattle.snap_copyup.specs.declared.putting.Last.{Last}

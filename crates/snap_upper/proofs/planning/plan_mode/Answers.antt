@@ -1,6 +1,6 @@
-use Rattle.std.proofs.Common.{◌≡◌, ◌∷◌, ℕ, ◌≤◌, false, true, None, Some, refl, sym, ap, subst, ◌∙◌, arith}
+use Rattle.std.proofs.Common.{◌≡◌, ◌∷◌, ◌≤◌, false, true, None, Some, refl, sym, ap, subst, ◌∙◌, arith}
 use Rattle.std.specs.Prelude.{is_some, length}
-use Rattle.snap_layer.specs.Tree.{Tree, at}
+use Rattle.snap_layer.specs.Tree.{at}
 use Rattle.snap_merge.specs.Objects.{file, seen, AreLayers}
 use Rattle.snap_copyup.specs.declared.putting.Last.TheVariants as last
 use Rattle.snap_copyup.proofs.Wholes.{IsWholeObject, whole_seen}
