@@ -6,12 +6,13 @@ use Rattle.snap_layer.specs.Tree.{Tree}
 use Rattle.snap_layer.specs.Counts.{is_within}
 use Rattle.snap_usage.specs.declared.usage.Usage.{Usage}
 use Rattle.snap_merge.specs.declared.error.FsError.{FsError}
-use Rattle.snap_merge.specs.declared.error.FsError.TheVariants.{Exists, Invalid, TooBig, LayerFull, NeedsCharge}
+use Rattle.snap_merge.specs.declared.error.FsError.TheVariants.{Exists, Invalid, NotEmpty, TooBig, LayerFull, NeedsCharge}
 use Rattle.snap_merge.specs.Objects.{Object, dir, file, symlink, seen}
 use Rattle.snap_merge.specs.Walk.{walk, walk_from, walk_on}
 use Rattle.snap_upper.specs.declared.op.Op.{Op}
-use Rattle.snap_upper.specs.declared.op.Op.TheVariants.{Mkdir, Create, Write}
-use Rattle.snap_upper.specs.After.{Outcome, after, tests, first_error, error_if, file_error, unless, limited, next_layer, planned}
+use Rattle.snap_upper.specs.declared.planning.Planned.{Planned}
+use Rattle.snap_upper.specs.declared.op.Op.TheVariants.{Mkdir, Create, Write, Truncate, SetMode, Symlink, Unlink, Rmdir}
+use Rattle.snap_upper.specs.After.{Outcome, after, tests, first_error, error_if, file_error, mode_error, name_error, dir_error, is_no_target, is_root, has_names, unless, limited, next_layer, planned}
 
 module _ (need : Usage) where
   -- ---- tests
@@ -36,6 +37,24 @@ module _ (need : Usage) where
   no_file_error (Some (file mode bytes)) e = cc
   no_file_error (Some (symlink target)) e = cc
 
+  no_mode_error : (o : Option Object) → mode_error o ≡ Some (NeedsCharge need) → ⊥
+  no_mode_error None e = cc
+  no_mode_error (Some (dir mode)) e = cc
+  no_mode_error (Some (file mode bytes)) e = cc
+  no_mode_error (Some (symlink target)) e = cc
+
+  no_name_error : (o : Option Object) → name_error o ≡ Some (NeedsCharge need) → ⊥
+  no_name_error None e = cc
+  no_name_error (Some (dir mode)) e = cc
+  no_name_error (Some (file mode bytes)) e = cc
+  no_name_error (Some (symlink target)) e = cc
+
+  no_dir_error : (o : Option Object) → dir_error o ≡ Some (NeedsCharge need) → ⊥
+  no_dir_error None e = cc
+  no_dir_error (Some (dir mode)) e = cc
+  no_dir_error (Some (file mode bytes)) e = cc
+  no_dir_error (Some (symlink target)) e = cc
+
   no_first : (o : Option FsError) (later : List (Option FsError)) → (o ≡ Some (NeedsCharge need) → ⊥) → (first_error later ≡ Some (NeedsCharge need) → ⊥) → first_error (o ∷ later) ≡ Some (NeedsCharge need) → ⊥
   no_first None later never none e = none e
   no_first (Some x) later never none e = never e
@@ -52,6 +71,9 @@ module _ (need : Usage) where
   not_big : TooBig ≡ NeedsCharge need → ⊥
   not_big e = cc
 
+  not_full : NotEmpty ≡ NeedsCharge need → ⊥
+  not_full e = cc
+
   -- a new object's tests
   no_new : (s : List Tree) (p : Names) (mode : ℕ) → first_error (tests (Mkdir p mode) s) ≡ Some (NeedsCharge need) → ⊥
   no_new s p mode =
@@ -67,6 +89,27 @@ module _ (need : Usage) where
       no_first (walk s p) _ (no_walk_from s [] p)
       (no_first (file_error (seen s p)) _ (no_file_error (seen s p))
       (no_first (error_if big TooBig) [] (no_error_if big TooBig not_big) no_none))
+  no_test (Truncate p size) s =
+      no_first (walk s p) _ (no_walk_from s [] p)
+      (no_first (file_error (seen s p)) _ (no_file_error (seen s p))
+      (no_first (error_if (nat_lt 1048576 size) TooBig) [] (no_error_if (nat_lt 1048576 size) TooBig not_big) no_none))
+  no_test (SetMode p mode) s =
+      no_first (walk s p) _ (no_walk_from s [] p)
+      (no_first (mode_error (seen s p)) _ (no_mode_error (seen s p))
+      (no_first (error_if (nat_lt 4095 mode) Invalid) [] (no_error_if (nat_lt 4095 mode) Invalid not_invalid) no_none))
+  no_test (Symlink p target) s =
+      no_first (walk s p) _ (no_walk_from s [] p)
+      (no_first (error_if (is_some (seen s p)) Exists) _ (no_error_if (is_some (seen s p)) Exists not_exists)
+      (no_first (error_if (is_no_target target) Invalid) _ (no_error_if (is_no_target target) Invalid not_invalid)
+      (no_first (error_if (nat_lt 4095 (length target)) TooBig) [] (no_error_if (nat_lt 4095 (length target)) TooBig not_big) no_none)))
+  no_test (Unlink p) s =
+      no_first (walk s p) _ (no_walk_from s [] p)
+      (no_first (name_error (seen s p)) [] (no_name_error (seen s p)) no_none)
+  no_test (Rmdir p) s =
+      no_first (walk s p) _ (no_walk_from s [] p)
+      (no_first (error_if (is_root p) Invalid) _ (no_error_if (is_root p) Invalid not_invalid)
+      (no_first (dir_error (seen s p)) _ (no_dir_error (seen s p))
+      (no_first (error_if (has_names s p) NotEmpty) [] (no_error_if (has_names s p) NotEmpty not_full) no_none)))
 
   -- ---- outcomes
 
@@ -93,12 +136,12 @@ module _ (need : Usage) where
       by (Err x) never e = never (cc)
 
 -- a result that has the error of the plan asks for no charge, and the plan has no count
-pub plan_refused : {A : Type 0} (r : Result A FsError) (plan : Result Usage FsError) (x : FsError) (need : Usage) (P : Type 0) → (plan ≡ Err (NeedsCharge need) → ⊥) → plan ≡ Err x → IsErrAnd r (λ y. y ≡ x) → IsErrOf r (NeedsCharge need) ↔ ((plan ≡ Ok need) × P)
+pub plan_refused : {A : Type 0} (r : Result A FsError) (plan : Result Planned FsError) (x : FsError) (need : Usage) (P : Type 0) → (plan ≡ Err (NeedsCharge need) → ⊥) → plan ≡ Err x → IsErrAnd r (λ y. y ≡ x) → IsErrOf r (NeedsCharge need) ↔ ((plan ≡ Ok (record { after = need })) × P)
 plan_refused (Ok v) plan x need P never was is = absurd is
 plan_refused {A = A} (Err y) plan x need P never was is = (λ asks. absurd (never (was ∙ ap (λ (z : FsError). Err z) (sym is ∙ same y asks))), λ both. absurd (no_value x (sym was ∙ both.0)))
   where
     same : (z : FsError) → ◌≡◌ {A = Result A FsError} (Err z) (Err (NeedsCharge need)) → z ≡ NeedsCharge need
     same z e = cc
 
-    no_value : (z : FsError) → ◌≡◌ {A = Result Usage FsError} (Err z) (Ok need) → ⊥
+    no_value : (z : FsError) → ◌≡◌ {A = Result Planned FsError} (Err z) (Ok (record { after = need })) → ⊥
     no_value z e = cc

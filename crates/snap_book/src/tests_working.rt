@@ -7,7 +7,7 @@ use snap_ledger::{NewTable, StoreName};
 use snap_merge::FsError;
 use snap_path::Path;
 use snap_record::Text;
-use snap_upper::Op;
+use snap_upper::{Op, Planned};
 use snap_usage::Usage;
 use std::alloc::Global;
 use std::marker::Brand;
@@ -57,10 +57,10 @@ fn charge<N: StoreName>(rt: &impl Abort, slots: &mut Slots<N>, active: &mut Acti
     slots.set(&mut active.share, to);
 }
 
-fn planned(step: &Step<'_>) -> Result<Usage, FsError> {
+fn planned(step: &Step<'_>) -> Result<Planned, FsError> {
     match step.answer {
-        Ok(()) => Ok(step.count),
-        Err(FsError::NeedsCharge(need)) => Ok(need),
+        Ok(()) => Ok(Planned { after: step.count }),
+        Err(FsError::NeedsCharge(need)) => Ok(Planned { after: need }),
         Err(error) => Err(error),
     }
 }

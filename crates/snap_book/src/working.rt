@@ -1,28 +1,29 @@
 // Operations on the layer of an open snapshot.
-ghost use Rattle.std.specs.Prelude.{◌≡◌, ◌⊎◌, ◌↔◌, [], OnOk, OnErr, IfErr, IsErrOf, Ok, Err};
+ghost use Rattle.std.specs.Prelude.{◌≡◌, ◌⊎◌, ◌↔◌, [], OnOk, OnErr, IfErr, IsErrOf, Ok, Err, true};
 ghost use Rattle.snap_usage.specs.Counted.{Covers};
 ghost use Rattle.snap_usage.specs.declared.usage.Usage as usages;
 ghost use Rattle.snap_merge.specs.declared.error.FsError.TheVariants.{NeedsCharge, OutOfMemory};
-ghost use Rattle.snap_upper.specs.After.{after, planned};
+ghost use Rattle.snap_upper.specs.After.{after, planned, is_planned_in_place};
+ghost use Rattle.snap_merge.specs.Walk.{Answers};
 ghost use Rattle.snap_book.specs.Working.{worked};
 
 use crate::active::Active;
 use snap_ledger::StoreName;
 use snap_merge::FsError;
-use snap_upper::Op;
-use snap_usage::Usage;
+use snap_upper::{Op, Planned};
 
 impl<N: StoreName> Active<N> {
     /// What its layer would take after the operation: the count of the next layer, which the share
     /// need not cover.
     ///
     /// The errors are those of [`Active::apply`] up to `LayerFull`, in the same order. It changes
-    /// nothing and takes no memory. The cost is that of `snap_upper::plan`: the number of paths times
+    /// nothing. It takes no memory, but for `Unlink` and `Rmdir`, which can answer `OutOfMemory`. The cost is that of `snap_upper::plan`: the number of paths times
     /// the path's number of names, and the number of files.
-    pub fn plan(&self, op: &Op) -> Result<Usage, FsError>
-        ensures { result ≡ planned (after op.now self.now.layer []) }
+    pub fn plan(&self, op: &Op) -> Result<Planned, FsError>
+        ensures answer { Answers (planned (after op.now self.now.layer [])) result }
+        ensures sure { is_planned_in_place op.now ≡ true → result ≡ planned (after op.now self.now.layer []) }
     {
-        snap_upper::plan(&self.layer, op)
+        snap_upper::plan(&self.layer, &[], op)
     }
 
     /// Does the operation on its layer, where the share covers what the layer takes afterwards.
@@ -47,14 +48,15 @@ impl<N: StoreName> Active<N> {
         ensures error { IfErr result (λ e. (e ≡ OutOfMemory) ⊎ (worked op.now self.old.share.usage self.old.layer ≡ Err e)) }
         ensures unchanged { OnErr result (self.new ≡ self.old) }
         // An error of the operation under the share comes before any memory is taken.
-        ensures first { IfErr (worked op.now self.old.share.usage self.old.layer) (λ e. result ≡ Err e) }
+        ensures first { is_planned_in_place op.now ≡ true → IfErr (worked op.now self.old.share.usage self.old.layer) (λ e. result ≡ Err e) }
         // So much is asked for exactly where it is the next layer's count and the share doesn't cover it.
-        ensures needs { (need : usages.Usage) → IsErrOf result (NeedsCharge need) ↔ ((planned (after op.now self.old.layer []) ≡ Ok need) × ¬ Covers self.old.share.usage need) }
+        ensures needs { is_planned_in_place op.now ≡ true → (need : usages.Usage) → IsErrOf result (NeedsCharge need) ↔ ((planned (after op.now self.old.layer []) ≡ Ok (record { after = need })) × ¬ Covers self.old.share.usage need) }
     {
-        let need = self.plan(op)?;
+        let planned = self.plan(op)?;
+        let need = planned.after;
         if !self.share().covers(need) {
             return Err(FsError::NeedsCharge(need));
         }
-        snap_upper::apply(&mut self.layer, op)
+        snap_upper::apply(&mut self.layer, &[], op)
     }
 }

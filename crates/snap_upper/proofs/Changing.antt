@@ -1,5 +1,5 @@
 -- What is seen after an operation.
-use Rattle.std.proofs.Common.{◌≡◌, inl, inr, ℕ, Bool, true, false, List, [], ◌∷◌, ◌++◌, length, Option, Some, None, is_some, Result, Ok, Err, refl, sym, ap, subst, ◌∙◌, arith}
+use Rattle.std.proofs.Common.{◌≡◌, ◌⊎◌, inl, inr, ℕ, Bool, true, false, List, [], ◌∷◌, ◌++◌, length, Option, Some, None, is_some, Result, Ok, Err, refl, sym, ap, subst, ◌∙◌, arith}
 use Rattle.std.specs.Prelude.{option_and_then, if◌then◌else◌}
 use Rattle.std.specs.Option.{option_map}
 use Rattle.std.specs.Ordering.{nat_cmp}
@@ -12,11 +12,12 @@ use Rattle.snap_layer.specs.declared.node.Body.{Body}
 use Rattle.snap_layer.specs.declared.node.Body.TheVariants as body_kinds
 use Rattle.snap_layer.specs.Tree.{Tree, Bodies, at, body, number_at, number_of, node_hides}
 use Rattle.snap_layer.specs.Counts.{is_within}
-use Rattle.snap_layer.specs.Layers.{IsLayer, IsSymlink}
-use Rattle.snap_layer.specs.Edits.{IsFree, with_entry, with_new, with_body, with_bytes}
+use Rattle.snap_layer.specs.Layers.{IsLayer}
+use Rattle.snap_layer.specs.Edits.{IsFree, HasMode, with_entry, with_new, with_body, with_mode, with_file_mode}
+use Rattle.snap_layer.proofs.Setting.{file_body}
 use Rattle.snap_layer.proofs.Looks.{Sets-with_entry, SetsBody-with_body}
 use Rattle.snap_layer.proofs.Kept.{node_with_number}
-use Rattle.snap_layer.proofs.Laws.{Replaces-with_new, SetsBody-with_new}
+use Rattle.snap_layer.proofs.Laws.{Replaces-with_new}
 use Rattle.snap_merge.specs.Objects.{Object, dir, file, symlink, seen, shown_body, is_shown_dir, AreLayers}
 use Rattle.snap_merge.specs.declared.error.FsError.{FsError}
 use Rattle.snap_merge.specs.declared.error.FsError.TheVariants.{LayerFull}
@@ -24,12 +25,16 @@ use Rattle.snap_merge.proofs.Views.{seen_node, seen_alike}
 use Rattle.snap_merge.proofs.Above.{nothing_seen}
 use Rattle.snap_upper.specs.declared.op.Op.{Op}
 use Rattle.snap_upper.specs.declared.op.Op.TheVariants as op
-use Rattle.snap_copyup.specs.Copying.{below, with_parents, copied, with_object}
-use Rattle.snap_upper.specs.After.{after, tests, first_error, limited, unless, next_layer, is_whiteout_at, written, bytes_of, with_content, file_error}
-use Rattle.snap_upper.specs.Changed.{ShowsAt, IsName, Turns, with_file_bytes, changed}
-use Rattle.snap_copyup.proofs.Alone.{free_unseen, copied_there, below_seen}
-use Rattle.snap_upper.proofs.Making.{IsNew, IsNew-passed}
-use Rattle.snap_upper.proofs.Writing.{IsWritable, IsWritable-passed}
+use Rattle.snap_copyup.specs.Copying.{with_parents, copied_up}
+use Rattle.snap_copyup.proofs.Layers.{no_missing}
+use Rattle.snap_merge.specs.Walk.{walk}
+use Rattle.snap_upper.specs.After.{after, tests, first_error, limited, unless, next_layer, is_whiteout_at, written, resized, with_content, file_error, mode_error}
+use Rattle.snap_upper.specs.Changed.{ShowsAt, IsName, Turns, with_file_bytes, with_object_mode, changed}
+use Rattle.snap_copyup.proofs.Alone.{free_unseen, dir_seen}
+use Rattle.snap_upper.proofs.Erased.{IsErasable-name, IsErasable-dir, erased_changes}
+use Rattle.snap_upper.proofs.Making.{IsNew, IsNew-passed, IsNewSymlink-passed}
+use Rattle.snap_upper.proofs.Modes.{IsSettable-passed, has_mode, own_mode, dir_copy, file_copy}
+use Rattle.snap_upper.proofs.Writing.{IsWritable-passed, IsSizable-passed, seen_file, own_or_lower, own_layer, copy_layer}
 use Rattle.snap_copyup.proofs.Elsewhere.{Puts, shown_same, shown_number, seen-put_alike, seen-put_hiding}
 use Rattle.snap_copyup.proofs.Parents.{AddsParents, adds_parents}
 use Rattle.snap_copyup.proofs.Copies.{not_next, Puts-with_new, new_shown, new_elsewhere}
@@ -95,28 +100,13 @@ create_changes u ls p m ok layers passes =
 
 -- ---- a file's bytes
 
-seen_file : (o : Option Object) → file_error o ≡ None → (m : ℕ) × (old : List ℕ) × (o ≡ Some (file m old))
-seen_file None e = absurd (cc)
-seen_file (Some (dir m)) e = absurd (cc)
-seen_file (Some (file m old)) e = (m, old, refl)
-seen_file (Some (symlink target)) e = absurd (cc)
+-- the object of a file is turned into that of its new body
+abbrev Gives : (Object → Object) → ℕ → List ℕ → ℕ → List ℕ → Type 0
+Gives f m old n new = f (file m old) ≡ file n new
 
-body_shown : (o : Option Body) (m : ℕ) (old : List ℕ) → shown_body o ≡ Some (file m old) → o ≡ Some (body_kinds.File m old)
-body_shown None m old e = absurd (cc)
-body_shown (Some (body_kinds.File n bytes)) m old e =
-    let mode : n ≡ m = cc in
-    let same : bytes ≡ old = cc in
-    λ i. Some (body_kinds.File (mode i) (same i))
-body_shown (Some (body_kinds.Symlink target)) m old e = absurd (cc)
-
-symlink_shown : (o : Option Body) (m : ℕ) (old : List ℕ) → IsSymlink o → shown_body o ≡ Some (file m old) → ⊥
-symlink_shown None m old is e = is
-symlink_shown (Some (body_kinds.File n bytes)) m old is e = is
-symlink_shown (Some (body_kinds.Symlink target)) m old is e = cc
-
-module _ (u t : Tree) (ls : List Tree) (p : Names) (parents : AddsParents u t ls (length p)) (k m : ℕ) (old : List ℕ) (g : List ℕ → List ℕ) (is : at u p ≡ Some (File k)) (file_is : body u k ≡ Some (body_kinds.File m old)) where
+module _ (u t : Tree) (ls : List Tree) (p : Names) (parents : AddsParents u t ls (length p)) (k m n : ℕ) (old new : List ℕ) (f : Object → Object) (gives : Gives f m old n new) (is : at u p ≡ Some (File k)) (file_is : body u k ≡ Some (body_kinds.File m old)) where
   abbrev own : Tree
-  own = with_body t k (body_kinds.File m (g old))
+  own = with_body t k (body_kinds.File n new)
 
   seen_before : seen (u ∷ ls) p ≡ Some (file m old)
   seen_before = seen_node u ls p (File k) is ∙ ap shown_body file_is
@@ -131,43 +121,43 @@ module _ (u t : Tree) (ls : List Tree) (p : Names) (parents : AddsParents u t ls
       some_same : (i j : ℕ) → Some i ≡ Some j → i ≡ j
       some_same i j e = cc
 
-  -- the file has a name in the layer: the bytes change for all its names there
-  own_changes : Turns u (seen (u ∷ ls)) (seen (own ∷ ls)) p (with_file_bytes g)
+  -- the file has a name in the layer: it changes for all its names there
+  own_changes : Turns u (seen (u ∷ ls)) (seen (own ∷ ls)) p f
   own_changes = record {
     here = λ q name.
-        let n = node_with_number (at t q) k (parents.numbers q ∙ named q name) in
-        seen_node own ls q n.0 n.1
-        ∙ shown_number own n.0 k n.2
-        ∙ ap shown_body (SetsBody-with_body t k (body_kinds.File m (g old))).here
-        ∙ sym (ap (option_map (with_file_bytes g)) seen_before);
+        let node = node_with_number (at t q) k (parents.numbers q ∙ named q name) in
+        seen_node own ls q node.0 node.1
+        ∙ shown_number own node.0 k node.2
+        ∙ ap shown_body (SetsBody-with_body t k (body_kinds.File n new)).here
+        ∙ sym (ap (option_map f) seen_before ∙ ap (λ (o : Object). Some o) gives);
     others = λ q apart.
         seen_alike t own ls q (record {
           here = refl;
-          shows = λ n e. shown_same t own n (λ j number. (SetsBody-with_body t k (body_kinds.File m (g old))).others j (λ same. apart (inr (k, ap (option_and_then number_of) is, sym (parents.numbers q) ∙ ap (option_and_then number_of) e ∙ number ∙ ap (λ (i : ℕ). Some i) same))));
-          above = λ r n rest at_r. refl;
+          shows = λ node e. shown_same t own node (λ j number. (SetsBody-with_body t k (body_kinds.File n new)).others j (λ same. apart (inr (k, ap (option_and_then number_of) is, sym (parents.numbers q) ∙ ap (option_and_then number_of) e ∙ number ∙ ap (λ (i : ℕ). Some i) same))));
+          above = λ r word rest at_r. refl;
         })
         ∙ parents.view q;
   }
 
-module _ (u t : Tree) (ls : List Tree) (p : Names) (ok : IsLayer u) (layers : AreLayers ls) (parents : AddsParents u t ls (length p)) (m : ℕ) (old : List ℕ) (g : List ℕ → List ℕ) (none : at u p ≡ None) (was : seen (u ∷ ls) p ≡ Some (file m old)) where
+module _ (u t : Tree) (ls : List Tree) (p : Names) (ok : IsLayer u) (layers : AreLayers ls) (parents : AddsParents u t ls (length p)) (m n : ℕ) (old new : List ℕ) (f : Object → Object) (gives : Gives f m old n new) (none : at u p ≡ None) (was : seen (u ∷ ls) p ≡ Some (file m old)) where
   free : IsFree (at u p)
   free = subst IsFree (sym none) tt
 
-  abbrev new : Tree
-  new = with_new t p (File t.next) (body_kinds.File m old)
+  abbrev made : Tree
+  made = with_new t p (File t.next) (body_kinds.File m old)
 
   abbrev copy : Tree
-  copy = with_body (with_new t p (File t.next) (body_kinds.File m old)) t.next (body_kinds.File m (g old))
+  copy = with_body (with_new t p (File t.next) (body_kinds.File m old)) t.next (body_kinds.File n new)
 
-  puts_new : Puts t new p
+  puts_new : Puts t made p
   puts_new = Puts-with_new u t ls p ok free parents (File t.next) refl (body_kinds.File m old)
 
   puts_copy : Puts t copy p
   puts_copy = record {
     others = λ q apart. puts_new.others q apart;
-    shows = λ q n apart e.
-        shown_same new copy n (λ j number. (SetsBody-with_body new t.next (body_kinds.File m (g old))).others j (not_next u t ls p ok free parents (File t.next) refl (body_kinds.File m old) q j (ap (option_and_then number_of) e ∙ number)))
-        ∙ puts_new.shows q n apart e;
+    shows = λ q node apart e.
+        shown_same made copy node (λ j number. (SetsBody-with_body made t.next (body_kinds.File n new)).others j (not_next u t ls p ok free parents (File t.next) refl (body_kinds.File m old) q j (ap (option_and_then number_of) e ∙ number)))
+        ∙ puts_new.shows q node apart e;
   }
 
   name_here : (q : Names) → IsName u p q → q ≡ p
@@ -178,66 +168,123 @@ module _ (u t : Tree) (ls : List Tree) (p : Names) (ok : IsLayer u) (layers : Ar
       no_some j e = cc
 
   -- the file is copied up: its other names below are other files now
-  copy_changes : Turns u (seen (u ∷ ls)) (seen (copy ∷ ls)) p (with_file_bytes g)
+  copy_changes : Turns u (seen (u ∷ ls)) (seen (copy ∷ ls)) p f
   copy_changes = record {
     here = λ q name.
         ap (seen (copy ∷ ls)) (name_here q name)
         ∙ seen_node copy ls p (File t.next) (Replaces-with_new t p (File t.next) (body_kinds.File m old)).here
-        ∙ ap shown_body (SetsBody-with_body new t.next (body_kinds.File m (g old))).here
-        ∙ sym (ap (option_map (with_file_bytes g)) was);
+        ∙ ap shown_body (SetsBody-with_body made t.next (body_kinds.File n new)).here
+        ∙ sym (ap (option_map f) was ∙ ap (λ (o : Object). Some o) gives);
     others = λ q apart.
         seen-put_hiding t copy ls p puts_copy (ap node_hides (Replaces-with_new t p (File t.next) (body_kinds.File m old)).here)
-        (λ n r. parents.view (p ++ n ∷ r) ∙ nothing_seen (u ∷ ls) (ok, layers) r p n (ap is_shown_dir was)) q (λ e. apart (inl e))
+        (λ word r. parents.view (p ++ word ∷ r) ∙ nothing_seen (u ∷ ls) (ok, layers) r p word (ap is_shown_dir was)) q (λ e. apart (inl e))
         ∙ parents.view q;
   }
 
--- ---- the next layer of a write
+-- ---- bytes
 
-own_layer : (t : Tree) (ls : List Tree) (p : Names) (k m : ℕ) (old : List ℕ) (g : List ℕ → List ℕ) → at t p ≡ Some (File k) → body t k ≡ Some (body_kinds.File m old) → with_content (copied t ls p) (number_at (copied t ls p) p) g ≡ with_body t k (body_kinds.File m (g old))
-own_layer t ls p k m old g is file_is =
-    ap (λ (v : Tree). with_content v (number_at v p) g) (copied_there t ls p (ap is_some is))
-    ∙ ap (λ (o : Option ℕ). with_content t o g) (ap (option_and_then number_of) is)
-    ∙ ap (λ (o : Option Body). with_bytes t k o (g (bytes_of o))) file_is
+fill_changes : (u : Tree) (ls : List Tree) (p : Names) (g : List ℕ → List ℕ) → IsLayer u → AreLayers ls → walk (u ∷ ls) p ≡ None → file_error (seen (u ∷ ls) p) ≡ None
+    → Turns u (seen (u ∷ ls)) (seen (with_content (copied_up u ls p) (number_at (copied_up u ls p) p) g ∷ ls)) p (with_file_bytes g)
+fill_changes u ls p g ok layers way regular = let f = seen_file (seen (u ∷ ls) p) regular in by f.0 f.1 f.2
+  where
+    Goal : Tree → Type 0
+    Goal v = Turns u (seen (u ∷ ls)) (seen (v ∷ ls)) p (with_file_bytes g)
 
-copy_layer : (t : Tree) (ls : List Tree) (p : Names) (m : ℕ) (old : List ℕ) (g : List ℕ → List ℕ) → at t p ≡ None → seen (t ∷ ls) p ≡ Some (file m old)
-    → with_content (copied t ls p) (number_at (copied t ls p) p) g ≡ with_body (with_new t p (File t.next) (body_kinds.File m old)) t.next (body_kinds.File m (g old))
-copy_layer t ls p m old g none was =
-    let b = body_kinds.File m old in
-    let v = with_new t p (File t.next) b in
-    ap (λ (w : Tree). with_content w (number_at w p) g) (ap (λ (h : Bool). if h then t else with_object t p (below t ls p)) (ap is_some none) ∙ ap (with_object t p) (sym (below_seen t ls p none) ∙ was))
-    ∙ ap (λ (o : Option ℕ). with_content v o g) (ap (option_and_then number_of) (Replaces-with_new t p (File t.next) b).here)
-    ∙ ap (λ (o : Option Body). with_bytes v t.next o (g (bytes_of o))) (SetsBody-with_new t p (File t.next) b).here
+    t : Tree
+    t = with_parents u ls p
 
-module _ (u : Tree) (ls : List Tree) (p : Names) (offset : ℕ) (bytes : List ℕ) (ok : IsLayer u) (layers : AreLayers ls) (passes : first_error (tests (op.Write p offset bytes) (u ∷ ls)) ≡ None) where
-  ready : IsWritable (u ∷ ls) p offset bytes
-  ready = IsWritable-passed (u ∷ ls) p offset bytes passes
+    parents : AddsParents u (with_parents u ls p) ls (length p)
+    parents = adds_parents u ls p way
 
-  abbrev t : Tree
-  t = with_parents u ls p
+    by : (m : ℕ) (old : List ℕ) → seen (u ∷ ls) p ≡ Some (file m old) → Turns u (seen (u ∷ ls)) (seen (with_content (copied_up u ls p) (number_at (copied_up u ls p) p) g ∷ ls)) p (with_file_bytes g)
+    by m old was = elim (own_or_lower u ls p m old ok was) [
+      | inl none ↦ subst Goal (sym (copy_layer t ls p m old g (parents.leaves p (omega arith) ∙ none) (parents.view p ∙ was))) (copy_changes u t ls p ok layers parents m m old (g old) (with_file_bytes g) refl none was)
+      | inr name ↦ subst Goal (sym (own_layer t ls p name.0 m old g (parents.leaves p (omega arith) ∙ name.1) (ap (λ (bs : Bodies). lookup (is_at (nat_cmp name.0)) bs) parents.bodies ∙ name.2))) (own_changes u t ls p parents name.0 m m old (g old) (with_file_bytes g) refl name.1 name.2)
+    ]
 
-  parents : AddsParents u (with_parents u ls p) ls (length p)
-  parents = adds_parents u ls p ready.way
+-- ---- modes
 
-  abbrev g : List ℕ → List ℕ
-  g old = written old offset bytes
+-- a directory with another mode
+entry_changes : (u t : Tree) (ls : List Tree) (p : Names) (m mode : ℕ) (b : Bool) → AddsParents u t ls (length p) → node_hides (Some (Dir mode b)) ≡ node_hides (at t p) → number_at u p ≡ None → seen (u ∷ ls) p ≡ Some (dir m)
+    → Turns u (seen (u ∷ ls)) (seen (with_entry t p (Dir mode b) ∷ ls)) p (with_object_mode mode)
+entry_changes u t ls p m mode b parents hides none was = record {
+  here = λ q name.
+      ap (seen (v ∷ ls)) (name_here q name)
+      ∙ seen_node v ls p (Dir mode b) (Sets-with_entry t p (Dir mode b)).here
+      ∙ sym (ap (option_map (with_object_mode mode)) was);
+  others = λ q apart. seen-put_alike t v ls p puts (ap node_hides (Sets-with_entry t p (Dir mode b)).here ∙ hides) q (λ e. apart (inl e)) ∙ parents.view q;
+}
+  where
+    v : Tree
+    v = with_entry t p (Dir mode b)
 
-  write_changes : Turns u (seen (u ∷ ls)) (seen (next_layer (op.Write p offset bytes) u ls ∷ ls)) p (with_file_bytes (λ old. written old offset bytes))
-  write_changes = let f = seen_file (seen (u ∷ ls) p) ready.file in by (at u p) f.0 f.1 refl f.2
-    where
-      Goal : Tree → Type 0
-      Goal v = Turns u (seen (u ∷ ls)) (seen (v ∷ ls)) p (with_file_bytes (λ old. written old offset bytes))
+    puts : Puts t (with_entry t p (Dir mode b)) p
+    puts = record { others = λ q apart. (Sets-with_entry t p (Dir mode b)).others q apart; shows = λ q n apart e. shown_same t (with_entry t p (Dir mode b)) n (λ j is. refl) }
 
-      there : (o : Option Node) → at u p ≡ o → at (with_parents u ls p) p ≡ o
-      there o e = parents.leaves p (omega arith) ∙ e
+    no_some : (j : ℕ) → Some j ≡ None → ⊥
+    no_some j e = cc
 
-      by : (o : Option Node) (m : ℕ) (old : List ℕ) → at u p ≡ o → seen (u ∷ ls) p ≡ Some (file m old) → Turns u (seen (u ∷ ls)) (seen (next_layer (op.Write p offset bytes) u ls ∷ ls)) p (with_file_bytes (λ old. written old offset bytes))
-      by None m old e was = subst Goal (sym (copy_layer t ls p m old g (there None e) (parents.view p ∙ was))) (copy_changes u t ls p ok layers parents m old g e was)
-      by (Some (File k)) m old e was =
-          let is = body_shown (body u k) m old (sym (seen_node u ls p (File k) e) ∙ was) in
-          subst Goal (sym (own_layer t ls p k m old g (there (Some (File k)) e) (ap (λ (bs : Bodies). lookup (is_at (nat_cmp k)) bs) parents.bodies ∙ is))) (own_changes u t ls p parents k m old g e is)
-      by (Some (Dir n b)) m old e was = let other = sym (seen_node u ls p (Dir n b) e) ∙ was in absurd (cc)
-      by (Some (Symlink k)) m old e was = absurd (symlink_shown (body u k) m old (ok.nodes p (Symlink k) e) (sym (seen_node u ls p (Symlink k) e) ∙ was))
-      by (Some Whiteout) m old e was = let other = sym (seen_node u ls p Whiteout e) ∙ was in absurd (cc)
+    name_here : (q : Names) → IsName u p q → q ≡ p
+    name_here q (inl e) = e
+    name_here q (inr (j, here, there)) = absurd (no_some j (sym here ∙ none))
+
+seen_with_mode : (o : Option Object) → mode_error o ≡ None → ((m : ℕ) × (o ≡ Some (dir m))) ⊎ ((m : ℕ) × (old : List ℕ) × (o ≡ Some (file m old)))
+seen_with_mode None e = absurd (cc)
+seen_with_mode (Some (dir m)) e = inl (m, refl)
+seen_with_mode (Some (file m old)) e = inr (m, old, refl)
+seen_with_mode (Some (symlink target)) e = absurd (cc)
+
+mode_changes : (u : Tree) (ls : List Tree) (p : Names) (mode : ℕ) → IsLayer u → AreLayers ls → walk (u ∷ ls) p ≡ None → mode_error (seen (u ∷ ls) p) ≡ None
+    → Turns u (seen (u ∷ ls)) (seen (with_mode (copied_up u ls p) p (at (copied_up u ls p) p) mode ∷ ls)) p (with_object_mode mode)
+mode_changes u ls p mode ok layers way there = by (at u p) refl
+  where
+    Goal : Tree → Type 0
+    Goal v = Turns u (seen (u ∷ ls)) (seen (v ∷ ls)) p (with_object_mode mode)
+
+    t : Tree
+    t = with_parents u ls p
+
+    parents : AddsParents u (with_parents u ls p) ls (length p)
+    parents = adds_parents u ls p way
+
+    same : (n : Node) → at u p ≡ Some n → AddsParents u u ls (length p)
+    same n e = subst (λ (v : Tree). AddsParents u v ls (length p)) (no_missing u ls p ok (ap is_some e)) (adds_parents u ls p way)
+
+    own : (n : Node) → at u p ≡ Some n → with_mode (copied_up u ls p) p (at (copied_up u ls p) p) mode ≡ with_mode u p (Some n) mode
+    own n e = own_mode u ls p mode ok (ap is_some e) ∙ ap (λ (o : Option Node). with_mode u p o mode) e
+
+    by : (o : Option Node) → at u p ≡ o → Turns u (seen (u ∷ ls)) (seen (with_mode (copied_up u ls p) p (at (copied_up u ls p) p) mode ∷ ls)) p (with_object_mode mode)
+    by None e = elim (seen_with_mode (seen (u ∷ ls) p) there) [
+      | inl d ↦ subst Goal (sym (dir_copy u ls p way e d.0 mode d.1)) (entry_changes u t ls p d.0 mode false parents (sym (ap node_hides (parents.leaves p (omega arith) ∙ e))) (ap (option_and_then number_of) e) d.1)
+      | inr f ↦ subst Goal (sym (file_copy u ls p way e f.0 mode f.1 f.2)) (copy_changes u t ls p ok layers parents f.0 mode f.1 f.1 (with_object_mode mode) refl e f.2)
+    ]
+    by (Some (Dir m b)) e = subst Goal (sym (own (Dir m b) e)) (entry_changes u u ls p m mode b (same (Dir m b) e) (sym (ap node_hides e)) (ap (option_and_then number_of) e) (seen_node u ls p (Dir m b) e))
+    by (Some (File k)) e =
+        let is = file_body (body u k) (ok.nodes p (File k) e) in
+        subst Goal (sym (own (File k) e ∙ ap (λ (o : Option Body). with_file_mode u k o mode) is.2)) (own_changes u u ls p (same (File k) e) k is.0 mode is.1 is.1 (with_object_mode mode) refl e is.2)
+    by (Some (Symlink k)) e = absurd (has_mode_at (has_mode u ls p ok there (ap is_some e)))
+      where
+        has_mode_at : HasMode (at u p) → ⊥
+        has_mode_at has = subst HasMode e has
+    by (Some Whiteout) e = absurd (has_mode_at (has_mode u ls p ok there (ap is_some e)))
+      where
+        has_mode_at : HasMode (at u p) → ⊥
+        has_mode_at has = subst HasMode e has
+
+-- ---- a symlink
+
+symlink_changes : (u : Tree) (ls : List Tree) (p : Names) (target : List ℕ) → IsLayer u → AreLayers ls → first_error (tests (op.Symlink p target) (u ∷ ls)) ≡ None
+    → ShowsAt (seen (u ∷ ls)) (seen (next_layer (op.Symlink p target) u ls ∷ ls)) p (Some (symlink target))
+symlink_changes u ls p target ok layers passes =
+    let new = IsNewSymlink-passed (u ∷ ls) p target passes in
+    let t = with_parents u ls p in
+    let parents = adds_parents u ls p new.way in
+    let free = free_unseen u ls p ok new.unseen in
+    let b = body_kinds.Symlink target in
+    record {
+      here = new_shown u t ls p ok free parents (Symlink t.next) refl b;
+      others = λ q apart. new_elsewhere u t ls p ok free parents (Symlink t.next) refl b layers (ap is_shown_dir (none_from (seen (u ∷ ls) p) new.unseen)) q apart;
+    }
 
 -- ---- any operation
 
@@ -258,4 +305,22 @@ after_changes (op.Create p m) u ls v ok layers e =
     subst (λ (w : Tree). changed (op.Create p m) u (seen (u ∷ ls)) (seen (w ∷ ls))) given.1 (create_changes u ls p m ok layers given.0)
 after_changes (op.Write p offset bytes) u ls v ok layers e =
     let given = after_given (first_error (tests (op.Write p offset bytes) (u ∷ ls))) (next_layer (op.Write p offset bytes) u ls) v e in
-    subst (λ (w : Tree). changed (op.Write p offset bytes) u (seen (u ∷ ls)) (seen (w ∷ ls))) given.1 (write_changes u ls p offset bytes ok layers given.0)
+    let ready = IsWritable-passed (u ∷ ls) p offset bytes given.0 in
+    subst (λ (w : Tree). changed (op.Write p offset bytes) u (seen (u ∷ ls)) (seen (w ∷ ls))) given.1 (fill_changes u ls p (λ old. written old offset bytes) ok layers ready.way ready.file)
+after_changes (op.Truncate p size) u ls v ok layers e =
+    let given = after_given (first_error (tests (op.Truncate p size) (u ∷ ls))) (next_layer (op.Truncate p size) u ls) v e in
+    let ready = IsSizable-passed (u ∷ ls) p size given.0 in
+    subst (λ (w : Tree). changed (op.Truncate p size) u (seen (u ∷ ls)) (seen (w ∷ ls))) given.1 (fill_changes u ls p (λ old. resized old size) ok layers ready.way ready.file)
+after_changes (op.SetMode p mode) u ls v ok layers e =
+    let given = after_given (first_error (tests (op.SetMode p mode) (u ∷ ls))) (next_layer (op.SetMode p mode) u ls) v e in
+    let ready = IsSettable-passed (u ∷ ls) p mode given.0 in
+    subst (λ (w : Tree). changed (op.SetMode p mode) u (seen (u ∷ ls)) (seen (w ∷ ls))) given.1 (mode_changes u ls p mode ok layers ready.way ready.there)
+after_changes (op.Symlink p target) u ls v ok layers e =
+    let given = after_given (first_error (tests (op.Symlink p target) (u ∷ ls))) (next_layer (op.Symlink p target) u ls) v e in
+    subst (λ (w : Tree). changed (op.Symlink p target) u (seen (u ∷ ls)) (seen (w ∷ ls))) given.1 (symlink_changes u ls p target ok layers given.0)
+after_changes (op.Unlink p) u ls v ok layers e =
+    let given = after_given (first_error (tests (op.Unlink p) (u ∷ ls))) (next_layer (op.Unlink p) u ls) v e in
+    subst (λ (w : Tree). changed (op.Unlink p) u (seen (u ∷ ls)) (seen (w ∷ ls))) given.1 (erased_changes u ls p ok layers (IsErasable-name (u ∷ ls) p (ok, layers) (dir_seen u ls [] ok.root) given.0))
+after_changes (op.Rmdir p) u ls v ok layers e =
+    let given = after_given (first_error (tests (op.Rmdir p) (u ∷ ls))) (next_layer (op.Rmdir p) u ls) v e in
+    subst (λ (w : Tree). changed (op.Rmdir p) u (seen (u ∷ ls)) (seen (w ∷ ls))) given.1 (erased_changes u ls p ok layers (IsErasable-dir (u ∷ ls) p given.0))

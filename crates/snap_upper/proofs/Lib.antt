@@ -1,7 +1,8 @@
 pub mod Outcomes
+pub mod Growth
 pub mod Making
 pub mod Writing
-pub mod Counts
-pub mod Plans
+pub mod Modes
+pub mod Erased
 pub mod Changing
 pub mod Examples

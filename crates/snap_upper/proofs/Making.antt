@@ -1,19 +1,23 @@
--- A directory or a file that is made in a layer alone.
-use Rattle.std.proofs.Common.{◌≡◌, ℕ, ◌≤◌, Bool, true, false, List, [], ◌∷◌, Option, Some, None, is_some, refl, sym, ap, subst, ◌∙◌, ltb-false}
-use Rattle.std.specs.Prelude.{nat_lt}
+-- A directory or a file that is made.
+use Rattle.std.proofs.Common.{◌≡◌, ℕ, ◌≤◌, Bool, true, false, List, [], ◌∷◌, length, Option, Some, None, is_some, refl, sym, ap, subst, ◌∙◌, arith, ltb-false}
+use Rattle.std.specs.Prelude.{nat_lt, nat_le, not, ◌&&◌, ◌||◌, ◌==◌}
+use Rattle.std.specs.List.{list_any}
+use Rattle.std.proofs.lemmas.Bool.Decides.{nat_tests}
+use Rattle.snap_layer.specs.Layers.{is_target}
 use Rattle.snap_path.specs.Text.{Names}
-use Rattle.snap_layer.specs.declared.node.Node.TheVariants.{Dir, File}
-use Rattle.snap_layer.specs.declared.node.Body.TheVariants as body_kinds
-use Rattle.snap_layer.specs.Tree.{Tree, IsDirAt, at}
+use Rattle.snap_layer.specs.declared.node.Node.TheVariants.{Dir}
+use Rattle.snap_layer.specs.Tree.{Tree, at}
 use Rattle.snap_layer.specs.Layers.{IsLayer}
-use Rattle.snap_layer.specs.Edits.{HasRoom, with_entry, with_new}
+use Rattle.snap_layer.specs.Edits.{with_entry}
+use Rattle.snap_copyup.specs.declared.putting.Last.TheVariants as last
+use Rattle.snap_copyup.specs.Copying.{with_parents}
+use Rattle.snap_copyup.specs.Places.{with_last, IsVacant}
 use Rattle.snap_merge.specs.Objects.{Object, seen, is_shown_dir}
 use Rattle.snap_merge.specs.Walk.{walk}
-use Rattle.snap_merge.specs.declared.error.FsError.TheVariants.{Exists, Invalid}
+use Rattle.snap_merge.specs.declared.error.FsError.TheVariants.{Exists, Invalid, TooBig}
 use Rattle.snap_upper.specs.declared.op.Op.TheVariants as op
-use Rattle.snap_upper.specs.After.{after, limited, tests, first_error, error_if, next_layer, is_whiteout_at}
-use Rattle.snap_copyup.proofs.Alone.{free_unseen, dir_seen, no_parents}
-use Rattle.snap_copyup.proofs.Parents.{parents_stand}
+use Rattle.snap_upper.specs.After.{after, limited, tests, first_error, error_if, is_whiteout_at, is_no_target}
+use Rattle.snap_copyup.proofs.Alone.{free_unseen, dir_seen}
 use Rattle.snap_upper.proofs.Outcomes.{test_passes, error_if_passes, after_passes}
 
 -- the tests of a new object have passed
@@ -36,39 +40,68 @@ IsNew-passed s p mode passes =
       low = low_mode mode (error_if_passes (nat_lt 4095 mode) Invalid third.0);
     }
 
+some_shown : (o : Option Object) → is_shown_dir o ≡ true → is_some o ≡ true
+some_shown None e = absurd (cc)
+some_shown (Some x) e = refl
+
 shown_some : (b : Bool) → b ≡ true → b ≡ false → ⊥
 shown_some b e f = cc
 
-module _ (u : Tree) (ok : IsLayer u) (p : Names) (mode : ℕ) (passes : first_error (tests (op.Mkdir p mode) (u ∷ [])) ≡ None) where
-  new : IsNew (u ∷ []) p mode
-  new = IsNew-passed (u ∷ []) p mode passes
+-- where nothing is seen there is a place
+pub vacant_unseen : (u : Tree) (ls : List Tree) (p : Names) → IsLayer u → is_some (seen (u ∷ ls) p) ≡ false → IsVacant u p
+vacant_unseen u ls p ok unseen = record {
+  below_root = λ root. shown_some (is_some (seen (u ∷ ls) [])) (some_shown (seen (u ∷ ls) []) (dir_seen u ls [] ok.root)) (subst (λ (q : Names). is_some (seen (u ∷ ls) q) ≡ false) root unseen);
+  free = free_unseen u ls p ok unseen;
+}
 
-  -- the layer has room for it
-  pub room_made : HasRoom u p
-  room_made = record {
-    free = free_unseen u [] p ok new.unseen;
-    above = record {
-      below_root = λ root. not_root (subst (λ (q : Names). is_some (seen (u ∷ []) q) ≡ false) root new.unseen);
-      parent = λ q n is. subst (λ (t : Tree). IsDirAt (at t q)) (no_parents u p new.way) (parents_stand u [] p new.way q n is);
-    };
-  }
-    where
-      some_shown : (o : Option Object) → is_shown_dir o ≡ true → is_some o ≡ true
-      some_shown None e = absurd (cc)
-      some_shown (Some x) e = refl
+module _ (u : Tree) (ls : List Tree) (p : Names) (mode : ℕ) where
+  module _ (passes : first_error (tests (op.Mkdir p mode) (u ∷ ls)) ≡ None) where
+    pub new : IsNew (u ∷ ls) p mode
+    new = IsNew-passed (u ∷ ls) p mode passes
 
-      not_root : is_some (seen (u ∷ []) []) ≡ false → ⊥
-      not_root none = shown_some (is_some (seen (u ∷ []) [])) (some_shown (seen (u ∷ []) []) (dir_seen u [] [] ok.root)) none
+    -- the next layer is this one with the directories above the path, and with the new object
+    pub dir_after : (opaque : Bool) → opaque ≡ is_whiteout_at (at u p) → limited (with_last (last.Dir mode opaque) (with_parents u ls p) p) ≡ after (op.Mkdir p mode) u ls
+    dir_after opaque is = ap (λ (b : Bool). limited (with_entry (with_parents u ls p) p (Dir mode b))) is ∙ sym (after_passes (op.Mkdir p mode) u ls passes)
 
-  -- the next layer is this layer with the new entry
-  pub dir_made : next_layer (op.Mkdir p mode) u [] ≡ with_entry u p (Dir mode (is_whiteout_at (at u p)))
-  dir_made = ap (λ (t : Tree). with_entry t p (Dir mode (is_whiteout_at (at u p)))) (no_parents u p new.way)
+    pub file_after : (bytes : List ℕ) → bytes ≡ [] → limited (with_last (last.File mode bytes) (with_parents u ls p) p) ≡ after (op.Create p mode) u ls
+    file_after bytes none = ap (λ (bs : List ℕ). limited (with_last (last.File mode bs) (with_parents u ls p) p)) none ∙ sym (after_passes (op.Create p mode) u ls passes)
 
-  pub file_made : next_layer (op.Create p mode) u [] ≡ with_new u p (File u.next) (body_kinds.File mode [])
-  file_made = ap (λ (t : Tree). with_new t p (File t.next) (body_kinds.File mode [])) (no_parents u p new.way)
+-- ---- symlinks
 
-  pub dir_after : (opaque : Bool) → opaque ≡ is_whiteout_at (at u p) → after (op.Mkdir p mode) u [] ≡ limited (with_entry u p (Dir mode opaque))
-  dir_after opaque is = after_passes (op.Mkdir p mode) u [] passes ∙ ap limited (dir_made ∙ ap (λ (b : Bool). with_entry u p (Dir mode b)) (sym is))
+-- the tests of a new symlink have passed
+pub record IsNewSymlink (s : List Tree) (p : Names) (target : List ℕ) : Type 0 where
+  pub way : walk s p ≡ None
+  pub unseen : is_some (seen s p) ≡ false
+  pub target_is : is_target target ≡ true
 
-  pub file_after : (bytes : List ℕ) → bytes ≡ [] → after (op.Create p mode) u [] ≡ limited (with_new u p (File u.next) (body_kinds.File mode bytes))
-  file_after bytes none = after_passes (op.Create p mode) u [] passes ∙ ap limited (file_made ∙ ap (λ (bs : List ℕ). with_new u p (File u.next) (body_kinds.File mode bs)) (sym none))
+either_false : (a b : Bool) → (a || b) ≡ false → (a ≡ false) × (b ≡ false)
+either_false true b e = absurd (cc)
+either_false false b e = (refl, e)
+
+nat_from : (n : ℕ) → (n == 0) ≡ false → nat_lt 0 n ≡ true
+nat_from n e = grind (arith, nat_tests)
+
+short_target : (n : ℕ) → nat_lt 4095 n ≡ false → nat_le n 4095 ≡ true
+short_target n e = grind (arith, nat_tests)
+
+target_from : (target : List ℕ) → is_no_target target ≡ false → nat_lt 4095 (length target) ≡ false → is_target target ≡ true
+target_from target e short =
+    let parts = either_false (length target == 0) (list_any (λ b. b == 0) target) e in
+    λ i. nat_from (length target) parts.0 i && short_target (length target) short i && not (parts.1 i)
+
+pub IsNewSymlink-passed : (s : List Tree) (p : Names) (target : List ℕ) → first_error (tests (op.Symlink p target) s) ≡ None → IsNewSymlink s p target
+IsNewSymlink-passed s p target passes =
+    let big = error_if (nat_lt 4095 (length target)) TooBig in
+    let bad = error_if (is_no_target target) Invalid in
+    let first = test_passes (walk s p) (error_if (is_some (seen s p)) Exists ∷ bad ∷ big ∷ []) passes in
+    let second = test_passes (error_if (is_some (seen s p)) Exists) (bad ∷ big ∷ []) first.1 in
+    let third = test_passes bad (big ∷ []) second.1 in
+    let fourth = test_passes big [] third.1 in
+    record {
+      way = first.0;
+      unseen = error_if_passes (is_some (seen s p)) Exists second.0;
+      target_is = target_from target (error_if_passes (is_no_target target) Invalid third.0) (error_if_passes (nat_lt 4095 (length target)) TooBig fourth.0);
+    }
+
+pub symlink_after : (u : Tree) (ls : List Tree) (p : Names) (target copy : List ℕ) → first_error (tests (op.Symlink p target) (u ∷ ls)) ≡ None → copy ≡ target → limited (with_last (last.Symlink copy) (with_parents u ls p) p) ≡ after (op.Symlink p target) u ls
+symlink_after u ls p target copy passes is = ap (λ (bs : List ℕ). limited (with_last (last.Symlink bs) (with_parents u ls p) p)) is ∙ sym (after_passes (op.Symlink p target) u ls passes)

@@ -1,8 +1,9 @@
 -- Tests that pass, and outcomes.
-use Rattle.std.proofs.Common.{◌≡◌, ◌⊎◌, Bool, true, false, List, ◌∷◌, Option, Some, None, Result, Ok, Err, IsErrOf, IsErrAnd, IfErr, refl, sym, ap, ◌∙◌, inl, inr}
+use Rattle.std.proofs.Common.{◌≡◌, ◌⊎◌, Bool, true, false, List, ◌∷◌, Option, Some, None, Result, Ok, Err, refl, sym, ap, ◌∙◌, inl, inr}
 use Rattle.std.specs.Prelude.{if◌then◌else◌}
 use Rattle.snap_layer.specs.declared.error.LayerError.{LayerError}
 use Rattle.snap_layer.specs.declared.error.LayerError.TheVariants as layer_errors
+use Rattle.snap_merge.specs.Errors.{OfLayer}
 use Rattle.snap_layer.specs.Tree.{Tree}
 use Rattle.snap_layer.specs.Counts.{is_within, inode_count, block_count}
 use Rattle.snap_layer.specs.Layers.{IsLayer}
@@ -11,7 +12,8 @@ use Rattle.snap_usage.specs.declared.usage.Usage.{Usage}
 use Rattle.snap_usage.proofs.Joined.{count_of-IsLayer}
 use Rattle.snap_merge.specs.declared.error.FsError.{FsError}
 use Rattle.snap_merge.specs.declared.error.FsError.TheVariants.{LayerFull, OutOfMemory}
-use Rattle.snap_merge.specs.Errors.{OfLayer}
+use Rattle.snap_copyup.specs.Places.{IsRefusal}
+use Rattle.snap_upper.specs.declared.planning.Planned.{Planned}
 use Rattle.snap_upper.specs.declared.op.Op.{Op}
 use Rattle.snap_upper.specs.After.{Outcome, after, tests, first_error, error_if, unless, limited, next_layer, planned}
 
@@ -43,35 +45,28 @@ limited_full t full = ap (λ b. if b then Ok t else Err LayerFull) full
 pub layer_fits : (t : Tree) → IsLayer t → is_within t ≡ true
 layer_fits t ok = is_within_yes t ok.few ok.next.1
 
--- an edit that was made leaves a layer within the limits
-pub edit_fits : {A : Type 0} (x : A) (t : Tree) → (is_within t ≡ false → IsErrOf (Ok x) layer_errors.LayerFull) → is_within t ≡ true
-edit_fits x t full = by (is_within t) full
-  where
-    by : (b : Bool) → (b ≡ false → IsErrOf (Ok x) layer_errors.LayerFull) → b ≡ true
-    by true full = refl
-    by false full = let wrong = full refl in absurd (cc)
-
--- the error of an edit that was refused
-pub edit_error : (x : LayerError) (e : FsError) (t : Tree) (a : Outcome) → OfLayer x e → (x ≡ layer_errors.LayerFull → is_within t ≡ false) → a ≡ limited t → (e ≡ OutOfMemory) ⊎ (a ≡ Err e)
-edit_error layer_errors.LayerFull e t a of full is = inr (is ∙ limited_full t (full refl) ∙ ap (λ (y : FsError). Err y) (sym of))
-edit_error layer_errors.OutOfMemory e t a of full is = inl of
-
 -- ---- plans
 
 -- the counts of a layer
-pub planned_fits : (t : Tree) (u : Usage) (a : Outcome) → IsLayer t → u.blocks ≡ block_count t → u.inodes ≡ inode_count t → a ≡ limited t → ◌≡◌ {A = Result Usage FsError} (Ok u) (planned a)
+pub planned_fits : (t : Tree) (u : Usage) (a : Outcome) → IsLayer t → u.blocks ≡ block_count t → u.inodes ≡ inode_count t → a ≡ limited t → ◌≡◌ {A = Result Planned FsError} (Ok (record { after = u })) (planned a)
 planned_fits t u a ok blocks inodes is =
     let counts : ◌≡◌ {A = Usage} u (record { blocks = block_count t; inodes = inode_count t }) = λ i. record { blocks = blocks i; inodes = inodes i } in
-    ap (λ (x : Usage). Ok x) (counts ∙ sym (count_of-IsLayer t ok)) ∙ sym (ap planned (is ∙ limited_fits t (layer_fits t ok)))
+    let plan : Usage → Result Planned FsError = λ (x : Usage). Ok (record { after = x }) in
+    ap plan (counts ∙ sym (count_of-IsLayer t ok)) ∙ sym (ap planned (is ∙ limited_fits t (layer_fits t ok)))
 
-pub planned_full : (t : Tree) (a : Outcome) → is_within t ≡ false → a ≡ limited t → ◌≡◌ {A = Result Usage FsError} (Err LayerFull) (planned a)
+pub planned_full : (t : Tree) (a : Outcome) → is_within t ≡ false → a ≡ limited t → ◌≡◌ {A = Result Planned FsError} (Err LayerFull) (planned a)
 planned_full t a full is = sym (ap planned (is ∙ limited_full t full))
+
+-- why a layer was not made is its outcome's error
+pub refused : (t : Tree) (e : FsError) → IsRefusal t e → (e ≡ OutOfMemory) ⊎ (limited t ≡ Err e)
+refused t e (inl memory) = inl memory
+refused t e (inr full) = inr (limited_full t full.1 ∙ ap (λ (y : FsError). Err y) (sym full.0))
 
 -- the tests that the stack's check has passed
 pub stack_passes : (op : Op) (s z : List Tree) → s ≡ z → None ≡ first_error (tests op s) → first_error (tests op z) ≡ None
 stack_passes op s z is passes = sym (passes ∙ ap (λ (x : List Tree). first_error (tests op x)) is)
 
--- the same at the exit of a `?`
-pub IfErr-edit : {A : Type 0} (r : Result A FsError) (x : LayerError) (t : Tree) (a : Outcome) → IsErrAnd r (OfLayer x) → (x ≡ layer_errors.LayerFull → is_within t ≡ false) → a ≡ limited t → IfErr r (λ e. (e ≡ OutOfMemory) ⊎ (a ≡ Err e))
-IfErr-edit (Ok y) x t a of full is = absurd of
-IfErr-edit (Err e) x t a of full is = edit_error x e t a of full is
+-- why an edit was not made is its outcome's error
+pub edit_refused : (x : LayerError) (e : FsError) (t : Tree) → OfLayer x e → (x ≡ layer_errors.LayerFull → is_within t ≡ false) → (e ≡ OutOfMemory) ⊎ (limited t ≡ Err e)
+edit_refused layer_errors.LayerFull e t of full = inr (limited_full t (full refl) ∙ ap (λ (y : FsError). Err y) (sym of))
+edit_refused layer_errors.OutOfMemory e t of full = inl of

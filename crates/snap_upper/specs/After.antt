@@ -1,21 +1,24 @@
 -- The upper layer after an operation, or the operation's error.
-use Rattle.std.specs.Prelude.{ℕ, ◌+◌, ◌-◌, Bool, false, nat_lt, List, [], ◌∷◌, ◌++◌, length, take, drop, replicate, Option, Some, None, is_some, if◌then◌else◌, Result, Ok, Err}
+use Rattle.std.specs.Prelude.{ℕ, ◌+◌, ◌-◌, ◌==◌, ◌||◌, Bool, true, false, nat_lt, List, [], ◌∷◌, ◌++◌, length, take, drop, replicate, Option, Some, None, is_some, if◌then◌else◌, Result, Ok, Err}
+use Rattle.std.specs.List.{list_any}
 use Rattle.snap_layer.specs.declared.node.Node.{Node}
 use Rattle.snap_layer.specs.declared.node.Node.TheVariants as node
 use Rattle.snap_layer.specs.declared.node.Body.{Body}
 use Rattle.snap_layer.specs.declared.node.Body.TheVariants as body_kinds
 use Rattle.snap_layer.specs.Tree.{Tree, at, body, number_at, is_whiteout}
 use Rattle.snap_layer.specs.Counts.{is_within}
-use Rattle.snap_layer.specs.Edits.{with_entry, with_new, with_bytes}
-use Rattle.snap_usage.specs.declared.usage.Usage.{Usage}
+use Rattle.snap_layer.specs.Edits.{with_entry, with_node, with_new, with_bytes, with_mode, without}
 use Rattle.snap_usage.specs.Counted.{count_of}
 use Rattle.snap_merge.specs.declared.error.FsError.{FsError}
-use Rattle.snap_merge.specs.declared.error.FsError.TheVariants.{NotFound, IsDir, Exists, Invalid, TooBig, LayerFull}
+use Rattle.snap_merge.specs.declared.error.FsError.TheVariants.{NotFound, NotDir, IsDir, Exists, NotEmpty, Invalid, TooBig, LayerFull}
 use Rattle.snap_merge.specs.Objects.{Object, dir, file, symlink, seen}
 use Rattle.snap_merge.specs.Walk.{walk}
+use Rattle.snap_merge.specs.Listing.{names}
+use Rattle.snap_path.specs.Text.{Names}
 use Rattle.snap_upper.specs.declared.op.Op.{Op}
-use Rattle.snap_upper.specs.declared.op.Op.TheVariants.{Mkdir, Create, Write}
-use Rattle.snap_copyup.specs.Copying.{with_parents, copied_up}
+use Rattle.snap_upper.specs.declared.op.Op.TheVariants.{Mkdir, Create, Write, Truncate, SetMode, Symlink, Unlink, Rmdir}
+use Rattle.snap_upper.specs.declared.planning.Planned.{Planned}
+use Rattle.snap_copyup.specs.Copying.{below, with_parents, copied_up}
 
 -- ---- tests
 
@@ -30,11 +33,50 @@ file_error (Some (dir mode)) = Some IsDir
 file_error (Some (file mode bytes)) = None
 file_error (Some (symlink target)) = Some Invalid
 
--- the tests of an operation over the layers, in order (mkdir(2), open(2) with O_CREAT and O_EXCL, pwrite(2))
+-- the error where no directory and no regular file is seen
+abbrev pub mode_error : Option Object → Option FsError
+mode_error None = Some NotFound
+mode_error (Some (dir mode)) = None
+mode_error (Some (file mode bytes)) = None
+mode_error (Some (symlink target)) = Some Invalid
+
+-- a target that is empty or has a NUL
+abbrev pub is_no_target : List ℕ → Bool
+is_no_target target = length target == 0 || list_any (λ b. b == 0) target
+
+-- the error where nothing or a directory is seen
+abbrev pub name_error : Option Object → Option FsError
+name_error None = Some NotFound
+name_error (Some (dir mode)) = Some IsDir
+name_error (Some (file mode bytes)) = None
+name_error (Some (symlink target)) = None
+
+-- the error where no directory is seen
+abbrev pub dir_error : Option Object → Option FsError
+dir_error None = Some NotFound
+dir_error (Some (dir mode)) = None
+dir_error (Some (file mode bytes)) = Some NotDir
+dir_error (Some (symlink target)) = Some NotDir
+
+-- the root
+abbrev pub is_root : Names → Bool
+is_root [] = true
+is_root (n ∷ p) = false
+
+-- something is seen in the directory
+abbrev pub has_names : List Tree → Names → Bool
+has_names s p = nat_lt 0 (length (names s p))
+
+-- the tests of an operation over the layers, in order (mkdir(2), open(2) with O_CREAT and O_EXCL, pwrite(2), truncate(2), chmod(2), symlink(2), unlink(2), rmdir(2))
 abbrev pub tests : Op → List Tree → List (Option FsError)
 tests (Mkdir path mode) s = walk s path ∷ error_if (is_some (seen s path)) Exists ∷ error_if (nat_lt 4095 mode) Invalid ∷ []
 tests (Create path mode) s = walk s path ∷ error_if (is_some (seen s path)) Exists ∷ error_if (nat_lt 4095 mode) Invalid ∷ []
 tests (Write path offset bytes) s = walk s path ∷ file_error (seen s path) ∷ error_if (nat_lt 1048576 (offset + length bytes)) TooBig ∷ []
+tests (Truncate path size) s = walk s path ∷ file_error (seen s path) ∷ error_if (nat_lt 1048576 size) TooBig ∷ []
+tests (SetMode path mode) s = walk s path ∷ mode_error (seen s path) ∷ error_if (nat_lt 4095 mode) Invalid ∷ []
+tests (Symlink path target) s = walk s path ∷ error_if (is_some (seen s path)) Exists ∷ error_if (is_no_target target) Invalid ∷ error_if (nat_lt 4095 (length target)) TooBig ∷ []
+tests (Unlink path) s = walk s path ∷ name_error (seen s path) ∷ []
+tests (Rmdir path) s = walk s path ∷ error_if (is_root path) Invalid ∷ dir_error (seen s path) ∷ error_if (has_names s path) NotEmpty ∷ []
 
 -- the first error of the tests
 abbrev pub first_error : List (Option FsError) → Option FsError
@@ -54,6 +96,10 @@ abbrev pub written : List ℕ → ℕ → List ℕ → List ℕ
 written old offset [] = old
 written old offset (b ∷ bs) = take offset old ++ replicate (offset - length old) 0 ++ (b ∷ bs) ++ drop (offset + length (b ∷ bs)) old
 
+-- the first bytes of the old ones, or all of them and zero bytes after them (truncate(2))
+abbrev pub resized : List ℕ → ℕ → List ℕ
+resized old size = take size old ++ replicate (size - length old) 0
+
 -- the bytes of a file
 abbrev pub bytes_of : Option Body → List ℕ
 bytes_of None = []
@@ -65,11 +111,20 @@ abbrev pub with_content : Tree → Option ℕ → (List ℕ → List ℕ) → Tr
 with_content t None f = t
 with_content t (Some k) f = with_bytes t k (body t k) (f (bytes_of (body t k)))
 
+-- the layer without what stands at the path, and with a whiteout there where something is below (overlayfs.rst, "whiteouts and opaque directories")
+abbrev pub erased : Tree → List Tree → Names → Tree
+erased u lowers p = let t = with_parents u lowers p in if is_some (below u lowers p) then with_node t p node.Whiteout else without t p
+
 -- the effect of an operation on the upper layer
 abbrev pub next_layer : Op → Tree → List Tree → Tree
 next_layer (Mkdir path mode) u lowers = with_entry (with_parents u lowers path) path (node.Dir mode (is_whiteout_at (at u path)))
 next_layer (Create path mode) u lowers = let t = with_parents u lowers path in with_new t path (node.File t.next) (body_kinds.File mode [])
 next_layer (Write path offset bytes) u lowers = let t = copied_up u lowers path in with_content t (number_at t path) (λ old. written old offset bytes)
+next_layer (Truncate path size) u lowers = let t = copied_up u lowers path in with_content t (number_at t path) (λ old. resized old size)
+next_layer (SetMode path mode) u lowers = let t = copied_up u lowers path in with_mode t path (at t path) mode
+next_layer (Symlink path target) u lowers = let t = with_parents u lowers path in with_new t path (node.Symlink t.next) (body_kinds.Symlink target)
+next_layer (Unlink path) u lowers = erased u lowers path
+next_layer (Rmdir path) u lowers = erased u lowers path
 
 -- ---- both
 
@@ -91,6 +146,17 @@ abbrev pub after : Op → Tree → List Tree → Outcome
 after op u lowers = unless (first_error (tests op (u ∷ lowers))) (limited (next_layer op u lowers))
 
 -- how much the next layer takes, or the error
-abbrev pub planned : Outcome → Result Usage FsError
-planned (Ok t) = Ok (count_of t)
+abbrev pub planned : Outcome → Result Planned FsError
+planned (Ok t) = Ok (record { after = count_of t })
 planned (Err e) = Err e
+
+-- the operations whose plan takes no memory
+abbrev pub is_planned_in_place : Op → Bool
+is_planned_in_place (Mkdir path mode) = true
+is_planned_in_place (Create path mode) = true
+is_planned_in_place (Write path offset bytes) = true
+is_planned_in_place (Truncate path size) = true
+is_planned_in_place (SetMode path mode) = true
+is_planned_in_place (Symlink path target) = true
+is_planned_in_place (Unlink path) = false
+is_planned_in_place (Rmdir path) = false

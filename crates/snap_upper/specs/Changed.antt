@@ -1,12 +1,12 @@
 -- How an operation changes what is seen.
-use Rattle.std.specs.Prelude.{◌≡◌, ◌⊎◌, ℕ, List, [], ◌∷◌, Option, Some, Ok}
+use Rattle.std.specs.Prelude.{◌≡◌, ◌⊎◌, ℕ, List, [], ◌∷◌, Option, Some, None, Ok}
 use Rattle.std.specs.Option.{option_map}
 use Rattle.snap_path.specs.Text.{Names}
 use Rattle.snap_layer.specs.Tree.{Tree, number_at}
 use Rattle.snap_merge.specs.Objects.{Object, dir, file, symlink, seen, AreLayers}
 use Rattle.snap_upper.specs.declared.op.Op.{Op}
-use Rattle.snap_upper.specs.declared.op.Op.TheVariants.{Mkdir, Create, Write}
-use Rattle.snap_upper.specs.After.{written, after}
+use Rattle.snap_upper.specs.declared.op.Op.TheVariants.{Mkdir, Create, Write, Truncate, SetMode, Symlink, Unlink, Rmdir}
+use Rattle.snap_upper.specs.After.{written, resized, after}
 
 -- what is seen at each path
 abbrev pub View : Type 0
@@ -32,11 +32,22 @@ with_file_bytes f (dir mode) = dir mode
 with_file_bytes f (file mode bytes) = file mode (f bytes)
 with_file_bytes f (symlink target) = symlink target
 
+-- the directory or file with another mode
+abbrev pub with_object_mode : ℕ → Object → Object
+with_object_mode mode (dir old) = dir mode
+with_object_mode mode (file old bytes) = file mode bytes
+with_object_mode mode (symlink target) = symlink target
+
 -- how the view v before the operation and the view w after it are related, over the upper layer before
 abbrev pub changed : Op → Tree → View → View → Type 0
 changed (Mkdir path mode) u v w = ShowsAt v w path (Some (dir mode))
 changed (Create path mode) u v w = ShowsAt v w path (Some (file mode []))
 changed (Write path offset bytes) u v w = Turns u v w path (with_file_bytes (λ old. written old offset bytes))
+changed (Truncate path size) u v w = Turns u v w path (with_file_bytes (λ old. resized old size))
+changed (SetMode path mode) u v w = Turns u v w path (with_object_mode mode)
+changed (Symlink path target) u v w = ShowsAt v w path (Some (symlink target))
+changed (Unlink path) u v w = ShowsAt v w path None
+changed (Rmdir path) u v w = ShowsAt v w path None
 
 -- with any layers below, an operation that gives a next upper layer changes what is seen as `changed` says
 abbrev pub Changes : Op → Tree → Type 0

@@ -1,94 +1,173 @@
-ghost use Rattle.std.specs.Prelude.{◌≡◌, ◌⊎◌, [], ◌∷◌, OnOk, OnErr, IfErr, Ok, Err};
+ghost use Rattle.std.specs.Prelude.{◌≡◌, ◌⊎◌, ◌∷◌, OnOk, OnErr, IfErr, Ok, Err};
 ghost use Rattle.snap_merge.specs.declared.error.FsError.{FsError};
 ghost use Rattle.snap_merge.specs.Objects.{seen};
 ghost use Rattle.snap_upper.specs.declared.op.Op.TheVariants as op;
 ghost use Rattle.snap_upper.specs.After.{after};
 ghost use Rattle.snap_upper.specs.Changed.{changed, Changes};
 
-use super::checking::{check_new, check_write};
-use super::content::{file_bytes, is_whiteout, written};
+use super::checking::{
+    check_mode, check_new, check_rmdir, check_symlink, check_truncate, check_unlink, check_write,
+    visit,
+};
+use super::content::{is_whiteout, resized, written};
+use super::erasing::erase;
+use super::growing::{copy_with, fill, grow};
 use super::op::Op;
-use snap_layer::{Bytes, Layer};
+use snap_copyup::Last;
+use snap_layer::{Bytes, Layer, Shared};
 use snap_merge::{FsError, Stack};
 use snap_path::Path;
 
-/// Does the operation on the layer, with no layer below it.
+/// Does the operation on the layer, over the lower layers, which stand nearest first and stay as they
+/// are. What is changed in a lower layer is copied up first, and missing directories above it are added
+/// (overlayfs.rst, "Non-directories").
 ///
 /// Errors, in this order, of the first that applies:
-/// - `NotFound`, `NotDir`: above the path, from the root on, nothing stands, or no directory.
-/// - `Exists`: something is seen where a directory or a file is to be made; `NotFound`, `IsDir`,
-///   `Invalid`: nothing, a directory or a symlink is seen where bytes are to be written.
-/// - `Invalid`: the mode is above octal 7777; `TooBig`: the file would have more than 1,048,576 bytes.
+/// - `NotFound`, `NotDir`: above the path, from the root on, nothing is seen, or no directory.
+/// - `Exists`: something is seen where a directory, a file or a symlink is to be made; `NotFound`,
+///   `IsDir`, `Invalid`: nothing, a directory or a symlink is seen where a file's bytes are to be
+///   changed; `NotFound`, `Invalid`: nothing or a symlink is seen where a mode is to be set; `NotFound`,
+///   `IsDir`: nothing or a directory is seen where a name is to be taken; `Invalid`, `NotFound`, `NotDir`,
+///   `NotEmpty`: the root, nothing, no directory or a directory with names where one is to be taken.
+/// - `Invalid`: the mode is above octal 7777, or the target is empty or has a NUL; `TooBig`: the file
+///   would have more than 1,048,576 bytes, or the target has more than 4095.
 /// - `LayerFull`: the layer would have more than 65,536 inodes, or a new file's number would pass
 ///   4,294,967,294.
 /// - `OutOfMemory`: a growth was refused.
 ///
-/// After any of them the layer is as it was. Cost: the number of paths times the path's number of
-/// names, and for a write the bytes of the file.
-pub fn apply(layer: &mut Layer, op: &Op) -> Result<(), FsError>
-    ensures ok { OnOk result (after op.now layer.old [] ≡ Ok layer.new) }
-    ensures error { IfErr result (λ e. (e ≡ FsError.OutOfMemory) ⊎ (after op.now layer.old [] ≡ Err e)) }
+/// After any of them the layer is as it was. Cost: for each name of the path a look through the layers,
+/// and for a write the bytes of the file.
+pub fn apply(layer: &mut Layer, lowers: &[Shared], op: &Op) -> Result<(), FsError>
+    ensures ok { OnOk result (after op.now layer.old lowers.now ≡ Ok layer.new) }
+    ensures error { IfErr result (λ e. (e ≡ FsError.OutOfMemory) ⊎ (after op.now layer.old lowers.now ≡ Err e)) }
     ensures unchanged { OnErr result (layer.new ≡ layer.old) }
 
     // What `after` means for what is seen: here, and for the operation over any lower layers.
-    ensures view { OnOk result (changed op.now layer.old (seen (layer.old ∷ [])) (seen (layer.new ∷ []))) }
+    ensures view { OnOk result (changed op.now layer.old (seen (layer.old ∷ lowers.now)) (seen (layer.new ∷ lowers.now))) }
     ensures law { Changes op.now layer.old }
 {
     let _ = layer.next_number();
-    change(layer, op)
+    visit(lowers);
+    change(layer, lowers, op)
 }
 
 /// Does the operation on the layer.
-fn change(layer: &mut Layer, op: &Op) -> Result<(), FsError>
-    ensures ok { OnOk result (after op.now layer.old [] ≡ Ok layer.new) }
-    ensures error { IfErr result (λ e. (e ≡ FsError.OutOfMemory) ⊎ (after op.now layer.old [] ≡ Err e)) }
+fn change(layer: &mut Layer, lowers: &[Shared], op: &Op) -> Result<(), FsError>
+    ensures ok { OnOk result (after op.now layer.old lowers.now ≡ Ok layer.new) }
+    ensures error { IfErr result (λ e. (e ≡ FsError.OutOfMemory) ⊎ (after op.now layer.old lowers.now ≡ Err e)) }
     ensures unchanged { OnErr result (layer.new ≡ layer.old) }
 {
     match op {
-        Op::Mkdir { path, mode } => mkdir(layer, path, *mode),
-        Op::Create { path, mode } => create(layer, path, *mode),
+        Op::Mkdir { path, mode } => mkdir(layer, lowers, path, *mode),
+        Op::Create { path, mode } => create(layer, lowers, path, *mode),
         Op::Write {
             path,
             offset,
             bytes,
-        } => write(layer, path, *offset, bytes),
+        } => write(layer, lowers, path, *offset, bytes),
+        Op::Truncate { path, size } => truncate(layer, lowers, path, *size),
+        Op::SetMode { path, mode } => set_mode(layer, lowers, path, *mode),
+        Op::Symlink { path, target } => symlink(layer, lowers, path, target),
+        Op::Unlink { path } => unlink(layer, lowers, path),
+        Op::Rmdir { path } => rmdir(layer, lowers, path),
     }
 }
 
-fn mkdir(layer: &mut Layer, path: &Path, mode: u32) -> Result<(), FsError>
-    ensures ok { OnOk result (after (op.Mkdir path.now mode) layer.old [] ≡ Ok layer.new) }
-    ensures error { IfErr result (λ e. (e ≡ FsError.OutOfMemory) ⊎ (after (op.Mkdir path.now mode) layer.old [] ≡ Err e)) }
+fn mkdir(layer: &mut Layer, lowers: &[Shared], path: &Path, mode: u32) -> Result<(), FsError>
+    ensures ok { OnOk result (after (op.Mkdir path.now mode) layer.old lowers.now ≡ Ok layer.new) }
+    ensures error { IfErr result (λ e. (e ≡ FsError.OutOfMemory) ⊎ (after (op.Mkdir path.now mode) layer.old lowers.now ≡ Err e)) }
     ensures unchanged { OnErr result (layer.new ≡ layer.old) }
 {
-    check_new(&Stack::over(layer, &[]), path, mode)?;
+    check_new(&Stack::over(layer, lowers), path, mode)?;
     let _ = layer.next_number();
     let opaque = is_whiteout(layer.at(path));
-    layer.add_dir(path, mode, opaque)?;
-    Ok(())
+    grow(layer, lowers, path, Last::Dir { mode, opaque })
 }
 
-fn create(layer: &mut Layer, path: &Path, mode: u32) -> Result<(), FsError>
-    ensures ok { OnOk result (after (op.Create path.now mode) layer.old [] ≡ Ok layer.new) }
-    ensures error { IfErr result (λ e. (e ≡ FsError.OutOfMemory) ⊎ (after (op.Create path.now mode) layer.old [] ≡ Err e)) }
+fn create(layer: &mut Layer, lowers: &[Shared], path: &Path, mode: u32) -> Result<(), FsError>
+    ensures ok { OnOk result (after (op.Create path.now mode) layer.old lowers.now ≡ Ok layer.new) }
+    ensures error { IfErr result (λ e. (e ≡ FsError.OutOfMemory) ⊎ (after (op.Create path.now mode) layer.old lowers.now ≡ Err e)) }
     ensures unchanged { OnErr result (layer.new ≡ layer.old) }
 {
-    check_new(&Stack::over(layer, &[]), path, mode)?;
+    check_new(&Stack::over(layer, lowers), path, mode)?;
     let _ = layer.next_number();
-    let empty = Bytes::new(Vec::new(layer.alloc()));
-    layer.add_file(path, mode, empty)?;
-    Ok(())
+    let bytes = Bytes::new(Vec::new(layer.alloc()));
+    grow(layer, lowers, path, Last::File { mode, bytes })
 }
 
-fn write(layer: &mut Layer, path: &Path, offset: u64, bytes: &Bytes) -> Result<(), FsError>
-    ensures ok { OnOk result (after (op.Write path.now offset bytes.now) layer.old [] ≡ Ok layer.new) }
-    ensures error { IfErr result (λ e. (e ≡ FsError.OutOfMemory) ⊎ (after (op.Write path.now offset bytes.now) layer.old [] ≡ Err e)) }
+fn write(
+    layer: &mut Layer,
+    lowers: &[Shared],
+    path: &Path,
+    offset: u64,
+    bytes: &Bytes,
+) -> Result<(), FsError>
+    ensures ok { OnOk result (after (op.Write path.now offset bytes.now) layer.old lowers.now ≡ Ok layer.new) }
+    ensures error { IfErr result (λ e. (e ≡ FsError.OutOfMemory) ⊎ (after (op.Write path.now offset bytes.now) layer.old lowers.now ≡ Err e)) }
     ensures unchanged { OnErr result (layer.new ≡ layer.old) }
 {
-    let number = check_write(layer, path, offset, bytes)?;
-    let _ = layer.next_number();
+    let found = check_write(&Stack::over(layer, lowers), path, offset, bytes)?;
     let alloc = layer.alloc();
-    let old = file_bytes(layer, number);
-    let content = written(alloc, old, offset as usize, bytes.as_slice())?;
-    layer.set_bytes(number, content);
-    Ok(())
+    let mode = found.mode;
+    let content = written(alloc, found.bytes, offset as usize, bytes.as_slice())?;
+    fill(layer, lowers, path, mode, content)
+}
+
+fn truncate(layer: &mut Layer, lowers: &[Shared], path: &Path, size: u64) -> Result<(), FsError>
+    ensures ok { OnOk result (after (op.Truncate path.now size) layer.old lowers.now ≡ Ok layer.new) }
+    ensures error { IfErr result (λ e. (e ≡ FsError.OutOfMemory) ⊎ (after (op.Truncate path.now size) layer.old lowers.now ≡ Err e)) }
+    ensures unchanged { OnErr result (layer.new ≡ layer.old) }
+{
+    let found = check_truncate(&Stack::over(layer, lowers), path, size)?;
+    let alloc = layer.alloc();
+    let mode = found.mode;
+    let content = resized(alloc, found.bytes, size as usize)?;
+    fill(layer, lowers, path, mode, content)
+}
+
+fn set_mode(layer: &mut Layer, lowers: &[Shared], path: &Path, mode: u32) -> Result<(), FsError>
+    ensures ok { OnOk result (after (op.SetMode path.now mode) layer.old lowers.now ≡ Ok layer.new) }
+    ensures error { IfErr result (λ e. (e ≡ FsError.OutOfMemory) ⊎ (after (op.SetMode path.now mode) layer.old lowers.now ≡ Err e)) }
+    ensures unchanged { OnErr result (layer.new ≡ layer.old) }
+{
+    let found = check_mode(&Stack::over(layer, lowers), path, mode)?;
+    let _ = layer.next_number();
+    if layer.at(path).is_some() {
+        layer.set_mode(path, mode);
+        let _ = layer.next_number();
+        return Ok(());
+    }
+    let last = copy_with(layer.alloc(), found, mode)?;
+    grow(layer, lowers, path, last)
+}
+
+fn symlink(layer: &mut Layer, lowers: &[Shared], path: &Path, target: &Bytes) -> Result<(), FsError>
+    ensures ok { OnOk result (after (op.Symlink path.now target.now) layer.old lowers.now ≡ Ok layer.new) }
+    ensures error { IfErr result (λ e. (e ≡ FsError.OutOfMemory) ⊎ (after (op.Symlink path.now target.now) layer.old lowers.now ≡ Err e)) }
+    ensures unchanged { OnErr result (layer.new ≡ layer.old) }
+{
+    check_symlink(&Stack::over(layer, lowers), path, target)?;
+    let _ = layer.next_number();
+    let target = Bytes::copy_of(layer.alloc(), target.as_slice())?;
+    grow(layer, lowers, path, Last::Symlink { target })
+}
+
+fn unlink(layer: &mut Layer, lowers: &[Shared], path: &Path) -> Result<(), FsError>
+    ensures ok { OnOk result (after (op.Unlink path.now) layer.old lowers.now ≡ Ok layer.new) }
+    ensures error { IfErr result (λ e. (e ≡ FsError.OutOfMemory) ⊎ (after (op.Unlink path.now) layer.old lowers.now ≡ Err e)) }
+    ensures unchanged { OnErr result (layer.new ≡ layer.old) }
+{
+    check_unlink(&Stack::over(layer, lowers), path)?;
+    let _ = layer.next_number();
+    erase(layer, lowers, path)
+}
+
+fn rmdir(layer: &mut Layer, lowers: &[Shared], path: &Path) -> Result<(), FsError>
+    ensures ok { OnOk result (after (op.Rmdir path.now) layer.old lowers.now ≡ Ok layer.new) }
+    ensures error { IfErr result (λ e. (e ≡ FsError.OutOfMemory) ⊎ (after (op.Rmdir path.now) layer.old lowers.now ≡ Err e)) }
+    ensures unchanged { OnErr result (layer.new ≡ layer.old) }
+{
+    check_rmdir(&Stack::over(layer, lowers), layer.alloc(), path)?;
+    let _ = layer.next_number();
+    erase(layer, lowers, path)
 }

@@ -1,15 +1,18 @@
 // The tests that an operation has to pass.
-ghost use Rattle.std.specs.Prelude.{◌≡◌, [], ◌∷◌, Some, IfOk};
+ghost use Rattle.std.specs.Prelude.{◌≡◌, ◌⊎◌, ◌==◌, [], ◌∷◌, is_some, Some, None, OnOk, IfOk, IfErr};
 ghost use Rattle.std.specs.Result.{result_err};
-ghost use Rattle.snap_layer.specs.Tree.{at};
-ghost use Rattle.snap_layer.specs.declared.node.Node.TheVariants as node;
-ghost use Rattle.snap_merge.specs.Objects.{seen};
+ghost use Rattle.snap_merge.specs.declared.error.FsError.{FsError};
+ghost use Rattle.snap_merge.specs.Objects.{file, seen, AreLayers};
+ghost use Rattle.snap_merge.specs.Walk.{walk};
 ghost use Rattle.snap_upper.specs.declared.op.Op.TheVariants as op;
-ghost use Rattle.snap_upper.specs.After.{tests, first_error, file_error};
+ghost use Rattle.std.specs.List.{list_any};
+ghost use Rattle.snap_upper.specs.After.{tests, first_error, error_if, file_error, mode_error, name_error, dir_error, is_no_target};
+ghost use Rattle.snap_upper.specs.Adding.{IsFound};
 
-use snap_layer::{Bytes, Layer, Node};
-use snap_merge::{FsError, Stack};
+use snap_layer::{Bytes, Shared};
+use snap_merge::{FsError, Seen, Stack};
 use snap_path::Path;
+use std::alloc::Global;
 
 /// The greatest mode: the permission bits, the set-ID bits and the sticky bit.
 const GREATEST_MODE: u32 = 0o7777;
@@ -17,50 +20,199 @@ const GREATEST_MODE: u32 = 0o7777;
 /// The most bytes of a file.
 const MOST_BYTES: u64 = 1_048_576;
 
-/// Tests whether an object with the mode can be made at the path.
-pub(crate) fn check_new(stack: &Stack<'_>, path: &Path, mode: u32) -> Result<(), FsError>
-    ensures { result_err result ≡ first_error (tests (op.Mkdir path.now mode) stack.now) }
+/// The most bytes of a symlink's target (limits.h, `PATH_MAX` without the closing NUL).
+const MOST_TARGET: usize = 4095;
+
+/// A regular file that is seen.
+#[derive(Clone, Copy)]
+pub(crate) struct Found<'a> {
+    pub(crate) mode: u32,
+    pub(crate) bytes: &'a [u8],
+}
+
+/// Goes over the layers. Each is one by `IsLayer`, and its lender says so.
+pub(crate) fn visit(lowers: &[Shared])
+    ensures { AreLayers lowers.now }
+{
+    for shared in lowers {
+        let _ = shared.layer();
+    }
+}
+
+/// Walks to the path, at which nothing may be seen.
+fn check_unseen(stack: &Stack<'_>, path: &Path) -> Result<(), FsError>
+    ensures error { result_err result ≡ first_error (walk stack.now path.now ∷ error_if (is_some (seen stack.now path.now)) FsError.Exists ∷ []) }
+    ensures layers { AreLayers stack.now }
 {
     stack.walk(path)?;
     if stack.look(path).is_some() {
         return Err(FsError::Exists);
     }
+    Ok(())
+}
+
+/// Tests whether an object with the mode can be made at the path.
+pub(crate) fn check_new(stack: &Stack<'_>, path: &Path, mode: u32) -> Result<(), FsError>
+    ensures error { result_err result ≡ first_error (tests (op.Mkdir path.now mode) stack.now) }
+    ensures layers { AreLayers stack.now }
+{
+    check_unseen(stack, path)?;
     if mode > GREATEST_MODE {
         return Err(FsError::Invalid);
     }
     Ok(())
 }
 
-/// The number of the path's file, where the bytes can be put into it at the offset. No layer is below.
-pub(crate) fn check_write(
-    layer: &Layer,
+/// The file that is seen at the path, where the bytes can be put into it at the offset.
+pub(crate) fn check_write<'a>(
+    stack: &Stack<'a>,
     path: &Path,
     offset: u64,
     bytes: &Bytes,
-) -> Result<u32, FsError>
-    ensures error { result_err result ≡ first_error (tests (op.Write path.now offset bytes.now) (layer.now ∷ [])) }
-    ensures number { IfOk result (λ k. at layer.now path.now ≡ Some (node.File k)) }
+) -> Result<Found<'a>, FsError>
+    ensures error { result_err result ≡ first_error (tests (op.Write path.now offset bytes.now) stack.now) }
+    ensures found { IfOk result (λ f. seen stack.now path.now ≡ Some (file f.mode f.bytes.now)) }
+    ensures layers { AreLayers stack.now }
 {
-    Stack::over(layer, &[]).walk(path)?;
-    let number = file_number(layer, path)?;
+    stack.walk(path)?;
+    let found = find_file(stack, path)?;
     let end = offset.saturating_add(bytes.as_slice().len() as u64);
     if end > MOST_BYTES {
         return Err(FsError::TooBig);
     }
-    Ok(number)
+    Ok(found)
 }
 
-/// The number of the regular file at the path. No layer is below.
-fn file_number(layer: &Layer, path: &Path) -> Result<u32, FsError>
-    ensures error { result_err result ≡ file_error (seen (layer.now ∷ []) path.now) }
-    ensures number { IfOk result (λ k. at layer.now path.now ≡ Some (node.File k)) }
+/// The file that is seen at the path, where it can be given so many bytes.
+pub(crate) fn check_truncate<'a>(
+    stack: &Stack<'a>,
+    path: &Path,
+    size: u64,
+) -> Result<Found<'a>, FsError>
+    ensures error { result_err result ≡ first_error (tests (op.Truncate path.now size) stack.now) }
+    ensures found { IfOk result (λ f. seen stack.now path.now ≡ Some (file f.mode f.bytes.now)) }
+    ensures layers { AreLayers stack.now }
 {
-    let _ = layer.next_number();
-    match layer.at(path) {
-        Some(Node::File { number }) => Ok(number),
-        Some(Node::Dir { .. }) => Err(FsError::IsDir),
-        Some(Node::Symlink { .. }) => Err(FsError::Invalid),
-        Some(Node::Whiteout) => Err(FsError::NotFound),
+    stack.walk(path)?;
+    let found = find_file(stack, path)?;
+    if size > MOST_BYTES {
+        return Err(FsError::TooBig);
+    }
+    Ok(found)
+}
+
+/// The file that is seen at the path, or nothing for a directory, where it can be given the mode.
+pub(crate) fn check_mode<'a>(
+    stack: &Stack<'a>,
+    path: &Path,
+    mode: u32,
+) -> Result<Option<Found<'a>>, FsError>
+    ensures error { result_err result ≡ first_error (tests (op.SetMode path.now mode) stack.now) }
+    ensures found { IfOk result (λ f. IsFound f (seen stack.now path.now)) }
+    ensures layers { AreLayers stack.now }
+{
+    stack.walk(path)?;
+    let found = find(stack, path)?;
+    if mode > GREATEST_MODE {
+        return Err(FsError::Invalid);
+    }
+    Ok(found)
+}
+
+/// Tests whether a symlink with the target can be made at the path.
+pub(crate) fn check_symlink(stack: &Stack<'_>, path: &Path, target: &Bytes) -> Result<(), FsError>
+    ensures error { result_err result ≡ first_error (tests (op.Symlink path.now target.now) stack.now) }
+    ensures layers { AreLayers stack.now }
+{
+    check_unseen(stack, path)?;
+    let bytes = target.as_slice();
+    if is_no_target(bytes) {
+        return Err(FsError::Invalid);
+    }
+    if bytes.len() > MOST_TARGET {
+        return Err(FsError::TooBig);
+    }
+    Ok(())
+}
+
+/// Whether the bytes are empty or have a NUL.
+fn is_no_target(bytes: &[u8]) -> bool
+    ensures { result ≡ is_no_target bytes.now }
+{
+    bytes.len() == 0 || has_nul(bytes)
+}
+
+fn has_nul(bytes: &[u8]) -> bool
+    ensures { result ≡ list_any (λ b. b == 0) bytes.now }
+{
+    bytes.iter().any(|byte| *byte == 0)
+}
+
+/// The file that is seen at the path, or nothing for a directory.
+fn find<'a>(stack: &Stack<'a>, path: &Path) -> Result<Option<Found<'a>>, FsError>
+    ensures error { result_err result ≡ mode_error (seen stack.now path.now) }
+    ensures found { IfOk result (λ f. IsFound f (seen stack.now path.now)) }
+{
+    match stack.look(path) {
+        Some(Seen::File { mode, bytes }) => Ok(Some(Found { mode, bytes })),
+        Some(Seen::Dir { .. }) => Ok(None),
+        Some(Seen::Symlink { .. }) => Err(FsError::Invalid),
+        None => Err(FsError::NotFound),
+    }
+}
+
+/// The regular file that is seen at the path.
+fn find_file<'a>(stack: &Stack<'a>, path: &Path) -> Result<Found<'a>, FsError>
+    ensures error { result_err result ≡ file_error (seen stack.now path.now) }
+    ensures found { IfOk result (λ f. seen stack.now path.now ≡ Some (file f.mode f.bytes.now)) }
+{
+    match find(stack, path) {
+        Ok(Some(found)) => Ok(found),
+        Ok(None) => Err(FsError::IsDir),
+        Err(error) => Err(error),
+    }
+}
+
+/// Tests whether the name at the path can be taken.
+pub(crate) fn check_unlink(stack: &Stack<'_>, path: &Path) -> Result<(), FsError>
+    ensures error { result_err result ≡ first_error (tests (op.Unlink path.now) stack.now) }
+    ensures layers { AreLayers stack.now }
+{
+    stack.walk(path)?;
+    match stack.look(path) {
+        Some(Seen::File { .. }) => Ok(()),
+        Some(Seen::Symlink { .. }) => Ok(()),
+        Some(Seen::Dir { .. }) => Err(FsError::IsDir),
+        None => Err(FsError::NotFound),
+    }
+}
+
+/// Tests whether the directory at the path can be taken. The list of its names takes memory.
+pub(crate) fn check_rmdir(stack: &Stack<'_>, alloc: Global, path: &Path) -> Result<(), FsError>
+    ensures ok { OnOk result (first_error (tests (op.Rmdir path.now) stack.now) ≡ None) }
+    ensures error { IfErr result (λ e. (e ≡ FsError.OutOfMemory) ⊎ (first_error (tests (op.Rmdir path.now) stack.now) ≡ Some e)) }
+    ensures layers { AreLayers stack.now }
+{
+    stack.walk(path)?;
+    if path.names().is_empty() {
+        return Err(FsError::Invalid);
+    }
+    check_dir(stack, path)?;
+    let names = stack.list(alloc, path)?;
+    if !names.is_empty() {
+        return Err(FsError::NotEmpty);
+    }
+    Ok(())
+}
+
+/// Tests whether a directory is seen at the path.
+fn check_dir(stack: &Stack<'_>, path: &Path) -> Result<(), FsError>
+    ensures { result_err result ≡ dir_error (seen stack.now path.now) }
+{
+    match stack.look(path) {
+        Some(Seen::Dir { .. }) => Ok(()),
+        Some(Seen::File { .. }) => Err(FsError::NotDir),
+        Some(Seen::Symlink { .. }) => Err(FsError::NotDir),
         None => Err(FsError::NotFound),
     }
 }

@@ -1,9 +1,9 @@
 // What stands at a path of a layer, and a file's bytes.
 ghost use Rattle.std.specs.Prelude.{◌≡◌, ◌+◌, ◌≤◌, IfOk, length};
-ghost use Rattle.snap_layer.specs.Tree.{body};
-ghost use Rattle.snap_upper.specs.After.{is_whiteout_at, bytes_of, written};
+ghost use Rattle.snap_layer.specs.Tree.{number_at};
+ghost use Rattle.snap_upper.specs.After.{is_whiteout_at, written, resized};
 
-use snap_layer::{Body, Bytes, Layer, Node};
+use snap_layer::{Bytes, Layer, Node};
 use snap_path::Path;
 use std::alloc::{AllocError, Global};
 
@@ -17,15 +17,11 @@ pub(crate) fn is_whiteout(node: Option<Node>) -> bool
     }
 }
 
-/// The bytes of the file with the number.
-pub(crate) fn file_bytes(layer: &Layer, number: u32) -> &[u8]
-    ensures { result.now ≡ bytes_of (body layer.now number) }
+/// The number of the file or symlink that the layer has at the path.
+pub(crate) fn own_number(layer: &Layer, path: &Path) -> Option<u32>
+    ensures { result ≡ number_at layer.now path.now }
 {
-    match layer.body(number) {
-        Some(Body::File { bytes, .. }) => bytes.as_slice(),
-        Some(Body::Symlink { .. }) => &[],
-        None => &[],
-    }
+    layer.at(path)?.number()
 }
 
 /// The old bytes with the new ones put at the offset, over a gap of zero bytes.
@@ -49,5 +45,15 @@ pub(crate) fn written(
     if end < old.len() {
         items.extend_from_slice(&old[end..])?;
     }
+    Ok(Bytes::new(items))
+}
+
+/// The old bytes cut to so many, or with zero bytes after them.
+pub(crate) fn resized(alloc: Global, old: &[u8], size: usize) -> Result<Bytes, AllocError>
+    ensures { IfOk result (λ b. b ≡ resized old.now size) }
+{
+    let mut items = Vec::new(alloc);
+    items.extend_from_slice(&old[..size.min(old.len())])?;
+    items.resize(size, 0)?;
     Ok(Bytes::new(items))
 }

@@ -7,12 +7,14 @@
 mod applying;
 mod checking;
 mod content;
+mod erasing;
+mod growing;
 mod op;
 mod planning;
 
 pub use applying::apply;
 pub use op::Op;
-pub use planning::plan;
+pub use planning::{Planned, plan};
 
 #[cfg(test)]
 mod tests;

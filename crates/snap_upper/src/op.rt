@@ -27,4 +27,32 @@ pub enum Op {
         offset: u64,
         bytes: Bytes,
     },
+    /// Cuts a regular file to so many bytes, or fills it with zero bytes up to so many (truncate(2)).
+    Truncate {
+        path: Path,
+        size: u64,
+    },
+    /// Sets the mode of a directory, or of a regular file for all its names in the upper layer
+    /// (chmod(2)).
+    SetMode {
+        path: Path,
+        mode: u32,
+    },
+    /// Makes a symlink, where nothing is seen (symlink(2)). The target is kept as it is given, and need
+    /// not be seen. It gets the upper layer's next file number.
+    Symlink {
+        path: Path,
+        target: Bytes,
+    },
+    /// Takes a name of a file or a symlink (unlink(2)). A file goes with its last name in the upper
+    /// layer. Where a lower layer shows something there, a whiteout is put (overlayfs.rst, "whiteouts
+    /// and opaque directories").
+    Unlink {
+        path: Path,
+    },
+    /// Takes a directory in which nothing is seen, with the whiteouts in it (rmdir(2)). A whiteout is
+    /// put as in `Unlink`.
+    Rmdir {
+        path: Path,
+    },
 }

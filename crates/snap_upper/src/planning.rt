@@ -1,14 +1,21 @@
-ghost use Rattle.std.specs.Prelude.{◌≡◌, ◌+◌, ◌≤◌, ℕ, List, [], length, if◌then◌else◌};
-ghost use Rattle.snap_layer.specs.Tree.{at, body};
-ghost use Rattle.snap_layer.specs.Counts.{inode_count, block_count};
+ghost use Rattle.std.specs.Prelude.{◌≡◌, ◌∷◌, ◌+◌, ◌≤◌, ℕ, List, Some, None, true, length};
+ghost use Rattle.snap_layer.specs.Tree.{Tree, at, number_at};
 ghost use Rattle.snap_layer.specs.Edits.{IsFree};
+ghost use Rattle.snap_merge.specs.Objects.{file, seen, AreLayers};
+ghost use Rattle.snap_merge.specs.Walk.{walk, Answers};
+ghost use Rattle.snap_copyup.specs.declared.putting.Last.{Last};
+ghost use Rattle.snap_copyup.specs.Copying.{with_parents, copied_up};
+ghost use Rattle.snap_copyup.specs.Places.{with_last, Fits};
 ghost use Rattle.snap_upper.specs.declared.op.Op.TheVariants as op;
-ghost use Rattle.snap_upper.specs.After.{after, planned, is_whiteout_at, written};
+ghost use Rattle.snap_upper.specs.After.{after, planned, limited, with_content, written, is_planned_in_place};
+ghost use Rattle.snap_upper.specs.Adding.{Takes};
 
-use super::checking::{check_new, check_write};
-use super::content::{file_bytes, is_whiteout};
+use super::applying::apply;
+use super::checking::{Found, check_mode, check_new, check_symlink, check_truncate, check_write};
+use super::content::{is_whiteout, own_number};
 use super::op::Op;
-use snap_layer::{Bytes, Layer};
+use snap_copyup::missing_dirs;
+use snap_layer::{Bytes, Layer, Shared};
 use snap_merge::{FsError, Stack};
 use snap_path::Path;
 use snap_usage::{Usage, blocks_of, count};
@@ -16,82 +23,183 @@ use snap_usage::{Usage, blocks_of, count};
 /// The most inodes of a layer.
 const MOST_INODES: u64 = 65_536;
 
-/// How much the layer would take after the operation, with no layer below it.
+/// What a plan of an operation answers.
+#[derive(Clone, Copy, Debug, PartialEq, Eq)]
+pub struct Planned {
+    /// How much the upper layer takes after the operation.
+    pub after: Usage,
+}
+
+/// How much the layer would take after the operation over the lower layers, which stand nearest first.
 ///
-/// The errors are those of `apply`, in the same order, but for `OutOfMemory`: it takes no memory. It
-/// changes nothing, and the next layer isn't built. Cost: the number of paths times the path's number
-/// of names, and the number of files.
-pub fn plan(layer: &Layer, op: &Op) -> Result<Usage, FsError>
-    ensures { result ≡ planned (after op.now layer.now []) }
+/// The errors are those of `apply`, in the same order. It changes nothing. For `Mkdir`, `Create`, `Write`,
+/// `Truncate`, `SetMode` and `Symlink` it takes no memory, and the next layer isn't built. Cost: for each
+/// name of the path a look through the layers, and the number of the layer's files.
+///
+/// The other operations are done on a copy of the layer, so a plan of them takes memory (`OutOfMemory`),
+/// and its cost is also the layer's size with all bytes of its files.
+pub fn plan(layer: &Layer, lowers: &[Shared], op: &Op) -> Result<Planned, FsError>
+    ensures answer { Answers (planned (after op.now layer.now lowers.now)) result }
+    ensures sure { is_planned_in_place op.now ≡ true → result ≡ planned (after op.now layer.now lowers.now) }
 {
     match op {
-        Op::Mkdir { path, mode } => plan_mkdir(layer, path, *mode),
-        Op::Create { path, mode } => plan_create(layer, path, *mode),
+        Op::Mkdir { path, mode } => plan_mkdir(layer, lowers, path, *mode),
+        Op::Create { path, mode } => plan_create(layer, lowers, path, *mode),
         Op::Write {
             path,
             offset,
             bytes,
-        } => plan_write(layer, path, *offset, bytes),
+        } => plan_write(layer, lowers, path, *offset, bytes),
+        Op::Truncate { path, size } => plan_truncate(layer, lowers, path, *size),
+        Op::SetMode { path, mode } => plan_mode(layer, lowers, path, *mode),
+        Op::Symlink { path, target } => plan_symlink(layer, lowers, path, target),
+        Op::Unlink { .. } => plan_on_copy(layer, lowers, op),
+        Op::Rmdir { .. } => plan_on_copy(layer, lowers, op),
     }
 }
 
-fn plan_mkdir(layer: &Layer, path: &Path, mode: u32) -> Result<Usage, FsError>
-    ensures { result ≡ planned (after (op.Mkdir path.now mode) layer.now []) }
+/// Does the operation on a copy of the layer, and counts what that takes.
+fn plan_on_copy(layer: &Layer, lowers: &[Shared], op: &Op) -> Result<Planned, FsError>
+    ensures { Answers (planned (after op.now layer.now lowers.now)) result }
 {
-    check_new(&Stack::over(layer, &[]), path, mode)?;
-    let _ = (layer.next_number(), path.names());
-    let next = usage_with(layer, path, 1);
-    if next.inodes > MOST_INODES {
-        return Err(FsError::LayerFull);
+    let mut next = layer.copy()?;
+    if let Err(error) = apply(&mut next, lowers, op) {
+        return Err(error);
     }
-    Ok(next)
+    let after = count(&next);
+    Ok(Planned { after })
 }
 
-fn plan_create(layer: &Layer, path: &Path, mode: u32) -> Result<Usage, FsError>
-    ensures { result ≡ planned (after (op.Create path.now mode) layer.now []) }
+fn plan_mkdir(layer: &Layer, lowers: &[Shared], path: &Path, mode: u32) -> Result<Planned, FsError>
+    ensures { result ≡ planned (after (op.Mkdir path.now mode) layer.now lowers.now) }
 {
-    check_new(&Stack::over(layer, &[]), path, mode)?;
+    check_new(&Stack::over(layer, lowers), path, mode)?;
+    let _ = layer.next_number();
+    plan_growth(layer, path, 1, false)
+}
+
+fn plan_create(layer: &Layer, lowers: &[Shared], path: &Path, mode: u32) -> Result<Planned, FsError>
+    ensures { result ≡ planned (after (op.Create path.now mode) layer.now lowers.now) }
+{
+    check_new(&Stack::over(layer, lowers), path, mode)?;
+    let _ = layer.next_number();
+    plan_growth(layer, path, 0, true)
+}
+
+fn plan_write(
+    layer: &Layer,
+    lowers: &[Shared],
+    path: &Path,
+    offset: u64,
+    bytes: &Bytes,
+) -> Result<Planned, FsError>
+    ensures { result ≡ planned (after (op.Write path.now offset bytes.now) layer.now lowers.now) }
+{
+    let found = check_write(&Stack::over(layer, lowers), path, offset, bytes)?;
+    let _ = layer.next_number();
+    let new = size_after(found.bytes.len(), offset as usize, bytes.as_slice());
+    plan_filling(layer, lowers, path, found, new)
+}
+
+fn plan_truncate(
+    layer: &Layer,
+    lowers: &[Shared],
+    path: &Path,
+    size: u64,
+) -> Result<Planned, FsError>
+    ensures { result ≡ planned (after (op.Truncate path.now size) layer.now lowers.now) }
+{
+    let found = check_truncate(&Stack::over(layer, lowers), path, size)?;
+    let _ = layer.next_number();
+    plan_filling(layer, lowers, path, found, size as usize)
+}
+
+fn plan_mode(layer: &Layer, lowers: &[Shared], path: &Path, mode: u32) -> Result<Planned, FsError>
+    ensures { result ≡ planned (after (op.SetMode path.now mode) layer.now lowers.now) }
+{
+    let found = check_mode(&Stack::over(layer, lowers), path, mode)?;
+    let _ = layer.next_number();
+    if layer.at(path).is_some() {
+        let after = count(layer);
+        return Ok(Planned { after });
+    }
+    let _ = path.names();
+    match found {
+        None => return plan_growth(layer, path, 1, false),
+        Some(file) => {
+            let blocks = blocks_of(file.bytes.len() as u64);
+            return plan_growth(layer, path, blocks, true);
+        }
+    }
+}
+
+fn plan_symlink(
+    layer: &Layer,
+    lowers: &[Shared],
+    path: &Path,
+    target: &Bytes,
+) -> Result<Planned, FsError>
+    ensures { result ≡ planned (after (op.Symlink path.now target.now) layer.now lowers.now) }
+{
+    check_symlink(&Stack::over(layer, lowers), path, target)?;
+    let _ = layer.next_number();
+    plan_growth(layer, path, 0, true)
+}
+
+/// How much the layer takes where what takes so many blocks, and a file number where `numbered` says so,
+/// is put at the path, and the directories that are missing above it.
+fn plan_growth(layer: &Layer, path: &Path, blocks: u64, numbered: bool) -> Result<Planned, FsError>
+    requires few { blocks ≤ 256 }
+    requires free { IsFree (at layer.now path.now) }
+    ensures { (last : Last) (lowers : List Tree) → Takes last blocks numbered → AreLayers lowers → walk (layer.now ∷ lowers) path.now ≡ None → Fits last layer.now path.now → result ≡ planned (limited (with_last last (with_parents layer.now lowers path.now) path.now)) }
+{
     let _ = path.names();
     let number = layer.next_number();
-    let next = usage_with(layer, path, 0);
-    if number == u32::MAX {
-        return Err(FsError::LayerFull);
-    }
-    if next.inodes > MOST_INODES {
-        return Err(FsError::LayerFull);
-    }
-    Ok(next)
-}
-
-/// How much the layer takes with a new object of so many blocks, over nothing or in place of a
-/// whiteout.
-fn usage_with(layer: &Layer, path: &Path, blocks: u64) -> Usage
-    requires few { blocks ≤ 1 }
-    requires free { IsFree (at layer.now path.now) }
-    ensures blocks { result.blocks ≡ block_count layer.now + blocks }
-    ensures inodes { result.inodes + (if is_whiteout_at (at layer.now path.now) then 1 else 0) ≡ inode_count layer.now + 1 }
-{
-    let _ = layer.next_number();
     let now = count(layer);
+    let missing = missing_dirs(layer, path) as u64;
     let whiteouts = u64::from(is_whiteout(layer.at(path)));
-    Usage {
-        blocks: now.blocks + blocks,
-        inodes: now.inodes + 1 - whiteouts,
+    let inodes = now.inodes + missing + 1 - whiteouts;
+    if numbered && number == u32::MAX {
+        return Err(FsError::LayerFull);
     }
+    if inodes > MOST_INODES {
+        return Err(FsError::LayerFull);
+    }
+    let after = Usage {
+        blocks: now.blocks + missing + blocks,
+        inodes,
+    };
+    Ok(Planned { after })
 }
 
-fn plan_write(layer: &Layer, path: &Path, offset: u64, bytes: &Bytes) -> Result<Usage, FsError>
-    ensures { result ≡ planned (after (op.Write path.now offset bytes.now) layer.now []) }
+/// How much the layer takes where the regular file that is found at the path gets so many bytes.
+fn plan_filling(
+    layer: &Layer,
+    lowers: &[Shared],
+    path: &Path,
+    found: Found<'_>,
+    size: usize,
+) -> Result<Planned, FsError>
+    requires layers { AreLayers lowers.now }
+    requires way { walk (layer.now ∷ lowers.now) path.now ≡ None }
+    requires there { seen (layer.now ∷ lowers.now) path.now ≡ Some (file found.mode found.bytes.now) }
+    requires few { size ≤ 1048576 }
+    ensures { (f : List ℕ → List ℕ) → length (f found.entry.bytes.now) ≡ size → result ≡ planned (limited (with_content (copied_up layer.now lowers.now path.now) (number_at (copied_up layer.now lowers.now path.now) path.now) f)) }
 {
-    let number = check_write(layer, path, offset, bytes)?;
     let _ = layer.next_number();
-    let now = count(layer);
-    let old = file_bytes(layer, number).len();
-    let new = size_after(old, offset as usize, bytes.as_slice());
-    Ok(Usage {
-        blocks: now.blocks - blocks_of(old as u64) + blocks_of(new as u64),
-        inodes: now.inodes,
-    })
+    let new = blocks_of(size as u64);
+    match own_number(layer, path) {
+        Some(_) => {
+            let now = count(layer);
+            let old = blocks_of(found.bytes.len() as u64);
+            let after = Usage {
+                blocks: now.blocks - old + new,
+                inodes: now.inodes,
+            };
+            return Ok(Planned { after });
+        }
+        None => return plan_growth(layer, path, new, true),
+    }
 }
 
 /// The size of a file of `old` bytes once the bytes are written at the offset.

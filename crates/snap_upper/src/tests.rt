@@ -1,6 +1,6 @@
-use super::{Op, apply, plan};
-use snap_layer::{Body, Bytes, Layer, Node};
-use snap_merge::FsError;
+use super::{Op, Planned, apply, plan};
+use snap_layer::{Body, Bytes, Layer, Node, Shared};
+use snap_merge::{FsError, Stack};
 use snap_path::Path;
 use snap_usage::{Usage, count};
 use std::alloc::Global;
@@ -29,19 +29,56 @@ fn write(alloc: Global, text: &str, offset: u64, bytes: &[u8]) -> Result<Op, Fai
     })
 }
 
+fn truncate(alloc: Global, text: &str, size: u64) -> Result<Op, Fail> {
+    Ok(Op::Truncate {
+        path: Path::parse(alloc, text)?,
+        size,
+    })
+}
+
+fn set_mode(alloc: Global, text: &str, mode: u32) -> Result<Op, Fail> {
+    Ok(Op::SetMode {
+        path: Path::parse(alloc, text)?,
+        mode,
+    })
+}
+
+fn symlink(alloc: Global, text: &str, target: &[u8]) -> Result<Op, Fail> {
+    Ok(Op::Symlink {
+        path: Path::parse(alloc, text)?,
+        target: Bytes::copy_of(alloc, target)?,
+    })
+}
+
+fn unlink(alloc: Global, text: &str) -> Result<Op, Fail> {
+    let path = Path::parse(alloc, text)?;
+    Ok(Op::Unlink { path })
+}
+
+fn rmdir(alloc: Global, text: &str) -> Result<Op, Fail> {
+    let path = Path::parse(alloc, text)?;
+    Ok(Op::Rmdir { path })
+}
+
 /// The operation is planned and done, and leaves so many blocks and inodes.
-fn does(rt: &impl Abort, layer: &mut Layer, op: Op, blocks: u64, inodes: u64) {
+fn does(rt: &impl Abort, layer: &mut Layer, lowers: &[Shared], op: Op, blocks: u64, inodes: u64) {
     let usage = Usage { blocks, inodes };
-    assert_eq!(rt; plan(layer, &op), Ok(usage));
-    assert_eq!(rt; apply(layer, &op), Ok(()));
+    assert_eq!(rt; plan(layer, lowers, &op), Ok(Planned { after: usage }));
+    assert_eq!(rt; apply(layer, lowers, &op), Ok(()));
     assert_eq!(rt; count(layer), usage);
 }
 
 /// The operation is refused, and the layer stays.
-fn refuses(rt: &impl Abort, layer: &mut Layer, op: Op, error: FsError) -> Result<(), Fail> {
+fn refuses(
+    rt: &impl Abort,
+    layer: &mut Layer,
+    lowers: &[Shared],
+    op: Op,
+    error: FsError,
+) -> Result<(), Fail> {
     let before = layer.copy()?;
-    assert_eq!(rt; plan(layer, &op), Err(error));
-    assert_eq!(rt; apply(layer, &op), Err(error));
+    assert_eq!(rt; plan(layer, lowers, &op), Err(error));
+    assert_eq!(rt; apply(layer, lowers, &op), Err(error));
     assert!(rt; *layer == before);
     Ok(())
 }
@@ -54,18 +91,32 @@ fn at(alloc: Global, layer: &Layer, text: &str) -> Result<Option<Node>, Fail> {
 fn errors_come_in_order(rt: HostRuntime) -> Result<(), Fail> {
     let alloc = rt.alloc();
     let mut layer = Layer::empty(alloc, 493)?;
-    refuses(&rt, &mut layer, create(alloc, "/", 420)?, FsError::Exists)?;
     refuses(
         &rt,
         &mut layer,
+        &[],
+        create(alloc, "/", 420)?,
+        FsError::Exists,
+    )?;
+    refuses(
+        &rt,
+        &mut layer,
+        &[],
         mkdir(alloc, "/a/b", 493)?,
         FsError::NotFound,
     )?;
-    does(&rt, &mut layer, create(alloc, "/f", 420)?, 1, 2);
-    refuses(&rt, &mut layer, mkdir(alloc, "/f/g", 493)?, FsError::NotDir)?;
+    does(&rt, &mut layer, &[], create(alloc, "/f", 420)?, 1, 2);
     refuses(
         &rt,
         &mut layer,
+        &[],
+        mkdir(alloc, "/f/g", 493)?,
+        FsError::NotDir,
+    )?;
+    refuses(
+        &rt,
+        &mut layer,
+        &[],
         create(alloc, "/g", 4096)?,
         FsError::Invalid,
     )?;
@@ -76,21 +127,23 @@ fn errors_come_in_order(rt: HostRuntime) -> Result<(), Fail> {
 fn a_file_has_at_most_a_mebibyte(rt: HostRuntime) -> Result<(), Fail> {
     let alloc = rt.alloc();
     let mut layer = Layer::empty(alloc, 493)?;
-    does(&rt, &mut layer, create(alloc, "/f", 420)?, 1, 2);
+    does(&rt, &mut layer, &[], create(alloc, "/f", 420)?, 1, 2);
     refuses(
         &rt,
         &mut layer,
+        &[],
         write(alloc, "/f", 1_048_576, b"x")?,
         FsError::TooBig,
     )?;
     does(
         &rt,
         &mut layer,
+        &[],
         write(alloc, "/f", 1_048_575, b"x")?,
         257,
         2,
     );
-    does(&rt, &mut layer, mkdir(alloc, "/d", 493)?, 258, 3);
+    does(&rt, &mut layer, &[], mkdir(alloc, "/d", 493)?, 258, 3);
     Ok(())
 }
 
@@ -98,14 +151,21 @@ fn a_file_has_at_most_a_mebibyte(rt: HostRuntime) -> Result<(), Fail> {
 fn bytes_are_written_over_a_gap(rt: HostRuntime) -> Result<(), Fail> {
     let alloc = rt.alloc();
     let mut layer = Layer::empty(alloc, 493)?;
-    does(&rt, &mut layer, create(alloc, "/f", 420)?, 1, 2);
+    does(&rt, &mut layer, &[], create(alloc, "/f", 420)?, 1, 2);
     for (offset, bytes, all) in [
         (3, b"abc".as_slice(), b"\0\0\0abc".as_slice()),
         (9, b"".as_slice(), b"\0\0\0abc".as_slice()),
         (1, b"xy".as_slice(), b"\0xyabc".as_slice()),
         (5, b"zz".as_slice(), b"\0xyabzz".as_slice()),
     ] {
-        does(&rt, &mut layer, write(alloc, "/f", offset, bytes)?, 2, 2);
+        does(
+            &rt,
+            &mut layer,
+            &[],
+            write(alloc, "/f", offset, bytes)?,
+            2,
+            2,
+        );
         let Some(Body::File { mode, bytes }) = layer.body(1) else {
             return Err("no file").map_err(Fail::from);
         };
@@ -124,7 +184,7 @@ fn a_directory_is_opaque_in_place_of_a_whiteout_alone(rt: HostRuntime) -> Result
     layer.add_whiteout(&white)?;
     for (text, mode, opaque) in [("/d", 493, false), ("/w", 448, true)] {
         let op = mkdir(alloc, text, mode)?;
-        assert_eq!(rt; apply(&mut layer, &op), Ok(()));
+        assert_eq!(rt; apply(&mut layer, &[], &op), Ok(()));
         assert_eq!(rt; at(alloc, &layer, text)?, Some(Node::Dir { mode, opaque }));
     }
     Ok(())
@@ -134,14 +194,15 @@ fn a_directory_is_opaque_in_place_of_a_whiteout_alone(rt: HostRuntime) -> Result
 fn file_numbers_end(rt: HostRuntime) -> Result<(), Fail> {
     let alloc = rt.alloc();
     let mut layer = Layer::empty_from(alloc, 493, 4_294_967_294)?;
-    does(&rt, &mut layer, create(alloc, "/f", 420)?, 1, 2);
+    does(&rt, &mut layer, &[], create(alloc, "/f", 420)?, 1, 2);
     refuses(
         &rt,
         &mut layer,
+        &[],
         create(alloc, "/g", 420)?,
         FsError::LayerFull,
     )?;
-    does(&rt, &mut layer, mkdir(alloc, "/d", 493)?, 2, 3);
+    does(&rt, &mut layer, &[], mkdir(alloc, "/d", 493)?, 2, 3);
     Ok(())
 }
 
@@ -151,5 +212,271 @@ fn an_operation_is_cloned_and_printed(rt: HostRuntime) -> Result<(), Fail> {
     let op = mkdir(alloc, "/d", 493)?;
     let again = format!(in alloc; "{:?}", op.clone()?)?;
     assert_eq!(rt; again.as_str(), format!(in alloc; "{op:?}")?.as_str());
+    Ok(())
+}
+
+fn shared(alloc: Global, layer: Layer) -> Result<Shared, Fail> {
+    match Shared::new(alloc, layer) {
+        Ok(shared) => Ok(shared),
+        Err(_) => Err("no memory").map_err(Fail::from),
+    }
+}
+
+/// Does the operations on an empty layer.
+fn made(alloc: Global, ops: &[Op]) -> Result<Layer, Fail> {
+    let mut layer = Layer::empty(alloc, 493)?;
+    for op in ops {
+        if apply(&mut layer, &[], op).is_err() {
+            return Err("an operation of the base is refused").map_err(Fail::from);
+        }
+    }
+    Ok(layer)
+}
+
+/// The file /p of 4097 bytes, and its second name /q.
+fn linked(alloc: Global) -> Result<Shared, Fail> {
+    let bytes = vec![in alloc; 7u8; 4097]?;
+    let mut layer = made(
+        alloc,
+        &[
+            create(alloc, "/p", 420)?,
+            write(alloc, "/p", 0, bytes.as_slice())?,
+        ],
+    )?;
+    let other = Path::parse(alloc, "/q")?;
+    if !layer.has_place(&other) || layer.at(&other).is_some() || layer.body(1).is_none() {
+        return Err("no place for a name").map_err(Fail::from);
+    }
+    layer.add_name(&other, 1)?;
+    shared(alloc, layer)
+}
+
+/// The first bytes, at most two, and the size of what is read at the path.
+fn read(
+    alloc: Global,
+    layer: &Layer,
+    lowers: &[Shared],
+    text: &str,
+) -> Result<(Option<u8>, usize), Fail> {
+    match Stack::over(layer, lowers).read(&Path::parse(alloc, text)?) {
+        Ok(bytes) => Ok((bytes.first().copied(), bytes.len())),
+        Err(_) => Err("nothing to read").map_err(Fail::from),
+    }
+}
+
+#[test]
+fn a_write_breaks_a_hard_link(rt: HostRuntime) -> Result<(), Fail> {
+    let alloc = rt.alloc();
+    let lowers = [linked(alloc)?];
+    assert_eq!(rt;
+        (lowers[0].layer().blocks(), lowers[0].layer().inodes()),
+        (3, 2)
+    );
+    let mut layer = Layer::empty(alloc, 493)?;
+    does(&rt, &mut layer, &lowers, write(alloc, "/p", 0, b"x")?, 3, 2);
+    assert_eq!(rt; read(alloc, &layer, &lowers, "/p")?, (Some(120), 4097));
+    assert_eq!(rt; read(alloc, &layer, &lowers, "/q")?, (Some(7), 4097));
+    Ok(())
+}
+
+#[test]
+fn directories_above_are_added(rt: HostRuntime) -> Result<(), Fail> {
+    let alloc = rt.alloc();
+    let base = made(
+        alloc,
+        &[
+            mkdir(alloc, "/etc", 448)?,
+            create(alloc, "/etc/x", 420)?,
+            write(alloc, "/etc/x", 0, b"hi")?,
+        ],
+    )?;
+    let lowers = [shared(alloc, base)?];
+    let mut layer = Layer::empty(alloc, 493)?;
+    refuses(
+        &rt,
+        &mut layer,
+        &lowers,
+        create(alloc, "/etc/x", 420)?,
+        FsError::Exists,
+    )?;
+    refuses(
+        &rt,
+        &mut layer,
+        &lowers,
+        write(alloc, "/etc", 0, b"x")?,
+        FsError::IsDir,
+    )?;
+    does(&rt, &mut layer, &lowers, mkdir(alloc, "/etc/y", 493)?, 3, 3);
+    let mode = 448;
+    let opaque = false;
+    assert_eq!(rt;
+        at(alloc, &layer, "/etc")?,
+        Some(Node::Dir { mode, opaque })
+    );
+    does(
+        &rt,
+        &mut layer,
+        &lowers,
+        write(alloc, "/etc/x", 1, b"o")?,
+        4,
+        4,
+    );
+    assert_eq!(rt; read(alloc, &layer, &lowers, "/etc/x")?, (Some(104), 2));
+    Ok(())
+}
+
+#[test]
+fn a_file_is_truncated(rt: HostRuntime) -> Result<(), Fail> {
+    let alloc = rt.alloc();
+    let mut layer = Layer::empty(alloc, 493)?;
+    let bytes = vec![in alloc; 7u8; 4097]?;
+    does(&rt, &mut layer, &[], create(alloc, "/f", 420)?, 1, 2);
+    let all = write(alloc, "/f", 0, bytes.as_slice())?;
+    does(&rt, &mut layer, &[], all, 3, 2);
+    does(&rt, &mut layer, &[], truncate(alloc, "/f", 0)?, 1, 2);
+    does(&rt, &mut layer, &[], truncate(alloc, "/f", 3)?, 2, 2);
+    assert_eq!(rt; read(alloc, &layer, &[], "/f")?, (Some(0), 3));
+    Ok(())
+}
+
+#[test]
+fn a_mode_is_set(rt: HostRuntime) -> Result<(), Fail> {
+    let alloc = rt.alloc();
+    let mut layer = Layer::empty(alloc, 493)?;
+    does(&rt, &mut layer, &[], create(alloc, "/f", 420)?, 1, 2);
+    does(&rt, &mut layer, &[], set_mode(alloc, "/f", 384)?, 1, 2);
+    let Some(Body::File { mode, .. }) = layer.body(1) else {
+        return Err("no file").map_err(Fail::from);
+    };
+    assert_eq!(rt; *mode, 384);
+    Ok(())
+}
+
+#[test]
+fn a_symlink_has_a_target(rt: HostRuntime) -> Result<(), Fail> {
+    let alloc = rt.alloc();
+    let mut layer = Layer::empty(alloc, 493)?;
+    let none = symlink(alloc, "/g", b"")?;
+    refuses(&rt, &mut layer, &[], none, FsError::Invalid)?;
+    does(&rt, &mut layer, &[], symlink(alloc, "/g", b"d")?, 1, 2);
+    let other = set_mode(alloc, "/g", 420)?;
+    refuses(&rt, &mut layer, &[], other, FsError::Invalid)
+}
+
+#[test]
+fn a_lower_directory_gets_a_mode(rt: HostRuntime) -> Result<(), Fail> {
+    let alloc = rt.alloc();
+    let base = made(alloc, &[mkdir(alloc, "/etc", 448)?])?;
+    let lowers = [shared(alloc, base)?];
+    let mut layer = Layer::empty(alloc, 493)?;
+    let op = set_mode(alloc, "/etc", 493)?;
+    does(&rt, &mut layer, &lowers, op, 2, 2);
+    let mode = 493;
+    let opaque = false;
+    assert_eq!(rt;
+        at(alloc, &layer, "/etc")?,
+        Some(Node::Dir { mode, opaque })
+    );
+    Ok(())
+}
+
+/// A lower layer with the file /etc/x of 5000 bytes in a directory.
+fn etc(alloc: Global) -> Result<Shared, Fail> {
+    let bytes = vec![in alloc; 120u8; 5000]?;
+    let ops = [
+        mkdir(alloc, "/etc", 493)?,
+        create(alloc, "/etc/x", 420)?,
+        write(alloc, "/etc/x", 0, bytes.as_slice())?,
+    ];
+    shared(alloc, made(alloc, &ops)?)
+}
+
+/// How many names the directory has.
+fn names(alloc: Global, layer: &Layer, lowers: &[Shared], text: &str) -> Result<usize, Fail> {
+    match Stack::over(layer, lowers).list(alloc, &Path::parse(alloc, text)?) {
+        Ok(names) => Ok(names.len()),
+        Err(_) => Err("no list").map_err(Fail::from),
+    }
+}
+
+#[test]
+fn a_lower_file_is_whited_out(rt: HostRuntime) -> Result<(), Fail> {
+    let alloc = rt.alloc();
+    let lowers = [etc(alloc)?];
+    let mut layer = Layer::empty(alloc, 493)?;
+    does(&rt, &mut layer, &lowers, unlink(alloc, "/etc/x")?, 2, 3);
+    assert_eq!(rt; names(alloc, &layer, &lowers, "/etc")?, 0);
+    assert_eq!(rt; at(alloc, &layer, "/etc/x")?, Some(Node::Whiteout));
+    let again = unlink(alloc, "/etc/x")?;
+    refuses(&rt, &mut layer, &lowers, again, FsError::NotFound)
+}
+
+#[test]
+fn a_directory_over_a_whiteout_is_empty(rt: HostRuntime) -> Result<(), Fail> {
+    let alloc = rt.alloc();
+    let lowers = [etc(alloc)?];
+    let mut layer = Layer::empty(alloc, 493)?;
+    does(&rt, &mut layer, &lowers, unlink(alloc, "/etc/x")?, 2, 3);
+    does(&rt, &mut layer, &lowers, mkdir(alloc, "/etc/x", 493)?, 3, 3);
+    let mode = 493;
+    let opaque = true;
+    assert_eq!(rt;
+        at(alloc, &layer, "/etc/x")?,
+        Some(Node::Dir { mode, opaque })
+    );
+    assert_eq!(rt; names(alloc, &layer, &lowers, "/etc/x")?, 0);
+    Ok(())
+}
+
+/// A layer over one with /a/b, from which both are removed.
+fn removed(rt: &impl Abort, alloc: Global, lowers: &[Shared]) -> Result<Layer, Fail> {
+    let mut layer = Layer::empty(alloc, 493)?;
+    does(rt, &mut layer, lowers, unlink(alloc, "/a/b")?, 2, 3);
+    does(rt, &mut layer, lowers, rmdir(alloc, "/a")?, 1, 2);
+    assert_eq!(rt; at(alloc, &layer, "/a")?, Some(Node::Whiteout));
+    Ok(layer)
+}
+
+#[test]
+fn a_whiteout_of_a_middle_layer_hides(rt: HostRuntime) -> Result<(), Fail> {
+    let alloc = rt.alloc();
+    let ops = [mkdir(alloc, "/a", 493)?, create(alloc, "/a/b", 420)?];
+    let base = shared(alloc, made(alloc, &ops)?)?;
+    let middle = removed(&rt, alloc, &[base.again()?])?;
+    let lowers = [shared(alloc, middle)?, base];
+    let mut layer = Layer::empty(alloc, 493)?;
+    does(&rt, &mut layer, &lowers, mkdir(alloc, "/a", 493)?, 2, 2);
+    let mode = 493;
+    let opaque = false;
+    assert_eq!(rt; at(alloc, &layer, "/a")?, Some(Node::Dir { mode, opaque }));
+    assert_eq!(rt; names(alloc, &layer, &lowers, "/a")?, 0);
+    Ok(())
+}
+
+#[test]
+fn a_file_stays_under_its_other_name(rt: HostRuntime) -> Result<(), Fail> {
+    let alloc = rt.alloc();
+    let lower = linked(alloc)?;
+    let mut layer = lower.layer().copy()?;
+    does(&rt, &mut layer, &[], unlink(alloc, "/p")?, 3, 2);
+    assert_eq!(rt; read(alloc, &layer, &[], "/q")?, (Some(7), 4097));
+    does(&rt, &mut layer, &[], unlink(alloc, "/q")?, 1, 1);
+    Ok(())
+}
+
+#[test]
+fn the_root_and_directories_with_names_stay(rt: HostRuntime) -> Result<(), Fail> {
+    let alloc = rt.alloc();
+    let lowers = [etc(alloc)?];
+    let mut layer = Layer::empty(alloc, 493)?;
+    for (op, error) in [
+        (unlink(alloc, "/")?, FsError::IsDir),
+        (rmdir(alloc, "/")?, FsError::Invalid),
+        (rmdir(alloc, "/etc/x")?, FsError::NotDir),
+        (rmdir(alloc, "/etc")?, FsError::NotEmpty),
+        (rmdir(alloc, "/no")?, FsError::NotFound),
+    ] {
+        refuses(&rt, &mut layer, &lowers, op, error)?;
+    }
     Ok(())
 }

@@ -1,32 +1,43 @@
-use Rattle.std.proofs.Common.{◌≡◌, length, Ok, sym, ap, ◌∙◌, subst, List, ℕ, ◌≤◌}
-use Rattle.snap_layer.specs.Tree.{Tree, body}
-use Rattle.snap_layer.specs.Edits.{with_bytes}
-use Rattle.snap_layer.proofs.Setting.{file_of_name}
-use Rattle.snap_upper.specs.After.{written, bytes_of}
-use Rattle.snap_upper.proofs.Outcomes.{limited_fits, layer_fits}
-use Rattle.snap_upper.proofs.Writing.{write_after, writes, rewrites, file_short, written_short}
+use Rattle.std.proofs.Common.{◌≡◌, ◌⊎◌, ◌∷◌, ℕ, ◌≤◌, List, length, Ok, Err, Some, OnOk, IfErr, sym, ap, subst, ◌∙◌}
+use Rattle.snap_layer.specs.Tree.{Tree}
+use Rattle.snap_merge.specs.Objects.{file, seen}
+use Rattle.snap_merge.specs.declared.error.FsError.TheVariants.{OutOfMemory}
+use Rattle.snap_upper.specs.declared.op.Op.TheVariants as op
+use Rattle.snap_upper.specs.After.{Outcome, written}
+use Rattle.snap_upper.proofs.Outcomes.{stack_passes, after_passes}
+use Rattle.snap_upper.proofs.Writing.{IsWritable-passed, written_fits}
 use Rattle.snap_upper.proofs.applying.write.Goals as goal
 
-pub set_bytes-requires-clause-size : goal.set_bytes-requires-clause-size
-set_bytes-requires-clause-size c =
-    let u = c.args.layer.now in
-    let k = c.in_ok-number.number in
-    let is : c.in_ok-content.content ≡ written (bytes_of (body u k)) c.args.offset c.args.bytes.now = c.in_ok-content.ensures ∙ (λ i. written (c.file_bytes-old.ensures i) c.args.offset (c.as_slice.ensures i)) in
-    let file = file_of_name u c.next_number.ensures.layer c.args.path.now k c.in_ok-number.ensures.number in
-    let short = (writes u c.args.path.now c.args.offset c.args.bytes.now (sym c.in_ok-number.ensures.error)).short in
-    subst (λ (bs : List ℕ). length bs ≤ 1048576) (sym is) (written_short (bytes_of (body u k)) c.args.offset c.args.bytes.now 1048576 (file_short u k file) short)
+pub fill-requires-clause-fit : goal.fill-requires-clause-fit
+fill-requires-clause-fit c =
+    let s = c.over.result in
+    let p = c.args.path.now in
+    let found = c.in_ok-found.found in
+    let is : c.in_ok-content.content ≡ written found.bytes.now c.args.offset c.args.bytes.now = c.in_ok-content.ensures ∙ ap (λ (bs : List ℕ). written found.bytes.now c.args.offset bs) c.as_slice.ensures in
+    let short = (IsWritable-passed s p c.args.offset c.args.bytes.now (sym c.in_ok-found.ensures.error)).short in
+    let fits = written_fits s p found.mode found.bytes.now c.args.offset c.args.bytes.now c.in_ok-found.ensures.layers c.in_ok-found.ensures.found short in
+    (fits.0, subst (λ (bs : List ℕ). length bs ≤ 1048576) (sym is) fits.1)
 
 pub returns-clause-ok : goal.returns-clause-ok
 returns-clause-ok c =
     let u = c.args.layer.now in
+    let ls = c.args.lowers.now in
     let p = c.args.path.now in
-    let k = c.in_ok-number.number in
-    let new = written (bytes_of (body u k)) c.args.offset c.args.bytes.now in
-    let is : c.in_ok-content.content ≡ written (bytes_of (body u k)) c.args.offset c.args.bytes.now = c.in_ok-content.ensures ∙ (λ i. written (c.file_bytes-old.ensures i) c.args.offset (c.as_slice.ensures i)) in
-    let file = file_of_name u c.next_number.ensures.layer p k c.in_ok-number.ensures.number in
-    let passes = sym c.in_ok-number.ensures.error in
-    let short = (writes u p c.args.offset c.args.bytes.now passes).short in
-    let next = rewrites u k new c.next_number.ensures.layer file (written_short (bytes_of (body u k)) c.args.offset c.args.bytes.now 1048576 (file_short u k file) short) in
-    write_after u p c.args.offset c.args.bytes.now passes k c.in_ok-number.ensures.number
-    ∙ limited_fits (with_bytes u k (body u k) new) (layer_fits (with_bytes u k (body u k) new) next.layer)
-    ∙ ap (λ (v : Tree). Ok v) (ap (λ (bs : List ℕ). with_bytes u k (body u k) bs) (sym is) ∙ sym c.set_bytes.ensures)
+    let bytes = c.args.bytes.now in
+    let found = c.in_ok-found.found in
+    let is : c.in_ok-content.content ≡ written found.bytes.now c.args.offset c.args.bytes.now = c.in_ok-content.ensures ∙ ap (λ (bs : List ℕ). written found.bytes.now c.args.offset bs) c.as_slice.ensures in
+    let was : seen (u ∷ ls) p ≡ Some (file found.mode found.bytes.now) = ap (λ (s : List Tree). seen s p) (sym c.over.ensures) ∙ c.in_ok-found.ensures.found in
+    let passes = stack_passes (op.Write p c.args.offset bytes) _ (u ∷ ls) c.over.ensures c.in_ok-found.ensures.error in
+    subst (λ (a : Outcome). OnOk c.fill.result (a ≡ Ok c.fill.new.layer)) (sym (after_passes (op.Write p c.args.offset bytes) u ls passes)) (c.fill.ensures.ok (λ old. written old c.args.offset bytes) found.bytes.now was (sym is))
+
+pub returns-clause-error : goal.returns-clause-error
+returns-clause-error c =
+    let u = c.args.layer.now in
+    let ls = c.args.lowers.now in
+    let p = c.args.path.now in
+    let bytes = c.args.bytes.now in
+    let found = c.in_ok-found.found in
+    let is : c.in_ok-content.content ≡ written found.bytes.now c.args.offset c.args.bytes.now = c.in_ok-content.ensures ∙ ap (λ (bs : List ℕ). written found.bytes.now c.args.offset bs) c.as_slice.ensures in
+    let was : seen (u ∷ ls) p ≡ Some (file found.mode found.bytes.now) = ap (λ (s : List Tree). seen s p) (sym c.over.ensures) ∙ c.in_ok-found.ensures.found in
+    let passes = stack_passes (op.Write p c.args.offset bytes) _ (u ∷ ls) c.over.ensures c.in_ok-found.ensures.error in
+    subst (λ (a : Outcome). IfErr c.fill.result (λ e. (e ≡ OutOfMemory) ⊎ (a ≡ Err e))) (sym (after_passes (op.Write p c.args.offset bytes) u ls passes)) (c.fill.ensures.error (λ old. written old c.args.offset bytes) found.bytes.now was (sym is))

@@ -1,26 +1,28 @@
-use Rattle.std.proofs.Common.{[], ◌∷◌}
+use Rattle.std.proofs.Common.{◌∷◌, refl, ap, subst, ◌∙◌}
+use Rattle.snap_layer.specs.Tree.{at}
+use Rattle.snap_merge.specs.Objects.{AreLayers}
+use Rattle.snap_copyup.specs.declared.putting.Last.TheVariants as last
 use Rattle.snap_upper.specs.declared.op.Op.TheVariants as op
+use Rattle.snap_upper.specs.After.{planned, is_whiteout_at}
 use Rattle.snap_upper.proofs.Outcomes.{stack_passes}
-use Rattle.snap_upper.proofs.Making.{room_made}
-use Rattle.snap_upper.proofs.Plans.{mkdir_planned, mkdir_full}
+use Rattle.snap_upper.proofs.Making.{new, vacant_unseen, dir_after}
 use Rattle.snap_upper.proofs.planning.plan_mkdir.Goals as goal
 
-pub usage_with-next-requires-clause-free : goal.usage_with-next-requires-clause-free
-usage_with-next-requires-clause-free c =
+pub plan_growth-requires-clause-free : goal.plan_growth-requires-clause-free
+plan_growth-requires-clause-free c =
     let u = c.args.layer.now in
+    let ls = c.args.lowers.now in
     let p = c.args.path.now in
-    (room_made u c.next_number.ensures.layer p c.args.mode (stack_passes (op.Mkdir p c.args.mode) _ (u ∷ []) c.over.ensures c.in_ok-check_new.ensures)).free
-
-pub returns-then-next-gt-MOST_INODES : goal.returns-then-next-gt-MOST_INODES
-returns-then-next-gt-MOST_INODES c =
-    let u = c.args.layer.now in
-    let p = c.args.path.now in
-    let passes = stack_passes (op.Mkdir p c.args.mode) _ (u ∷ []) c.over.ensures c.in_ok-check_new.ensures in
-    mkdir_full u c.next_number.ensures.layer p c.names.ensures.valid c.args.mode c.usage_with-next.result c.usage_with-next.ensures.inodes passes c.if-next-gt-MOST_INODES.true
+    let made = new u ls p c.args.mode (stack_passes (op.Mkdir p c.args.mode) _ (u ∷ ls) c.over.ensures c.in_ok-check_new.ensures.error) in
+    (vacant_unseen u ls p c.next_number.ensures.layer made.unseen).free
 
 pub returns : goal.returns
 returns c =
     let u = c.args.layer.now in
+    let ls = c.args.lowers.now in
     let p = c.args.path.now in
-    let passes = stack_passes (op.Mkdir p c.args.mode) _ (u ∷ []) c.over.ensures c.in_ok-check_new.ensures in
-    mkdir_planned u c.next_number.ensures.layer p c.names.ensures.valid c.args.mode c.usage_with-next.result c.usage_with-next.ensures.inodes passes c.usage_with-next.ensures.blocks c.if-next-gt-MOST_INODES.false
+    let ok = c.next_number.ensures.layer in
+    let passes = stack_passes (op.Mkdir p c.args.mode) _ (u ∷ ls) c.over.ensures c.in_ok-check_new.ensures.error in
+    let made = new u ls p c.args.mode passes in
+    let layers = (subst AreLayers c.over.ensures c.in_ok-check_new.ensures.layers).1 in
+    c.plan_growth.ensures (last.Dir c.args.mode (is_whiteout_at (at u p))) ls (refl, refl) layers made.way (vacant_unseen u ls p ok made.unseen, made.low) ∙ ap planned (dir_after u ls p c.args.mode passes (is_whiteout_at (at u p)) refl)

@@ -1,43 +1,26 @@
-use Rattle.std.proofs.Common.{◌≡◌, ◌+◌, ◌-◌, List, ℕ, length, sym, ap, ◌∙◌, arith}
-use Rattle.snap_layer.specs.Tree.{body}
-use Rattle.snap_layer.specs.Counts.{blocks_of, block_count}
-use Rattle.snap_usage.specs.declared.usage.Usage.{Usage}
-use Rattle.snap_upper.specs.After.{bytes_of, written}
-use Rattle.snap_upper.proofs.Plans.{write_planned, old_blocks, next_blocks}
+use Rattle.std.proofs.Common.{◌≡◌, ◌∷◌, ℕ, ◌≤◌, List, length, sym, ap, subst, ◌∙◌, refl}
+use Rattle.snap_upper.specs.declared.op.Op.TheVariants as op
+use Rattle.snap_upper.specs.After.{planned, written}
+use Rattle.snap_upper.proofs.Outcomes.{stack_passes, after_passes}
+use Rattle.snap_upper.proofs.Writing.{IsWritable-passed, written_fits}
 use Rattle.snap_upper.proofs.planning.plan_write.Goals as goal
 
-pub overflow_sub-result : goal.overflow_sub-result
-overflow_sub-result c =
-    let u = c.args.layer.now in
-    let k = c.in_ok-number.number in
-    let old : c.blocks_of.result ≡ blocks_of (length (bytes_of (body u k))) = c.blocks_of.ensures ∙ ap (λ (bs : List ℕ). blocks_of (length bs)) c.file_bytes-old.ensures in
-    omega (arith, old, ap (λ (v : Usage). v.blocks) c.count-now.ensures.bodies, old_blocks u c.next_number.ensures.layer c.args.path.now c.args.offset c.args.bytes.now (sym c.in_ok-number.ensures.error) k c.in_ok-number.ensures.number)
-
-pub overflow_add-result : goal.overflow_add-result
-overflow_add-result c =
-    let u = c.args.layer.now in
-    let k = c.in_ok-number.number in
-    let offset = c.args.offset in
-    let bytes = c.args.bytes.now in
-    let was = bytes_of (body u k) in
-    let old : c.blocks_of.result ≡ blocks_of (length (bytes_of (body u k))) = c.blocks_of.ensures ∙ ap (λ (bs : List ℕ). blocks_of (length bs)) c.file_bytes-old.ensures in
-    let size : c.size_after-new.result ≡ length (written (bytes_of (body u k)) offset bytes) = c.size_after-new.ensures was (ap length (sym c.file_bytes-old.ensures)) ∙ ap (λ (bs : List ℕ). length (written (bytes_of (body u k)) offset bs)) c.as_slice.ensures in
-    let new : c.blocks_of-2.result ≡ blocks_of (length (written (bytes_of (body u k)) offset bytes)) = c.blocks_of-2.ensures ∙ ap blocks_of size in
-    omega (arith, old, new, ap (λ (v : Usage). v.blocks) c.count-now.ensures.bodies, next_blocks u c.next_number.ensures.layer c.args.path.now offset bytes (sym c.in_ok-number.ensures.error) k c.in_ok-number.ensures.number)
+pub plan_filling-requires-clause-few : goal.plan_filling-requires-clause-few
+plan_filling-requires-clause-few c =
+    let s = c.over.result in
+    let p = c.args.path.now in
+    let found = c.in_ok-found.found in
+    let is : c.size_after-new.result ≡ length (written found.bytes.now c.args.offset c.args.bytes.now) = c.size_after-new.ensures found.bytes.now refl ∙ ap (λ (bs : List ℕ). length (written found.bytes.now c.args.offset bs)) c.as_slice.ensures in
+    let short = (IsWritable-passed s p c.args.offset c.args.bytes.now (sym c.in_ok-found.ensures.error)).short in
+    subst (λ n. n ≤ 1048576) (sym is) (written_fits s p found.mode found.bytes.now c.args.offset c.args.bytes.now c.in_ok-found.ensures.layers c.in_ok-found.ensures.found short).1
 
 pub returns : goal.returns
 returns c =
     let u = c.args.layer.now in
-    let k = c.in_ok-number.number in
-    let offset = c.args.offset in
+    let ls = c.args.lowers.now in
+    let p = c.args.path.now in
     let bytes = c.args.bytes.now in
-    let was = bytes_of (body u k) in
-    let ok = c.next_number.ensures.layer in
-    let passes = sym c.in_ok-number.ensures.error in
-    let here = c.in_ok-number.ensures.number in
-    let old : c.blocks_of.result ≡ blocks_of (length (bytes_of (body u k))) = c.blocks_of.ensures ∙ ap (λ (bs : List ℕ). blocks_of (length bs)) c.file_bytes-old.ensures in
-    let size : c.size_after-new.result ≡ length (written (bytes_of (body u k)) offset bytes) = c.size_after-new.ensures was (ap length (sym c.file_bytes-old.ensures)) ∙ ap (λ (bs : List ℕ). length (written (bytes_of (body u k)) offset bs)) c.as_slice.ensures in
-    let new : c.blocks_of-2.result ≡ blocks_of (length (written (bytes_of (body u k)) offset bytes)) = c.blocks_of-2.ensures ∙ ap blocks_of size in
-    let now : c.count-now.result.blocks ≡ block_count u = ap (λ (v : Usage). v.blocks) c.count-now.ensures.bodies in
-    let blocks : c.count-now.result.blocks - c.blocks_of.result + c.blocks_of-2.result + blocks_of (length (bytes_of (body u k))) ≡ block_count u + blocks_of (length (written (bytes_of (body u k)) offset bytes)) = omega (arith, old, new, now, old_blocks u ok c.args.path.now offset bytes passes k here) in
-    write_planned u ok c.args.path.now offset bytes passes k here (record { blocks = c.count-now.result.blocks - c.blocks_of.result + c.blocks_of-2.result; inodes = c.count-now.result.inodes }) blocks (ap (λ (v : Usage). v.inodes) c.count-now.ensures.bodies)
+    let found = c.in_ok-found.found in
+    let is : c.size_after-new.result ≡ length (written found.bytes.now c.args.offset c.args.bytes.now) = c.size_after-new.ensures found.bytes.now refl ∙ ap (λ (bs : List ℕ). length (written found.bytes.now c.args.offset bs)) c.as_slice.ensures in
+    let passes = stack_passes (op.Write p c.args.offset bytes) _ (u ∷ ls) c.over.ensures c.in_ok-found.ensures.error in
+    c.plan_filling.ensures (λ old. written old c.args.offset bytes) (sym is) ∙ ap planned (sym (after_passes (op.Write p c.args.offset bytes) u ls passes))

@@ -3,8 +3,8 @@ use Rattle.snap_upper.specs.After.{after, planned}
 use Rattle.snap_book.proofs.Needs.{planned_needs_none, plan_refused}
 use Rattle.snap_book.proofs.active.Active.apply.Goals as goal
 
-pub returns-in_err-need-clause-needs : goal.returns-in_err-need-clause-needs
-returns-in_err-need-clause-needs g c need =
+pub returns-in_err-planned-clause-needs : goal.returns-in_err-planned-clause-needs
+returns-in_err-planned-clause-needs g c in_place need =
     let op = c.args.op.now in
     let layer = c.args.self.now.layer in
-    plan_refused c.from_residual.result (planned (after op layer [])) c.in_err-need.field-0.0 need _ (planned_needs_none need op layer []) (sym c.plan.ensures ∙ c.in_err-need.was) c.from_residual.ensures.1
+    plan_refused c.from_residual.result (planned (after op layer [])) c.in_err-planned.field-0.0 need _ (planned_needs_none need op layer []) (sym (c.plan.ensures.sure in_place) ∙ c.in_err-planned.was) c.from_residual.ensures.1

@@ -1,0 +1,163 @@
+-- A mode that is set.
+use Rattle.std.proofs.Common.{◌≡◌, ℕ, ◌≤◌, true, false, List, [], ◌∷◌, Option, Some, None, is_some, Result, Ok, refl, sym, ap, subst, ◌∙◌, arith, ltb-false}
+use Rattle.std.specs.Prelude.{nat_lt}
+use Rattle.snap_path.specs.Text.{Names}
+use Rattle.snap_layer.specs.declared.node.Node.{Node}
+use Rattle.snap_layer.specs.declared.node.Node.TheVariants.{Dir, File, Symlink, Whiteout}
+use Rattle.snap_layer.specs.declared.node.Body.{Body}
+use Rattle.snap_layer.specs.declared.node.Body.TheVariants as body_kinds
+use Rattle.snap_layer.specs.Tree.{Tree, at, body}
+use Rattle.snap_layer.specs.Counts.{inode_count, block_count}
+use Rattle.snap_layer.specs.Layers.{IsLayer, IsFile, IsSymlink}
+use Rattle.snap_layer.proofs.Setting.{dir_stays, file_body}
+use Rattle.snap_layer.proofs.Kept.{IsLayer-with_body}
+use Rattle.snap_usage.specs.declared.usage.Usage.{Usage}
+use Rattle.snap_layer.specs.Edits.{with_entry, with_new, with_body, with_mode, with_file_mode, HasMode}
+use Rattle.snap_layer.proofs.Looks.{Sets-with_entry}
+use Rattle.snap_layer.proofs.Laws.{Replaces-with_new, SetsBody-with_new, inode_count-with_mode, block_count-with_mode}
+use Rattle.snap_merge.specs.Objects.{Object, dir, file, symlink, seen, shown_body, is_shown_dir, AreLayers}
+use Rattle.snap_merge.specs.Walk.{walk}
+use Rattle.snap_merge.specs.declared.error.FsError.{FsError}
+use Rattle.snap_merge.specs.declared.error.FsError.TheVariants.{Invalid}
+use Rattle.snap_upper.specs.declared.planning.Planned.{Planned}
+use Rattle.snap_merge.proofs.Views.{seen_node}
+use Rattle.snap_copyup.specs.Copying.{copied, copied_up, with_object, with_parents}
+use Rattle.snap_copyup.specs.Places.{with_last, Fits}
+use Rattle.snap_copyup.proofs.Alone.{copied_there, copied_missing, below_seen}
+use Rattle.snap_copyup.proofs.Parents.{adds_parents}
+use Rattle.snap_copyup.proofs.Wholes.{IsWholeObject, whole_seen, vacant}
+use Rattle.snap_copyup.proofs.Layers.{no_missing}
+use Rattle.snap_upper.specs.declared.checking.Found.{Found}
+use Rattle.snap_upper.specs.declared.op.Op.TheVariants as op
+use Rattle.snap_upper.specs.After.{after, limited, planned, tests, first_error, error_if, mode_error}
+use Rattle.snap_upper.specs.Adding.{IsFound, with_its_mode}
+use Rattle.snap_upper.proofs.Outcomes.{test_passes, error_if_passes, after_passes, planned_fits}
+use Rattle.snap_upper.proofs.Writing.{new_with_body, entry_with_entry}
+
+-- the tests have passed
+pub record IsSettable (s : List Tree) (p : Names) (mode : ℕ) : Type 0 where
+  pub way : walk s p ≡ None
+  pub there : mode_error (seen s p) ≡ None
+  pub low : mode ≤ 4095
+
+low_mode : (mode : ℕ) → nat_lt 4095 mode ≡ false → mode ≤ 4095
+low_mode mode e = ltb-false 4095 mode e
+
+pub IsSettable-passed : (s : List Tree) (p : Names) (mode : ℕ) → first_error (tests (op.SetMode p mode) s) ≡ None → IsSettable s p mode
+IsSettable-passed s p mode passes =
+    let last = error_if (nat_lt 4095 mode) Invalid in
+    let first = test_passes (walk s p) (mode_error (seen s p) ∷ last ∷ []) passes in
+    let second = test_passes (mode_error (seen s p)) (last ∷ []) first.1 in
+    let third = test_passes last [] second.1 in
+    record {
+      way = first.0;
+      there = second.0;
+      low = low_mode mode (error_if_passes (nat_lt 4095 mode) Invalid third.0);
+    }
+
+none_from : {A : Type 0} (o : Option A) → is_some o ≡ false → o ≡ None
+none_from None e = refl
+none_from (Some x) e = absurd (cc)
+
+-- a symlink has no mode
+symlink_refused : (o : Option Body) → IsSymlink o → mode_error (shown_body o) ≡ None → ⊥
+symlink_refused None is e = is
+symlink_refused (Some (body_kinds.File m bytes)) is e = is
+symlink_refused (Some (body_kinds.Symlink target)) is e = cc
+
+pub has_mode : (u : Tree) (ls : List Tree) (p : Names) → IsLayer u → mode_error (seen (u ∷ ls) p) ≡ None → is_some (at u p) ≡ true → HasMode (at u p)
+has_mode u ls p ok there some = by (at u p) refl some
+  where
+    by : (o : Option Node) → at u p ≡ o → is_some o ≡ true → HasMode o
+    by None e some = absurd (cc)
+    by (Some (Dir m b)) e some = tt
+    by (Some (File k)) e some = tt
+    by (Some (Symlink k)) e some = symlink_refused (body u k) (ok.nodes p (Symlink k) e) (sym (ap mode_error (seen_node u ls p (Symlink k) e)) ∙ there)
+    by (Some Whiteout) e some = let other = sym (ap mode_error (seen_node u ls p Whiteout e)) ∙ there in absurd (cc)
+
+-- the layer has it
+pub own_mode : (u : Tree) (ls : List Tree) (p : Names) (mode : ℕ) → IsLayer u → is_some (at u p) ≡ true → with_mode (copied_up u ls p) p (at (copied_up u ls p) p) mode ≡ with_mode u p (at u p) mode
+own_mode u ls p mode ok some =
+    ap (λ (t : Tree). with_mode t p (at t p) mode) (ap (λ (t : Tree). copied t ls p) (no_missing u ls p ok some) ∙ copied_there u ls p some)
+
+-- it is copied up
+copy_dir : (t : Tree) (p : Names) (m mode : ℕ) → with_mode (with_entry t p (Dir m false)) p (at (with_entry t p (Dir m false)) p) mode ≡ with_entry t p (Dir mode false)
+copy_dir t p m mode =
+    ap (λ (o : Option Node). with_mode (with_entry t p (Dir m false)) p o mode) (Sets-with_entry t p (Dir m false)).here
+    ∙ entry_with_entry t p (Dir m false) (Dir mode false)
+
+pub copy_file_body : (t : Tree) (p : Names) (m mode : ℕ) (bytes : List ℕ) → with_mode (with_new t p (File t.next) (body_kinds.File m bytes)) p (at (with_new t p (File t.next) (body_kinds.File m bytes)) p) mode ≡ with_body (with_new t p (File t.next) (body_kinds.File m bytes)) t.next (body_kinds.File mode bytes)
+copy_file_body t p m mode bytes =
+    let b = body_kinds.File m bytes in
+    let v = with_new t p (File t.next) b in
+    ap (λ (o : Option Node). with_mode v p o mode) (Replaces-with_new t p (File t.next) b).here
+    ∙ ap (λ (o : Option Body). with_file_mode v t.next o mode) (SetsBody-with_new t p (File t.next) b).here
+
+module _ (u : Tree) (ls : List Tree) (p : Names) (way : walk (u ∷ ls) p ≡ None) (none : at u p ≡ None) where
+  abbrev t : Tree
+  t = with_parents u ls p
+
+  copied_as : (o : Option Object) → seen (u ∷ ls) p ≡ o → copied_up u ls p ≡ with_object (with_parents u ls p) p o
+  copied_as o was =
+      let adds = adds_parents u ls p way in
+      let empty = adds.leaves p (omega arith) ∙ none in
+      copied_missing t ls p empty ∙ ap (with_object t p) (sym (below_seen t ls p empty) ∙ adds.view p ∙ was)
+
+  pub dir_copy : (m mode : ℕ) → seen (u ∷ ls) p ≡ Some (dir m) → with_mode (copied_up u ls p) p (at (copied_up u ls p) p) mode ≡ with_entry (with_parents u ls p) p (Dir mode false)
+  dir_copy m mode was = ap (λ (v : Tree). with_mode v p (at v p) mode) (copied_as (Some (dir m)) was) ∙ copy_dir t p m mode
+
+  pub file_copy : (m mode : ℕ) (bytes : List ℕ) → seen (u ∷ ls) p ≡ Some (file m bytes) → with_mode (copied_up u ls p) p (at (copied_up u ls p) p) mode ≡ with_body (with_new (with_parents u ls p) p (File (with_parents u ls p).next) (body_kinds.File m bytes)) (with_parents u ls p).next (body_kinds.File mode bytes)
+  file_copy m mode bytes was = ap (λ (v : Tree). with_mode v p (at v p) mode) (copied_as (Some (file m bytes)) was) ∙ copy_file_body t p m mode bytes
+
+  pub copy_mode : (f : Option Found) (mode : ℕ) → IsFound f (seen (u ∷ ls) p) → with_mode (copied_up u ls p) p (at (copied_up u ls p) p) mode ≡ with_last (with_its_mode f mode) (with_parents u ls p) p
+  copy_mode None mode is = by (seen (u ∷ ls) p) refl is
+    where
+      by : (o : Option Object) → seen (u ∷ ls) p ≡ o → is_shown_dir o ≡ true → with_mode (copied_up u ls p) p (at (copied_up u ls p) p) mode ≡ with_entry (with_parents u ls p) p (Dir mode false)
+      by None e is = absurd (cc)
+      by (Some (dir m)) e is = dir_copy m mode e
+      by (Some (file m bytes)) e is = absurd (cc)
+      by (Some (symlink target)) e is = absurd (cc)
+  copy_mode (Some f) mode is = file_copy f.mode mode f.bytes.now is ∙ new_with_body t p (File t.next) (body_kinds.File f.mode f.bytes.now) (body_kinds.File mode f.bytes.now)
+
+pub mode_fits : (u : Tree) (ls : List Tree) (p : Names) (f : Option Found) (mode : ℕ) → IsLayer u → AreLayers ls → at u p ≡ None → IsFound f (seen (u ∷ ls) p) → mode ≤ 4095 → Fits (with_its_mode f mode) u p
+mode_fits u ls p None mode ok layers none is low = (vacant u p ok none, low)
+mode_fits u ls p (Some f) mode ok layers none is low = (vacant u p ok none, low, (subst IsWholeObject is (whole_seen (u ∷ ls) (ok, layers) p)).1)
+
+-- ---- outcomes
+
+module _ (u : Tree) (ls : List Tree) (p : Names) (mode : ℕ) (ok : IsLayer u) (passes : first_error (tests (op.SetMode p mode) (u ∷ ls)) ≡ None) where
+  pub settable : IsSettable (u ∷ ls) p mode
+  settable = IsSettable-passed (u ∷ ls) p mode passes
+
+  pub own_mode_after : is_some (at u p) ≡ true → limited (with_mode u p (at u p) mode) ≡ after (op.SetMode p mode) u ls
+  own_mode_after some = ap limited (sym (own_mode u ls p mode ok some)) ∙ sym (after_passes (op.SetMode p mode) u ls passes)
+
+  pub copy_mode_after : (f : Option Found) → IsFound f (seen (u ∷ ls) p) → is_some (at u p) ≡ false → limited (with_last (with_its_mode f mode) (with_parents u ls p) p) ≡ after (op.SetMode p mode) u ls
+  copy_mode_after f is none = ap limited (sym (copy_mode u ls p settable.way (none_from (at u p) none) f mode is)) ∙ sym (after_passes (op.SetMode p mode) u ls passes)
+
+  pub empty : is_some (at u p) ≡ false → at u p ≡ None
+  empty none = none_from (at u p) none
+
+-- ---- plans
+
+mode_layer : (u : Tree) (p : Names) (mode : ℕ) → IsLayer u → HasMode (at u p) → mode ≤ 4095 → IsLayer (with_mode u p (at u p) mode)
+mode_layer u p mode ok has low = by (at u p) refl has
+  where
+    by : (o : Option Node) → at u p ≡ o → HasMode o → IsLayer (with_mode u p o mode)
+    by None e has = absurd has
+    by (Some (Dir m b)) e has = (dir_stays u ok p m mode b b e low).layer
+    by (Some (File k)) e has =
+        let there = ok.nodes p (File k) e in
+        let is = file_body (body u k) there in
+        subst (λ (o : Option Body). IsLayer (with_file_mode u k o mode)) (sym is.2) (IsLayer-with_body u k (body_kinds.File mode is.1) ok there (low, (subst IsFile is.2 there).1))
+    by (Some (Symlink k)) e has = absurd has
+    by (Some Whiteout) e has = absurd has
+
+pub own_mode_planned : (u : Tree) (ls : List Tree) (p : Names) (mode : ℕ) → IsLayer u → first_error (tests (op.SetMode p mode) (u ∷ ls)) ≡ None → is_some (at u p) ≡ true → (usage : Usage) → usage ≡ record { blocks = block_count u; inodes = inode_count u } → ◌≡◌ {A = Result Planned FsError} (Ok (record { after = usage })) (planned (after (op.SetMode p mode) u ls))
+own_mode_planned u ls p mode ok passes some usage is =
+    let ready = IsSettable-passed (u ∷ ls) p mode passes in
+    planned_fits (with_mode u p (at u p) mode) usage (after (op.SetMode p mode) u ls)
+    (mode_layer u p mode ok (has_mode u ls p ok ready.there some) ready.low)
+    (ap (λ (n : Usage). n.blocks) is ∙ sym (block_count-with_mode u ok p mode))
+    (ap (λ (n : Usage). n.inodes) is ∙ sym (inode_count-with_mode u ok p mode))
+    (sym (own_mode_after u ls p mode ok passes some))

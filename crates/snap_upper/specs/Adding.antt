@@ -1,0 +1,25 @@
+-- What is added to a layer, and what it takes.
+use Rattle.std.specs.Prelude.{◌≡◌, ℕ, Bool, true, false, length, Option, Some, None}
+use Rattle.snap_layer.specs.Counts.{blocks_of}
+use Rattle.snap_merge.specs.Objects.{Object, file, is_shown_dir}
+use Rattle.snap_upper.specs.declared.checking.Found.{Found}
+use Rattle.snap_copyup.specs.declared.putting.Last.{Last}
+use Rattle.snap_copyup.specs.declared.putting.Last.TheVariants.{Nothing, Dir, File, Symlink, Whiteout}
+
+-- it takes an inode, so many blocks, and the next file number or none
+abbrev pub Takes : Last → ℕ → Bool → Type 0
+Takes Nothing blocks numbered = ⊥
+Takes (Dir mode opaque) blocks numbered = (blocks ≡ 1) × (numbered ≡ false)
+Takes (File mode bytes) blocks numbered = (blocks ≡ blocks_of (length bytes)) × (numbered ≡ true)
+Takes (Symlink target) blocks numbered = (blocks ≡ 0) × (numbered ≡ true)
+Takes Whiteout blocks numbered = (blocks ≡ 0) × (numbered ≡ false)
+
+-- what is found where a directory or a regular file is seen: the file, or nothing for a directory
+abbrev pub IsFound : Option Found → Option Object → Type 0
+IsFound None o = is_shown_dir o ≡ true
+IsFound (Some f) o = o ≡ Some (file f.mode f.bytes.now)
+
+-- a directory that isn't opaque, or the file, with the mode
+abbrev pub with_its_mode : Option Found → ℕ → Last
+with_its_mode None mode = Dir mode false
+with_its_mode (Some f) mode = File mode f.bytes.now
