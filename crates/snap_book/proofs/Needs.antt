@@ -12,6 +12,7 @@ use Rattle.snap_merge.specs.Walk.{walk, walk_from, walk_on}
 use Rattle.snap_upper.specs.declared.op.Op.{Op}
 use Rattle.snap_upper.specs.declared.op.Op.TheVariants.{Mkdir, Create, Write}
 use Rattle.snap_upper.specs.After.{Outcome, after, tests, first_error, error_if, file_error, unless, limited, next_layer, planned}
+use Rattle.snap_book.specs.Working.{outcome}
 
 module _ (need : Usage) where
   -- ---- tests
@@ -84,9 +85,13 @@ module _ (need : Usage) where
   pub after_needs_none : (op : Op) (u : Tree) (lowers : List Tree) → after op u lowers ≡ Err (NeedsCharge need) → ⊥
   after_needs_none op u lowers = no_outcome (first_error (tests op (u ∷ lowers))) (limited (next_layer op u lowers)) (no_test op (u ∷ lowers)) (no_limited (next_layer op u lowers))
 
+  outcome_needs_none : (op : Op) (u : Tree) (lowers : List Tree) → outcome op u lowers ≡ Err (NeedsCharge need) → ⊥
+  outcome_needs_none op u [] e = after_needs_none op u [] e
+  outcome_needs_none op u (lower ∷ lowers) e = cc
+
   -- nor is it the error of a plan
-  pub planned_needs_none : (op : Op) (u : Tree) (lowers : List Tree) → planned (after op u lowers) ≡ Err (NeedsCharge need) → ⊥
-  planned_needs_none op u lowers = by (after op u lowers) (after_needs_none op u lowers)
+  pub planned_needs_none : (op : Op) (u : Tree) (lowers : List Tree) → planned (outcome op u lowers) ≡ Err (NeedsCharge need) → ⊥
+  planned_needs_none op u lowers = by (outcome op u lowers) (outcome_needs_none op u lowers)
     where
       by : (a : Outcome) → (a ≡ Err (NeedsCharge need) → ⊥) → planned a ≡ Err (NeedsCharge need) → ⊥
       by (Ok t) never e = cc

@@ -3,8 +3,8 @@ ghost use Rattle.std.specs.Prelude.{◌≡◌, ◌⊎◌, ◌↔◌, [], OnOk, O
 ghost use Rattle.snap_usage.specs.Counted.{Covers};
 ghost use Rattle.snap_usage.specs.declared.usage.Usage as usages;
 ghost use Rattle.snap_merge.specs.declared.error.FsError.TheVariants.{NeedsCharge, OutOfMemory};
-ghost use Rattle.snap_upper.specs.After.{after, planned};
-ghost use Rattle.snap_book.specs.Working.{worked};
+ghost use Rattle.snap_upper.specs.After.{planned};
+ghost use Rattle.snap_book.specs.Working.{outcome, worked};
 
 use crate::active::Active;
 use snap_ledger::StoreName;
@@ -16,18 +16,23 @@ impl<N: StoreName> Active<N> {
     /// What its layer would take after the operation: the count of the next layer, which the share
     /// need not cover.
     ///
-    /// The errors are those of [`Active::apply`] up to `LayerFull`, in the same order. It changes
+    /// Where there are lower layers it is `Invalid`: no operation works over them yet. The other errors
+    /// are those of [`Active::apply`] up to `LayerFull`, in the same order. It changes
     /// nothing and takes no memory. The cost is that of `snap_upper::plan`: the number of paths times
     /// the path's number of names, and the number of files.
     pub fn plan(&self, op: &Op) -> Result<Usage, FsError>
-        ensures { result ≡ planned (after op.now self.now.layer []) }
+        ensures { result ≡ planned (outcome op.now self.now.layer self.now.lowers) }
     {
+        if !self.lowers.is_empty() {
+            return Err(FsError::Invalid);
+        }
         snap_upper::plan(&self.layer, op)
     }
 
     /// Does the operation on its layer, where the share covers what the layer takes afterwards.
     ///
     /// Errors, in this order, of the first that applies:
+    /// - `Invalid` where there are lower layers: no operation works over them yet;
     /// - those of the operation, in the order of `snap_upper::apply`, `LayerFull` last;
     /// - `NeedsCharge`, with the count of the whole next layer: the share doesn't cover it in both
     ///   quantities. A charge of that much makes room for the operation;
@@ -41,15 +46,15 @@ impl<N: StoreName> Active<N> {
     /// same way (write(2), `EDQUOT`).
     pub fn apply(&mut self, op: &Op) -> Result<(), FsError>
         // Ok: the layer is the next one, and all else stays.
-        ensures ok { OnOk result (worked op.now self.old.share.usage self.old.layer ≡ Ok self.new.layer) }
+        ensures ok { OnOk result (worked op.now self.old.share.usage self.old.layer self.old.lowers ≡ Ok self.new.layer) }
         ensures same { OnOk result (self.new ≡ record self.old { layer = self.new.layer }) }
         // Err: memory was refused, or the error is the operation's under the share; all stays.
-        ensures error { IfErr result (λ e. (e ≡ OutOfMemory) ⊎ (worked op.now self.old.share.usage self.old.layer ≡ Err e)) }
+        ensures error { IfErr result (λ e. (e ≡ OutOfMemory) ⊎ (worked op.now self.old.share.usage self.old.layer self.old.lowers ≡ Err e)) }
         ensures unchanged { OnErr result (self.new ≡ self.old) }
         // An error of the operation under the share comes before any memory is taken.
-        ensures first { IfErr (worked op.now self.old.share.usage self.old.layer) (λ e. result ≡ Err e) }
+        ensures first { IfErr (worked op.now self.old.share.usage self.old.layer self.old.lowers) (λ e. result ≡ Err e) }
         // So much is asked for exactly where it is the next layer's count and the share doesn't cover it.
-        ensures needs { (need : usages.Usage) → IsErrOf result (NeedsCharge need) ↔ ((planned (after op.now self.old.layer []) ≡ Ok need) × ¬ Covers self.old.share.usage need) }
+        ensures needs { (need : usages.Usage) → IsErrOf result (NeedsCharge need) ↔ ((planned (outcome op.now self.old.layer self.old.lowers) ≡ Ok need) × ¬ Covers self.old.share.usage need) }
     {
         let need = self.plan(op)?;
         if !self.share().covers(need) {
