@@ -1,12 +1,28 @@
 -- What clauses see of a snapshot in its writer's hands.
-use Rattle.std.specs.Prelude.{ℕ}
-use Rattle.snap_layer.specs.Tree.{Tree}
+use Rattle.std.specs.Prelude.{ℕ, List, [], ◌∷◌, Option, None, Some}
+use Rattle.snap_layer.specs.declared.node.Node.{Node}
+use Rattle.snap_layer.specs.declared.node.Node.TheVariants.{Dir, File, Symlink, Whiteout}
+use Rattle.snap_layer.specs.Tree.{Tree, at}
 use Rattle.snap_ledger.specs.States.{ShareState}
 use Rattle.snap_record.specs.Labels.{Bytes}
 
--- an open snapshot: the place of its namespace, its key, its layer, and its share
+-- an open snapshot: the place of its namespace, its key, the layers below its own, nearest first, its own layer, and its share
 pub record ActiveValue : Type 0 where
   pub namespace : ℕ
   pub key : Bytes
+  pub lowers : List Tree
   pub layer : Tree
   pub share : ShareState
+
+-- the permission bits of a directory; those of nothing, and of all else, are 755 in octal
+abbrev pub mode_of : Option Node → ℕ
+mode_of None = 493
+mode_of (Some (Dir mode opaque)) = mode
+mode_of (Some (File number)) = 493
+mode_of (Some (Symlink number)) = 493
+mode_of (Some Whiteout) = 493
+
+-- the permission bits of the root of a new layer over these: those of the nearest one's root, and 755 in octal where there is none
+abbrev pub root_mode : List Tree → ℕ
+root_mode [] = 493
+root_mode (layer ∷ layers) = mode_of (at layer [])

@@ -1,5 +1,5 @@
 -- An operation on the layer of an open snapshot, which may fill its share and no more.
-use Rattle.std.specs.Prelude.{[], if◌then◌else◌, Ok, Err}
+use Rattle.std.specs.Prelude.{List, if◌then◌else◌, Ok, Err}
 use Rattle.snap_layer.specs.Tree.{Tree}
 use Rattle.snap_usage.specs.declared.usage.Usage.{Usage}
 use Rattle.snap_usage.specs.Counted.{count_of}
@@ -14,5 +14,5 @@ within_share share (Ok next) = if covers share (count_of next) then Ok next else
 within_share share (Err e) = Err e
 
 -- the outcome of an operation on the layer under the share: the operation's error, NeedsCharge, or the next layer
-abbrev pub worked : Op → Usage → Tree → Outcome
-worked op share layer = within_share share (after op layer [])
+abbrev pub worked : Op → Usage → Tree → List Tree → Outcome
+worked op share layer lowers = within_share share (after op layer lowers)

@@ -6,13 +6,14 @@ ghost use Rattle.snap_book.specs.Held.{share_of};
 
 use snap_layer::{Layer, Shared};
 use snap_ledger::{Share, StoreName};
-use snap_record::Text;
+use snap_record::{Sequence, Text};
 use snap_usage::{Usage, count, difference};
 use std::alloc::Global;
 use std::marker::Model;
 
-/// An active snapshot in its writer's hands: its layer, which is the upper directory of its mount,
-/// and its share, which covers the layer's count.
+/// An active snapshot in its writer's hands: its layer, which is the upper directory of its mount, the
+/// layers of its committed ancestors, nearest first, which are the lower ones, and its share, which
+/// covers the layer's count.
 ///
 /// It has no `Drop`. A commit or a discard on the book takes it back. No call of it waits for another
 /// writer.
@@ -20,6 +21,7 @@ pub struct Active<N: StoreName> {
     pub(crate) alloc: Global,
     pub(crate) namespace: usize,
     pub(crate) key: Text,
+    pub(crate) lowers: Sequence<Shared>,
     pub(crate) layer: Layer,
     pub(crate) share: Share<N>,
 }
@@ -31,7 +33,7 @@ impl<N: StoreName> Model for Active<N> {
 
     ghost Value = { ActiveValue };
 
-    ghost view = { λ a. record { namespace = a.namespace; key = a.key; layer = a.layer; share = a.share } };
+    ghost view = { λ a. record { namespace = a.namespace; key = a.key; lowers = a.lowers; layer = a.layer; share = a.share } };
 
     ghost invariant = { λ a. (a.share.slot < 64) × Covers a.share.usage (count_of a.layer) };
 }
@@ -40,6 +42,7 @@ impl<N: StoreName> Model for Active<N> {
 pub struct Sealed<N: StoreName> {
     pub(crate) namespace: usize,
     pub(crate) key: Text,
+    pub(crate) lowers: Sequence<Shared>,
     pub(crate) layer: Shared,
     pub(crate) share: Share<N>,
 }
@@ -51,7 +54,7 @@ impl<N: StoreName> Model for Sealed<N> {
 
     ghost Value = { ActiveValue };
 
-    ghost view = { λ a. record { namespace = a.namespace; key = a.key; layer = a.layer; share = a.share } };
+    ghost view = { λ a. record { namespace = a.namespace; key = a.key; lowers = a.lowers; layer = a.layer; share = a.share } };
 
     ghost invariant = { λ a. (a.share.slot < 64) × Covers a.share.usage (count_of a.layer) };
 }
@@ -129,6 +132,7 @@ impl<N: StoreName> Active<N> {
             alloc,
             namespace,
             key,
+            lowers,
             layer,
             share,
         } = self;
@@ -136,6 +140,7 @@ impl<N: StoreName> Active<N> {
             Ok(layer) => Ok(Sealed {
                 namespace,
                 key,
+                lowers,
                 layer,
                 share,
             }),
@@ -143,6 +148,7 @@ impl<N: StoreName> Active<N> {
                 alloc,
                 namespace,
                 key,
+                lowers,
                 layer,
                 share,
             }),
@@ -187,6 +193,7 @@ impl<N: StoreName> Held<N> {
                     alloc: _,
                     namespace: _,
                     key: _,
+                    lowers: _,
                     layer: _,
                     share,
                 },
@@ -195,6 +202,7 @@ impl<N: StoreName> Held<N> {
                 Sealed {
                     namespace: _,
                     key: _,
+                    lowers: _,
                     layer: _,
                     share,
                 },

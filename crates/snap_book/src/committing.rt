@@ -189,6 +189,7 @@ impl<N: StoreName> Book<N> {
         let Sealed {
             namespace: _,
             key: _,
+            lowers: _,
             layer,
             share,
         } = sealed;

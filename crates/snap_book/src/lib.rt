@@ -18,6 +18,8 @@ mod tests;
 #[cfg(test)]
 mod tests_book;
 #[cfg(test)]
+mod tests_parents;
+#[cfg(test)]
 mod tests_working;
 mod totals;
 mod working;

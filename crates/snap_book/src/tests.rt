@@ -70,6 +70,7 @@ fn prepare<N: StoreName>(
         alloc,
         namespace: 2,
         key,
+        lowers: Sequence::new(alloc),
         layer,
         share: slots.issue(slot, id, first),
     })

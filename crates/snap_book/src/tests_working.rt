@@ -6,7 +6,7 @@ use snap_layer::{Bytes, Layer};
 use snap_ledger::{NewTable, StoreName};
 use snap_merge::FsError;
 use snap_path::Path;
-use snap_record::Text;
+use snap_record::{Sequence, Text};
 use snap_upper::{Op, Planned};
 use snap_usage::Usage;
 use std::alloc::Global;
@@ -124,6 +124,7 @@ fn goes_through<N: StoreName>(
         alloc,
         namespace: 0,
         key,
+        lowers: Sequence::new(alloc),
         layer,
         share: slots.issue(0, 1, usage(1, 1)),
     };

@@ -1,5 +1,5 @@
 // Operations on the layer of an open snapshot.
-ghost use Rattle.std.specs.Prelude.{◌≡◌, ◌⊎◌, ◌↔◌, [], OnOk, OnErr, IfErr, IsErrOf, Ok, Err, true};
+ghost use Rattle.std.specs.Prelude.{◌≡◌, ◌⊎◌, ◌↔◌, OnOk, OnErr, IfErr, IsErrOf, Ok, Err, true};
 ghost use Rattle.snap_usage.specs.Counted.{Covers};
 ghost use Rattle.snap_usage.specs.declared.usage.Usage as usages;
 ghost use Rattle.snap_merge.specs.declared.error.FsError.TheVariants.{NeedsCharge, OutOfMemory};
@@ -17,13 +17,14 @@ impl<N: StoreName> Active<N> {
     /// need not cover.
     ///
     /// The errors are those of [`Active::apply`] up to `LayerFull`, in the same order. It changes
-    /// nothing. It takes no memory, but for `Unlink` and `Rmdir`, which can answer `OutOfMemory`. The cost is that of `snap_upper::plan`: the number of paths times
-    /// the path's number of names, and the number of files.
+    /// nothing. It takes no memory, but for `Unlink` and `Rmdir`, which can answer `OutOfMemory`. The
+    /// cost is that of `snap_upper::plan`: a look through the layers for each name of the path, the
+    /// number of paths times the path's number of names, and the number of files.
     pub fn plan(&self, op: &Op) -> Result<Planned, FsError>
-        ensures answer { Answers (planned (after op.now self.now.layer [])) result }
-        ensures sure { is_planned_in_place op.now ≡ true → result ≡ planned (after op.now self.now.layer []) }
+        ensures answer { Answers (planned (after op.now self.now.layer self.now.lowers)) result }
+        ensures sure { is_planned_in_place op.now ≡ true → result ≡ planned (after op.now self.now.layer self.now.lowers) }
     {
-        snap_upper::plan(&self.layer, &[], op)
+        snap_upper::plan(&self.layer, self.lowers.as_slice(), op)
     }
 
     /// Does the operation on its layer, where the share covers what the layer takes afterwards.
@@ -42,21 +43,21 @@ impl<N: StoreName> Active<N> {
     /// same way (write(2), `EDQUOT`).
     pub fn apply(&mut self, op: &Op) -> Result<(), FsError>
         // Ok: the layer is the next one, and all else stays.
-        ensures ok { OnOk result (worked op.now self.old.share.usage self.old.layer ≡ Ok self.new.layer) }
+        ensures ok { OnOk result (worked op.now self.old.share.usage self.old.layer self.old.lowers ≡ Ok self.new.layer) }
         ensures same { OnOk result (self.new ≡ record self.old { layer = self.new.layer }) }
         // Err: memory was refused, or the error is the operation's under the share; all stays.
-        ensures error { IfErr result (λ e. (e ≡ OutOfMemory) ⊎ (worked op.now self.old.share.usage self.old.layer ≡ Err e)) }
+        ensures error { IfErr result (λ e. (e ≡ OutOfMemory) ⊎ (worked op.now self.old.share.usage self.old.layer self.old.lowers ≡ Err e)) }
         ensures unchanged { OnErr result (self.new ≡ self.old) }
         // An error of the operation under the share comes before any memory is taken.
-        ensures first { is_planned_in_place op.now ≡ true → IfErr (worked op.now self.old.share.usage self.old.layer) (λ e. result ≡ Err e) }
+        ensures first { is_planned_in_place op.now ≡ true → IfErr (worked op.now self.old.share.usage self.old.layer self.old.lowers) (λ e. result ≡ Err e) }
         // So much is asked for exactly where it is the next layer's count and the share doesn't cover it.
-        ensures needs { is_planned_in_place op.now ≡ true → (need : usages.Usage) → IsErrOf result (NeedsCharge need) ↔ ((planned (after op.now self.old.layer []) ≡ Ok (record { after = need })) × ¬ Covers self.old.share.usage need) }
+        ensures needs { is_planned_in_place op.now ≡ true → (need : usages.Usage) → IsErrOf result (NeedsCharge need) ↔ ((planned (after op.now self.old.layer self.old.lowers) ≡ Ok (record { after = need })) × ¬ Covers self.old.share.usage need) }
     {
         let planned = self.plan(op)?;
         let need = planned.after;
         if !self.share().covers(need) {
             return Err(FsError::NeedsCharge(need));
         }
-        snap_upper::apply(&mut self.layer, &[], op)
+        snap_upper::apply(&mut self.layer, self.lowers.as_slice(), op)
     }
 }

@@ -2,7 +2,7 @@
 use Rattle.std.proofs.Common.{◌≡◌, ℕ, zero, suc, true, false, true≢false, List, [], ◌∷◌, Option, Some, None, IsSome, refl, sym, ap, ◌∙◌, subst}
 use Rattle.std.specs.Option.{option_map, is_some}
 use Rattle.std.specs.Prelude.{bytes_eq, ◌==◌}
-use Rattle.std.proofs.lemmas.Bool.{and_parts, eqb-true, false_from_ne_true}
+use Rattle.std.proofs.lemmas.Bool.{and_parts, eqb-true, false_from_ne_true, not-false}
 use Rattle.std.proofs.lemmas.Slice.Eq.{bytes_eq-Decides}
 use Rattle.snap_usage.specs.declared.usage.Usage.{Usage}
 use Rattle.snap_lease.specs.Lease.{Lease}
@@ -12,7 +12,7 @@ use Rattle.snap_record.specs.declared.record.Content.TheVariants.{View, Active, 
 use Rattle.snap_record.specs.declared.record.Record.{Record}
 use Rattle.snap_call.specs.declared.config.Namespace.{Namespace}
 use Rattle.snap_call.specs.Records.{is_named, record_at, has_key, has_slot, is_committed, committed_at, with_record, without_slot, recharged}
-use Rattle.snap_call.specs.State.{place_of, chain_over, chain_from, chain}
+use Rattle.snap_call.specs.State.{place_of, chain_over, chain_from, chain, chain_if, ancestors, is_base, is_too_deep}
 use Rattle.snap_call.specs.Good.{ParentStands, HasParent, NamesStand, IsGuarding}
 use Rattle.snap_call.proofs.Lists.{all-map, none_some, committed-parts, committed-from, find-any, find-with_record, find-without_slot, find-recharged}
 
@@ -107,3 +107,22 @@ module _ (rs ts : List Record) (keeps : Keeps rs ts) where
 
   pub keeps-some_chain : (r : Record) → IsSome (chain rs r) → IsSome (chain ts r)
   keeps-some_chain r some = some_chain 64 r.namespace r.parent some
+
+  -- the ancestors of a snapshot that has a chain
+  pub keeps-ancestors : (place : ℕ) (p : Bytes) → IsSome (chain_from 64 rs place p) → ancestors place p ts ≡ ancestors place p rs
+  keeps-ancestors place p some = by (chain_from 64 rs place p) refl some
+    where
+      by : (o : Option (List Record)) → chain_from 64 rs place p ≡ o → IsSome o → ancestors place p ts ≡ ancestors place p rs
+      by None e is = absurd (true≢false (sym is))
+      by (Some c) e is = ap chain_if (keeps-chain_from 64 place p c e ∙ sym e)
+
+-- ---- a parent that was tested
+
+-- it stands
+pub base-stands : (rs : List Record) (place : ℕ) (p : Bytes) → is_base place p rs ≡ true → ParentStands rs place p
+base-stands rs place [] e = tt
+base-stands rs place (b ∷ bs) e = e
+
+-- and there is a chain from it upwards
+pub chain-found : (rs : List Record) (place : ℕ) (p : Bytes) → is_too_deep place p rs ≡ false → IsSome (chain_from 64 rs place p)
+chain-found rs place p e = not-false (is_some (chain_from 64 rs place p)) e

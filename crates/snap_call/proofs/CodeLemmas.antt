@@ -1,16 +1,15 @@
 -- What the code's searches through the records find.
-use Rattle.std.proofs.Common.{◌≡◌, ℕ, zero, suc, ◌+◌, ◌<◌, ◌≤◌, List, [], ◌∷◌, length, get_or, set, Bool, true, false, position, Option, Some, None, sym, refl, ap, ◌∙◌, arith, add-one, ⊎_elim, ap₂}
-use Rattle.std.proofs.lemmas.Bool.{cases_lt}
+use Rattle.std.proofs.Common.{◌≡◌, ℕ, zero, suc, ◌+◌, ◌<◌, List, [], ◌∷◌, length, get_or, set, Bool, true, false, position, Option, Some, None, sym, refl, ap, ◌∙◌, arith, ap₂}
 use Rattle.std.proofs.lemmas.List.Quantifiers.{position-Some}
 use Rattle.std.proofs.lemmas.Iterator.Adapters.{position_from-zero}
 use Rattle.std.specs.Option.{MatchOption}
-use Rattle.std.specs.List.{position_from, insert, remove, list_any}
+use Rattle.std.specs.List.{position_from, insert, remove}
 use Rattle.snap_layer.specs.Tree.{Tree}
 use Rattle.snap_usage.specs.declared.usage.Usage.{Usage}
 use Rattle.snap_usage.specs.Counted.{count_of}
 use Rattle.snap_record.specs.declared.record.Record.{Record}
 use Rattle.snap_record.specs.declared.record.Content.TheVariants.{Active, Committed}
-use Rattle.snap_call.specs.Records.{is_later, is_slot, active_at, with_record, without_slot, recharged, committed_as, lowest_free, is_free, or_if}
+use Rattle.snap_call.specs.Records.{is_later, is_slot, active_at, with_record, without_slot, recharged, committed_as}
 
 -- an insertion before the first record that comes later
 with_record_found : (r : Record) (rs : List Record) (i : ℕ) (d : Record) → i < length rs → is_later r (get_or rs i d) ≡ true → ((k : ℕ) → k < i → is_later r (get_or rs k d) ≡ false) → insert rs i r ≡ with_record r rs

@@ -2,8 +2,8 @@
 use Rattle.std.proofs.Common.{◌≡◌, ◌≢◌, ℕ, zero, suc, ◌+◌, ◌<◌, Bool, true, false, true≢false, eqb, List, [], ◌∷◌, length, Option, Some, None, IsSome, refl, sym, ap, ◌∙◌, subst, inl, inr, arith}
 use Rattle.std.specs.List.{AllByRecursion, list_all}
 use Rattle.std.specs.List.Sorted.{IsStrictlySortedBy}
-use Rattle.std.specs.Prelude.{if◌then◌else◌, ◌&&◌, nat_lt, nat_le}
-use Rattle.std.proofs.lemmas.Bool.{and_parts, eqb-true, false_from_ne_true, cases_eq, leb-true}
+use Rattle.std.specs.Prelude.{if◌then◌else◌, ◌&&◌, not, nat_lt, nat_le}
+use Rattle.std.proofs.lemmas.Bool.{and_parts, eqb-true, false_from_ne_true, cases_eq, leb-true, not-false}
 use Rattle.std.proofs.lemmas.List.Quantifiers.{position-Some}
 use Rattle.snap_layer.specs.Tree.{Tree}
 use Rattle.snap_usage.specs.declared.usage.Usage.{Usage}
@@ -26,15 +26,15 @@ use Rattle.snap_call.specs.declared.entry.Entry.{Entry}
 use Rattle.snap_call.specs.declared.refusal.Refusal.{Refusal}
 use Rattle.snap_call.specs.declared.reply.Reply.{Reply}
 use Rattle.snap_call.specs.declared.state.State.{State}
-use Rattle.snap_call.specs.Forms.{has_name, is_limit, is_namespace, is_text, have_distinct_names, is_config, is_key}
+use Rattle.snap_call.specs.Forms.{has_name, is_limit, is_namespace, is_text, have_distinct_names, is_config, is_key, is_parent}
 use Rattle.snap_call.specs.Records.{has_key, has_slot, is_slot, record_at, active_at, charge_of, with_record, without_slot, recharged, committed_as, lowest_free}
-use Rattle.snap_call.specs.State.{opening, place_of, limit_at, covers, charge_with, chain}
+use Rattle.snap_call.specs.State.{opening, place_of, limit_at, covers, charge_with, chain, is_present, is_base, is_too_deep}
 use Rattle.snap_call.specs.Good.{HasParent, IsGuarding, IsCounted, HasPlace, AreApart, Good}
-use Rattle.snap_call.specs.Step.{counted, refused, session, one, no_more, new_active, prepared, prepare_slot, prepare_in, prepare, greater, fits, choice, charge_to, charge, trim, committed, commit_under, is_lease_text, commit_as, commit, discard, ask_record, ask_in, ask, step, IsCovered, IsAllowed, TrimAllowed, CommitAllowed}
+use Rattle.snap_call.specs.Step.{counted, refused, session, one, no_more, new_active, prepared, prepare_slot, prepare_at, prepare_in, prepare, greater, fits, choice, charge_to, charge, trim, committed, commit_under, is_lease_text, commit_as, commit, discard, ask_record, ask_in, ask, step, IsCovered, IsAllowed, TrimAllowed, CommitAllowed}
 use Rattle.snap_call.specs.Journal.{Replays}
 use Rattle.snap_call.proofs.Lists.{all-map, find-none, same_slot, active_at-all, all-with_record, pairwise-with_record, all-without_slot, pairwise-without_slot, all-beside, all-recharged, pairwise-recharged}
 use Rattle.snap_call.proofs.Ordered.{sorted-with_record, sorted-without_slot, sorted-recharged, has_key-without_slot}
-use Rattle.snap_call.proofs.Chains.{Keeps, Keeps-after, Keeps-with_record, Keeps-without_slot, Keeps-recharged, keeps-HasParent, keeps-IsGuarding, keeps-some_chain}
+use Rattle.snap_call.proofs.Chains.{Keeps, Keeps-after, Keeps-with_record, Keeps-without_slot, Keeps-recharged, keeps-HasParent, keeps-IsGuarding, keeps-some_chain, base-stands, chain-found}
 use Rattle.snap_call.proofs.Sums.{charge_of-with_record_own, charge_of-with_record_other, charge_of-covers, charge_of-without_slot_own, charge_of-without_slot_other, charge_of-recharged_own, charge_of-recharged_other, charge_of-committed_own, charge_of-committed_other}
 use Rattle.snap_call.proofs.Lowest.{lowest_free-Some}
 
@@ -103,10 +103,11 @@ good_counted s good = good_counters s s.sessions (s.entries + 1) good
 
 -- ---- a new active snapshot
 
-pub good_prepared : (s : State) (place : ℕ) (key : Bytes) (slot : ℕ) → Good s → place < length s.namespaces → has_key place key s.records ≡ false → slot < 64 → active_at slot s.records ≡ None
-    → Covers (limit_at place s.namespaces) (plus (charge_of place s.records) one) → Good (prepared s place key slot).0
-good_prepared s place key slot good low free few none room = record {
-  parents = stand_parents ns rs ts keeps ts (all-with_record r (HasParent rs) rs tt good.parents);
+pub good_prepared : (s : State) (place : ℕ) (key parent : Bytes) (slot : ℕ) → Good s → place < length s.namespaces → has_key place key s.records ≡ false
+    → is_base place parent s.records ≡ true → is_too_deep place parent s.records ≡ false → slot < 64 → active_at slot s.records ≡ None
+    → Covers (limit_at place s.namespaces) (plus (charge_of place s.records) one) → Good (prepared s place key parent slot).0
+good_prepared s place key parent slot good low free base deep few none room = record {
+  parents = stand_parents ns rs ts keeps ts (all-with_record r (HasParent rs) rs (base-stands rs place parent base) good.parents);
   leased = stand_leases ns rs ts keeps s.leases good.leased;
   counted = all-with_record r (λ t. IsCounted t.content) rs tt good.counted;
   within = within_after ns rs ts place good.within (subst (λ (u : Usage). Covers (limit_at place ns) u) (sym (charge_of-with_record_own r rs)) room) (λ p apart. charge_of-with_record_other p r rs apart);
@@ -123,7 +124,7 @@ good_prepared s place key slot good low free few none room = record {
       (all-map (λ t. is_slot slot t ≡ false) (λ t. AreApart t r) (λ t out k is. apart_other slot k one t.content out is) rs empty)
       good.slots;
   open_slots = all-with_record r (λ t. HasPlace t.content) rs few good.open_slots;
-  chains = stand_chains ns rs ts keeps ts (all-with_record r (λ t. IsSome (chain rs t)) rs refl good.chains);
+  chains = stand_chains ns rs ts keeps ts (all-with_record r (λ t. IsSome (chain rs t)) rs (chain-found rs place parent deep) good.chains);
 }
   where
     ns : List Namespace
@@ -133,7 +134,7 @@ good_prepared s place key slot good low free few none room = record {
     rs = s.records
 
     r : Record
-    r = new_active s place key slot
+    r = new_active s place key parent slot
 
     ts : List Record
     ts = with_record r rs
@@ -295,23 +296,31 @@ good_session s good = either (nat_lt s.sessions 65536) _ _ (λ e. good_counters 
 pub place_of-below : (name : Bytes) (ns : List Namespace) (place : ℕ) → place_of name ns ≡ Some place → place < length ns
 place_of-below name ns place e = (position-Some (has_name name) ns place (record { name = []; limit = no_usage }) e).0
 
-good_prepare_slot : (s : State) (place : ℕ) (key : Bytes) → Good s → place < length s.namespaces → has_key place key s.records ≡ false → (o : Option ℕ) → lowest_free 64 s.records ≡ o → Good (prepare_slot s place key o).0
-good_prepare_slot s place key good low free None e = good_counted s good
-good_prepare_slot s place key good low free (Some slot) e =
+good_prepare_slot : (s : State) (place : ℕ) (key parent : Bytes) → Good s → place < length s.namespaces → has_key place key s.records ≡ false → is_base place parent s.records ≡ true → is_too_deep place parent s.records ≡ false
+    → (o : Option ℕ) → lowest_free 64 s.records ≡ o → Good (prepare_slot s place key parent o).0
+good_prepare_slot s place key parent good low free base deep None e = good_counted s good
+good_prepare_slot s place key parent good low free base deep (Some slot) e =
     either (covers (limit_at place s.namespaces) (plus (charge_of place s.records) one)) _ _
     (λ room. either (nat_le s.next_id 4294967295) _ _
-    (λ few. let h = lowest_free-Some s.records slot e in good_prepared s place key slot good low free h.0 h.1 (covers-Covers _ _ room))
+    (λ few. let h = lowest_free-Some s.records slot e in good_prepared s place key parent slot good low free base deep h.0 h.1 (covers-Covers _ _ room))
     (λ spent. good_counted s good))
     (λ over. good_counted s good)
 
-good_prepare_in : (s : State) (key : Bytes) → Good s → (o : Option ℕ) → ((place : ℕ) → o ≡ Some place → place < length s.namespaces) → Good (prepare_in s key o).0
-good_prepare_in s key good None low = good_counted s good
-good_prepare_in s key good (Some place) low =
-    either (has_key place key s.records) _ _ (λ taken. good_counted s good) (λ free. good_prepare_slot s place key good (low place refl) free (lowest_free 64 s.records) refl)
+good_prepare_at : (s : State) (key parent : Bytes) (place : ℕ) → Good s → place < length s.namespaces → Good (prepare_at s key parent place).0
+good_prepare_at s key parent place good low =
+    either (not (is_present place parent s.records)) _ _ (λ missing. good_counted s good)
+    (λ present. either (has_key place key s.records) _ _ (λ taken. good_counted s good)
+    (λ free. either (not (is_base place parent s.records)) _ _ (λ active. good_counted s good)
+    (λ base. either (is_too_deep place parent s.records) _ _ (λ deep. good_counted s good)
+    (λ found. good_prepare_slot s place key parent good low free (not-false (is_base place parent s.records) base) found (lowest_free 64 s.records) refl))))
+
+good_prepare_in : (s : State) (key parent : Bytes) → Good s → (o : Option ℕ) → ((place : ℕ) → o ≡ Some place → place < length s.namespaces) → Good (prepare_in s key parent o).0
+good_prepare_in s key parent good None low = good_counted s good
+good_prepare_in s key parent good (Some place) low = good_prepare_at s key parent place good (low place refl)
 
 pub good_prepare : (s : State) (namespace key parent : Bytes) (labels : List Label) → Good s → Good (prepare s namespace key parent labels).0
 good_prepare s namespace key parent labels good =
-    either (is_key key && no_more parent && no_more labels) _ _ (λ e. good_prepare_in s key good (place_of namespace s.namespaces) (place_of-below namespace s.namespaces)) (λ e. good_counted s good)
+    either (is_key key && is_parent parent && no_more labels) _ _ (λ e. good_prepare_in s key parent good (place_of namespace s.namespaces) (place_of-below namespace s.namespaces)) (λ e. good_counted s good)
 
 -- the choice was tested
 good_charge_to : (s : State) (slot : ℕ) (r : Record) → Good s → active_at slot s.records ≡ Some r → (a b : Bool) (needed wanted : Usage) → fits s r wanted ≡ a → fits s r needed ≡ b → Good (charge_to s slot r (choice a b needed wanted)).0

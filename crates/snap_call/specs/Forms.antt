@@ -1,5 +1,5 @@
 -- The forms that texts, limits and configurations must have.
-use Rattle.std.specs.Prelude.{ℕ, ◌==◌, ◌^◌, Bool, true, false, not, ◌&&◌, nat_le, List, [], ◌∷◌, length, bytes_eq}
+use Rattle.std.specs.Prelude.{ℕ, ◌==◌, Bool, true, not, ◌&&◌, nat_le, List, [], ◌∷◌, length, bytes_eq}
 use Rattle.std.specs.List.{list_any, list_all}
 use Rattle.snap_usage.specs.declared.usage.Usage.{Usage}
 use Rattle.snap_record.specs.Labels.{Bytes}
@@ -14,6 +14,11 @@ is_text most bs = nat_le 1 (length bs) && nat_le (length bs) most && not (list_a
 -- a key of a snapshot, or the name of a committed one, of a parent or of a lease
 abbrev pub is_key : Bytes → Bool
 is_key bs = is_text 1024 bs
+
+-- a parent: the empty text, which stands for none, or a key
+abbrev pub is_parent : Bytes → Bool
+is_parent [] = true
+is_parent (b ∷ bs) = is_key (b ∷ bs)
 
 -- a limit of a namespace: at most 2^40 blocks and 2^40 inodes
 abbrev pub is_limit : Usage → Bool

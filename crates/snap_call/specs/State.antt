@@ -1,10 +1,13 @@
 -- The state of a store.
-use Rattle.std.specs.Prelude.{◌≡◌, ℕ, zero, suc, ◌+◌, Bool, true, false, ◌&&◌, nat_le, List, [], ◌∷◌, Option, None, Some, position, slice_get, length}
-use Rattle.std.specs.Option.{option_map}
+use Rattle.std.specs.Prelude.{ℕ, zero, suc, Bool, true, ◌&&◌, nat_le, List, [], ◌∷◌, Option, None, Some, position, slice_get, map, not}
+use Rattle.std.specs.Option.{option_map, is_some}
+use Rattle.snap_layer.specs.Tree.{Tree}
 use Rattle.snap_usage.specs.declared.usage.Usage.{Usage}
 use Rattle.snap_ledger.specs.States.{plus, minus}
 use Rattle.snap_record.specs.Labels.{Bytes}
 use Rattle.snap_record.specs.Records.{no_usage, usage_of}
+use Rattle.snap_record.specs.declared.record.Content.{Content}
+use Rattle.snap_record.specs.declared.record.Content.TheVariants.{View, Active, Committed}
 use Rattle.snap_record.specs.declared.record.Record.{Record}
 use Rattle.snap_call.specs.declared.config.Config.{Config}
 use Rattle.snap_call.specs.declared.config.Namespace.{Namespace}
@@ -12,7 +15,7 @@ use Rattle.snap_call.specs.declared.refusal.Refusal.{Refusal}
 use Rattle.snap_call.specs.declared.refusal.Refusal.TheVariants.{OverLimit}
 use Rattle.snap_call.specs.declared.state.State.{State}
 use Rattle.snap_call.specs.Forms.{has_name}
-use Rattle.snap_call.specs.Records.{charge_of, committed_at}
+use Rattle.snap_call.specs.Records.{charge_of, has_key, committed_at}
 
 -- the state of a store that is opened: no records, no leases, no sessions, no entries
 abbrev pub opening : Config → State
@@ -57,3 +60,40 @@ chain_from (suc n) rs place (b ∷ bs) = chain_over (committed_at place (b ∷ b
 -- the committed ancestors of a snapshot, nearest first: at most 64
 abbrev pub chain : List Record → Record → Option (List Record)
 chain rs r = chain_from 64 rs r.namespace r.parent
+
+-- ---- a parent, by its name
+
+-- none is given, or the namespace has a snapshot of this key
+abbrev pub is_present : ℕ → Bytes → List Record → Bool
+is_present place [] rs = true
+is_present place (b ∷ bs) rs = has_key place (b ∷ bs) rs
+
+-- none is given, or the namespace has a committed snapshot of this name
+abbrev pub is_base : ℕ → Bytes → List Record → Bool
+is_base place [] rs = true
+is_base place (b ∷ bs) rs = is_some (committed_at place (b ∷ bs) rs)
+
+-- a snapshot on it would have more than 64 committed ancestors
+abbrev pub is_too_deep : ℕ → Bytes → List Record → Bool
+is_too_deep place parent rs = not (is_some (chain_from 64 rs place parent))
+
+-- the committed ancestors of a snapshot on it, nearest first
+abbrev pub chain_if : Option (List Record) → List Record
+chain_if None = []
+chain_if (Some rs) = rs
+
+abbrev pub ancestors : ℕ → Bytes → List Record → List Record
+ancestors place parent rs = chain_if (chain_from 64 rs place parent)
+
+-- their ids and their layers, in the same order
+abbrev pub ids_of : List Record → List ℕ
+ids_of rs = map (λ r. r.id) rs
+
+abbrev pub with_layer : Content → List Tree → List Tree
+with_layer View layers = layers
+with_layer (Active slot charged) layers = layers
+with_layer (Committed layer usage) layers = layer ∷ layers
+
+abbrev pub layers_of : List Record → List Tree
+layers_of [] = []
+layers_of (r ∷ rs) = with_layer r.content (layers_of rs)

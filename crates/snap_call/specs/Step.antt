@@ -1,9 +1,9 @@
 -- What one call answers, and the state after it. The cases of each call stand in the order in which its refusals are tested.
-use Rattle.std.specs.Prelude.{◌≡◌, ℕ, ◌+◌, ◌<◌, Bool, true, false, not, ◌&&◌, nat_le, nat_lt, if◌then◌else◌, List, [], ◌∷◌, ◌++◌, Option, None, Some, max}
+use Rattle.std.specs.Prelude.{◌≡◌, ℕ, ◌+◌, ◌<◌, Bool, true, false, not, ◌&&◌, nat_le, nat_lt, if◌then◌else◌, List, [], ◌∷◌, Option, None, Some, max}
 use Rattle.snap_layer.specs.Tree.{Tree}
 use Rattle.snap_usage.specs.declared.usage.Usage.{Usage}
 use Rattle.snap_usage.specs.Counted.{count_of, Covers}
-use Rattle.snap_ledger.specs.States.{plus, minus}
+use Rattle.snap_ledger.specs.States.{plus}
 use Rattle.snap_record.specs.Labels.{Bytes, Label}
 use Rattle.snap_record.specs.Records.{usage_of, info_of}
 use Rattle.snap_record.specs.declared.record.Content.TheVariants.{Active}
@@ -13,13 +13,13 @@ use Rattle.snap_call.specs.declared.call.Call.TheVariants as calls
 use Rattle.snap_call.specs.declared.call.Given.{Given}
 use Rattle.snap_call.specs.declared.call.Given.TheVariants.{Nothing, Count, Layer}
 use Rattle.snap_call.specs.declared.refusal.Refusal.{Refusal}
-use Rattle.snap_call.specs.declared.refusal.Refusal.TheVariants.{BadArgument, NoNamespace, NotFound, AlreadyExists, NotActive, NoLease, TooManyActives, NumbersSpent}
+use Rattle.snap_call.specs.declared.refusal.Refusal.TheVariants.{BadArgument, NoNamespace, NotFound, AlreadyExists, NotCommitted, NotActive, NoLease, TooDeep, TooManyActives, NumbersSpent}
 use Rattle.snap_call.specs.declared.reply.Reply.{Reply}
 use Rattle.snap_call.specs.declared.reply.Reply.TheVariants.{Opened, Prepared, Charged, Trimmed, Committed, Discarded, Info, Usage as UsageReply, Refused}
 use Rattle.snap_call.specs.declared.state.State.{State}
-use Rattle.snap_call.specs.Forms.{is_key}
+use Rattle.snap_call.specs.Forms.{is_key, is_parent}
 use Rattle.snap_call.specs.Records.{record_at, has_key, active_at, charge_of, with_record, without_slot, recharged, committed_as, lowest_free}
-use Rattle.snap_call.specs.State.{place_of, limit_at, covers, charge_with, over_limit}
+use Rattle.snap_call.specs.State.{place_of, limit_at, covers, charge_with, over_limit, is_present, is_base, is_too_deep, ancestors, ids_of}
 
 -- one entry more
 abbrev pub counted : State → State
@@ -33,7 +33,7 @@ refused s why = (counted s, Refused why)
 abbrev pub session : State → State × Reply
 session s = if nat_lt s.sessions 65536 then (record s { sessions = s.sessions + 1; entries = s.entries + 1 }, Opened) else (s, Refused NumbersSpent)
 
--- Prepare: a new active snapshot, in the lowest free slot, charged 1/1 for its root. A parent and labels are refused.
+-- Prepare: a new active snapshot, in the lowest free slot, charged 1/1 for its root. The reply has the ids of its committed ancestors, nearest first. Labels are refused.
 abbrev pub one : Usage
 one = record { blocks = 1; inodes = 1 }
 
@@ -41,25 +41,36 @@ abbrev pub no_more : {X : Type 0} → List X → Bool
 no_more [] = true
 no_more (x ∷ xs) = false
 
-abbrev pub new_active : State → ℕ → Bytes → ℕ → Record
-new_active s place key slot = record { namespace = place; key = key; parent = []; id = s.next_id; labels = []; created = s.entries + 1; updated = s.entries + 1; content = Active slot one }
+abbrev pub new_active : State → ℕ → Bytes → Bytes → ℕ → Record
+new_active s place key parent slot = record { namespace = place; key = key; parent = parent; id = s.next_id; labels = []; created = s.entries + 1; updated = s.entries + 1; content = Active slot one }
 
-abbrev pub prepared : State → ℕ → Bytes → ℕ → State × Reply
-prepared s place key slot = (record s { records = with_record (new_active s place key slot) s.records; next_id = s.next_id + 1; entries = s.entries + 1 }, Prepared s.next_id slot [])
+abbrev pub prepared : State → ℕ → Bytes → Bytes → ℕ → State × Reply
+prepared s place key parent slot =
+    (record s { records = with_record (new_active s place key parent slot) s.records; next_id = s.next_id + 1; entries = s.entries + 1 },
+    Prepared s.next_id slot (ids_of (ancestors place parent s.records)))
 
-abbrev pub prepare_slot : State → ℕ → Bytes → Option ℕ → State × Reply
-prepare_slot s place key None = refused s TooManyActives
-prepare_slot s place key (Some slot) =
+abbrev pub prepare_slot : State → ℕ → Bytes → Bytes → Option ℕ → State × Reply
+prepare_slot s place key parent None = refused s TooManyActives
+prepare_slot s place key parent (Some slot) =
     if covers (limit_at place s.namespaces) (plus (charge_of place s.records) one)
-    then if nat_le s.next_id 4294967295 then prepared s place key slot else refused s NumbersSpent
+    then if nat_le s.next_id 4294967295 then prepared s place key parent slot else refused s NumbersSpent
     else refused s (over_limit s place)
 
-abbrev pub prepare_in : State → Bytes → Option ℕ → State × Reply
-prepare_in s key None = refused s NoNamespace
-prepare_in s key (Some place) = if has_key place key s.records then refused s AlreadyExists else prepare_slot s place key (lowest_free 64 s.records)
+abbrev pub prepare_at : State → Bytes → Bytes → ℕ → State × Reply
+prepare_at s key parent place =
+    if not (is_present place parent s.records) then refused s NotFound else
+    if has_key place key s.records then refused s AlreadyExists else
+    if not (is_base place parent s.records) then refused s NotCommitted else
+    if is_too_deep place parent s.records then refused s TooDeep else
+    prepare_slot s place key parent (lowest_free 64 s.records)
+
+abbrev pub prepare_in : State → Bytes → Bytes → Option ℕ → State × Reply
+prepare_in s key parent None = refused s NoNamespace
+prepare_in s key parent (Some place) = prepare_at s key parent place
 
 abbrev pub prepare : State → Bytes → Bytes → Bytes → List Label → State × Reply
-prepare s namespace key parent labels = if is_key key && no_more parent && no_more labels then prepare_in s key (place_of namespace s.namespaces) else refused s BadArgument
+prepare s namespace key parent labels =
+    if is_key key && is_parent parent && no_more labels then prepare_in s key parent (place_of namespace s.namespaces) else refused s BadArgument
 
 -- Charge: the wanted amount where the limit covers it, else the needed one where the limit covers that
 abbrev pub greater : Usage → Usage → Usage

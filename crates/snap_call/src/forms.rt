@@ -1,6 +1,6 @@
 ghost use Rattle.std.specs.Prelude.{◌≡◌, ◌==◌};
 ghost use Rattle.std.specs.List.{list_any, list_all};
-ghost use Rattle.snap_call.specs.Forms.{is_text, is_key, is_limit, is_namespace, has_name, have_distinct_names};
+ghost use Rattle.snap_call.specs.Forms.{is_text, is_key, is_parent, is_limit, is_namespace, has_name, have_distinct_names};
 
 use crate::config::Namespace;
 use snap_usage::Usage;
@@ -35,6 +35,14 @@ pub fn is_key(text: &str) -> bool
     ensures { result ≡ is_key text.now }
 {
     is_text(MAX_KEY_BYTES, text)
+}
+
+/// Whether the text can be given as a parent: the empty text, which stands for none, or a key. Takes
+/// no memory.
+pub fn is_parent(text: &str) -> bool
+    ensures { result ≡ is_parent text.now }
+{
+    text.is_empty() || is_key(text)
 }
 
 /// Whether the usage can be a namespace's limit: at most 2^40 blocks and 2^40 inodes.

@@ -6,6 +6,7 @@
 #![tactic(auto)]
 
 mod call;
+mod chain;
 mod config;
 mod entry;
 mod forms;
@@ -17,9 +18,10 @@ mod same;
 mod state;
 
 pub use call::{Call, Given};
+pub use chain::{Chain, MAX_ANCESTORS};
 pub use config::{Config, MAX_JOURNAL, MAX_NAMESPACES, Namespace};
 pub use entry::Entry;
-pub use forms::{MAX_KEY_BYTES, MAX_LIMIT, MAX_NAMESPACE_BYTES, is_key, is_limit};
+pub use forms::{MAX_KEY_BYTES, MAX_LIMIT, MAX_NAMESPACE_BYTES, is_key, is_limit, is_parent};
 pub use records::{MAX_SLOTS, Records};
 pub use refusal::Refusal;
 pub use reply::Reply;

@@ -1,11 +1,12 @@
 use crate::{
     Call, Config, Entry, Given, MAX_NAMESPACES, MAX_SLOTS, Namespace, Records, Refusal, Reply,
-    State, is_key, is_limit,
+    State, is_key, is_limit, is_parent,
 };
 use snap_layer::{Layer, Shared};
 use snap_record::{Content, Labels, Record, Sequence, Text};
 use snap_usage::Usage;
 use std::alloc::{AllocError, Global};
+use std::process::Abort;
 use std::test::Fail;
 
 fn usage(blocks: u64, inodes: u64) -> Usage {
@@ -55,6 +56,26 @@ fn put_active(
     let charged = usage(1, 1);
     let added = record(alloc, place, key, Content::Active { slot, charged })?;
     records.insert(added)?;
+    Ok(())
+}
+
+fn put_committed(
+    records: &mut Records,
+    alloc: Global,
+    place: usize,
+    name: &str,
+    parent: &str,
+    id: u32,
+) -> Result<(), Fail> {
+    let content = Content::Committed {
+        layer: shared(alloc)?,
+        usage: usage(1, 1),
+    };
+    records.insert(Record {
+        parent: text(alloc, parent)?,
+        id,
+        ..record(alloc, place, name, content)?
+    })?;
     Ok(())
 }
 
@@ -163,6 +184,95 @@ fn a_committed_record_moves_to_its_name(rt: HostRuntime) -> Result<(), Fail> {
     Ok(())
 }
 
+// Two namespaces that have a snapshot base each, and in the first one two more on it.
+fn some_parents(alloc: Global) -> Result<Records, Fail> {
+    let mut records = Records::new(alloc);
+    for (place, name, parent, id) in [
+        (0, "top", "middle", 3),
+        (0, "middle", "base", 5),
+        (0, "base", "", 1),
+        (1, "base", "", 2),
+    ] {
+        put_committed(&mut records, alloc, place, name, parent, id)?;
+    }
+    put_active(&mut records, alloc, 0, "k", 0)?;
+    Ok(records)
+}
+
+#[test]
+fn a_parent_is_a_committed_snapshot_of_the_namespace(rt: HostRuntime) -> Result<(), Fail> {
+    let records = some_parents(rt.alloc())?;
+    for (place, parent, present, base) in [
+        (0, "", true, true),
+        (0, "middle", true, true),
+        (0, "k", true, false),
+        (1, "base", true, true),
+        (1, "middle", false, false),
+        (2, "base", false, false),
+    ] {
+        assert_eq!(rt; records.is_present(place, parent), present, "{place}{parent}");
+        assert_eq!(rt; records.is_base(place, parent), base, "{place}{parent}");
+        assert_eq!(rt;
+            records.committed_at(place, parent).is_some(),
+            base && parent != "",
+            "{place}{parent}"
+        );
+    }
+    Ok(())
+}
+
+// The ids and the number of layers of a chain.
+fn chain_of(
+    rt: &impl Abort,
+    alloc: Global,
+    records: &Records,
+    place: usize,
+    parent: &str,
+) -> Result<(Sequence<u32>, usize), Fail> {
+    if records.is_too_deep(place, parent) {
+        panic!(rt; "{place}{parent} has no chain");
+    }
+    let chain = records.chain(alloc, place, parent)?;
+    Ok((chain.ids, chain.layers.len()))
+}
+
+#[test]
+fn a_chain_is_the_nearest_ancestor_first(rt: HostRuntime) -> Result<(), Fail> {
+    let records = some_parents(rt.alloc())?;
+    for (place, parent, ids) in [
+        (0, "", &[] as &[u32]),
+        (0, "base", &[1]),
+        (0, "top", &[3, 5, 1]),
+        (1, "base", &[2]),
+    ] {
+        let (found, layers) = chain_of(&rt, rt.alloc(), &records, place, parent)?;
+        assert_eq!(rt; found.as_slice(), ids, "{place}{parent}");
+        assert_eq!(rt; layers, ids.len(), "{place}{parent}");
+    }
+    for (place, parent) in [(0, "k"), (1, "top")] {
+        assert!(rt; records.is_too_deep(place, parent), "{place}{parent}");
+    }
+    Ok(())
+}
+
+#[test]
+fn a_chain_has_at_most_64_ancestors(rt: HostRuntime) -> Result<(), Fail> {
+    let alloc = rt.alloc();
+    let mut records = Records::new(alloc);
+    let mut parent = text(alloc, "")?;
+    for id in 1..=65 {
+        assert!(rt; !records.is_too_deep(0, parent.as_str()), "{id}");
+        let name = Text::from(format!(in alloc; "c{id}")?);
+        put_committed(&mut records, alloc, 0, name.as_str(), parent.as_str(), id)?;
+        parent = name;
+    }
+    assert!(rt; records.is_too_deep(0, parent.as_str()));
+    let (ids, layers) = chain_of(&rt, alloc, &records, 0, "c64")?;
+    assert_eq!(rt; (ids.len(), layers), (64, 64));
+    assert_eq!(rt; ids.as_slice().first(), Some(&64));
+    Ok(())
+}
+
 #[test]
 fn refusals_are_printed(rt: HostRuntime) -> Result<(), Fail> {
     let over = Refusal::OverLimit {
@@ -199,6 +309,7 @@ fn refusals_are_printed(rt: HostRuntime) -> Result<(), Fail> {
 fn keys_and_limits_have_forms(rt: HostRuntime) -> Result<(), Fail> {
     for (key, valid) in [("k", true), ("/a b:c,é", true), ("", false), ("a\0", false)] {
         assert_eq!(rt; is_key(key), valid, "{key}");
+        assert_eq!(rt; is_parent(key), valid || key == "", "{key}");
     }
     for (len, valid) in [(1024, true), (1025, false)] {
         let long = of_length(rt.alloc(), "a", len)?;

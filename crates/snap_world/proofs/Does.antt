@@ -8,22 +8,32 @@ use Rattle.snap_record.specs.Labels.{Bytes, Label}
 use Rattle.snap_call.specs.declared.call.Call.{Call}
 use Rattle.snap_call.specs.declared.call.Call.TheVariants as calls
 use Rattle.snap_call.specs.declared.call.Given.TheVariants.{Nothing, Count, Layer}
+use Rattle.snap_call.specs.declared.refusal.Refusal.{Refusal}
 use Rattle.snap_call.specs.declared.refusal.Refusal.TheVariants.{JournalFull}
 use Rattle.snap_call.specs.declared.reply.Reply.{Reply}
 use Rattle.snap_call.specs.declared.reply.Reply.TheVariants.{Refused}
 use Rattle.snap_call.specs.Records.{open_count}
-use Rattle.snap_call.specs.State.{place_of}
+use Rattle.snap_call.specs.State.{place_of, ancestors, ids_of, layers_of}
+use Rattle.snap_call.specs.Step.{one}
+use Rattle.snap_call.specs.Journal.{entry}
+use Rattle.snap_call.specs.declared.config.Namespace.{Namespace}
+use Rattle.snap_call.specs.declared.entry.Entry.{Entry}
+use Rattle.snap_call.specs.declared.call.Given.{Given}
+use Rattle.snap_call.specs.declared.reply.Reply.TheVariants as replies
+use Rattle.snap_record.specs.declared.record.Record.{Record}
+use Rattle.snap_layer.specs.Tree.{Tree}
+use Rattle.snap_layer.specs.Edits.{root_only}
 use Rattle.snap_merge.specs.declared.error.FsError.{FsError}
 use Rattle.snap_merge.specs.declared.error.FsError.TheVariants as errors
 use Rattle.snap_upper.specs.declared.op.Op.{Op}
 use Rattle.snap_book.specs.Working.{worked}
-use Rattle.snap_book.specs.Active.{ActiveValue}
-use Rattle.snap_book.specs.Book.{BookValue, AnsweredBy, Asks}
+use Rattle.snap_book.specs.Active.{ActiveValue, root_mode}
+use Rattle.snap_book.specs.Book.{BookValue, AnsweredBy, Asks, Recorded}
 use Rattle.snap_world.specs.declared.step.Answer.{Answer}
 use Rattle.snap_world.specs.declared.step.Answer.TheVariants as answers
 use Rattle.snap_world.specs.declared.step.Step.TheVariants as steps
 use Rattle.snap_world.specs.World.{HandValue, WorldValue, Fits, hand_at, with_hand, world_of}
-use Rattle.snap_world.specs.Move.{called, charged, committed, filed, is_its_session, is_under, is_unsealed, meets, prepared, sealed_hand}
+use Rattle.snap_world.specs.Move.{called, charged, committed, filed, fresh, is_its_session, is_under, is_unsealed, meets, prepared, sealed_hand}
 use Rattle.snap_world.specs.Runs.{DoesCall, Moves}
 use Rattle.snap_world.proofs.Ends.{ends}
 use Rattle.snap_world.proofs.Hold.{placed, under-id}
@@ -102,10 +112,10 @@ asks_does old new hands n call reply asks answered full = at call asks answered
         (admits old new hands hands hands 1 n (calls.Usage namespace key) Nothing (λ r. hands) reply (ends old new n (calls.Usage namespace key) Nothing reply h) full_here refl refl)
 
 pub prepare_does : (old new : BookValue) (hands after : List (Option HandValue)) (n : ℕ) (namespace key parent : Bytes) (labels : List Label) (reply : Reply) → AnsweredBy old new n (calls.Prepare namespace key parent labels) Nothing reply
-    → after ≡ prepared (place_of namespace old.state.namespaces) key hands reply → (reply ≡ Refused JournalFull) ↔ (old.limit < length old.journal + open_count old.state.records + 2)
+    → after ≡ prepared (place_of namespace old.state.namespaces) key parent old.state.records hands reply → (reply ≡ Refused JournalFull) ↔ (old.limit < length old.journal + open_count old.state.records + 2)
     → DoesCall (world_of old hands) n (calls.Prepare namespace key parent labels) (answers.Reply reply) (world_of new after)
 prepare_does old new hands after n namespace key parent labels reply answered left full =
-    let f : Reply → List (Option HandValue) = prepared (place_of namespace old.state.namespaces) key hands in
+    let f : Reply → List (Option HandValue) = prepared (place_of namespace old.state.namespaces) key parent old.state.records hands in
     ⊎_elim (λ e. inl e) (λ e. inr (ap answers.Reply e.0, λ i. world_of (e.1 i) ((left ∙ ap f e.0) i)))
     (admits old new hands after hands 2 n (calls.Prepare namespace key parent labels) Nothing f reply (ends old new n (calls.Prepare namespace key parent labels) Nothing reply answered) full left refl)
 
@@ -123,8 +133,8 @@ session_does w v m n answer e does = subst (λ (k : ℕ). DoesCall w k calls.Ses
 
 -- an operation on the hand that was taken out
 pub file_moves : (b : BookValue) (hands out after : List (Option HandValue)) (slot : ℕ) (op : Op) (a v : ActiveValue) (outcome : Result (Unit {0}) FsError)
-    → hand_at slot hands ≡ Some (record { snapshot = a; sealed = false }) → OnOk outcome (worked op a.share.usage a.layer ≡ Ok v.layer) → OnOk outcome (v ≡ record a { layer = v.layer })
-    → IfErr outcome (λ e. (e ≡ errors.OutOfMemory) ⊎ (worked op a.share.usage a.layer ≡ Err e)) → OnErr outcome (v ≡ a)
+    → hand_at slot hands ≡ Some (record { snapshot = a; sealed = false }) → OnOk outcome (worked op a.share.usage a.layer a.lowers ≡ Ok v.layer) → OnOk outcome (v ≡ record a { layer = v.layer })
+    → IfErr outcome (λ e. (e ≡ errors.OutOfMemory) ⊎ (worked op a.share.usage a.layer a.lowers ≡ Err e)) → OnErr outcome (v ≡ a)
     → out ≡ with_hand slot None hands → after ≡ with_hand slot (Some (record { snapshot = v; sealed = false })) out
     → Moves (world_of b hands) (steps.Hand slot op) (answers.File outcome) (world_of b after)
 file_moves b hands out after slot op a v (Ok tt) at ok same error unchanged gone back =
@@ -132,7 +142,7 @@ file_moves b hands out after slot op a v (Ok tt) at ok same error unchanged gone
     let w = world_of b hands in
     let to : HandValue = record { snapshot = v; sealed = false } in
     let left : after ≡ with_hand slot (Some to) hands = back ∙ (ap (λ (l : List (Option HandValue)). with_hand slot (Some to) l) gone ∙ with_hand-twice slot None (Some to) hands) in
-    inl (found w slot is_unsealed (λ g. filed w slot g (worked op g.snapshot.share.usage g.snapshot.layer)) h at refl
+    inl (found w slot is_unsealed (λ g. filed w slot g (worked op g.snapshot.share.usage g.snapshot.layer g.snapshot.lowers)) h at refl
     ∙ (ap (filed w slot h) ok ∙ (λ i. (world_of b ((ap (λ (x : ActiveValue). with_hand slot (Some (record { snapshot = x; sealed = false })) hands) (sym same) ∙ sym left) i), answers.File (Ok tt)))))
 file_moves b hands out after slot op a v (Err e) at ok same (inl want) unchanged gone back =
     let h : HandValue = record { snapshot = a; sealed = false } in
@@ -142,20 +152,58 @@ file_moves b hands out after slot op a v (Err e) at ok same (inr err) unchanged 
     let h : HandValue = record { snapshot = a; sealed = false } in
     let w = world_of b hands in
     let left = back_again hands out after slot h at gone (back ∙ ap (λ (x : ActiveValue). with_hand slot (Some (record { snapshot = x; sealed = false })) out) unchanged) in
-    inl (found w slot is_unsealed (λ g. filed w slot g (worked op g.snapshot.share.usage g.snapshot.layer)) h at refl
+    inl (found w slot is_unsealed (λ g. filed w slot g (worked op g.snapshot.share.usage g.snapshot.layer g.snapshot.lowers)) h at refl
     ∙ (ap (filed w slot h) err ∙ (λ i. (world_of b (sym left i), answers.File (Err e)))))
 
 pub no_file : (b : BookValue) (hands : List (Option HandValue)) (slot : ℕ) (op : Op) → meets is_unsealed (hand_at slot hands) ≡ false → Moves (world_of b hands) (steps.Hand slot op) answers.NoHand (world_of b hands)
 no_file b hands slot op e =
     let w = world_of b hands in
-    inl (missed w slot is_unsealed (λ g. filed w slot g (worked op g.snapshot.share.usage g.snapshot.layer)) e)
+    inl (missed w slot is_unsealed (λ g. filed w slot g (worked op g.snapshot.share.usage g.snapshot.layer g.snapshot.lowers)) e)
 
 -- the same, where the texts are read first
 pub prepare_does_as : (old new : BookValue) (hands after : List (Option HandValue)) (n : ℕ) (a b c namespace key parent : Bytes) (labels : List Label) (reply : Reply) → a ≡ namespace → b ≡ key → c ≡ parent
-    → AnsweredBy old new n (calls.Prepare a b c labels) Nothing reply → after ≡ prepared (place_of a old.state.namespaces) b hands reply → (reply ≡ Refused JournalFull) ↔ (old.limit < length old.journal + open_count old.state.records + 2)
+    → AnsweredBy old new n (calls.Prepare a b c labels) Nothing reply → after ≡ prepared (place_of a old.state.namespaces) b c old.state.records hands reply → (reply ≡ Refused JournalFull) ↔ (old.limit < length old.journal + open_count old.state.records + 2)
     → DoesCall (world_of old hands) n (calls.Prepare namespace key parent labels) (answers.Reply reply) (world_of new after)
 prepare_does_as old new hands after n a b c namespace key parent labels reply is_a is_b is_c answered left full =
     subst (λ (x : Bytes). DoesCall (world_of old hands) n (calls.Prepare x key parent labels) (answers.Reply reply) (world_of new after)) is_a
     (subst (λ (x : Bytes). DoesCall (world_of old hands) n (calls.Prepare a x parent labels) (answers.Reply reply) (world_of new after)) is_b
     (subst (λ (x : Bytes). DoesCall (world_of old hands) n (calls.Prepare a b x labels) (answers.Reply reply) (world_of new after)) is_c
     (prepare_does old new hands after n a b c labels reply answered left full)))
+
+-- the hands after a granted prepare
+pub prepare_left : (namespace key parent : Bytes) (ns : List Namespace) (rs : List Record) (hands after : List (Option HandValue)) (a : ActiveValue) (slot : ℕ) (reply : Reply) → reply ≡ replies.Prepared a.share.id a.share.slot (ids_of (ancestors a.namespace parent rs))
+    → place_of namespace ns ≡ Some a.namespace → a.key ≡ key → a.lowers ≡ layers_of (ancestors a.namespace parent rs) → a.layer ≡ root_only (root_mode a.lowers) 1 → a.share.usage ≡ one → slot ≡ a.share.slot
+    → after ≡ with_hand slot (Some (record { snapshot = a; sealed = false })) hands → after ≡ prepared (place_of namespace ns) key parent rs hands reply
+prepare_left namespace key parent ns rs hands after a slot reply answer place named lowers layer share at put =
+    let share_is : a.share ≡ record { slot = a.share.slot; id = a.share.id; usage = one } = λ i. record { slot = a.share.slot; id = a.share.id; usage = share i } in
+    let layer_is : a.layer ≡ root_only (root_mode (layers_of (ancestors a.namespace parent rs))) 1 = layer ∙ ap (λ (l : List Tree). root_only (root_mode l) 1) lowers in
+    let hand_is : record { snapshot = a; sealed = false } ≡ fresh key parent rs a.share.id a.share.slot a.namespace =
+    λ i. record { snapshot = record { namespace = a.namespace; key = named i; lowers = lowers i; layer = layer_is i; share = share_is i }; sealed = false } in
+    put ∙ (λ i. with_hand (at i) (Some (hand_is i)) hands)
+    ∙ ap (λ (o : Option ℕ). with_hand a.share.slot (option_map (fresh key parent rs a.share.id a.share.slot) o) hands) (sym place)
+    ∙ ap (λ (r : Reply). prepared (place_of namespace ns) key parent rs hands r) (sym answer)
+
+-- the reply of the entry that was recorded
+pub reply_of_copy : (copy : Option Entry) (n : ℕ) (call : Call) (given : Given) (reply result : Reply) → copy ≡ Some (entry n call given reply) → option_map (λ (e : Entry). e.reply) copy ≡ Some result → result ≡ reply
+reply_of_copy copy n call given reply result is taken = same (sym taken ∙ ap (option_map (λ (e : Entry). e.reply)) is)
+  where
+    same : ◌≡◌ {A = Option Reply} (Some result) (Some reply) → result ≡ reply
+    same e = cc
+
+-- a granted prepare, once the copy of its entry is taken
+pub answered_taken : (old mid new : BookValue) (n : ℕ) (call : Call) (given : Given) (id slot : ℕ) (chain : List ℕ) (result : Reply) → Recorded old mid n call given (replies.Prepared id slot chain)
+    → new ≡ record mid { copy = None } → option_map (λ (e : Entry). e.reply) mid.copy ≡ Some result → (copy : Option Entry) × AnsweredBy old (record new { copy = copy }) n call given result
+answered_taken old mid new n call given id slot chain result recorded same taken =
+    let answer : result ≡ replies.Prepared id slot chain = reply_of_copy mid.copy n call given (replies.Prepared id slot chain) result recorded.copy taken in
+    let whole : record new { copy = mid.copy } ≡ mid = ap (λ (b : BookValue). record b { copy = mid.copy }) same in
+    (mid.copy, subst (λ (b : BookValue). AnsweredBy old b n call given result) (sym whole) (subst (λ (r : Reply). AnsweredBy old mid n call given r) (sym answer) recorded))
+
+-- a reply that was prepared is no full journal
+pub full_granted : {A : Type 0} (a : A) (id slot : ℕ) (chain : List ℕ) (result : Reply) (P : Type 0) → result ≡ replies.Prepared id slot chain → ((◌≡◌ {A = Result A Refusal} (Ok a) (Err JournalFull)) ↔ P) → (result ≡ Refused JournalFull) ↔ P
+full_granted {A = A} a id slot chain result P answer full = (λ e. absurd (apart (sym answer ∙ e)), λ p. absurd (no_error (full.1 p)))
+  where
+    apart : replies.Prepared id slot chain ≡ Refused JournalFull → ⊥
+    apart e = cc
+
+    no_error : ◌≡◌ {A = Result A Refusal} (Ok a) (Err JournalFull) → ⊥
+    no_error e = cc

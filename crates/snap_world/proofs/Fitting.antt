@@ -1,6 +1,7 @@
 -- Each step keeps the hands those of the open slots.
-use Rattle.std.proofs.Common.{◌≡◌, ◌≢◌, inl, inr, ℕ, ◌+◌, ◌≤◌, ◌<◌, List, [], length, true, false, Bool, Option, None, Some, eqb, refl, sym, ap, ◌∙◌, subst, ⊎_elim, arith, length-set}
-use Rattle.std.specs.Prelude.{if◌then◌else◌, ◌&&◌, nat_lt, nat_le, max, Ok, Err}
+use Rattle.std.proofs.Common.{◌≡◌, ◌≢◌, inl, inr, ℕ, ◌+◌, ◌≤◌, ◌<◌, List, length, true, false, Bool, Option, None, Some, eqb, refl, sym, ap, ◌∙◌, subst, ⊎_elim, arith, length-set}
+use Rattle.std.specs.Prelude.{if◌then◌else◌, ◌&&◌, not, nat_lt, nat_le, max, Ok, Err, IsSome}
+use Rattle.std.specs.List.{AllByRecursion}
 use Rattle.std.proofs.Math.Nat.{le-max_left}
 use Rattle.std.proofs.lemmas.Bool.{ltb-true}
 use Rattle.std.proofs.lemmas.Bool.Decides.{eqb_tells}
@@ -21,10 +22,13 @@ use Rattle.snap_call.specs.declared.reply.Reply.TheVariants as replies
 use Rattle.snap_call.specs.declared.state.State.{State}
 use Rattle.snap_call.specs.Good.{Good}
 use Rattle.snap_call.specs.Records.{active_at, charge_of, has_key, is_slot, lowest_free, recharged, record_at, with_record, without_slot, committed_as}
-use Rattle.snap_call.specs.Forms.{is_key}
-use Rattle.snap_call.specs.State.{covers, limit_at, over_limit, place_of}
-use Rattle.snap_call.specs.Step.{IsAllowed, IsCovered, IsOpen, ask, ask_in, ask_record, charge, charge_to, choice, commit_as, commit_under, discard, greater, is_lease_text, new_active, no_more, one, prepare_in, prepare_slot, prepared as prepared_state, refused, session, step, trim}
+use Rattle.snap_call.specs.Forms.{is_key, is_parent}
+use Rattle.snap_call.specs.State.{ancestors, chain, covers, is_base, is_present, is_too_deep, layers_of, limit_at, over_limit, place_of}
+use Rattle.snap_call.specs.Step.{IsAllowed, IsCovered, IsOpen, ask, ask_in, ask_record, charge, charge_to, choice, commit_as, commit_under, discard, greater, is_lease_text, new_active, no_more, one, prepare_at, prepare_in, prepare_slot, prepared as prepared_state, refused, session, step, trim}
+use Rattle.snap_call.proofs.Chains.{Keeps, Keeps-after, Keeps-recharged, Keeps-with_record, Keeps-without_slot, chain-found, keeps-ancestors}
 use Rattle.snap_call.proofs.Kept.{covers-Covers, good_step}
+use Rattle.snap_call.proofs.Lists.{active_at-all}
+use Rattle.snap_call.proofs.Ordered.{has_key-without_slot}
 use Rattle.snap_call.proofs.Lowest.{lowest_free-Some}
 use Rattle.snap_call.proofs.Slots.{Active-is_slot, is_slot-other, active_at-with_record_own, active_at-with_record_other, active_at-without_slot_own, active_at-without_slot_other, active_at-recharged_own, active_at-recharged_other, active_at-committed_own, active_at-committed_other}
 use Rattle.std.specs.Option.{option_map}
@@ -32,6 +36,7 @@ use Rattle.snap_merge.specs.declared.error.FsError.TheVariants.{NeedsCharge}
 use Rattle.snap_upper.specs.declared.op.Op.{Op}
 use Rattle.snap_upper.specs.After.{Outcome, after}
 use Rattle.snap_book.specs.Working.{within_share, worked}
+use Rattle.snap_book.specs.Active.{ActiveValue}
 use Rattle.snap_world.specs.declared.step.Answer.{Answer}
 use Rattle.snap_world.specs.declared.step.Step.{Step}
 use Rattle.snap_world.specs.declared.step.Step.TheVariants as steps
@@ -47,45 +52,74 @@ cases_if P false x y f g = g refl
 
 -- the hands are those of the open slots of these records
 abbrev AgreeAll : List (Option HandValue) → List Record → Type 0
-AgreeAll hands rs = (slot : ℕ) → slot < 64 → AgreesAt slot (hand_at slot hands) (active_at slot rs)
+AgreeAll hands rs = (slot : ℕ) → slot < 64 → AgreesAt slot rs (hand_at slot hands) (active_at slot rs)
 
--- one slot changes
-agree_set : (slot : ℕ) (o : Option HandValue) (hands : List (Option HandValue)) (rs ts : List Record) → AgreeAll hands rs → slot < length hands → AgreesAt slot o (active_at slot ts)
-    → ((k : ℕ) → k ≢ slot → active_at k ts ≡ active_at k rs) → AgreeAll (with_hand slot o hands) ts
-agree_set slot o hands rs ts agree low here others k small =
-    ⊎_elim
-    (λ (e : (eqb k slot ≡ true) × (k ≡ slot)). let P : ℕ → Type 0 = λ j. AgreesAt j (hand_at j (with_hand slot o hands)) (active_at j ts) in
-    subst P (sym e.1) (subst (λ (x : Option HandValue). AgreesAt slot x (active_at slot ts)) (sym (hand_at-own slot o hands low)) here))
-    (λ (e : (eqb k slot ≡ false) × (k ≢ slot)). subst (λ (x : Option HandValue). AgreesAt k x (active_at k ts)) (sym (hand_at-other k slot o hands e.1))
-    (subst (λ (x : Option Record). AgreesAt k (hand_at k hands) x) (sym (others k e.1)) (agree k small)))
-    (eqb_tells k slot)
+-- each record has its ancestors
+abbrev AreChained : List Record → Type 0
+AreChained rs = AllByRecursion (λ r. IsSome (chain rs r)) rs
 
--- the hand is charged so much
+-- ---- records that keep the committed ones
 
-recharges : (slot : ℕ) (to : Usage) (hands : List (Option HandValue)) (rs : List Record) (h : HandValue) (r : Record) → AgreeAll hands rs → slot < length hands → active_at slot rs ≡ Some r → IsHandOf slot h r
-    → Covers to (count_of h.snapshot.layer)
-    → AgreeAll (with_hand slot (Some (record { snapshot = record { namespace = h.snapshot.namespace; key = h.snapshot.key; layer = h.snapshot.layer; share = record { slot = h.snapshot.share.slot; id = h.snapshot.share.id; usage = to } }; sealed = h.sealed })) hands) (recharged slot to rs)
-recharges slot to hands rs h r agree low at is more =
-    agree_set slot _ hands rs (recharged slot to rs) agree low
-    (subst (λ (x : Option Record). AgreesAt slot (Some (record { snapshot = record { namespace = h.snapshot.namespace; key = h.snapshot.key; layer = h.snapshot.layer; share = record { slot = h.snapshot.share.slot; id = h.snapshot.share.id; usage = to } }; sealed = h.sealed })) x)
+module _ (rs ts : List Record) (chained : AreChained rs) (keeps : Keeps rs ts) where
+  -- a record's ancestors are the same
+  same_lowers : (k : ℕ) (r : Record) → active_at k rs ≡ Some r → layers_of (ancestors r.namespace r.parent ts) ≡ layers_of (ancestors r.namespace r.parent rs)
+  same_lowers k r e = ap layers_of (keeps-ancestors rs ts keeps r.namespace r.parent (active_at-all (λ t. IsSome (chain rs t)) k rs r e chained))
+
+  -- and its hand is still the record's
+  still_hand : (k : ℕ) (o : Option HandValue) → AgreesAt k rs o (active_at k rs) → AgreesAt k ts o (active_at k rs)
+  still_hand k o agrees = at o (active_at k rs) refl agrees
+    where
+      at : (o : Option HandValue) (found : Option Record) → active_at k rs ≡ found → AgreesAt k rs o found → AgreesAt k ts o found
+      at None None e is = tt
+      at None (Some r) e is = is
+      at (Some h) None e is = is
+      at (Some h) (Some r) e is = record { namespace = is.namespace; key = is.key; lowers = is.lowers ∙ sym (same_lowers k r e); slot = is.slot; id = is.id; usage = is.usage; covers = is.covers }
+
+  -- one slot changes
+  agree_set : (slot : ℕ) (o : Option HandValue) (hands : List (Option HandValue)) → AgreeAll hands rs → slot < length hands → AgreesAt slot ts o (active_at slot ts)
+      → ((k : ℕ) → k ≢ slot → active_at k ts ≡ active_at k rs) → AgreeAll (with_hand slot o hands) ts
+  agree_set slot o hands agree low here others k small =
+      ⊎_elim
+      (λ (e : (eqb k slot ≡ true) × (k ≡ slot)). let P : ℕ → Type 0 = λ j. AgreesAt j ts (hand_at j (with_hand slot o hands)) (active_at j ts) in
+      subst P (sym e.1) (subst (λ (x : Option HandValue). AgreesAt slot ts x (active_at slot ts)) (sym (hand_at-own slot o hands low)) here))
+      (λ (e : (eqb k slot ≡ false) × (k ≢ slot)). subst (λ (x : Option HandValue). AgreesAt k ts x (active_at k ts)) (sym (hand_at-other k slot o hands e.1))
+      (subst (λ (x : Option Record). AgreesAt k ts (hand_at k hands) x) (sym (others k e.1)) (still_hand k (hand_at k hands) (agree k small))))
+      (eqb_tells k slot)
+
+  -- a hand that goes with its record
+  goes : (slot : ℕ) (hands : List (Option HandValue)) → AgreeAll hands rs → slot < length hands → active_at slot ts ≡ None → ((k : ℕ) → k ≢ slot → active_at k ts ≡ active_at k rs) → AgreeAll (with_hand slot None hands) ts
+  goes slot hands agree low none others = agree_set slot None hands agree low (subst (λ (x : Option Record). AgreesAt slot ts None x) (sym none) tt) others
+
+-- the records that stay
+no_change : (rs : List Record) → Keeps rs rs
+no_change rs place key r e = e
+
+-- the snapshot is charged so much
+abbrev charged_so : ActiveValue → Usage → ActiveValue
+charged_so a to = record { namespace = a.namespace; key = a.key; lowers = a.lowers; layer = a.layer; share = record { slot = a.share.slot; id = a.share.id; usage = to } }
+
+recharges : (slot : ℕ) (to : Usage) (hands : List (Option HandValue)) (rs : List Record) (h : HandValue) (r : Record) → AreChained rs → AgreeAll hands rs → slot < length hands → active_at slot rs ≡ Some r → IsHandOf slot rs h r
+    → Covers to (count_of h.snapshot.layer) → AgreeAll (with_hand slot (Some (record { snapshot = charged_so h.snapshot to; sealed = h.sealed })) hands) (recharged slot to rs)
+recharges slot to hands rs h r chained agree low at is more =
+    let ts : List Record = recharged slot to rs in
+    let keeps : Keeps rs ts = Keeps-recharged slot to rs in
+    agree_set rs ts chained keeps slot _ hands agree low
+    (subst (λ (x : Option Record). AgreesAt slot ts (Some (record { snapshot = charged_so h.snapshot to; sealed = h.sealed })) x)
     (sym (active_at-recharged_own slot to rs r at))
-    (record { namespace = is.namespace; key = is.key; slot = is.slot; id = is.id; usage = refl; covers = more }))
+    (record { namespace = is.namespace; key = is.key; lowers = is.lowers ∙ sym (same_lowers rs ts chained keeps slot r at); slot = is.slot; id = is.id; usage = refl; covers = more }))
     (λ k ne. active_at-recharged_other slot k to rs ne)
 
 -- a hand that stays
 stays : (slot : ℕ) (h : HandValue) (hands : List (Option HandValue)) (rs : List Record) → AgreeAll hands rs → hand_at slot hands ≡ Some h → AgreeAll (with_hand slot (Some h) hands) rs
 stays slot h hands rs agree at = subst (λ (l : List (Option HandValue)). AgreeAll l rs) (sym (with_hand-again slot (Some h) hands at)) agree
 
-seals : (slot : ℕ) (hands : List (Option HandValue)) (rs : List Record) (h : HandValue) (r : Record) → AgreeAll hands rs → slot < length hands → active_at slot rs ≡ Some r → IsHandOf slot h r → AgreeAll (with_hand slot (Some (sealed_hand h.snapshot)) hands) rs
-seals slot hands rs h r agree low at is =
-    agree_set slot (Some (sealed_hand h.snapshot)) hands rs rs agree low
-    (subst (λ (x : Option Record). AgreesAt slot (Some (sealed_hand h.snapshot)) x) (sym at)
-    (record { namespace = is.namespace; key = is.key; slot = is.slot; id = is.id; usage = is.usage; covers = is.covers }))
+seals : (slot : ℕ) (hands : List (Option HandValue)) (rs : List Record) (h : HandValue) (r : Record) → AreChained rs → AgreeAll hands rs → slot < length hands → active_at slot rs ≡ Some r → IsHandOf slot rs h r
+    → AgreeAll (with_hand slot (Some (sealed_hand h.snapshot)) hands) rs
+seals slot hands rs h r chained agree low at is =
+    agree_set rs rs chained (no_change rs) slot (Some (sealed_hand h.snapshot)) hands agree low
+    (subst (λ (x : Option Record). AgreesAt slot rs (Some (sealed_hand h.snapshot)) x) (sym at)
+    (record { namespace = is.namespace; key = is.key; lowers = is.lowers; slot = is.slot; id = is.id; usage = is.usage; covers = is.covers }))
     (λ k ne. refl)
-
--- a hand that goes with its record
-goes : (slot : ℕ) (hands : List (Option HandValue)) (rs ts : List Record) → AgreeAll hands rs → slot < length hands → active_at slot ts ≡ None → ((k : ℕ) → k ≢ slot → active_at k ts ≡ active_at k rs) → AgreeAll (with_hand slot None hands) ts
-goes slot hands rs ts agree low none others = agree_set slot None hands rs ts agree low (subst (λ (x : Option Record). AgreesAt slot None x) (sym none) tt) others
 
 -- ---- calls on a hand
 
@@ -100,48 +134,51 @@ more_of a b c less = record { blocks = most a.blocks b.blocks c.blocks less.bloc
 abbrev Left : (Reply → List (Option HandValue)) → State × Reply → Type 0
 Left f p = AgreeAll (f p.1) p.0.records
 
-left_charge_to : (s : State) (slot : ℕ) (hands : List (Option HandValue)) (h : HandValue) (r : Record) → AgreeAll hands s.records → slot < length hands → hand_at slot hands ≡ Some h → active_at slot s.records ≡ Some r → IsHandOf slot h r
+left_charge_to : (s : State) (slot : ℕ) (hands : List (Option HandValue)) (h : HandValue) (r : Record) → Good s → AgreeAll hands s.records → slot < length hands → hand_at slot hands ≡ Some h → active_at slot s.records ≡ Some r → IsHandOf slot s.records h r
     → (a b : Bool) (needed wanted : Usage) → Covers needed (count_of h.snapshot.layer) → Covers wanted (count_of h.snapshot.layer) → Left (λ reply. with_hand slot (charged_hand h reply) hands) (charge_to s slot r (choice a b needed wanted))
-left_charge_to s slot hands h r agree low at stands is true b needed wanted n w = recharges slot wanted hands s.records h r agree low stands is w
-left_charge_to s slot hands h r agree low at stands is false true needed wanted n w = recharges slot needed hands s.records h r agree low stands is n
-left_charge_to s slot hands h r agree low at stands is false false needed wanted n w = stays slot h hands s.records agree at
+left_charge_to s slot hands h r good agree low at stands is true b needed wanted n w = recharges slot wanted hands s.records h r good.chains agree low stands is w
+left_charge_to s slot hands h r good agree low at stands is false true needed wanted n w = recharges slot needed hands s.records h r good.chains agree low stands is n
+left_charge_to s slot hands h r good agree low at stands is false false needed wanted n w = stays slot h hands s.records agree at
 
-left_charge : (s : State) (slot : ℕ) (need want : Usage) (hands : List (Option HandValue)) (h : HandValue) (r : Record) → AgreeAll hands s.records → slot < length hands → hand_at slot hands ≡ Some h → active_at slot s.records ≡ Some r → IsHandOf slot h r
+left_charge : (s : State) (slot : ℕ) (need want : Usage) (hands : List (Option HandValue)) (h : HandValue) (r : Record) → Good s → AgreeAll hands s.records → slot < length hands → hand_at slot hands ≡ Some h → active_at slot s.records ≡ Some r → IsHandOf slot s.records h r
     → Left (λ reply. with_hand slot (charged_hand h reply) hands) (charge s slot need want (active_at slot s.records))
-left_charge s slot need want hands h r agree low at stands is =
+left_charge s slot need want hands h r good agree low at stands is =
     let held : Covers (usage_of r.content) (count_of h.snapshot.layer) = subst (λ (u : Usage). Covers u (count_of h.snapshot.layer)) is.usage is.covers in
     let needed : Usage = greater (usage_of r.content) need in
     let n : Covers needed (count_of h.snapshot.layer) = more_of (usage_of r.content) need (count_of h.snapshot.layer) held in
     subst (λ (o : Option Record). Left (λ reply. with_hand slot (charged_hand h reply) hands) (charge s slot need want o)) (sym stands)
-    (left_charge_to s slot hands h r agree low at stands is _ _ needed (greater needed want) n (more_of needed want (count_of h.snapshot.layer) n))
+    (left_charge_to s slot hands h r good agree low at stands is _ _ needed (greater needed want) n (more_of needed want (count_of h.snapshot.layer) n))
 
-left_trim : (s : State) (slot : ℕ) (hands : List (Option HandValue)) (h : HandValue) (r : Record) → AgreeAll hands s.records → slot < length hands → active_at slot s.records ≡ Some r → IsHandOf slot h r
+left_trim : (s : State) (slot : ℕ) (hands : List (Option HandValue)) (h : HandValue) (r : Record) → Good s → AgreeAll hands s.records → slot < length hands → active_at slot s.records ≡ Some r → IsHandOf slot s.records h r
     → Left (λ reply. with_hand slot (charged_hand h reply) hands) (trim s slot (Count (count_of h.snapshot.layer)) (active_at slot s.records))
-left_trim s slot hands h r agree low stands is =
+left_trim s slot hands h r good agree low stands is =
     subst (λ (o : Option Record). Left (λ reply. with_hand slot (charged_hand h reply) hands) (trim s slot (Count (count_of h.snapshot.layer)) o)) (sym stands)
-    (recharges slot (count_of h.snapshot.layer) hands s.records h r agree low stands is (record { blocks = omega arith; inodes = omega arith }))
+    (recharges slot (count_of h.snapshot.layer) hands s.records h r good.chains agree low stands is (record { blocks = omega arith; inodes = omega arith }))
 
-left_under : (s : State) (slot : ℕ) (name : Bytes) (lease : Option Bytes) (hands : List (Option HandValue)) (h : HandValue) (r : Record) → Good s → AgreeAll hands s.records → slot < length hands → active_at slot s.records ≡ Some r → IsHandOf slot h r
+left_under : (s : State) (slot : ℕ) (name : Bytes) (lease : Option Bytes) (hands : List (Option HandValue)) (h : HandValue) (r : Record) → Good s → AgreeAll hands s.records → slot < length hands → active_at slot s.records ≡ Some r → IsHandOf slot s.records h r → has_key r.namespace name s.records ≡ false
     → Left (λ reply. with_hand slot (committed h.snapshot reply) hands) (commit_under s slot name lease h.snapshot.layer r)
-left_under s slot name None hands h r good agree low stands is =
-    goes slot hands s.records (with_record (committed_as name h.snapshot.layer (s.entries + 1) r) (without_slot slot s.records)) agree low (active_at-committed_own slot name h.snapshot.layer (s.entries + 1) s.records r good.slots) (λ k ne. active_at-committed_other slot k name h.snapshot.layer (s.entries + 1) s.records r ne)
-left_under s slot name (Some lease) hands h r good agree low stands is = seals slot hands s.records h r agree low stands is
+left_under s slot name None hands h r good agree low stands is new =
+    let c : Record = committed_as name h.snapshot.layer (s.entries + 1) r in
+    let us : List Record = without_slot slot s.records in
+    goes s.records (with_record c us) good.chains (Keeps-after s.records us (with_record c us) (Keeps-without_slot slot s.records) (Keeps-with_record c us (has_key-without_slot slot r.namespace name s.records new))) slot hands agree low
+    (active_at-committed_own slot name h.snapshot.layer (s.entries + 1) s.records r good.slots) (λ k ne. active_at-committed_other slot k name h.snapshot.layer (s.entries + 1) s.records r ne)
+left_under s slot name (Some lease) hands h r good agree low stands is new = seals slot hands s.records h r good.chains agree low stands is
 
-left_commit : (s : State) (slot : ℕ) (name : Bytes) (lease : Option Bytes) (hands : List (Option HandValue)) (h : HandValue) (r : Record) → Good s → AgreeAll hands s.records → slot < length hands → active_at slot s.records ≡ Some r → IsHandOf slot h r
+left_commit : (s : State) (slot : ℕ) (name : Bytes) (lease : Option Bytes) (hands : List (Option HandValue)) (h : HandValue) (r : Record) → Good s → AgreeAll hands s.records → slot < length hands → active_at slot s.records ≡ Some r → IsHandOf slot s.records h r
     → Left (λ reply. with_hand slot (committed h.snapshot reply) hands) (commit_as s slot name lease h.snapshot.layer (active_at slot s.records))
 left_commit s slot name lease hands h r good agree low stands is =
     let f : Reply → List (Option HandValue) = λ reply. with_hand slot (committed h.snapshot reply) hands in
-    let refuses = seals slot hands s.records h r agree low stands is in
+    let refuses = seals slot hands s.records h r good.chains agree low stands is in
     subst (λ (o : Option Record). Left f (commit_as s slot name lease h.snapshot.layer o)) (sym stands)
     (cases_if (Left f) (is_key name && is_lease_text lease) _ _
-    (λ formed. cases_if (Left f) (has_key r.namespace name s.records) _ _ (λ taken. refuses) (λ new. left_under s slot name lease hands h r good agree low stands is))
+    (λ formed. cases_if (Left f) (has_key r.namespace name s.records) _ _ (λ taken. refuses) (λ new. left_under s slot name lease hands h r good agree low stands is new))
     (λ bad. refuses))
 
 left_discard : (s : State) (slot : ℕ) (hands : List (Option HandValue)) (r : Record) → Good s → AgreeAll hands s.records → slot < length hands → active_at slot s.records ≡ Some r
     → Left (λ reply. with_hand slot None hands) (discard s slot (active_at slot s.records))
 left_discard s slot hands r good agree low stands =
     subst (λ (o : Option Record). Left (λ reply. with_hand slot None hands) (discard s slot o)) (sym stands)
-    (goes slot hands s.records (without_slot slot s.records) agree low (active_at-without_slot_own slot s.records good.slots) (λ k ne. active_at-without_slot_other slot k s.records ne))
+    (goes s.records (without_slot slot s.records) good.chains (Keeps-without_slot slot s.records) slot hands agree low (active_at-without_slot_own slot s.records good.slots) (λ k ne. active_at-without_slot_other slot k s.records ne))
 
 -- ---- other calls
 
@@ -159,34 +196,49 @@ left_ask s hands answer namespace key agree = cases_if (Left (λ reply. hands)) 
 left_session : (s : State) (hands : List (Option HandValue)) → AgreeAll hands s.records → Left (λ reply. hands) (session s)
 left_session s hands agree = cases_if (Left (λ reply. hands)) (nat_lt s.sessions 65536) _ _ (λ e. agree) (λ e. agree)
 
-left_room : (s : State) (place : ℕ) (key : Bytes) (slot : ℕ) (hands : List (Option HandValue)) → AgreeAll hands s.records → length hands ≡ 64 → lowest_free 64 s.records ≡ Some slot → (room few : Bool)
-    → Left (prepared (Some place) key hands) (if room then if few then prepared_state s place key slot else refused s NumbersSpent else refused s (over_limit s place))
-left_room s place key slot hands agree places e true true =
+left_room : (s : State) (place : ℕ) (key parent : Bytes) (slot : ℕ) (hands : List (Option HandValue)) → Good s → AgreeAll hands s.records → length hands ≡ 64 → has_key place key s.records ≡ false → is_too_deep place parent s.records ≡ false
+    → lowest_free 64 s.records ≡ Some slot → (room few : Bool)
+    → Left (prepared (Some place) key parent s.records hands) (if room then if few then prepared_state s place key parent slot else refused s NumbersSpent else refused s (over_limit s place))
+left_room s place key parent slot hands good agree places free deep e true true =
     let lowest = lowest_free-Some s.records slot e in
-    let new : Record = new_active s place key slot in
+    let new : Record = new_active s place key parent slot in
+    let ts : List Record = with_record new s.records in
+    let keeps : Keeps s.records ts = Keeps-with_record new s.records free in
     let own : is_slot slot new ≡ true = Active-is_slot slot one new refl in
     let low : slot < length hands = (let p = lowest.0 in omega (arith, places)) in
-    agree_set slot (Some (fresh key s.next_id slot place)) hands s.records (with_record new s.records) agree low
-    (subst (λ (x : Option Record). AgreesAt slot (Some (fresh key s.next_id slot place)) x) (sym (active_at-with_record_own slot new s.records own lowest.1))
-    (record { namespace = refl; key = refl; slot = refl; id = refl; usage = refl; covers = record { blocks = omega arith; inodes = omega arith } }))
+    let hand : HandValue = fresh key parent s.records s.next_id slot place in
+    let same : layers_of (ancestors place parent s.records) ≡ layers_of (ancestors place parent ts) = ap layers_of (sym (keeps-ancestors s.records ts keeps place parent (chain-found s.records place parent deep))) in
+    agree_set s.records ts good.chains keeps slot (Some hand) hands agree low
+    (subst (λ (x : Option Record). AgreesAt slot ts (Some hand) x) (sym (active_at-with_record_own slot new s.records own lowest.1))
+    (record { namespace = refl; key = refl; lowers = same; slot = refl; id = refl; usage = refl; covers = record { blocks = omega arith; inodes = omega arith } }))
     (λ k ne. active_at-with_record_other k new s.records (is_slot-other slot k new ne own))
-left_room s place key slot hands agree places e true false = agree
-left_room s place key slot hands agree places e false few = agree
+left_room s place key parent slot hands good agree places free deep e true false = agree
+left_room s place key parent slot hands good agree places free deep e false few = agree
 
-left_prepare_slot : (s : State) (place : ℕ) (key : Bytes) (hands : List (Option HandValue)) → AgreeAll hands s.records → length hands ≡ 64 → (o : Option ℕ) → lowest_free 64 s.records ≡ o → Left (prepared (Some place) key hands) (prepare_slot s place key o)
-left_prepare_slot s place key hands agree places None e = agree
-left_prepare_slot s place key hands agree places (Some slot) e =
-    left_room s place key slot hands agree places e (covers (limit_at place s.namespaces) (plus (charge_of place s.records) one)) (nat_le s.next_id 4294967295)
+left_prepare_slot : (s : State) (place : ℕ) (key parent : Bytes) (hands : List (Option HandValue)) → Good s → AgreeAll hands s.records → length hands ≡ 64 → has_key place key s.records ≡ false → is_too_deep place parent s.records ≡ false
+    → (o : Option ℕ) → lowest_free 64 s.records ≡ o → Left (prepared (Some place) key parent s.records hands) (prepare_slot s place key parent o)
+left_prepare_slot s place key parent hands good agree places free deep None e = agree
+left_prepare_slot s place key parent hands good agree places free deep (Some slot) e =
+    left_room s place key parent slot hands good agree places free deep e (covers (limit_at place s.namespaces) (plus (charge_of place s.records) one)) (nat_le s.next_id 4294967295)
 
-left_prepare_in : (s : State) (key : Bytes) (hands : List (Option HandValue)) → AgreeAll hands s.records → length hands ≡ 64 → (o : Option ℕ) → Left (prepared o key hands) (prepare_in s key o)
-left_prepare_in s key hands agree places None = agree
-left_prepare_in s key hands agree places (Some place) =
-    cases_if (Left (prepared (Some place) key hands)) (has_key place key s.records) _ _ (λ taken. agree) (λ new. left_prepare_slot s place key hands agree places (lowest_free 64 s.records) refl)
+left_prepare_at : (s : State) (key parent : Bytes) (place : ℕ) (hands : List (Option HandValue)) → Good s → AgreeAll hands s.records → length hands ≡ 64 → Left (prepared (Some place) key parent s.records hands) (prepare_at s key parent place)
+left_prepare_at s key parent place hands good agree places =
+    let f : Reply → List (Option HandValue) = prepared (Some place) key parent s.records hands in
+    cases_if (Left f) (not (is_present place parent s.records)) _ _ (λ missing. agree)
+    (λ present. cases_if (Left f) (has_key place key s.records) _ _ (λ taken. agree)
+    (λ free. cases_if (Left f) (not (is_base place parent s.records)) _ _ (λ active. agree)
+    (λ base. cases_if (Left f) (is_too_deep place parent s.records) _ _ (λ deep. agree)
+    (λ deep. left_prepare_slot s place key parent hands good agree places free deep (lowest_free 64 s.records) refl))))
 
-left_prepare : (s : State) (namespace key parent : Bytes) (labels : List Label) (hands : List (Option HandValue)) → AgreeAll hands s.records → length hands ≡ 64
-    → Left (prepared (place_of namespace s.namespaces) key hands) (step s (calls.Prepare namespace key parent labels) Nothing)
-left_prepare s namespace key parent labels hands agree places =
-    cases_if (Left (prepared (place_of namespace s.namespaces) key hands)) (is_key key && no_more parent && no_more labels) _ _ (λ formed. left_prepare_in s key hands agree places (place_of namespace s.namespaces)) (λ bad. agree)
+left_prepare_in : (s : State) (key parent : Bytes) (hands : List (Option HandValue)) → Good s → AgreeAll hands s.records → length hands ≡ 64 → (o : Option ℕ) → Left (prepared o key parent s.records hands) (prepare_in s key parent o)
+left_prepare_in s key parent hands good agree places None = agree
+left_prepare_in s key parent hands good agree places (Some place) = left_prepare_at s key parent place hands good agree places
+
+left_prepare : (s : State) (namespace key parent : Bytes) (labels : List Label) (hands : List (Option HandValue)) → Good s → AgreeAll hands s.records → length hands ≡ 64
+    → Left (prepared (place_of namespace s.namespaces) key parent s.records hands) (step s (calls.Prepare namespace key parent labels) Nothing)
+left_prepare s namespace key parent labels hands good agree places =
+    cases_if (Left (prepared (place_of namespace s.namespaces) key parent s.records hands)) (is_key key && is_parent parent && no_more labels) _ _
+    (λ formed. left_prepare_in s key parent hands good agree places (place_of namespace s.namespaces)) (λ bad. agree)
 
 -- ---- steps
 
@@ -198,7 +250,7 @@ fits_admitted : (w : WorldValue) (more : ℕ) (left : List (Option HandValue)) (
 fits_admitted w more left next full not_full = cases_if (λ (p : WorldValue × Answer). Fits p.0) _ _ _ (λ e. full) (λ e. not_full)
 
 fits_on_hand : (w : WorldValue) (slot : ℕ) (test : HandValue → Bool) (next : HandValue → WorldValue × Answer) → Fits w
-    → ((h : HandValue) (r : Record) → slot < 64 → hand_at slot w.hands ≡ Some h → active_at slot w.state.records ≡ Some r → IsHandOf slot h r → test h ≡ true → Fits (next h).0) → Fits (on_hand w slot test next).0
+    → ((h : HandValue) (r : Record) → slot < 64 → hand_at slot w.hands ≡ Some h → active_at slot w.state.records ≡ Some r → IsHandOf slot w.state.records h r → test h ≡ true → Fits (next h).0) → Fits (on_hand w slot test next).0
 fits_on_hand w slot test next fit use_it = at (hand_at slot w.hands) refl
   where
     at : (o : Option HandValue) → hand_at slot w.hands ≡ o → Fits (on_found w test next o).0
@@ -216,10 +268,10 @@ set_places : (w : WorldValue) (slot : ℕ) (o : Option HandValue) → Fits w →
 set_places w slot o fit = length-set w.hands slot o ∙ fit.places
 
 -- the slot is stands under the id
-open_under : (w : WorldValue) (slot id : ℕ) (h : HandValue) (r : Record) → active_at slot w.state.records ≡ Some r → IsHandOf slot h r → is_under id h ≡ true → IsOpen id (active_at slot w.state.records)
+open_under : (w : WorldValue) (slot id : ℕ) (h : HandValue) (r : Record) → active_at slot w.state.records ≡ Some r → IsHandOf slot w.state.records h r → is_under id h ≡ true → IsOpen id (active_at slot w.state.records)
 open_under w slot id h r stands is under = subst (λ (o : Option Record). IsOpen id o) (sym stands) (sym is.id ∙ under-id id h under)
 
-covered_under : (w : WorldValue) (slot id : ℕ) (h : HandValue) (r : Record) → active_at slot w.state.records ≡ Some r → IsHandOf slot h r → is_under id h ≡ true → IsCovered id (count_of h.snapshot.layer) (active_at slot w.state.records)
+covered_under : (w : WorldValue) (slot id : ℕ) (h : HandValue) (r : Record) → active_at slot w.state.records ≡ Some r → IsHandOf slot w.state.records h r → is_under id h ≡ true → IsCovered id (count_of h.snapshot.layer) (active_at slot w.state.records)
 covered_under w slot id h r stands is under =
     subst (λ (o : Option Record). IsCovered id (count_of h.snapshot.layer) o) (sym stands)
     (sym is.id ∙ under-id id h under, subst (λ (u : Usage). Covers u (count_of h.snapshot.layer)) is.usage is.covers)
@@ -232,9 +284,9 @@ fits_called w n calls.Session fit =
     (λ spent. fit))
 fits_called w n (calls.Prepare namespace key parent labels) fit =
     fits_admitted w 2 w.hands _ fit
-    (fits_recorded w n (calls.Prepare namespace key parent labels) Nothing (prepared (place_of namespace w.state.namespaces) key w.hands) fit tt places (left_prepare w.state namespace key parent labels w.hands fit.hands fit.places))
+    (fits_recorded w n (calls.Prepare namespace key parent labels) Nothing (prepared (place_of namespace w.state.namespaces) key parent w.state.records w.hands) fit tt places (left_prepare w.state namespace key parent labels w.hands fit.good fit.hands fit.places))
   where
-    places : (r : Reply) → length (prepared (place_of namespace w.state.namespaces) key w.hands r) ≡ 64
+    places : (r : Reply) → length (prepared (place_of namespace w.state.namespaces) key parent w.state.records w.hands r) ≡ 64
     places replies.Opened = fit.places
     places (replies.Prepared id slot chain) = set_places w slot _ fit
     places (replies.Charged now) = fit.places
@@ -248,17 +300,17 @@ fits_called w n (calls.Charge slot id need want) fit =
     fits_on_hand w slot (is_working id) _ fit
     (λ h r low at stands is test. fits_admitted w 1 w.hands _ fit
     (fits_recorded w n (calls.Charge slot id need want) Nothing (λ reply. with_hand slot (charged_hand h reply) w.hands) fit (open_under w slot id h r stands is (and_left _ _ test)) (λ reply. set_places w slot _ fit)
-    (left_charge w.state slot need want w.hands h r fit.hands (let p = fit.places in omega (arith, low)) at stands is)))
+    (left_charge w.state slot need want w.hands h r fit.good fit.hands (let p = fit.places in omega (arith, low)) at stands is)))
 fits_called w n (calls.Trim slot id) fit =
     fits_on_hand w slot (is_working id) _ fit
     (λ h r low at stands is test. fits_admitted w 1 w.hands _ fit
     (fits_recorded w n (calls.Trim slot id) (Count (count_of h.snapshot.layer)) (λ reply. with_hand slot (charged_hand h reply) w.hands) fit (covered_under w slot id h r stands is (and_left _ _ test)) (λ reply. set_places w slot _ fit)
-    (left_trim w.state slot w.hands h r fit.hands (let p = fit.places in omega (arith, low)) stands is)))
+    (left_trim w.state slot w.hands h r fit.good fit.hands (let p = fit.places in omega (arith, low)) stands is)))
 fits_called w n (calls.Commit slot id name lease) fit =
     fits_on_hand w slot (is_under id) _ fit
     (λ h r low at stands is test. let inside : slot < length w.hands = (let p = fit.places in omega (arith, low)) in
     fits_admitted w 1 (with_hand slot (Some (sealed_hand h.snapshot)) w.hands) _
-    (record { good = fit.good; places = set_places w slot _ fit; hands = seals slot w.hands w.state.records h r fit.hands inside stands is })
+    (record { good = fit.good; places = set_places w slot _ fit; hands = seals slot w.hands w.state.records h r fit.good.chains fit.hands inside stands is })
     (fits_recorded w n (calls.Commit slot id name lease) (Layer h.snapshot.layer) (λ reply. with_hand slot (committed h.snapshot reply) w.hands) fit (covered_under w slot id h r stands is test) (λ reply. set_places w slot _ fit)
     (left_commit w.state slot name lease w.hands h r fit.good fit.hands inside stands is)))
 fits_called w n (calls.Discard slot id) fit =
@@ -282,14 +334,14 @@ within share (Ok t) next is = at (covers share (count_of t)) refl is
     at true e is = let same : t ≡ next = cc in subst (λ (l : Tree). Covers share (count_of l)) same (covers-Covers share (count_of t) e)
     at false e is = absurd (cc)
 
-fits_filed : (w : WorldValue) (slot : ℕ) (h : HandValue) (r : Record) (o : Outcome) → Fits w → slot < 64 → active_at slot w.state.records ≡ Some r → IsHandOf slot h r → ((next : Tree) → o ≡ Ok next → Covers h.snapshot.share.usage (count_of next)) → Fits (filed w slot h o).0
+fits_filed : (w : WorldValue) (slot : ℕ) (h : HandValue) (r : Record) (o : Outcome) → Fits w → slot < 64 → active_at slot w.state.records ≡ Some r → IsHandOf slot w.state.records h r → ((next : Tree) → o ≡ Ok next → Covers h.snapshot.share.usage (count_of next)) → Fits (filed w slot h o).0
 fits_filed w slot h r (Err e) fit low stands is covers_it = fit
 fits_filed w slot h r (Ok next) fit low stands is covers_it = record {
   good = fit.good;
   places = set_places w slot _ fit;
-  hands = agree_set slot _ w.hands w.state.records w.state.records fit.hands (let p = fit.places in omega (arith, low))
-      (subst (λ (x : Option Record). AgreesAt slot (Some (record { snapshot = record { namespace = h.snapshot.namespace; key = h.snapshot.key; layer = next; share = h.snapshot.share }; sealed = h.sealed })) x) (sym stands)
-      (record { namespace = is.namespace; key = is.key; slot = is.slot; id = is.id; usage = is.usage; covers = covers_it next refl }))
+  hands = agree_set w.state.records w.state.records fit.good.chains (no_change w.state.records) slot _ w.hands fit.hands (let p = fit.places in omega (arith, low))
+      (subst (λ (x : Option Record). AgreesAt slot w.state.records (Some (record { snapshot = record { namespace = h.snapshot.namespace; key = h.snapshot.key; lowers = h.snapshot.lowers; layer = next; share = h.snapshot.share }; sealed = h.sealed })) x) (sym stands)
+      (record { namespace = is.namespace; key = is.key; lowers = is.lowers; slot = is.slot; id = is.id; usage = is.usage; covers = covers_it next refl }))
       (λ k ne. refl);
 }
 
@@ -298,7 +350,7 @@ pub fits_move : (w : WorldValue) (s : Step) → Fits w → Fits (move w s).0
 fits_move w (steps.Locked n call) fit = cases_if (λ (p : WorldValue × Answer). Fits p.0) (is_its_session w.state.sessions n call) _ _ (λ e. fits_called w n call fit) (λ e. fit)
 fits_move w (steps.Hand slot op) fit =
     fits_on_hand w slot is_unsealed _ fit
-    (λ h r low at stands is test. fits_filed w slot h r (worked op h.snapshot.share.usage h.snapshot.layer) fit low stands is (λ next e. within h.snapshot.share.usage (after op h.snapshot.layer []) next e))
+    (λ h r low at stands is test. fits_filed w slot h r (worked op h.snapshot.share.usage h.snapshot.layer h.snapshot.lowers) fit low stands is (λ next e. within h.snapshot.share.usage (after op h.snapshot.layer h.snapshot.lowers) next e))
 
 fits_sealed : (w : WorldValue) (slot : ℕ) → Fits w → Fits (with_sealed w slot)
 fits_sealed w slot fit = at (hand_at slot w.hands) refl
@@ -308,7 +360,7 @@ fits_sealed w slot fit = at (hand_at slot w.hands) refl
     at (Some h) e =
         let low : slot < 64 = (let p = hand_at-low slot h w.hands e in let q = fit.places in omega arith) in
         let r = holds w slot h fit low e in
-        record { good = fit.good; places = set_places w slot _ fit; hands = seals slot w.hands w.state.records h r.0 fit.hands (hand_at-low slot h w.hands e) r.1 r.2 }
+        record { good = fit.good; places = set_places w slot _ fit; hands = seals slot w.hands w.state.records h r.0 fit.good.chains fit.hands (hand_at-low slot h w.hands e) r.1 r.2 }
 
 fits_left : (w v : WorldValue) (call : Call) → Fits w → IsLeft w call v → Fits v
 fits_left w v calls.Session fit e = subst Fits (sym e) fit

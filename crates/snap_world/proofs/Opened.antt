@@ -1,5 +1,5 @@
 -- A world that is opened.
-use Rattle.std.proofs.Common.{◌≡◌, ℕ, zero, suc, List, replicate, Bool, true, false, Option, None, refl, sym, ap, ◌∙◌, subst}
+use Rattle.std.proofs.Common.{◌≡◌, ℕ, zero, suc, List, [], replicate, Bool, true, false, Option, None, refl, sym, ap, ◌∙◌, subst}
 use Rattle.std.specs.Prelude.{Ok, Err, IsErrOf}
 use Rattle.snap_call.specs.declared.refusal.Refusal.{Refusal}
 use Rattle.snap_call.specs.declared.config.Config.{Config}
@@ -23,7 +23,7 @@ opened_fits : (c : Config) → is_config c ≡ true → (j : BookValue) → Fits
 opened_fits c valid j = record {
   good = good_opening c valid;
   places = refl;
-  hands = λ slot low. subst (λ (o : Option HandValue). AgreesAt slot o None) (sym (no_hand 64 slot)) tt;
+  hands = λ slot low. subst (λ (o : Option HandValue). AgreesAt slot [] o None) (sym (no_hand 64 slot)) tt;
 }
 
 -- a book that was opened had a valid configuration

@@ -5,6 +5,7 @@ use Rattle.snap_layer.specs.Edits.{root_only}
 use Rattle.snap_usage.specs.declared.usage.Usage.{Usage}
 use Rattle.snap_usage.specs.Counted.{count_of}
 use Rattle.snap_record.specs.Labels.{Bytes}
+use Rattle.snap_record.specs.declared.record.Record.{Record}
 use Rattle.snap_call.specs.declared.call.Call.{Call}
 use Rattle.snap_call.specs.declared.call.Call.TheVariants as calls
 use Rattle.snap_call.specs.declared.call.Given.{Given}
@@ -14,10 +15,10 @@ use Rattle.snap_call.specs.declared.reply.Reply.{Reply}
 use Rattle.snap_call.specs.declared.reply.Reply.TheVariants as replies
 use Rattle.snap_call.specs.Journal.{entry}
 use Rattle.snap_call.specs.Records.{open_count}
-use Rattle.snap_call.specs.State.{place_of}
+use Rattle.snap_call.specs.State.{place_of, ancestors, layers_of}
 use Rattle.snap_call.specs.Step.{step, one}
 use Rattle.snap_upper.specs.After.{Outcome}
-use Rattle.snap_book.specs.Active.{ActiveValue}
+use Rattle.snap_book.specs.Active.{ActiveValue, root_mode}
 use Rattle.snap_book.specs.Working.{worked}
 use Rattle.snap_world.specs.declared.step.Step.{Step}
 use Rattle.snap_world.specs.declared.step.Step.TheVariants as steps
@@ -41,7 +42,7 @@ usage_after a (replies.Refused why) = a.share.usage
 
 -- the snapshot after a charge or a trim
 abbrev pub charged : ActiveValue → Reply → ActiveValue
-charged a reply = record { namespace = a.namespace; key = a.key; layer = a.layer; share = record { slot = a.share.slot; id = a.share.id; usage = usage_after a reply } }
+charged a reply = record { namespace = a.namespace; key = a.key; lowers = a.lowers; layer = a.layer; share = record { slot = a.share.slot; id = a.share.id; usage = usage_after a reply } }
 
 -- the hand after a charge or a trim
 abbrev pub charged_hand : HandValue → Reply → Option HandValue
@@ -63,21 +64,23 @@ committed a (replies.Info info) = Some (sealed_hand a)
 committed a (replies.Usage usage) = Some (sealed_hand a)
 committed a (replies.Refused why) = Some (sealed_hand a)
 
--- the hand of a new snapshot in the namespace at a place: the root alone, with the permission bits 755 in octal, and a share of 1/1
-abbrev pub fresh : Bytes → ℕ → ℕ → ℕ → HandValue
-fresh key id slot place = record { snapshot = record { namespace = place; key = key; layer = root_only 493 1; share = record { slot = slot; id = id; usage = one } }; sealed = false }
+-- the hand of a new snapshot in the namespace at a place: the layers of its committed ancestors, a layer of a root alone over them, and a share of 1/1
+abbrev pub fresh : Bytes → Bytes → List Record → ℕ → ℕ → ℕ → HandValue
+fresh key parent rs id slot place =
+    let lowers = layers_of (ancestors place parent rs) in
+    record { snapshot = record { namespace = place; key = key; lowers = lowers; layer = root_only (root_mode lowers) 1; share = record { slot = slot; id = id; usage = one } }; sealed = false }
 
--- the hands after a prepare of the key in the namespace at a place
-abbrev pub prepared : Option ℕ → Bytes → List (Option HandValue) → Reply → List (Option HandValue)
-prepared place key hands replies.Opened = hands
-prepared place key hands (replies.Prepared id slot chain) = with_hand slot (option_map (fresh key id slot) place) hands
-prepared place key hands (replies.Charged now) = hands
-prepared place key hands replies.Trimmed = hands
-prepared place key hands (replies.Committed id usage) = hands
-prepared place key hands (replies.Discarded usage) = hands
-prepared place key hands (replies.Info info) = hands
-prepared place key hands (replies.Usage usage) = hands
-prepared place key hands (replies.Refused why) = hands
+-- the hands after a prepare of the key, on the parent, in the namespace at a place; the records are those before it
+abbrev pub prepared : Option ℕ → Bytes → Bytes → List Record → List (Option HandValue) → Reply → List (Option HandValue)
+prepared place key parent rs hands replies.Opened = hands
+prepared place key parent rs hands (replies.Prepared id slot chain) = with_hand slot (option_map (fresh key parent rs id slot) place) hands
+prepared place key parent rs hands (replies.Charged now) = hands
+prepared place key parent rs hands replies.Trimmed = hands
+prepared place key parent rs hands (replies.Committed id usage) = hands
+prepared place key parent rs hands (replies.Discarded usage) = hands
+prepared place key parent rs hands (replies.Info info) = hands
+prepared place key parent rs hands (replies.Usage usage) = hands
+prepared place key parent rs hands (replies.Refused why) = hands
 
 -- ---- calls
 
@@ -138,7 +141,7 @@ opened w n = if nat_lt w.state.sessions 65536 then recorded w n calls.Session No
 abbrev pub called : WorldValue → ℕ → Call → WorldValue × Answer
 called w n calls.Session = admitted w 1 w.hands (opened w n)
 called w n (calls.Prepare namespace key parent labels) =
-    admitted w 2 w.hands (recorded w n (calls.Prepare namespace key parent labels) Nothing (prepared (place_of namespace w.state.namespaces) key w.hands))
+    admitted w 2 w.hands (recorded w n (calls.Prepare namespace key parent labels) Nothing (prepared (place_of namespace w.state.namespaces) key parent w.state.records w.hands))
 called w n (calls.Charge slot id need want) =
     on_hand w slot (is_working id) (λ h. admitted w 1 w.hands
     (recorded w n (calls.Charge slot id need want) Nothing (λ reply. with_hand slot (charged_hand h reply) w.hands)))
@@ -158,11 +161,11 @@ called w n (calls.Usage namespace key) = admitted w 1 w.hands (recorded w n (cal
 -- the hand's layer becomes the next one; an error leaves the world
 abbrev pub filed : WorldValue → ℕ → HandValue → Outcome → WorldValue × Answer
 filed w slot h (Ok next) =
-    (record w { hands = with_hand slot (Some (record { snapshot = record { namespace = h.snapshot.namespace; key = h.snapshot.key; layer = next; share = h.snapshot.share }; sealed = h.sealed })) w.hands }, answers.File (Ok tt))
+    (record w { hands = with_hand slot (Some (record { snapshot = record { namespace = h.snapshot.namespace; key = h.snapshot.key; lowers = h.snapshot.lowers; layer = next; share = h.snapshot.share }; sealed = h.sealed })) w.hands }, answers.File (Ok tt))
 filed w slot h (Err e) = (w, answers.File (Err e))
 
 -- ---- one step
 
 abbrev pub move : WorldValue → Step → WorldValue × Answer
 move w (steps.Locked n call) = if is_its_session w.state.sessions n call then called w n call else (w, answers.NoSession)
-move w (steps.Hand slot op) = on_hand w slot is_unsealed (λ h. filed w slot h (worked op h.snapshot.share.usage h.snapshot.layer))
+move w (steps.Hand slot op) = on_hand w slot is_unsealed (λ h. filed w slot h (worked op h.snapshot.share.usage h.snapshot.layer h.snapshot.lowers))

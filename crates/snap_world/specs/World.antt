@@ -7,6 +7,7 @@ use Rattle.snap_call.specs.declared.entry.Entry.{Entry}
 use Rattle.snap_call.specs.declared.state.State.{State}
 use Rattle.snap_call.specs.Good.{Good}
 use Rattle.snap_call.specs.Records.{active_at}
+use Rattle.snap_call.specs.State.{ancestors, layers_of}
 use Rattle.snap_book.specs.Active.{ActiveValue}
 use Rattle.snap_book.specs.Book.{BookValue}
 
@@ -34,24 +35,25 @@ with_hand slot h hands = slice_set hands slot h
 abbrev pub world_of : BookValue → List (Option HandValue) → WorldValue
 world_of b hands = record { state = b.state; journal = b.journal; limit = b.limit; hands = hands }
 
--- the hand is that of the record that is active in the slot: it has the record's namespace, key and id, its share is what the record is charged, and the share covers the count of its layer
-pub record IsHandOf (k : ℕ) (h : HandValue) (r : Record) : Type 0 where
+-- the hand is that of the record that is active in the slot: it has the record's namespace, key and id, the layers below its own are those of the record's committed ancestors, its share is what the record is charged, and the share covers the count of its layer
+pub record IsHandOf (k : ℕ) (rs : List Record) (h : HandValue) (r : Record) : Type 0 where
   pub namespace : h.snapshot.namespace ≡ r.namespace
   pub key : h.snapshot.key ≡ r.key
+  pub lowers : h.snapshot.lowers ≡ layers_of (ancestors r.namespace r.parent rs)
   pub slot : h.snapshot.share.slot ≡ k
   pub id : h.snapshot.share.id ≡ r.id
   pub usage : h.snapshot.share.usage ≡ usage_of r.content
   pub covers : Covers h.snapshot.share.usage (count_of h.snapshot.layer)
 
 -- the slot has a hand exactly where it is open
-abbrev pub AgreesAt : ℕ → Option HandValue → Option Record → Type 0
-AgreesAt slot None None = Unit {0}
-AgreesAt slot None (Some r) = ⊥
-AgreesAt slot (Some h) None = ⊥
-AgreesAt slot (Some h) (Some r) = IsHandOf slot h r
+abbrev pub AgreesAt : ℕ → List Record → Option HandValue → Option Record → Type 0
+AgreesAt slot rs None None = Unit {0}
+AgreesAt slot rs None (Some r) = ⊥
+AgreesAt slot rs (Some h) None = ⊥
+AgreesAt slot rs (Some h) (Some r) = IsHandOf slot rs h r
 
 -- the state is good, and the hands are those of the open slots
 pub record Fits (w : WorldValue) : Type 0 where
   pub good : Good w.state
   pub places : length w.hands ≡ 64
-  pub hands : (slot : ℕ) → slot < 64 → AgreesAt slot (hand_at slot w.hands) (active_at slot w.state.records)
+  pub hands : (slot : ℕ) → slot < 64 → AgreesAt slot w.state.records (hand_at slot w.hands) (active_at slot w.state.records)

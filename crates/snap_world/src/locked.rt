@@ -1,5 +1,7 @@
 // The steps that call the store.
-ghost use Rattle.std.specs.Prelude.{◌≡◌, ◌≤◌, ◌<◌, ◌+◌, ◌↔◌, length, None, true, false};
+ghost use Rattle.std.specs.Prelude.{◌≡◌, ◌≤◌, ◌<◌, ◌+◌, ◌↔◌, length, None, Some, Option, IsSome, true, false};
+ghost use Rattle.std.specs.Option.{option_map};
+ghost use Rattle.snap_call.specs.declared.entry.Entry.{Entry};
 ghost use Rattle.snap_call.specs.Records.{open_count};
 ghost use Rattle.snap_call.specs.State.{place_of};
 ghost use Rattle.snap_call.specs.declared.call.Call.TheVariants as calls;
@@ -16,9 +18,9 @@ use crate::calls::{charge_active, trim_active};
 use crate::hands::{Hand, Hands};
 use crate::step::Answer;
 use snap_book::{Book, Sealed};
-use snap_call::{Call, Refusal, Reply};
+use snap_call::{Call, Entry, Refusal, Reply};
 use snap_ledger::StoreName;
-use snap_record::{Labels, Sequence, Text};
+use snap_record::{Labels, Text};
 use snap_usage::Usage;
 
 // The call is by its session: a session to be opened has the next number, and any other is open.
@@ -29,6 +31,23 @@ fn is_its_session(sessions: u64, session: u64, call: &Call) -> bool
         Call::Session => session == sessions,
         _ => session < sessions,
     }
+}
+
+// The reply of the last entry. Its copy, of which nothing else is kept, is taken.
+fn take_reply<N: StoreName>(book: &mut Book<N>) -> Reply
+    requires { IsSome book.old.copy }
+    ensures reply { option_map (λ e. e.reply) book.old.copy ≡ Some result }
+    ensures same { book.new ≡ record book.old { copy = None } }
+{
+    let taken = book.take_entry();
+    let Some(entry) = taken else { unreachable!() };
+    let Entry {
+        session: _,
+        call: _,
+        given: _,
+        reply,
+    } = entry;
+    reply
 }
 
 impl<N: StoreName> Hands<N> {
@@ -51,7 +70,7 @@ impl<N: StoreName> Hands<N> {
         Answer::Reply(book.do_call(session, call))
     }
 
-    // A new snapshot goes into the hand of its slot.
+    // A new snapshot goes into the hand of its slot. The reply is that of its entry.
     fn prepare(
         &mut self,
         book: &mut Book<N>,
@@ -62,20 +81,15 @@ impl<N: StoreName> Hands<N> {
         labels: &Labels,
     ) -> Reply
         requires { Fits (world_of book.old self.old) }
-        ensures answered { AnsweredBy book.old book.new session (calls.Prepare namespace.now key.now parent.now labels.now) Nothing result }
-        ensures hands { self.new ≡ prepared (place_of namespace.now book.old.state.namespaces) key.now self.old result }
+        ensures answered { (copy : Option Entry) × AnsweredBy book.old (record book.new { copy = copy }) session (calls.Prepare namespace.now key.now parent.now labels.now) Nothing result }
+        ensures hands { self.new ≡ prepared (place_of namespace.now book.old.state.namespaces) key.now parent.now book.old.state.records self.old result }
         ensures full { (result ≡ replies.Refused JournalFull) ↔ (book.old.limit < length book.old.journal + open_count book.old.state.records + 2) }
     {
         match book.prepare(session, namespace, key, parent, labels) {
             Ok(active) => {
                 let slot = active.slot();
-                let id = active.id();
                 self.put(slot, Hand::of(active));
-                Reply::Prepared {
-                    id,
-                    slot,
-                    chain: Sequence::new(self.alloc()),
-                }
+                take_reply(book)
             }
             Err(why) => Reply::Refused(why),
         }

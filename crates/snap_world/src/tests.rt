@@ -23,6 +23,7 @@ const fn usage(blocks: u64, inodes: u64) -> Usage {
 enum Said<'a> {
     Session(u64),
     Prepare(u64, &'a str),
+    PrepareOn(&'a str, &'a str),
     Charge(u64, u32, Usage, Usage),
     Trim(u64, u32),
     Commit(u64, u32, &'a str),
@@ -39,6 +40,8 @@ enum Said<'a> {
 enum Told {
     Opened,
     Prepared(u32, u64),
+    /// On the snapshots of the ids from this one down to 1.
+    PreparedOn(u32, u64, u32),
     Charged(Usage),
     Trimmed,
     Committed(u32, Usage),
@@ -58,6 +61,12 @@ fn call_of(alloc: Global, said: Said<'_>) -> Result<Call, Fail> {
             namespace,
             key: Text::copy_of(alloc, key)?,
             parent: Text::new(alloc),
+            labels: Labels::new(alloc),
+        },
+        Said::PrepareOn(key, parent) => Call::Prepare {
+            namespace,
+            key: Text::copy_of(alloc, key)?,
+            parent: Text::copy_of(alloc, parent)?,
             labels: Labels::new(alloc),
         },
         Said::Charge(slot, id, need, want) => Call::Charge {
@@ -110,13 +119,27 @@ fn step_of(alloc: Global, said: Said<'_>) -> Result<Step, Fail> {
     })
 }
 
-fn answer_of(alloc: Global, told: Told) -> Answer {
-    match told {
+// The ids from a number down to 1.
+fn down_from(alloc: Global, id: u32) -> Result<Sequence<u32>, Fail> {
+    let mut chain = Sequence::new(alloc);
+    for number in (1..=id).rev() {
+        chain.push(number)?;
+    }
+    Ok(chain)
+}
+
+fn answer_of(alloc: Global, told: Told) -> Result<Answer, Fail> {
+    Ok(match told {
         Told::Opened => Answer::Reply(Reply::Opened),
         Told::Prepared(id, slot) => Answer::Reply(Reply::Prepared {
             id,
             slot,
             chain: Sequence::new(alloc),
+        }),
+        Told::PreparedOn(id, slot, nearest) => Answer::Reply(Reply::Prepared {
+            id,
+            slot,
+            chain: down_from(alloc, nearest)?,
         }),
         Told::Charged(now) => Answer::Reply(Reply::Charged { now }),
         Told::Trimmed => Answer::Reply(Reply::Trimmed),
@@ -128,7 +151,7 @@ fn answer_of(alloc: Global, told: Told) -> Answer {
         Told::Failed(error) => Answer::File(Err(error)),
         Told::NoSession => Answer::NoSession,
         Told::NoHand => Answer::NoHand,
-    }
+    })
 }
 
 fn steps_of(alloc: Global, lines: &[(Said<'_>, Told)]) -> Result<Vec<Step>, Fail> {
@@ -142,7 +165,7 @@ fn steps_of(alloc: Global, lines: &[(Said<'_>, Told)]) -> Result<Vec<Step>, Fail
 fn answers_of(alloc: Global, lines: &[(Said<'_>, Told)]) -> Result<Vec<Answer>, Fail> {
     let mut answers = Vec::new(alloc);
     for line in lines {
-        answers.push(answer_of(alloc, line.1))?;
+        answers.push(answer_of(alloc, line.1)?)?;
     }
     Ok(answers)
 }
@@ -287,6 +310,34 @@ fn first_run<N: StoreName>(rt: &impl Abort, alloc: Global, table: NewTable) -> R
 fn a_first_run(rt: HostRuntime) -> Result<(), Fail> {
     let table = NewTable::new(rt.alloc())?;
     first_run::<Brand>(&rt, rt.alloc(), table)
+}
+
+fn stands_on<N: StoreName>(rt: &impl Abort, alloc: Global, table: NewTable) -> Result<(), Fail>
+    requires { table ≡ N.table }
+{
+    let lines = [
+        (Said::Session(0), Told::Opened),
+        (Said::Prepare(0, "k"), Told::Prepared(1, 0)),
+        (
+            Said::PrepareOn("m", "k"),
+            Told::Refused(Refusal::NotCommitted),
+        ),
+        (Said::Commit(0, 1, "base"), Told::Committed(1, usage(1, 1))),
+        (Said::PrepareOn("m", "base"), Told::PreparedOn(2, 0, 1)),
+        (Said::Mkdir(0, "/x"), Told::Failed(FsError::NeedsCharge(usage(2, 2)))),
+        (Said::Commit(0, 2, "next"), Told::Committed(2, usage(1, 1))),
+        (Said::PrepareOn("m", "next"), Told::PreparedOn(3, 0, 2)),
+        (Said::Discard(0, 3), Told::Discarded(usage(1, 1))),
+    ];
+    let world = goes::<N>(rt, alloc, table, usage(100, 100), &lines)?;
+    reports(rt, &world, 8, 0, 2, usage(2, 2));
+    Ok(())
+}
+
+#[test]
+fn a_snapshot_on_a_parent(rt: HostRuntime) -> Result<(), Fail> {
+    let table = NewTable::new(rt.alloc())?;
+    stands_on::<Brand>(&rt, rt.alloc(), table)
 }
 
 fn commits_twice<N: StoreName>(rt: &impl Abort, alloc: Global, table: NewTable) -> Result<(), Fail>

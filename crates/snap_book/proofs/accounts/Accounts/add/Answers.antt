@@ -5,7 +5,7 @@ use Rattle.snap_record.specs.declared.record.Record.{Record}
 use Rattle.snap_call.specs.declared.state.State.{State}
 use Rattle.snap_call.specs.Good.{Good}
 use Rattle.snap_call.specs.Records.{charge_of, active_at, has_key, open_count, with_record}
-use Rattle.snap_call.specs.State.{covers, limit_at}
+use Rattle.snap_call.specs.State.{covers, limit_at, is_base, is_too_deep}
 use Rattle.snap_call.specs.Step.{new_active, one}
 use Rattle.snap_book.proofs.Accounting.{accounts_same}
 use Rattle.snap_book.proofs.Preparing.{accounts_prepared, charge_in-free, open-most, open_count-prepared}
@@ -39,14 +39,17 @@ invariant_of-self-2 g c =
     let place = c.args.place in
     let slot = c.args.slot in
     let key = c.args.added.key in
+    let parent = c.args.added.parent in
     let view : s ≡ c.args.self.now = c.self.view_is in
-    let made : c.args.added ≡ new_active s place key slot = c.requires.added ∙ ap (λ (u : State). new_active u place key slot) (sym view) in
-    let is : c.insert.new.self ≡ with_record (new_active s place key slot) s.records = c.in-Ok.ensures.ok ∙ ap (λ (r : Record). with_record r s.records) made in
+    let made : c.args.added ≡ new_active s place key parent slot = c.requires.added ∙ ap (λ (u : State). new_active u place key parent slot) (sym view) in
+    let is : c.insert.new.self ≡ with_record (new_active s place key parent slot) s.records = c.in-Ok.ensures.ok ∙ ap (λ (r : Record). with_record r s.records) made in
     let total : c.total.result ≡ charge_of place s.records = c.total.ensures.total ∙ ap (λ (u : State). charge_of place u.records) (sym view) in
     let after : c.sum-after.result ≡ plus (charge_of place s.records) one = c.sum-after.ensures ∙ (λ i. plus (total i) (c.one.ensures i)) in
-    accounts_prepared s c.self.inside.totals c.set.new.self c.self.inside.slots c.issue.new.self c.self.inside.open place slot key c.insert.new.self c.self.invariant
+    accounts_prepared s c.self.inside.totals c.set.new.self c.self.inside.slots c.issue.new.self c.self.inside.open place slot key parent c.insert.new.self c.self.invariant
     (subst (λ (u : State). place < length u.namespaces) (sym view) c.requires.place)
     (ap (λ (u : State). has_key place key u.records) view ∙ c.requires.new)
+    (ap (λ (u : State). is_base place parent u.records) view ∙ c.requires.base)
+    (ap (λ (u : State). is_too_deep place parent u.records) view ∙ c.requires.deep)
     c.requires.low
     (ap (λ (u : State). active_at slot u.records) view ∙ c.requires.free)
     (ap (λ (u : State). covers (limit_at place u.namespaces) (plus (charge_of place u.records) one)) view ∙ c.requires.fits)
@@ -60,7 +63,8 @@ returns-clause-open g c =
     let place = c.args.place in
     let slot = c.args.slot in
     let key = c.args.added.key in
+    let parent = c.args.added.parent in
     let view : s ≡ c.args.self.now = c.self.view_is in
-    let made : c.args.added ≡ new_active s place key slot = c.requires.added ∙ ap (λ (u : State). new_active u place key slot) (sym view) in
-    let is : c.insert.new.self ≡ with_record (new_active s place key slot) s.records = c.in-Ok.ensures.ok ∙ ap (λ (r : Record). with_record r s.records) made in
-    open_count-prepared s place key slot c.insert.new.self is ∙ ap (λ (u : State). open_count u.records + 1) view
+    let made : c.args.added ≡ new_active s place key parent slot = c.requires.added ∙ ap (λ (u : State). new_active u place key parent slot) (sym view) in
+    let is : c.insert.new.self ≡ with_record (new_active s place key parent slot) s.records = c.in-Ok.ensures.ok ∙ ap (λ (r : Record). with_record r s.records) made in
+    open_count-prepared s place key parent slot c.insert.new.self is ∙ ap (λ (u : State). open_count u.records + 1) view

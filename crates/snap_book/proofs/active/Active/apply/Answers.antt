@@ -1,4 +1,4 @@
-use Rattle.std.proofs.Common.{[], sym, ◌∙◌}
+use Rattle.std.proofs.Common.{sym, ◌∙◌}
 use Rattle.snap_upper.specs.After.{after, planned}
 use Rattle.snap_book.proofs.Needs.{planned_needs_none, plan_refused}
 use Rattle.snap_book.proofs.active.Active.apply.Goals as goal
@@ -7,4 +7,5 @@ pub returns-in_err-planned-clause-needs : goal.returns-in_err-planned-clause-nee
 returns-in_err-planned-clause-needs g c in_place need =
     let op = c.args.op.now in
     let layer = c.args.self.now.layer in
-    plan_refused c.from_residual.result (planned (after op layer [])) c.in_err-planned.field-0.0 need _ (planned_needs_none need op layer []) (sym (c.plan.ensures.sure in_place) ∙ c.in_err-planned.was) c.from_residual.ensures.1
+    let lowers = c.args.self.now.lowers in
+    plan_refused c.from_residual.result (planned (after op layer lowers)) c.in_err-planned.field-0.0 need _ (planned_needs_none need op layer lowers) (sym (c.plan.ensures.sure in_place) ∙ c.in_err-planned.was) c.from_residual.ensures.1
