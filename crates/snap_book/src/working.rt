@@ -17,9 +17,8 @@ impl<N: StoreName> Active<N> {
     /// need not cover.
     ///
     /// The errors are those of [`Active::apply`] up to `LayerFull`, in the same order. It changes
-    /// nothing. It takes no memory, but for `Unlink` and `Rmdir`, which can answer `OutOfMemory`. The
-    /// cost is that of `snap_upper::plan`: a look through the layers for each name of the path, the
-    /// number of paths times the path's number of names, and the number of files.
+    /// nothing. It takes no memory, but for `Rmdir`, which can answer `OutOfMemory`. The cost is that of
+    /// `snap_upper::plan`.
     pub fn plan(&self, op: &Op) -> Result<Planned, FsError>
         ensures answer { Answers (planned (after op.now self.now.layer self.now.lowers)) result }
         ensures sure { is_planned_in_place op.now ≡ true → result ≡ planned (after op.now self.now.layer self.now.lowers) }

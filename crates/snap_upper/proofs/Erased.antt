@@ -1,6 +1,6 @@
 -- What is taken at a path.
 use Rattle.std.proofs.Common.{◌≡◌, inl, inr, ℕ, Bool, true, false, cond, List, [], ◌∷◌, ◌++◌, length, Option, Some, None, is_some, refl, sym, ap, subst, ◌∙◌, arith, append_assoc, append-nil, length-append, ltb-false}
-use Rattle.std.specs.Prelude.{nat_lt, if◌then◌else◌}
+use Rattle.std.specs.Prelude.{nat_lt, option_and_then, if◌then◌else◌}
 use Rattle.std.specs.Option.{option_map}
 use Rattle.std.specs.Ordering.{nat_cmp}
 use Rattle.std.specs.List.{list_any}
@@ -10,7 +10,7 @@ use Rattle.std.specs.Str.{bytes_eq}
 use Rattle.std.proofs.lemmas.Bool.{cond-true, cond-false}
 use Rattle.snap_path.specs.Text.{Names}
 use Rattle.snap_layer.specs.declared.node.Node.{Node}
-use Rattle.snap_layer.specs.declared.node.Node.TheVariants.{Whiteout}
+use Rattle.snap_layer.specs.declared.node.Node.TheVariants.{Dir, File, Symlink, Whiteout}
 use Rattle.snap_layer.specs.Tree.{Tree, Bodies, at, body, begins, hides, node_hides, number_at, number_of}
 use Rattle.snap_layer.specs.Layers.{IsLayer}
 use Rattle.snap_layer.specs.Edits.{HasPlace, IsTakeable, outside, with_node, without}
@@ -258,3 +258,24 @@ erased_changes u ls p ok layers erasable = by (at u p) refl
     by : (o : Option Node) → at u p ≡ o → ShowsAt (seen (u ∷ ls)) (seen (erased u ls p ∷ ls)) p None
     by None e = subst Goal (sym (erased_lower u ls p e erasable.there)) (whiteout_changes u (with_parents u ls p) ls p parents (subst (λ (bs : Bodies). IsStrictlySortedBy nat_cmp (keys_of bs)) (sym parents.bodies) ok.sorted_numbers) nothing)
     by (Some n) e = own n e (below u ls p) refl
+
+-- ---- plans
+
+-- the layer has no node where a name is seen that isn't its own
+pub no_node : (u : Tree) (ls : List Tree) (p : Names) → name_error (seen (u ∷ ls) p) ≡ None → number_at u p ≡ None → at u p ≡ None
+no_node u ls p there number = by (at u p) refl
+  where
+    by : (o : Option Node) → at u p ≡ o → at u p ≡ None
+    by None e = e
+    by (Some (Dir m b)) e = let other = sym (ap name_error (seen_node u ls p (Dir m b) e)) ∙ there in absurd (cc)
+    by (Some (File k)) e = let other = sym (ap (option_and_then number_of) e) ∙ number in absurd (cc)
+    by (Some (Symlink k)) e = let other = sym (ap (option_and_then number_of) e) ∙ number in absurd (cc)
+    by (Some Whiteout) e = let other = sym (ap name_error (seen_node u ls p Whiteout e)) ∙ there in absurd (cc)
+
+pub name_seen : (s : List Tree) (p : Names) → first_error (tests (op.Unlink p) s) ≡ None → name_error (seen s p) ≡ None
+name_seen s p passes = (test_passes (name_error (seen s p)) [] (test_passes (walk s p) (name_error (seen s p) ∷ []) passes).1).0
+
+pub erased_own : (u : Tree) (ls : List Tree) (p : Names) (covers : Bool) → IsLayer u → is_some (at u p) ≡ true → covers ≡ is_some (below u ls p) → erased u ls p ≡ (if covers then with_node u p Whiteout else without u p)
+erased_own u ls p covers ok some is =
+    ap (λ (t : Tree). if is_some (below u ls p) then with_node t p Whiteout else without t p) (no_missing u ls p ok some)
+    ∙ ap {B = Tree} (λ b. if b then with_node u p Whiteout else without u p) (sym is)

@@ -4,5 +4,6 @@ pub mod Making
 pub mod Writing
 pub mod Modes
 pub mod Erased
+pub mod Freed
 pub mod Changing
 pub mod Examples

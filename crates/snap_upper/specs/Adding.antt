@@ -1,6 +1,9 @@
 -- What is added to a layer, and what it takes.
-use Rattle.std.specs.Prelude.{◌≡◌, ℕ, Bool, true, false, length, Option, Some, None}
-use Rattle.snap_layer.specs.Counts.{blocks_of}
+use Rattle.std.specs.Prelude.{◌≡◌, ◌==◌, if◌then◌else◌, ℕ, Bool, true, false, length, Option, Some, None}
+use Rattle.snap_layer.specs.declared.node.Body.{Body}
+use Rattle.snap_layer.specs.Counts.{blocks_of, body_blocks, name_count}
+use Rattle.snap_layer.specs.Tree.{Tree, body}
+use Rattle.snap_usage.specs.declared.usage.Usage.{Usage}
 use Rattle.snap_merge.specs.Objects.{Object, file, is_shown_dir}
 use Rattle.snap_upper.specs.declared.checking.Found.{Found}
 use Rattle.snap_copyup.specs.declared.putting.Last.{Last}
@@ -23,3 +26,12 @@ IsFound (Some f) o = o ≡ Some (file f.mode f.bytes.now)
 abbrev pub with_its_mode : Option Found → ℕ → Last
 with_its_mode None mode = Dir mode false
 with_its_mode (Some f) mode = File mode f.bytes.now
+
+-- the blocks of a body, and none of no body
+abbrev pub weight_of : Option Body → ℕ
+weight_of None = 0
+weight_of (Some b) = body_blocks b
+
+-- what goes with one name of a file number: its body, where it has no other name (link(2), unlink(2))
+abbrev pub freed : Tree → ℕ → Usage
+freed t k = if name_count k t.entries == 1 then record { blocks = weight_of (body t k); inodes = 1 } else record { blocks = 0; inodes = 0 }

@@ -158,5 +158,5 @@ is_planned_in_place (Write path offset bytes) = true
 is_planned_in_place (Truncate path size) = true
 is_planned_in_place (SetMode path mode) = true
 is_planned_in_place (Symlink path target) = true
-is_planned_in_place (Unlink path) = false
+is_planned_in_place (Unlink path) = true
 is_planned_in_place (Rmdir path) = false

@@ -1,6 +1,6 @@
-ghost use Rattle.std.specs.Prelude.{◌≡◌, ◌∷◌, ◌+◌, ◌≤◌, ℕ, List, Some, None, true, length};
-ghost use Rattle.snap_layer.specs.Tree.{Tree, at, number_at};
-ghost use Rattle.snap_layer.specs.Edits.{IsFree};
+ghost use Rattle.std.specs.Prelude.{◌≡◌, [], ◌∷◌, ◌+◌, ◌≤◌, ℕ, List, Some, None, true, length, if◌then◌else◌};
+ghost use Rattle.snap_layer.specs.Tree.{Tree, at, body, number_at};
+ghost use Rattle.snap_layer.specs.Edits.{IsFree, with_node, without};
 ghost use Rattle.snap_merge.specs.Objects.{file, seen, AreLayers};
 ghost use Rattle.snap_merge.specs.Walk.{walk, Answers};
 ghost use Rattle.snap_copyup.specs.declared.putting.Last.{Last};
@@ -8,13 +8,16 @@ ghost use Rattle.snap_copyup.specs.Copying.{with_parents, copied_up};
 ghost use Rattle.snap_copyup.specs.Places.{with_last, Fits};
 ghost use Rattle.snap_upper.specs.declared.op.Op.TheVariants as op;
 ghost use Rattle.snap_upper.specs.After.{after, planned, limited, with_content, written, is_planned_in_place};
-ghost use Rattle.snap_upper.specs.Adding.{Takes};
+ghost use Rattle.snap_upper.specs.Adding.{Takes, weight_of, freed};
+ghost use Rattle.snap_layer.specs.declared.node.Node.TheVariants as Node;
 
 use super::applying::apply;
-use super::checking::{Found, check_mode, check_new, check_symlink, check_truncate, check_write};
+use super::checking::{
+    Found, check_mode, check_new, check_symlink, check_truncate, check_unlink, check_write,
+};
 use super::content::{is_whiteout, own_number};
 use super::op::Op;
-use snap_copyup::missing_dirs;
+use snap_copyup::{below, missing_dirs};
 use snap_layer::{Bytes, Layer, Shared};
 use snap_merge::{FsError, Stack};
 use snap_path::Path;
@@ -32,12 +35,12 @@ pub struct Planned {
 
 /// How much the layer would take after the operation over the lower layers, which stand nearest first.
 ///
-/// The errors are those of `apply`, in the same order. It changes nothing. For `Mkdir`, `Create`, `Write`,
-/// `Truncate`, `SetMode` and `Symlink` it takes no memory, and the next layer isn't built. Cost: for each
-/// name of the path a look through the layers, and the number of the layer's files.
+/// The errors are those of `apply`, in the same order. It changes nothing. But for `Rmdir` it
+/// takes no memory, and the next layer isn't built. Cost: for each name of the path a look through the
+/// layers, and the number of the layer's paths and files.
 ///
-/// The other operations are done on a copy of the layer, so a plan of them takes memory (`OutOfMemory`),
-/// and its cost is also the layer's size with all bytes of its files.
+/// `Rmdir` is done on a copy of the layer, so its plan takes memory (`OutOfMemory`), and its cost is also
+/// the layer's size with all bytes of its files.
 pub fn plan(layer: &Layer, lowers: &[Shared], op: &Op) -> Result<Planned, FsError>
     ensures answer { Answers (planned (after op.now layer.now lowers.now)) result }
     ensures sure { is_planned_in_place op.now ≡ true → result ≡ planned (after op.now layer.now lowers.now) }
@@ -53,7 +56,7 @@ pub fn plan(layer: &Layer, lowers: &[Shared], op: &Op) -> Result<Planned, FsErro
         Op::Truncate { path, size } => plan_truncate(layer, lowers, path, *size),
         Op::SetMode { path, mode } => plan_mode(layer, lowers, path, *mode),
         Op::Symlink { path, target } => plan_symlink(layer, lowers, path, target),
-        Op::Unlink { .. } => plan_on_copy(layer, lowers, op),
+        Op::Unlink { path } => plan_unlink(layer, lowers, path),
         Op::Rmdir { .. } => plan_on_copy(layer, lowers, op),
     }
 }
@@ -144,6 +147,64 @@ fn plan_symlink(
     check_symlink(&Stack::over(layer, lowers), path, target)?;
     let _ = layer.next_number();
     plan_growth(layer, path, 0, true)
+}
+
+fn plan_unlink(layer: &Layer, lowers: &[Shared], path: &Path) -> Result<Planned, FsError>
+    ensures { result ≡ planned (after (op.Unlink path.now) layer.now lowers.now) }
+{
+    check_unlink(&Stack::over(layer, lowers), path)?;
+    let _ = layer.next_number();
+    let covers = below(layer, lowers, path).is_some();
+    match own_number(layer, path) {
+        None => return plan_growth(layer, path, 0, false),
+        Some(number) => return plan_erasing(layer, path, number, covers),
+    }
+}
+
+/// How much the layer takes where the name of the number at the path is taken, and a whiteout is put in
+/// its place where `covers` says so.
+fn plan_erasing(layer: &Layer, path: &Path, number: u32, covers: bool) -> Result<Planned, FsError>
+    requires name { number_at layer.now path.now ≡ Some number }
+    requires below_root { path.now ≡ [] → ⊥ }
+    ensures { result ≡ planned (limited (if covers then with_node layer.now path.now Node.Whiteout else without layer.now path.now)) }
+{
+    let _ = path.names();
+    let _ = layer.next_number();
+    let now = count(layer);
+    let gone = freed(layer, number);
+    let blocks = now.blocks - gone.blocks;
+    let inodes = now.inodes - gone.inodes + u64::from(covers);
+    if inodes > MOST_INODES {
+        return Err(FsError::LayerFull);
+    }
+    let after = Usage { blocks, inodes };
+    Ok(Planned { after })
+}
+
+/// What goes with one name of the number: its file or symlink, where it has no other name.
+fn freed(layer: &Layer, number: u32) -> Usage
+    ensures { result ≡ freed layer.now number }
+{
+    if layer.link_count(number) == 1 {
+        return Usage {
+            blocks: file_blocks(layer, number),
+            inodes: 1,
+        };
+    }
+    Usage {
+        blocks: 0,
+        inodes: 0,
+    }
+}
+
+/// The blocks of the file or symlink with the number.
+fn file_blocks(layer: &Layer, number: u32) -> u64
+    ensures { result ≡ weight_of (body layer.now number) }
+{
+    match layer.body(number) {
+        Some(body) => body.blocks(),
+        None => 0,
+    }
 }
 
 /// How much the layer takes where what takes so many blocks, and a file number where `numbered` says so,
