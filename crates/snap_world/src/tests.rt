@@ -324,7 +324,10 @@ fn stands_on<N: StoreName>(rt: &impl Abort, alloc: Global, table: NewTable) -> R
         ),
         (Said::Commit(0, 1, "base"), Told::Committed(1, usage(1, 1))),
         (Said::PrepareOn("m", "base"), Told::PreparedOn(2, 0, 1)),
-        (Said::Mkdir(0, "/x"), Told::Failed(FsError::NeedsCharge(usage(2, 2)))),
+        (
+            Said::Mkdir(0, "/x"),
+            Told::Failed(FsError::NeedsCharge(usage(2, 2))),
+        ),
         (Said::Commit(0, 2, "next"), Told::Committed(2, usage(1, 1))),
         (Said::PrepareOn("m", "next"), Told::PreparedOn(3, 0, 2)),
         (Said::Discard(0, 3), Told::Discarded(usage(1, 1))),
