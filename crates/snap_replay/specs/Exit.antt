@@ -1,5 +1,5 @@
 -- The status of the program.
-use Rattle.std.specs.Prelude.{ℕ, Unit, Result, Ok, Err}
+use Rattle.std.specs.Prelude.{ℕ, Result, Ok, Err}
 use Rattle.snap_session.specs.declared.stop.Stop.{Stop}
 use Rattle.snap_session.specs.Words.{status_of}
 
