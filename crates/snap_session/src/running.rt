@@ -116,5 +116,5 @@ pub fn replay<R: Read, W: Write>(alloc: Global, input: &mut R, output: &mut W) -
     ensures fault { (f : LineFault) → result ≡ Err (Stop.Line f) → IfSome (R.remaining input.old)
         (λ bytes. Tells (script bytes) (Some f) (W.contents output.old) (W.contents output.new)) }
 {
-    replay_within(alloc, input, output, READS).or(Ok(()))
+    replay_within(alloc, input, output, READS)
 }
