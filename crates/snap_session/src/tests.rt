@@ -377,10 +377,14 @@ fn commits<N: StoreName>(
     parent: &str,
     chain: &str,
 ) -> Result<(), Fail> {
-    let line = format!(in alloc; "{{\"do\":\"prepare\",\"ns\":\"a\",\"key\":\"k\",\"parent\":\"{parent}\"}}")?;
+    let line = format!(in alloc;
+        "{{\"do\":\"prepare\",\"ns\":\"a\",\"key\":\"k\",\"parent\":\"{parent}\"}}"
+    )?;
     let answer = format!(in alloc; "{{\"chain\":[{chain}],\"id\":{number},\"slot\":0}}")?;
     says(rt, alloc, session, line.as_str(), answer.as_str())?;
-    let line = format!(in alloc; "{{\"do\":\"commit\",\"ns\":\"a\",\"key\":\"k\",\"name\":\"c{number}\"}}")?;
+    let line = format!(in alloc;
+        "{{\"do\":\"commit\",\"ns\":\"a\",\"key\":\"k\",\"name\":\"c{number}\"}}"
+    )?;
     let answer = format!(in alloc; "{{\"id\":{number},\"usage\":[1,1]}}")?;
     says(rt, alloc, session, line.as_str(), answer.as_str())
 }
@@ -394,7 +398,14 @@ fn too_deep<N: StoreName>(rt: &impl Abort, alloc: Global, table: NewTable) -> Re
     let mut chain = String::from_str(alloc, "1")?;
     for number in 2u32..66 {
         let parent = format!(in alloc; "c{}", number - 1)?;
-        commits(rt, alloc, &mut session, number, parent.as_str(), chain.as_str())?;
+        commits(
+            rt,
+            alloc,
+            &mut session,
+            number,
+            parent.as_str(),
+            chain.as_str(),
+        )?;
         chain = format!(in alloc; "{number},{chain}")?;
     }
     for (line, answer) in [
