@@ -98,7 +98,11 @@ fn commits<N: StoreName>(
 fn answers<N: StoreName>(rt: &impl Abort, book: &mut Book<N>, ids: &[u32]) {
     match book.take_entry() {
         Some(entry) => match entry.reply {
-            Reply::Prepared { id: _, slot: _, chain } => {
+            Reply::Prepared {
+                id: _,
+                slot: _,
+                chain,
+            } => {
                 assert_eq!(rt; chain.as_slice(), ids);
             }
             _ => panic!(rt; "nothing was prepared"),
@@ -118,7 +122,10 @@ fn stands_on<N: StoreName>(rt: &impl Abort, alloc: Global, table: NewTable) -> R
     let second = prepared(rt, alloc, &mut book, "second", "middle");
     answers(rt, &mut book, &[2, 1]);
     assert_eq!(rt; (first.lowers.len(), second.lowers.len()), (0, 2));
-    assert_eq!(rt; (second.share(), second.count()), (usage(1, 1), usage(1, 1)));
+    assert_eq!(rt;
+        (second.share(), second.count()),
+        (usage(1, 1), usage(1, 1))
+    );
     assert_eq!(rt; book.totals("b"), Some(usage(4, 4)));
     book.discard(0, Held::Active(first));
     book.discard(0, Held::Active(second));
@@ -131,7 +138,11 @@ fn a_snapshot_stands_on_its_ancestors(rt: HostRuntime) -> Result<(), Fail> {
     stands_on::<Brand>(&rt, rt.alloc(), table)
 }
 
-fn refused_parents<N: StoreName>(rt: &impl Abort, alloc: Global, table: NewTable) -> Result<(), Fail>
+fn refused_parents<N: StoreName>(
+    rt: &impl Abort,
+    alloc: Global,
+    table: NewTable,
+) -> Result<(), Fail>
     requires { table ≡ N.table }
 {
     let mut book = opened::<N>(rt, alloc, table)?;

@@ -45,9 +45,10 @@ abbrev pub new_active : State → ℕ → Bytes → Bytes → ℕ → Record
 new_active s place key parent slot = record { namespace = place; key = key; parent = parent; id = s.next_id; labels = []; created = s.entries + 1; updated = s.entries + 1; content = Active slot one }
 
 abbrev pub prepared : State → ℕ → Bytes → Bytes → ℕ → State × Reply
-prepared s place key parent slot =
-    (record s { records = with_record (new_active s place key parent slot) s.records; next_id = s.next_id + 1; entries = s.entries + 1 },
-    Prepared s.next_id slot (ids_of (ancestors place parent s.records)))
+prepared s place key parent slot = (
+  record s { records = with_record (new_active s place key parent slot) s.records; next_id = s.next_id + 1; entries = s.entries + 1 },
+  Prepared s.next_id slot (ids_of (ancestors place parent s.records)),
+)
 
 abbrev pub prepare_slot : State → ℕ → Bytes → Bytes → Option ℕ → State × Reply
 prepare_slot s place key parent None = refused s TooManyActives

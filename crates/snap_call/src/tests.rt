@@ -210,7 +210,11 @@ fn a_parent_is_a_committed_snapshot_of_the_namespace(rt: HostRuntime) -> Result<
         (1, "middle", false, false),
         (2, "base", false, false),
     ] {
-        assert_eq!(rt; records.is_present(place, parent), present, "{place}{parent}");
+        assert_eq!(rt;
+            records.is_present(place, parent),
+            present,
+            "{place}{parent}"
+        );
         assert_eq!(rt; records.is_base(place, parent), base, "{place}{parent}");
         assert_eq!(rt;
             records.committed_at(place, parent).is_some(),
