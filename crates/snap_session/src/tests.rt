@@ -327,11 +327,11 @@ fn on_a_parent<N: StoreName>(rt: &impl Abort, alloc: Global, table: NewTable) ->
         ),
         (
             r#"{"do":"mkdir","ns":"a","key":"m","path":"/x"}"#,
-            r#"{"error":"Invalid","from":"file"}"#,
+            r#"{"count":[2,2],"share":[2,2]}"#,
         ),
         (
             r#"{"do":"commit","ns":"a","key":"m","name":"next"}"#,
-            r#"{"id":2,"usage":[1,1]}"#,
+            r#"{"id":2,"usage":[2,2]}"#,
         ),
         (
             r#"{"do":"prepare","ns":"a","key":"m","parent":"next"}"#,
@@ -339,11 +339,11 @@ fn on_a_parent<N: StoreName>(rt: &impl Abort, alloc: Global, table: NewTable) ->
         ),
         (
             r#"{"do":"stat","ns":"a","key":"next"}"#,
-            r#"{"info":{"created":6,"id":2,"kind":"Committed","labels":{},"name":"next","parent":"base","updated":6}}"#,
+            r#"{"info":{"created":7,"id":2,"kind":"Committed","labels":{},"name":"next","parent":"base","updated":7}}"#,
         ),
         (
             r#"{"do":"report"}"#,
-            r#"{"entries":8,"open":1,"records":3,"totals":{"a":[3,3]}}"#,
+            r#"{"entries":9,"open":1,"records":3,"totals":{"a":[4,4]}}"#,
         ),
     ];
     plays::<N>(rt, alloc, table, &lines)
