@@ -96,18 +96,16 @@ fn commits<N: StoreName>(
 
 // The chain that the last entry answers.
 fn answers<N: StoreName>(rt: &impl Abort, book: &mut Book<N>, ids: &[u32]) {
-    match book.take_entry() {
-        Some(entry) => match entry.reply {
-            Reply::Prepared {
-                id: _,
-                slot: _,
-                chain,
-            } => {
-                assert_eq!(rt; chain.as_slice(), ids);
-            }
-            _ => panic!(rt; "nothing was prepared"),
-        },
-        None => panic!(rt; "there is no entry"),
+    let Some(entry) = book.take_entry() else {
+        panic!(rt; "there is no entry");
+    };
+    match &entry.reply {
+        Reply::Prepared {
+            id: _,
+            slot: _,
+            chain,
+        } => assert_eq!(rt; chain.as_slice(), ids),
+        _ => panic!(rt; "nothing was prepared"),
     }
 }
 
