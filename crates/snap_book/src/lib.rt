@@ -8,6 +8,7 @@ mod book;
 mod committing;
 mod entries;
 mod journal;
+mod looking;
 mod open;
 mod opening;
 mod prepare;
@@ -18,9 +19,7 @@ mod tests;
 #[cfg(test)]
 mod tests_book;
 #[cfg(test)]
-mod tests_parents;
-#[cfg(test)]
-mod tests_working;
+mod tests_looking;
 mod totals;
 mod working;
 

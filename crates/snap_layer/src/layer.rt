@@ -1,7 +1,7 @@
-ghost use Rattle.std.specs.Prelude.{◌≡◌, ◌↔◌, ◌<◌, ◌≤◌, ◌+◌, ℕ, Some, None, IfOk, IfSome, OnOk, OnErr, IsErrOf, IsSome, IsTrue, length, take, find, nat_lt, true, false};
+ghost use Rattle.std.specs.Prelude.{◌≡◌, ◌↔◌, ◌<◌, ◌≤◌, ◌+◌, ℕ, [], ◌++◌, Some, None, IfOk, IfSome, OnOk, OnErr, IsErrOf, IsSome, IsTrue, length, take, find, nat_lt, true, false};
 ghost use Rattle.std.specs.Option.{option_copied};
 ghost use Rattle.std.specs.Map.{keys_of};
-ghost use Rattle.snap_path.specs.Text.{IsPath};
+ghost use Rattle.snap_path.specs.Text.{Names, IsPath, text_below};
 ghost use Rattle.snap_layer.specs.Tree.{Tree, at, body, number_at, names_below, number_of, has_number, IsDirAt};
 ghost use Rattle.snap_layer.specs.Counts.{dir_count, whiteout_count, name_count, inode_count, block_count, is_within};
 ghost use Rattle.snap_layer.specs.Layers.{IsLayer, IsFile, IsWhole, is_target};
@@ -294,6 +294,18 @@ impl Layer {
         if begins(from.names(), to.names()) || begins(to.names(), from.names()) {
             return false;
         }
+        self.has_short_paths(from, to)
+    }
+
+    /// Whether what stands at `from` and below it would have paths of at most 4095 bytes at `to`.
+    ///
+    /// The conditions are that neither path is the root. Takes no memory. Cost: the number of paths.
+    pub fn has_short_paths(&self, from: &Path, to: &Path) -> bool
+        requires from { from.now ≡ [] → ⊥ }
+        requires to { to.now ≡ [] → ⊥ }
+        ensures { IsTrue result ↔ ((r : Names) → IsSome (at self.now (from.now ++ r)) → length (text_below (to.now ++ r)) ≤ 4095) }
+    {
+        let _ = self.next_number();
         are_short(&self.entries, from, to)
     }
 

@@ -1,18 +1,21 @@
 -- No answer has a float.
 use Rattle.std.proofs.Common.{◌≡◌, ℕ, List, [], ◌∷◌, map, Bool, true, false, true≢false, Ordering, Less, Equal, Greater, nat_cmp, refl}
-use Rattle.std.specs.Prelude.{◌||◌}
+use Rattle.std.specs.Prelude.{◌||◌, if◌then◌else◌, Option, Some, None}
+use Rattle.std.specs.Str.{is_utf8}
 use Rattle.std.specs.Ordering.{match_ordering}
 use Rattle.std.specs.Cmp.Lexicographic.{slice_cmp}
-use Rattle.serde_json.specs.Data.{Data, string, Members, no_members, member, put}
+use Rattle.serde_json.specs.Data.{Data, null, string, Members, no_members, member, put}
 use Rattle.serde_json.specs.View.{items_of}
 use Rattle.serde_json.specs.Written.{has_float, items_have_float, members_have_float}
 use Rattle.snap_usage.specs.declared.usage.Usage.{Usage}
 use Rattle.snap_record.specs.Labels.{Bytes, Label}
 use Rattle.snap_call.specs.declared.refusal.Refusal.{Refusal}
 use Rattle.snap_call.specs.declared.refusal.Refusal.TheVariants as refusals
+use Rattle.snap_script.specs.declared.answer.Shown.{Shown}
+use Rattle.snap_script.specs.declared.answer.Shown.TheVariants as shown
 use Rattle.snap_script.specs.declared.answer.Answer.{Answer}
 use Rattle.snap_script.specs.declared.answer.Answer.TheVariants as answers
-use Rattle.snap_script.specs.Answers.{number_data, usage_data, labels_onto, totals_onto, refusal_data, answer_data}
+use Rattle.snap_script.specs.Answers.{number_data, usage_data, labels_onto, totals_onto, refusal_data, shown_or_null, answer_data}
 
 first_is : (a b : Bool) → a || b ≡ false → a ≡ false
 first_is false b h = refl
@@ -68,6 +71,20 @@ refusal_has_none refusals.NumbersSpent = refl
 refusal_has_none refusals.JournalFull = refl
 refusal_has_none refusals.OutOfMemory = refl
 
+texts_have_none : (texts : List (List ℕ)) → items_have_float (items_of (map string texts)) ≡ false
+texts_have_none [] = refl
+texts_have_none (text ∷ texts) = texts_have_none texts
+
+text_or_null : (b : Bool) (text : List ℕ) → has_float (if b then string text else null) ≡ false
+text_or_null true text = refl
+text_or_null false text = refl
+
+shown_has_none : (o : Option Shown) → has_float (shown_or_null o) ≡ false
+shown_has_none None = refl
+shown_has_none (Some (shown.Dir mode)) = refl
+shown_has_none (Some (shown.File mode size)) = refl
+shown_has_none (Some (shown.Symlink target)) = both_are _ _ (text_or_null (is_utf8 target) target) refl
+
 pub no_float : (answer : Answer) → has_float (answer_data answer) ≡ false
 no_float answers.Done = refl
 no_float (answers.Session n) = refl
@@ -78,6 +95,10 @@ no_float (answers.Freed freed) = refl
 no_float (answers.Info info) = both_are _ _ (both_are _ _ (labels_have_none info.labels no_members refl) refl) refl
 no_float (answers.Usage usage) = refl
 no_float (answers.Changed count share) = refl
+no_float (answers.Seen seen) = both_are _ _ (shown_has_none seen) refl
+no_float (answers.Names names) = both_are _ _ (texts_have_none names) refl
+no_float (answers.Head head size) = refl
+no_float (answers.Path path) = refl
 no_float (answers.Report entries actives records totals) = both_are _ _ (totals_have_none totals no_members refl) refl
 no_float (answers.Refused refusal) = refusal_has_none refusal
 no_float (answers.Failed error) = refl

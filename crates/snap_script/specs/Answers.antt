@@ -1,8 +1,11 @@
 -- What a line is answered: JSON, the keys of each object in byte order.
-use Rattle.std.specs.Prelude.{ℕ, true, List, [], ◌∷◌, ◌++◌, codes, map}
-use Rattle.serde_json.specs.Data.{Data, boolean, number, string, array, object, unsigned, no_items, item, Members, no_members, member, put}
+use Rattle.std.specs.Prelude.{ℕ, true, if◌then◌else◌, List, [], ◌∷◌, ◌++◌, Option, Some, None, codes, map}
+use Rattle.std.specs.Str.{is_utf8}
+use Rattle.hex.specs.Hex.{encode_lower}
+use Rattle.serde_json.specs.Data.{Data, null, boolean, number, string, array, object, unsigned, no_items, item, Members, no_members, member, put}
 use Rattle.serde_json.specs.View.{items_of}
 use Rattle.serde_json.specs.Written.{compact_text}
+use Rattle.snap_path.specs.Text.{Names, text_of}
 use Rattle.snap_usage.specs.declared.usage.Usage.{Usage}
 use Rattle.snap_record.specs.Labels.{Bytes, Label}
 use Rattle.snap_record.specs.Kinds.{kind_word}
@@ -11,6 +14,8 @@ use Rattle.snap_call.specs.declared.refusal.Refusal.{Refusal}
 use Rattle.snap_call.specs.declared.refusal.Refusal.TheVariants as refusals
 use Rattle.snap_merge.specs.declared.error.FsError.{FsError}
 use Rattle.snap_merge.specs.declared.error.FsError.TheVariants as errors
+use Rattle.snap_script.specs.declared.answer.Shown.{Shown}
+use Rattle.snap_script.specs.declared.answer.Shown.TheVariants as shown
 use Rattle.snap_script.specs.declared.answer.Answer.{Answer}
 use Rattle.snap_script.specs.declared.answer.Answer.TheVariants as answers
 
@@ -135,6 +140,38 @@ changed_data count share = object
     (member (codes "count") (usage_data count)
     (member (codes "share") (usage_data share) no_members))
 
+-- a text, or null where the bytes are none: UTF-8 alone is JSON
+abbrev pub text_data : List ℕ → Data
+text_data bytes = if is_utf8 bytes then string bytes else null
+
+-- what a snapshot shows: a directory's mode; a file's mode and bytes; a symlink's target
+abbrev pub shown_data : Shown → Data
+shown_data (shown.Dir mode) = object (member (codes "dir") (number_data mode) no_members)
+shown_data (shown.File mode size) = object
+    (member (codes "file") (number_data mode)
+    (member (codes "size") (number_data size) no_members))
+shown_data (shown.Symlink target) = object (member (codes "symlink") (text_data target) no_members)
+
+-- null where nothing is seen
+abbrev pub shown_or_null : Option Shown → Data
+shown_or_null None = null
+shown_or_null (Some seen) = shown_data seen
+
+abbrev pub seen_data : Option Shown → Data
+seen_data seen = object (member (codes "seen") (shown_or_null seen) no_members)
+
+abbrev pub names_data : List (List ℕ) → Data
+names_data names = object (member (codes "names") (array (items_of (map string names))) no_members)
+
+-- a file's first bytes in lower hexadecimal, and how many it has
+abbrev pub head_data : List ℕ → ℕ → Data
+head_data head size = object
+    (member (codes "head") (string (encode_lower head))
+    (member (codes "size") (number_data size) no_members))
+
+abbrev pub path_data : Names → Data
+path_data path = object (member (codes "path") (string (text_of path)) no_members)
+
 abbrev pub report_data : ℕ → ℕ → ℕ → List (Bytes × Usage) → Data
 report_data entries actives records totals = object
     (member (codes "entries") (number_data entries)
@@ -153,6 +190,10 @@ answer_data (answers.Freed freed) = freed_data freed
 answer_data (answers.Info info) = stat_data info
 answer_data (answers.Usage usage) = charged_data usage
 answer_data (answers.Changed count share) = changed_data count share
+answer_data (answers.Seen seen) = seen_data seen
+answer_data (answers.Names names) = names_data names
+answer_data (answers.Head head size) = head_data head size
+answer_data (answers.Path path) = path_data path
 answer_data (answers.Report entries actives records totals) = report_data entries actives records totals
 answer_data (answers.Refused refusal) = refusal_data refusal
 answer_data (answers.Failed error) = error_data (error_name error) (codes "file")

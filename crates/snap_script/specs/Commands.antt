@@ -14,6 +14,10 @@ use Rattle.snap_script.specs.declared.command.FileCommand.{FileCommand}
 use Rattle.snap_script.specs.declared.command.FileCommand.TheVariants as file_commands
 use Rattle.snap_script.specs.declared.verb.Verb.{Verb}
 use Rattle.snap_script.specs.declared.verb.Verb.TheVariants as verbs
+use Rattle.snap_script.specs.declared.verb.FileVerb.{FileVerb}
+use Rattle.snap_script.specs.declared.verb.FileVerb.TheVariants as file_verbs
+use Rattle.snap_script.specs.declared.command.Lookup.{Lookup}
+use Rattle.snap_script.specs.declared.command.Lookup.TheVariants as lookups
 use Rattle.snap_script.specs.Fields.{required, defaulted, number_of, mode_of, some_text_of, usage_of, labels_of, namespaces_of, content_of}
 
 -- what follows a reading that is granted
@@ -73,25 +77,83 @@ abbrev pub extra_of : Data → Result Usage Fault
 extra_of line = defaulted (record { blocks = 0; inodes = 0 }) usage_of fields.Extra line
 
 -- mkdir, create: a path's text and a mode, octal 755 for a directory and 644 for a file where it is absent
-unfoldable pub made_of : (Bytes → ℕ → FileCommand) → ℕ → Data → Result Command Fault
+unfoldable pub made_of : (Bytes → ℕ → FileCommand) → ℕ → Data → Result FileCommand Fault
 made_of operation mode line = do
-  namespace ← text fields.Namespace line
-  key ← text fields.Key line
   path ← text fields.Path line
   mode ← defaulted mode mode_of fields.Mode line
-  extra ← extra_of line
-  Ok (commands.File namespace key (operation path mode) extra)
+  Ok (operation path mode)
 
 -- write: bytes at an offset
-unfoldable pub write_of : Data → Result Command Fault
+unfoldable pub write_of : Data → Result FileCommand Fault
 write_of line = do
-  namespace ← text fields.Namespace line
-  key ← text fields.Key line
   path ← text fields.Path line
   offset ← defaulted 0 number_of fields.Offset line
   bytes ← content_of line
+  Ok (file_commands.Write path offset bytes)
+
+-- truncate: a size in bytes
+unfoldable pub truncate_of : Data → Result FileCommand Fault
+truncate_of line = do
+  path ← text fields.Path line
+  size ← required number_of fields.Size line
+  Ok (file_commands.Truncate path size)
+
+-- setmode: a mode
+unfoldable pub set_mode_of : Data → Result FileCommand Fault
+set_mode_of line = do
+  path ← text fields.Path line
+  mode ← required mode_of fields.Mode line
+  Ok (file_commands.SetMode path mode)
+
+-- symlink: the bytes of its target
+unfoldable pub symlink_of : Data → Result FileCommand Fault
+symlink_of line = do
+  path ← text fields.Path line
+  target ← text fields.Target line
+  Ok (file_commands.Symlink path target)
+
+-- link, rename: two paths' texts
+unfoldable pub paired_of : (Bytes → Bytes → FileCommand) → Data → Result FileCommand Fault
+paired_of operation line = do
+  from ← text fields.From line
+  to ← text fields.To line
+  Ok (operation from to)
+
+-- unlink, rmdir: a path's text alone
+unfoldable pub taken_of : (Bytes → FileCommand) → Data → Result FileCommand Fault
+taken_of operation line = do
+  path ← text fields.Path line
+  Ok (operation path)
+
+-- the operation of a file command
+unfoldable pub file_command_of : FileVerb → Data → Result FileCommand Fault
+file_command_of file_verbs.Mkdir line = made_of file_commands.Mkdir 493 line
+file_command_of file_verbs.Create line = made_of file_commands.Create 420 line
+file_command_of file_verbs.Write line = write_of line
+file_command_of file_verbs.Truncate line = truncate_of line
+file_command_of file_verbs.SetMode line = set_mode_of line
+file_command_of file_verbs.Symlink line = symlink_of line
+file_command_of file_verbs.Link line = paired_of file_commands.Link line
+file_command_of file_verbs.Unlink line = taken_of file_commands.Unlink line
+file_command_of file_verbs.Rmdir line = taken_of file_commands.Rmdir line
+file_command_of file_verbs.Rename line = paired_of file_commands.Rename line
+
+-- a file command: the snapshot, the operation, and the room that a charge asks for beside what the operation needs
+unfoldable pub file_of : FileVerb → Data → Result Command Fault
+file_of verb line = do
+  namespace ← text fields.Namespace line
+  key ← text fields.Key line
+  operation ← file_command_of verb line
   extra ← extra_of line
-  Ok (commands.File namespace key (file_commands.Write path offset bytes) extra)
+  Ok (commands.File namespace key operation extra)
+
+-- look, list, read, resolve: the snapshot, and a path's text
+unfoldable pub lookup_of : Lookup → Data → Result Command Fault
+lookup_of lookup line = do
+  namespace ← text fields.Namespace line
+  key ← text fields.Key line
+  path ← text fields.Path line
+  Ok (commands.Lookup namespace key lookup path)
 
 -- the command of a line by its verb
 unfoldable pub command_of : Verb → Data → Result Command Fault
@@ -104,9 +166,8 @@ command_of verbs.Commit line = commit_of line
 command_of verbs.Discard line = keyed_of commands.Discard line
 command_of verbs.Stat line = keyed_of commands.Stat line
 command_of verbs.Usage line = keyed_of commands.Usage line
-command_of verbs.Mkdir line = made_of file_commands.Mkdir 493 line
-command_of verbs.Create line = made_of file_commands.Create 420 line
-command_of verbs.Write line = write_of line
+command_of (verbs.File verb) line = file_of verb line
+command_of (verbs.Lookup lookup) line = lookup_of lookup line
 command_of verbs.Report line = Ok commands.Report
 
 -- the verb of a word
@@ -121,7 +182,18 @@ verb_of word =
     (if bytes_eq word (codes "discard") then Some verbs.Discard else
     (if bytes_eq word (codes "stat") then Some verbs.Stat else
     (if bytes_eq word (codes "usage") then Some verbs.Usage else
-    (if bytes_eq word (codes "mkdir") then Some verbs.Mkdir else
-    (if bytes_eq word (codes "create") then Some verbs.Create else
-    (if bytes_eq word (codes "write") then Some verbs.Write else
-    (if bytes_eq word (codes "report") then Some verbs.Report else None))))))))))))
+    (if bytes_eq word (codes "mkdir") then Some (verbs.File file_verbs.Mkdir) else
+    (if bytes_eq word (codes "create") then Some (verbs.File file_verbs.Create) else
+    (if bytes_eq word (codes "write") then Some (verbs.File file_verbs.Write) else
+    (if bytes_eq word (codes "truncate") then Some (verbs.File file_verbs.Truncate) else
+    (if bytes_eq word (codes "setmode") then Some (verbs.File file_verbs.SetMode) else
+    (if bytes_eq word (codes "symlink") then Some (verbs.File file_verbs.Symlink) else
+    (if bytes_eq word (codes "link") then Some (verbs.File file_verbs.Link) else
+    (if bytes_eq word (codes "unlink") then Some (verbs.File file_verbs.Unlink) else
+    (if bytes_eq word (codes "rmdir") then Some (verbs.File file_verbs.Rmdir) else
+    (if bytes_eq word (codes "rename") then Some (verbs.File file_verbs.Rename) else
+    (if bytes_eq word (codes "look") then Some (verbs.Lookup lookups.Look) else
+    (if bytes_eq word (codes "list") then Some (verbs.Lookup lookups.List) else
+    (if bytes_eq word (codes "read") then Some (verbs.Lookup lookups.Read) else
+    (if bytes_eq word (codes "resolve") then Some (verbs.Lookup lookups.Resolve) else
+    (if bytes_eq word (codes "report") then Some verbs.Report else None)))))))))))))))))))))))

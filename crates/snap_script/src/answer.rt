@@ -2,16 +2,30 @@ ghost use Rattle.std.specs.Prelude.{◌≡◌, IfOk, string_bytes};
 ghost use Rattle.serde_json.specs.View.{view};
 ghost use Rattle.snap_script.specs.Answers.{answer_data, answer_line};
 
+use crate::lookups::{head, names, path, seen};
 use crate::names::error_name;
 use crate::values::{
     changed, committed, done, error, freed, info, prepared, refused, report, session, share, usage,
 };
 use serde_json::Value;
 use snap_call::Refusal;
+use snap_layer::Bytes;
 use snap_merge::FsError;
+use snap_path::{Name, Path};
 use snap_record::{Info, Sequence, Text};
 use snap_usage::Usage;
 use std::alloc::{AllocError, Global};
+
+/// What a snapshot shows at a path.
+#[derive(Debug, Drop)]
+pub enum Shown {
+    /// A directory.
+    Dir { mode: u32 },
+    /// A regular file, and its bytes.
+    File { mode: u32, size: u64 },
+    /// A symlink. Its target is null in the answer where it isn't UTF-8, which no script makes.
+    Symlink { target: Bytes },
+}
 
 /// What a line of a script is answered.
 #[derive(Debug, Drop)]
@@ -46,6 +60,18 @@ pub enum Answer {
         count: Usage,
         share: Usage,
     },
+    /// What is seen at a path: `{"seen":null}`, `{"seen":{"dir":493}}`, `{"seen":{"file":420,"size":5000}}`,
+    /// `{"seen":{"symlink":"d"}}`.
+    Seen(Option<Shown>),
+    /// The names in a directory, in byte order: `{"names":["x"]}`.
+    Names(Sequence<Name>),
+    /// A file's first bytes, in lower hexadecimal, and how many it has: `{"head":"6869","size":2}`.
+    Head {
+        head: Bytes,
+        size: u64,
+    },
+    /// The path that another leads to: `{"path":"/d/x"}`.
+    Path(Path),
     /// The journal's entries, the open snapshots, the records, and the total of each namespace:
     /// `{"entries":8,"open":0,"records":1,"totals":{"a":[4,3]}}`.
     Report {
@@ -79,6 +105,10 @@ impl Answer {
             Answer::Info(own) => info(alloc, own),
             Answer::Usage(amount) => usage(alloc, *amount),
             Answer::Changed { count, share } => changed(alloc, *count, *share),
+            Answer::Seen(shown) => seen(alloc, shown),
+            Answer::Names(own) => names(alloc, own.as_slice()),
+            Answer::Head { head: own, size } => head(alloc, own.as_slice(), *size),
+            Answer::Path(own) => path(alloc, own),
             Answer::Report {
                 entries,
                 actives,

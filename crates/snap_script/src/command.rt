@@ -1,5 +1,5 @@
 ghost use Rattle.snap_merge.specs.Walk.{Answers};
-ghost use Rattle.snap_script.specs.Operations.{operation_of};
+ghost use Rattle.snap_script.specs.Operations.{path_of, operation_of};
 
 use snap_call::Config;
 use snap_layer::Bytes;
@@ -68,12 +68,32 @@ pub enum Command {
         operation: FileCommand,
         extra: Usage,
     },
+    /// Asks what an active snapshot shows at a path, whose text need not be a path.
+    Lookup {
+        namespace: Text,
+        key: Text,
+        lookup: Lookup,
+        path: Text,
+    },
     /// Asks for the store's totals.
     Report,
 }
 
-/// A file operation as a script has it: [`Op`](snap_upper::Op) with the text of its path, which
-/// need not be a path.
+/// What is asked of a path.
+#[derive(Clone, Copy, Debug, PartialEq, Eq)]
+pub enum Lookup {
+    /// What is seen there.
+    Look,
+    /// The names in the directory.
+    List,
+    /// The bytes of the regular file.
+    Read,
+    /// The path that it leads to, once the symlinks in it are followed.
+    Resolve,
+}
+
+/// A file operation as a script has it: [`Op`](snap_upper::Op) with the texts of its paths, which
+/// need not be paths.
 #[derive(Debug, Drop)]
 pub enum FileCommand {
     Mkdir {
@@ -89,23 +109,57 @@ pub enum FileCommand {
         offset: u64,
         bytes: Bytes,
     },
+    Truncate {
+        path: Text,
+        size: u64,
+    },
+    SetMode {
+        path: Text,
+        mode: u32,
+    },
+    Symlink {
+        path: Text,
+        target: Bytes,
+    },
+    Link {
+        from: Text,
+        to: Text,
+    },
+    Unlink {
+        path: Text,
+    },
+    Rmdir {
+        path: Text,
+    },
+    Rename {
+        from: Text,
+        to: Text,
+    },
+}
+
+/// The path of a text. `BadPath` where the text is none. `OutOfMemory` where memory for the path was
+/// refused. The cost grows with the text.
+pub fn path_of(alloc: Global, text: &Text) -> Result<Path, FsError>
+    ensures { Answers (path_of text.now) result }
+{
+    Ok(Path::parse(alloc, text.as_str())?)
 }
 
 impl FileCommand {
-    /// The operation, once its path is read.
+    /// The operation, once its paths are read, `from` before `to`.
     ///
-    /// `BadPath` where the text is no path. `OutOfMemory` where memory for the path was refused. The
-    /// cost grows with the path.
+    /// `BadPath` where a text is no path. `OutOfMemory` where memory for a path was refused. The
+    /// cost grows with the paths.
     pub fn into_operation(self, alloc: Global) -> Result<Op, FsError>
         ensures { Answers (operation_of self) result }
     {
         Ok(match self {
             FileCommand::Mkdir { path, mode } => Op::Mkdir {
-                path: Path::parse(alloc, path.as_str())?,
+                path: path_of(alloc, &path)?,
                 mode,
             },
             FileCommand::Create { path, mode } => Op::Create {
-                path: Path::parse(alloc, path.as_str())?,
+                path: path_of(alloc, &path)?,
                 mode,
             },
             FileCommand::Write {
@@ -113,9 +167,35 @@ impl FileCommand {
                 offset,
                 bytes,
             } => Op::Write {
-                path: Path::parse(alloc, path.as_str())?,
+                path: path_of(alloc, &path)?,
                 offset,
                 bytes,
+            },
+            FileCommand::Truncate { path, size } => Op::Truncate {
+                path: path_of(alloc, &path)?,
+                size,
+            },
+            FileCommand::SetMode { path, mode } => Op::SetMode {
+                path: path_of(alloc, &path)?,
+                mode,
+            },
+            FileCommand::Symlink { path, target } => Op::Symlink {
+                path: path_of(alloc, &path)?,
+                target,
+            },
+            FileCommand::Link { from, to } => Op::Link {
+                from: path_of(alloc, &from)?,
+                to: path_of(alloc, &to)?,
+            },
+            FileCommand::Unlink { path } => Op::Unlink {
+                path: path_of(alloc, &path)?,
+            },
+            FileCommand::Rmdir { path } => Op::Rmdir {
+                path: path_of(alloc, &path)?,
+            },
+            FileCommand::Rename { from, to } => Op::Rename {
+                from: path_of(alloc, &from)?,
+                to: path_of(alloc, &to)?,
             },
         })
     }

@@ -1,16 +1,20 @@
 ghost use Rattle.serde_json.specs.View.{view};
 ghost use Rattle.snap_script.specs.declared.command.Command.TheVariants as variants;
 ghost use Rattle.snap_script.specs.declared.command.FileCommand.TheVariants as file_variants;
-ghost use Rattle.snap_script.specs.Commands.{open_of, prepare_of, charge_of, keyed_of, commit_of, made_of, write_of, command_of};
+ghost use Rattle.snap_script.specs.Commands.{open_of, prepare_of, charge_of, keyed_of, commit_of, made_of, write_of, truncate_of, set_mode_of, symlink_of, paired_of, taken_of, file_command_of, file_of, lookup_of, command_of};
 ghost use Rattle.snap_script.specs.Gives.{Gives};
 
-use crate::command::{Command, FileCommand};
+use crate::command::{Command, FileCommand, Lookup};
 use crate::fault::{Field, ReadError};
-use crate::fields::{extra, mode_or, number_or, optional_text, required_usage, text, usage_or};
+use crate::fields::{
+    extra, lent_text, mode_or, number_or, optional_text, required_mode, required_number,
+    required_usage, text, usage_or,
+};
 use crate::lists::{content, labels, namespaces};
-use crate::verb::Verb;
+use crate::verb::{FileVerb, Verb};
 use serde_json::Value;
 use snap_call::{Config, MAX_JOURNAL};
+use snap_layer::Bytes;
 use std::alloc::Global;
 
 /// The id of a store's first snapshot.
@@ -115,55 +119,136 @@ fn commit(alloc: Global, line: &Value) -> Result<Command, ReadError>
 }
 
 #[tactic(auto, unfolding(crate::specs::Commands::made_of))]
-fn mkdir(alloc: Global, line: &Value) -> Result<Command, ReadError>
+fn mkdir(alloc: Global, line: &Value) -> Result<FileCommand, ReadError>
     ensures { Gives (λ c. c) result (made_of file_variants.Mkdir 493 (view line.now)) }
 {
-    let namespace = text(alloc, Field::Namespace, line)?;
-    let key = text(alloc, Field::Key, line)?;
     let path = text(alloc, Field::Path, line)?;
     let mode = mode_or(DIRECTORY_MODE, line)?;
-    Ok(Command::File {
-        namespace,
-        key,
-        operation: FileCommand::Mkdir { path, mode },
-        extra: extra(line)?,
-    })
+    Ok(FileCommand::Mkdir { path, mode })
 }
 
 #[tactic(auto, unfolding(crate::specs::Commands::made_of))]
-fn create(alloc: Global, line: &Value) -> Result<Command, ReadError>
+fn create(alloc: Global, line: &Value) -> Result<FileCommand, ReadError>
     ensures { Gives (λ c. c) result (made_of file_variants.Create 420 (view line.now)) }
 {
-    let namespace = text(alloc, Field::Namespace, line)?;
-    let key = text(alloc, Field::Key, line)?;
     let path = text(alloc, Field::Path, line)?;
     let mode = mode_or(FILE_MODE, line)?;
+    Ok(FileCommand::Create { path, mode })
+}
+
+#[tactic(auto, unfolding(crate::specs::Commands::write_of))]
+fn write(alloc: Global, line: &Value) -> Result<FileCommand, ReadError>
+    ensures { Gives (λ c. c) result (write_of (view line.now)) }
+{
+    Ok(FileCommand::Write {
+        path: text(alloc, Field::Path, line)?,
+        offset: number_or(0, Field::Offset, line)?,
+        bytes: content(alloc, line)?,
+    })
+}
+
+#[tactic(auto, unfolding(crate::specs::Commands::truncate_of))]
+fn truncate(alloc: Global, line: &Value) -> Result<FileCommand, ReadError>
+    ensures { Gives (λ c. c) result (truncate_of (view line.now)) }
+{
+    let path = text(alloc, Field::Path, line)?;
+    let size = required_number(Field::Size, line)?;
+    Ok(FileCommand::Truncate { path, size })
+}
+
+#[tactic(auto, unfolding(crate::specs::Commands::set_mode_of))]
+fn set_mode(alloc: Global, line: &Value) -> Result<FileCommand, ReadError>
+    ensures { Gives (λ c. c) result (set_mode_of (view line.now)) }
+{
+    let path = text(alloc, Field::Path, line)?;
+    let mode = required_mode(line)?;
+    Ok(FileCommand::SetMode { path, mode })
+}
+
+#[tactic(auto, unfolding(crate::specs::Commands::symlink_of))]
+fn symlink(alloc: Global, line: &Value) -> Result<FileCommand, ReadError>
+    ensures { Gives (λ c. c) result (symlink_of (view line.now)) }
+{
+    let path = text(alloc, Field::Path, line)?;
+    let target = lent_text(Field::Target, line)?;
+    let target = Bytes::copy_of(alloc, target.as_bytes())?;
+    Ok(FileCommand::Symlink { path, target })
+}
+
+#[tactic(auto, unfolding(crate::specs::Commands::paired_of))]
+fn link(alloc: Global, line: &Value) -> Result<FileCommand, ReadError>
+    ensures { Gives (λ c. c) result (paired_of file_variants.Link (view line.now)) }
+{
+    let from = text(alloc, Field::From, line)?;
+    let to = text(alloc, Field::To, line)?;
+    Ok(FileCommand::Link { from, to })
+}
+
+#[tactic(auto, unfolding(crate::specs::Commands::taken_of))]
+fn unlink(alloc: Global, line: &Value) -> Result<FileCommand, ReadError>
+    ensures { Gives (λ c. c) result (taken_of file_variants.Unlink (view line.now)) }
+{
+    let path = text(alloc, Field::Path, line)?;
+    Ok(FileCommand::Unlink { path })
+}
+
+#[tactic(auto, unfolding(crate::specs::Commands::taken_of))]
+fn rmdir(alloc: Global, line: &Value) -> Result<FileCommand, ReadError>
+    ensures { Gives (λ c. c) result (taken_of file_variants.Rmdir (view line.now)) }
+{
+    let path = text(alloc, Field::Path, line)?;
+    Ok(FileCommand::Rmdir { path })
+}
+
+#[tactic(auto, unfolding(crate::specs::Commands::paired_of))]
+fn rename(alloc: Global, line: &Value) -> Result<FileCommand, ReadError>
+    ensures { Gives (λ c. c) result (paired_of file_variants.Rename (view line.now)) }
+{
+    let from = text(alloc, Field::From, line)?;
+    let to = text(alloc, Field::To, line)?;
+    Ok(FileCommand::Rename { from, to })
+}
+
+/// The operation of a file command by its verb.
+#[tactic(auto, unfolding(crate::specs::Commands::file_command_of))]
+fn file_command_of(alloc: Global, verb: FileVerb, line: &Value) -> Result<FileCommand, ReadError>
+    ensures { Gives (λ c. c) result (file_command_of verb (view line.now)) }
+{
+    match verb {
+        FileVerb::Mkdir => mkdir(alloc, line),
+        FileVerb::Create => create(alloc, line),
+        FileVerb::Write => write(alloc, line),
+        FileVerb::Truncate => truncate(alloc, line),
+        FileVerb::SetMode => set_mode(alloc, line),
+        FileVerb::Symlink => symlink(alloc, line),
+        FileVerb::Link => link(alloc, line),
+        FileVerb::Unlink => unlink(alloc, line),
+        FileVerb::Rmdir => rmdir(alloc, line),
+        FileVerb::Rename => rename(alloc, line),
+    }
+}
+
+#[tactic(auto, unfolding(crate::specs::Commands::file_of))]
+fn file(alloc: Global, verb: FileVerb, line: &Value) -> Result<Command, ReadError>
+    ensures { Gives (λ c. c) result (file_of verb (view line.now)) }
+{
     Ok(Command::File {
-        namespace,
-        key,
-        operation: FileCommand::Create { path, mode },
+        namespace: text(alloc, Field::Namespace, line)?,
+        key: text(alloc, Field::Key, line)?,
+        operation: file_command_of(alloc, verb, line)?,
         extra: extra(line)?,
     })
 }
 
-#[tactic(auto, unfolding(crate::specs::Commands::write_of))]
-fn write(alloc: Global, line: &Value) -> Result<Command, ReadError>
-    ensures { Gives (λ c. c) result (write_of (view line.now)) }
+#[tactic(auto, unfolding(crate::specs::Commands::lookup_of))]
+fn lookup(alloc: Global, lookup: Lookup, line: &Value) -> Result<Command, ReadError>
+    ensures { Gives (λ c. c) result (lookup_of lookup (view line.now)) }
 {
-    let namespace = text(alloc, Field::Namespace, line)?;
-    let key = text(alloc, Field::Key, line)?;
-    let path = text(alloc, Field::Path, line)?;
-    let offset = number_or(0, Field::Offset, line)?;
-    let bytes = content(alloc, line)?;
-    Ok(Command::File {
-        namespace,
-        key,
-        operation: FileCommand::Write {
-            path,
-            offset,
-            bytes,
-        },
-        extra: extra(line)?,
+    Ok(Command::Lookup {
+        namespace: text(alloc, Field::Namespace, line)?,
+        key: text(alloc, Field::Key, line)?,
+        lookup,
+        path: text(alloc, Field::Path, line)?,
     })
 }
 
@@ -182,9 +267,8 @@ pub(crate) fn command_of(alloc: Global, verb: Verb, line: &Value) -> Result<Comm
         Verb::Discard => discard(alloc, line),
         Verb::Stat => stat(alloc, line),
         Verb::Usage => usage(alloc, line),
-        Verb::Mkdir => mkdir(alloc, line),
-        Verb::Create => create(alloc, line),
-        Verb::Write => write(alloc, line),
+        Verb::File(verb) => file(alloc, verb, line),
+        Verb::Lookup(own) => lookup(alloc, own, line),
         Verb::Report => Ok(Command::Report),
     }
 }

@@ -30,6 +30,16 @@ pub(crate) fn number_or(default: u64, field: Field, line: &Value) -> Result<u64,
     }
 }
 
+/// A number that must be there.
+pub(crate) fn required_number(field: Field, line: &Value) -> Result<u64, Fault>
+    ensures { result ≡ required number_of field (view line.now) }
+{
+    match find(field, line) {
+        Some(value) => value.as_u64().ok_or(Fault::BadField(field)),
+        None => Err(Fault::BadField(field)),
+    }
+}
+
 fn mode(value: &Value) -> Option<u32>
     ensures { result ≡ mode_of (view value.now) }
 {
@@ -47,6 +57,16 @@ pub(crate) fn mode_or(default: u32, line: &Value) -> Result<u32, Fault>
     match find(Field::Mode, line) {
         Some(value) => mode(value).ok_or(Fault::BadField(Field::Mode)),
         None => Ok(default),
+    }
+}
+
+/// A mode that must be there.
+pub(crate) fn required_mode(line: &Value) -> Result<u32, Fault>
+    ensures { result ≡ required mode_of fields.Mode (view line.now) }
+{
+    match find(Field::Mode, line) {
+        Some(value) => mode(value).ok_or(Fault::BadField(Field::Mode)),
+        None => Err(Fault::BadField(Field::Mode)),
     }
 }
 

@@ -12,16 +12,15 @@ mod fault;
 mod fields;
 mod line;
 mod lists;
+mod lookups;
 mod names;
 mod values;
 mod verb;
 
-pub use answer::Answer;
-pub use command::{Command, FileCommand};
+pub use answer::{Answer, Shown};
+pub use command::{Command, FileCommand, Lookup, path_of};
 pub use fault::{Fault, Field, ReadError};
 pub use line::{Line, MAX_LINE_BYTES, read_line};
 
-#[cfg(test)]
-mod answer_tests;
 #[cfg(test)]
 mod tests;

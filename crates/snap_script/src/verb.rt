@@ -1,6 +1,8 @@
 ghost use Rattle.std.specs.Prelude.{◌≡◌};
 ghost use Rattle.snap_script.specs.Commands.{verb_of};
 
+use crate::command::Lookup;
+
 /// The commands by their words.
 #[derive(Clone, Copy, Debug, PartialEq, Eq)]
 pub(crate) enum Verb {
@@ -13,10 +15,24 @@ pub(crate) enum Verb {
     Discard,
     Stat,
     Usage,
+    File(FileVerb),
+    Lookup(Lookup),
+    Report,
+}
+
+/// The file commands by their words.
+#[derive(Clone, Copy, Debug, PartialEq, Eq)]
+pub(crate) enum FileVerb {
     Mkdir,
     Create,
     Write,
-    Report,
+    Truncate,
+    SetMode,
+    Symlink,
+    Link,
+    Unlink,
+    Rmdir,
+    Rename,
 }
 
 /// The verb of a word.
@@ -34,9 +50,20 @@ pub(crate) fn verb_of(word: &str) -> Option<Verb>
         "discard" => Some(Verb::Discard),
         "stat" => Some(Verb::Stat),
         "usage" => Some(Verb::Usage),
-        "mkdir" => Some(Verb::Mkdir),
-        "create" => Some(Verb::Create),
-        "write" => Some(Verb::Write),
+        "mkdir" => Some(Verb::File(FileVerb::Mkdir)),
+        "create" => Some(Verb::File(FileVerb::Create)),
+        "write" => Some(Verb::File(FileVerb::Write)),
+        "truncate" => Some(Verb::File(FileVerb::Truncate)),
+        "setmode" => Some(Verb::File(FileVerb::SetMode)),
+        "symlink" => Some(Verb::File(FileVerb::Symlink)),
+        "link" => Some(Verb::File(FileVerb::Link)),
+        "unlink" => Some(Verb::File(FileVerb::Unlink)),
+        "rmdir" => Some(Verb::File(FileVerb::Rmdir)),
+        "rename" => Some(Verb::File(FileVerb::Rename)),
+        "look" => Some(Verb::Lookup(Lookup::Look)),
+        "list" => Some(Verb::Lookup(Lookup::List)),
+        "read" => Some(Verb::Lookup(Lookup::Read)),
+        "resolve" => Some(Verb::Lookup(Lookup::Resolve)),
         "report" => Some(Verb::Report),
         _ => None,
     }

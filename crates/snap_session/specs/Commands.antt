@@ -1,8 +1,15 @@
 -- What a command of a script answers, and the store after it.
-use Rattle.std.specs.Prelude.{ℕ, ◌+◌, min, Bool, true, false, List, length, Option, None, Some, Result, Ok, Err, if◌then◌else◌}
+use Rattle.std.specs.Prelude.{ℕ, ◌+◌, min, Bool, true, false, List, length, take, Option, None, Some, Result, Ok, Err, if◌then◌else◌}
+use Rattle.std.specs.Option.{option_map}
+use Rattle.snap_path.specs.Text.{Names}
+use Rattle.snap_layer.specs.Tree.{Tree}
 use Rattle.snap_usage.specs.declared.usage.Usage.{Usage}
 use Rattle.snap_merge.specs.declared.error.FsError.{FsError}
 use Rattle.snap_merge.specs.declared.error.FsError.TheVariants.{NeedsCharge}
+use Rattle.snap_merge.specs.Objects.{Object, dir, file, symlink, seen}
+use Rattle.snap_merge.specs.Listing.{listing}
+use Rattle.snap_merge.specs.Reading.{reading}
+use Rattle.snap_merge.specs.Resolving.{resolution}
 use Rattle.snap_upper.specs.declared.op.Op.{Op}
 use Rattle.snap_record.specs.Labels.{Bytes}
 use Rattle.snap_call.specs.declared.call.Call.TheVariants as calls
@@ -20,11 +27,16 @@ use Rattle.snap_world.specs.declared.step.Answer.{Answer as StepAnswer}
 use Rattle.snap_world.specs.declared.step.Answer.TheVariants as step_answers
 use Rattle.snap_world.specs.World.{WorldValue}
 use Rattle.snap_world.specs.Move.{move}
+use Rattle.snap_world.specs.Stacks.{stack_of}
+use Rattle.snap_script.specs.declared.answer.Shown.{Shown}
+use Rattle.snap_script.specs.declared.answer.Shown.TheVariants as shown
 use Rattle.snap_script.specs.declared.answer.Answer.{Answer}
 use Rattle.snap_script.specs.declared.answer.Answer.TheVariants as answers
 use Rattle.snap_script.specs.declared.command.Command.{Command}
 use Rattle.snap_script.specs.declared.command.Command.TheVariants as commands
-use Rattle.snap_script.specs.Operations.{operation_of}
+use Rattle.snap_script.specs.declared.command.Lookup.{Lookup}
+use Rattle.snap_script.specs.declared.command.Lookup.TheVariants as lookups
+use Rattle.snap_script.specs.Operations.{path_of, operation_of}
 use Rattle.snap_session.specs.Store.{StoreValue, fresh, names_of, share_at, count_at, totals_of}
 
 -- ---- one step, and its answer
@@ -123,6 +135,35 @@ unfoldable pub filed : ℕ → ℕ → ℕ → Result Op FsError → Usage → W
 filed session slot id (Ok op) extra w = worked session slot id (Hand slot op) extra (move w (Hand slot op))
 filed session slot id (Err e) extra w = (w, answers.Failed e)
 
+-- ---- what a snapshot shows
+
+-- what is seen, as answers have it: of a file how many bytes it has
+abbrev pub shown_of : Object → Shown
+shown_of (dir mode) = shown.Dir mode
+shown_of (file mode bytes) = shown.File mode (length bytes)
+shown_of (symlink target) = shown.Symlink target
+
+-- the first 16 bytes of a file, and how many it has
+abbrev pub head_of : List ℕ → Answer
+head_of bytes = answers.Head (take 16 bytes) (length bytes)
+
+-- the answer for what was found, or the error
+abbrev pub found_or_failed : {A : Type 0} → (A → Answer) → Result A FsError → Answer
+found_or_failed answer (Ok found) = answer found
+found_or_failed answer (Err e) = answers.Failed e
+
+-- what the layers show at a path
+abbrev pub looked_up : Lookup → List Tree → Names → Answer
+looked_up lookups.Look layers path = answers.Seen (option_map shown_of (seen layers path))
+looked_up lookups.List layers path = found_or_failed answers.Names (listing layers path)
+looked_up lookups.Read layers path = found_or_failed head_of (reading layers path)
+looked_up lookups.Resolve layers path = found_or_failed answers.Path (resolution layers path)
+
+-- a lookup in the layers of a snapshot, or why there are none; no step is made
+abbrev pub lookup : Lookup → Result Names FsError → Result (List Tree) Refusal → Answer
+lookup asked path (Ok layers) = found_or_failed (looked_up asked layers) path
+lookup asked path (Err why) = answers.Refused why
+
 -- ---- commands on a store
 
 -- entries of the round, open snapshots, records, totals
@@ -141,6 +182,7 @@ on_store s n (commands.Discard namespace key) = on_key s.world namespace key (λ
 on_store s n (commands.Stat namespace key) = stepped n 0 (Locked n (calls.Stat namespace key)) s.world
 on_store s n (commands.Usage namespace key) = stepped n 0 (Locked n (calls.Usage namespace key)) s.world
 on_store s n (commands.File namespace key operation extra) = on_key s.world namespace key (λ slot id. filed n slot id (operation_of operation) extra s.world)
+on_store s n (commands.Lookup namespace key asked path) = (s.world, lookup asked (path_of path) (stack_of s.world namespace key))
 on_store s n commands.Report = (s.world, report s)
 
 -- ---- opening

@@ -75,13 +75,12 @@ fn worked<N: StoreName>(
     n: u64,
     slot: u64,
     id: u32,
-    op: Op,
+    operation: &Step,
     extra: Usage,
 ) -> Result<Answer, NoMemory>
-    ensures { IfOk result (λ answer. worked n slot id (Hand slot op) extra (move world.old (Hand slot op)) ≡ (world.new, answer)) }
+    ensures { IfOk result (λ answer. worked n slot id operation.now extra (move world.old operation.now) ≡ (world.new, answer)) }
 {
-    let operation = Step::Hand(slot, op);
-    let answer = take_step(world, &operation)?;
+    let answer = take_step(world, operation)?;
     let Some(need) = need_of(&answer) else {
         return Ok(told(n, slot, world, answer));
     };
@@ -91,7 +90,22 @@ fn worked<N: StoreName>(
         need,
         want: wanted(need, extra),
     };
-    recharged(world, n, slot, &Step::Locked(n, call), &operation)
+    recharged(world, n, slot, &Step::Locked(n, call), operation)
+}
+
+// The same of an operation that a step is made of. It is apart, since a step of it has many forms.
+fn operated<N: StoreName>(
+    world: &mut World<N>,
+    n: u64,
+    slot: u64,
+    id: u32,
+    op: Op,
+    extra: Usage,
+) -> Result<Answer, NoMemory>
+    ensures { IfOk result (λ answer. worked n slot id (Hand slot op) extra (move world.old (Hand slot op)) ≡ (world.new, answer)) }
+{
+    let operation = Step::Hand(slot, op);
+    worked(world, n, slot, id, &operation, extra)
 }
 
 #[tactic(auto, unfolding(crate::specs::Commands::filed))]
@@ -107,7 +121,7 @@ fn filed<N: StoreName>(
     ensures { IfOk result (λ answer. filed n slot id (operation_of operation) extra world.old ≡ (world.new, answer)) }
 {
     match operation.into_operation(alloc) {
-        Ok(op) => worked(world, n, slot, id, op, extra),
+        Ok(op) => operated(world, n, slot, id, op, extra),
         Err(FsError::OutOfMemory) => Err(NoMemory),
         Err(error) => Ok(Answer::Failed(error)),
     }

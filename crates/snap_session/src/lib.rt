@@ -7,6 +7,7 @@
 
 mod commands;
 mod filing;
+mod looking;
 mod reader;
 mod running;
 mod session;

@@ -5,6 +5,7 @@ ghost use Rattle.snap_session.specs.Commands.{kept, on_store};
 
 use crate::commands::{charge, commit, discard, prepare, report, session, stat, trim, usage};
 use crate::filing::file;
+use crate::looking::lookup;
 use snap_call::{Namespace, Refusal};
 use snap_ledger::StoreName;
 use snap_record::{Sequence, Text};
@@ -81,6 +82,12 @@ impl<N: StoreName> Store<N> {
                 operation,
                 extra,
             } => file(alloc, world, n, namespace, key, operation, extra),
+            Command::Lookup {
+                namespace,
+                key,
+                lookup: asked,
+                path,
+            } => lookup(alloc, world, namespace, key, asked, path),
             Command::Report => report(alloc, self),
         }
     }

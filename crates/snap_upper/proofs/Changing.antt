@@ -32,8 +32,10 @@ use Rattle.snap_upper.specs.After.{after, tests, first_error, limited, unless, n
 use Rattle.snap_upper.specs.Changed.{ShowsAt, IsName, Turns, with_file_bytes, with_object_mode, changed}
 use Rattle.snap_copyup.proofs.Alone.{free_unseen, dir_seen}
 use Rattle.snap_upper.proofs.Erased.{IsErasable-name, IsErasable-dir, erased_changes}
+use Rattle.snap_upper.proofs.Linked.{link_changes}
 use Rattle.snap_upper.proofs.Making.{IsNew, IsNew-passed, IsNewSymlink-passed}
 use Rattle.snap_upper.proofs.Modes.{IsSettable-passed, has_mode, own_mode, dir_copy, file_copy}
+use Rattle.snap_upper.proofs.Renames.{rename_changes}
 use Rattle.snap_upper.proofs.Writing.{IsWritable-passed, IsSizable-passed, seen_file, own_or_lower, own_layer, copy_layer}
 use Rattle.snap_copyup.proofs.Elsewhere.{Puts, shown_same, shown_number, seen-put_alike, seen-put_hiding}
 use Rattle.snap_copyup.proofs.Parents.{AddsParents, adds_parents}
@@ -318,9 +320,15 @@ after_changes (op.SetMode p mode) u ls v ok layers e =
 after_changes (op.Symlink p target) u ls v ok layers e =
     let given = after_given (first_error (tests (op.Symlink p target) (u ∷ ls))) (next_layer (op.Symlink p target) u ls) v e in
     subst (λ (w : Tree). changed (op.Symlink p target) u (seen (u ∷ ls)) (seen (w ∷ ls))) given.1 (symlink_changes u ls p target ok layers given.0)
+after_changes (op.Link from to) u ls v ok layers e =
+    let given = after_given (first_error (tests (op.Link from to) (u ∷ ls))) (next_layer (op.Link from to) u ls) v e in
+    subst (λ (w : Tree). changed (op.Link from to) u (seen (u ∷ ls)) (seen (w ∷ ls))) given.1 (link_changes u ls from to ok layers given.0)
 after_changes (op.Unlink p) u ls v ok layers e =
     let given = after_given (first_error (tests (op.Unlink p) (u ∷ ls))) (next_layer (op.Unlink p) u ls) v e in
     subst (λ (w : Tree). changed (op.Unlink p) u (seen (u ∷ ls)) (seen (w ∷ ls))) given.1 (erased_changes u ls p ok layers (IsErasable-name (u ∷ ls) p (ok, layers) (dir_seen u ls [] ok.root) given.0))
 after_changes (op.Rmdir p) u ls v ok layers e =
     let given = after_given (first_error (tests (op.Rmdir p) (u ∷ ls))) (next_layer (op.Rmdir p) u ls) v e in
     subst (λ (w : Tree). changed (op.Rmdir p) u (seen (u ∷ ls)) (seen (w ∷ ls))) given.1 (erased_changes u ls p ok layers (IsErasable-dir (u ∷ ls) p given.0))
+after_changes (op.Rename from to) u ls v ok layers e =
+    let given = after_given (first_error (tests (op.Rename from to) (u ∷ ls))) (next_layer (op.Rename from to) u ls) v e in
+    subst (λ (w : Tree). changed (op.Rename from to) u (seen (u ∷ ls)) (seen (w ∷ ls))) given.1 (rename_changes u ls from to ok layers given.0)

@@ -71,7 +71,7 @@ no_root : (p : Names) → is_root p ≡ false → p ≡ [] → ⊥
 no_root [] e is = cc
 no_root (n ∷ p) e is = cc
 
-nil_from : (xs : Names) → nat_lt 0 (length xs) ≡ false → xs ≡ []
+pub nil_from : (xs : Names) → nat_lt 0 (length xs) ≡ false → xs ≡ []
 nil_from [] e = refl
 nil_from (x ∷ xs) e = absurd (omega (arith, ltb-false 0 (length (x ∷ xs)) e))
 
@@ -134,21 +134,21 @@ erased_lower u ls p none there = cond-true (is_some (below u ls p)) (with_node (
 
 -- ---- what is seen afterwards
 
-nothing_under : (s : List Tree) → AreLayers s → (p : Names) → ((n : List ℕ) → is_some (seen s (p ++ n ∷ [])) ≡ false) → (n : List ℕ) (r : Names) → seen s (p ++ n ∷ r) ≡ None
+pub nothing_under : (s : List Tree) → AreLayers s → (p : Names) → ((n : List ℕ) → is_some (seen s (p ++ n ∷ [])) ≡ false) → (n : List ℕ) (r : Names) → seen s (p ++ n ∷ r) ≡ None
 nothing_under s layers p clear n [] = none_from (seen s (p ++ n ∷ [])) (clear n)
 nothing_under s layers p clear n (m ∷ r) =
     ap (seen s) (sym (append_assoc p (n ∷ []) (m ∷ r)))
     ∙ nothing_seen s layers r (p ++ n ∷ []) m (ap is_shown_dir (none_from (seen s (p ++ n ∷ [])) (clear n)))
 
 -- a path above one that does not lie at or below p does not either
-above_out : (p q r : Names) (n : List ℕ) (rest : Names) → ((s : Names) → q ≡ p ++ s → ⊥) → q ≡ r ++ n ∷ rest → begins p r ≡ false
+pub above_out : (p q r : Names) (n : List ℕ) (rest : Names) → ((s : Names) → q ≡ p ++ s → ⊥) → q ≡ r ++ n ∷ rest → begins p r ≡ false
 above_out p q r n rest out is = elim (split_front p r) [
   | inl within ↦ absurd (out (within.1 ++ n ∷ rest) (is ∙ ap (λ (x : Names). x ++ n ∷ rest) within.2 ∙ append_assoc p within.1 (n ∷ rest)))
   | inr away ↦ away.0
 ]
 
 -- a path above p does not lie at or below p
-above_itself : (p r : Names) (n : List ℕ) (rest : Names) → p ≡ r ++ n ∷ rest → begins p r ≡ false
+pub above_itself : (p r : Names) (n : List ℕ) (rest : Names) → p ≡ r ++ n ∷ rest → begins p r ≡ false
 above_itself p r n rest is = elim (split_front p r) [
   | inl within ↦ absurd (longer within.1 within.2)
   | inr away ↦ away.0
@@ -158,13 +158,13 @@ above_itself p r n rest is = elim (split_front p r) [
     longer s e = omega (arith, ap length is, length-append r (n ∷ rest), ap length e, length-append p s)
 
 -- a body with a name elsewhere stays
-body_stays : (t : Tree) (p q : Names) (n : Node) (j : ℕ) → IsStrictlySortedBy nat_cmp (keys_of t.bodies) → begins p q ≡ false → at t q ≡ Some n → number_of n ≡ Some j → body (without t p) j ≡ body t j
+pub body_stays : (t : Tree) (p q : Names) (n : Node) (j : ℕ) → IsStrictlySortedBy nat_cmp (keys_of t.bodies) → begins p q ≡ false → at t q ≡ Some n → number_of n ≡ Some j → body (without t p) j ≡ body t j
 body_stays t p q n j sorted out is number =
     body-bodies_without (number_at t p) (outside p t.entries) t.bodies j sorted
     ∙ cond-false _ None (body t j) (kept_by_name (number_at t p) (outside p t.entries) j q n (at-without_outside t p q out ∙ is) number)
 
 -- a whiteout, where nothing was seen below
-whiteout_changes : (u t : Tree) (ls : List Tree) (p : Names) → AddsParents u t ls (length p) → IsStrictlySortedBy nat_cmp (keys_of t.bodies) → ((n : List ℕ) (r : Names) → seen (u ∷ ls) (p ++ n ∷ r) ≡ None)
+pub whiteout_changes : (u t : Tree) (ls : List Tree) (p : Names) → AddsParents u t ls (length p) → IsStrictlySortedBy nat_cmp (keys_of t.bodies) → ((n : List ℕ) (r : Names) → seen (u ∷ ls) (p ++ n ∷ r) ≡ None)
     → ShowsAt (seen (u ∷ ls)) (seen (with_node t p Whiteout ∷ ls)) p None
 whiteout_changes u t ls p parents sorted nothing = record {
   here = seen_node v ls p Whiteout replaces.here;

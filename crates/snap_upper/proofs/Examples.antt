@@ -4,7 +4,7 @@ use Rattle.snap_layer.specs.declared.node.Node.TheVariants.{Dir, File, Whiteout}
 use Rattle.snap_layer.specs.declared.node.Body.TheVariants as body_kinds
 use Rattle.snap_layer.specs.Tree.{Tree}
 use Rattle.snap_layer.specs.Edits.{root_only}
-use Rattle.snap_merge.specs.declared.error.FsError.TheVariants.{Exists, IsDir, NotFound}
+use Rattle.snap_merge.specs.declared.error.FsError.TheVariants.{Exists, IsDir, NotFound, Invalid, CrossDevice, NotPermitted}
 use Rattle.snap_upper.specs.declared.op.Op.TheVariants as op
 use Rattle.snap_upper.specs.After.{after}
 
@@ -71,3 +71,79 @@ write_to_directory = refl
 
 create_nowhere : after (op.Create (g ∷ f ∷ []) 420) empty (lower ∷ []) ≡ Err NotFound
 create_nowhere = refl
+
+-- a lower file moves under the next number, and a whiteout hides its old name
+rename_lower : after (op.Rename (d ∷ f ∷ []) (d ∷ e ∷ [])) empty (lower ∷ []) ≡ Ok (record {
+  entries = ([], Dir 493 false) ∷ (d ∷ [], Dir 448 false) ∷ (d ∷ e ∷ [], File 1) ∷ (d ∷ f ∷ [], Whiteout) ∷ [];
+  bodies = (1, body_kinds.File 420 (104 ∷ 105 ∷ [])) ∷ [];
+  next = 2;
+})
+rename_lower = refl
+
+-- it does so in place of its other name too: below they are two files
+rename_to_other_name : after (op.Rename (d ∷ f ∷ []) (d ∷ g ∷ [])) empty (lower ∷ []) ≡ Ok (record {
+  entries = ([], Dir 493 false) ∷ (d ∷ [], Dir 448 false) ∷ (d ∷ f ∷ [], Whiteout) ∷ (d ∷ g ∷ [], File 1) ∷ [];
+  bodies = (1, body_kinds.File 420 (104 ∷ 105 ∷ [])) ∷ [];
+  next = 2;
+})
+rename_to_other_name = refl
+
+-- a directory is opaque over a lower one
+rename_over_whiteout : after (op.Rename (e ∷ []) (d ∷ [])) (record { entries = ([], Dir 493 false) ∷ (d ∷ [], Whiteout) ∷ (e ∷ [], Dir 511 false) ∷ (e ∷ g ∷ [], File 1) ∷ []; bodies = (1, body_kinds.File 420 []) ∷ []; next = 2 }) (lower ∷ []) ≡ Ok (record {
+  entries = ([], Dir 493 false) ∷ (d ∷ [], Dir 511 true) ∷ (d ∷ g ∷ [], File 1) ∷ [];
+  bodies = (1, body_kinds.File 420 []) ∷ [];
+  next = 2;
+})
+rename_over_whiteout = refl
+
+-- two names of one file stay, and the body of a replaced file goes
+abbrev upper : Tree
+upper = record {
+  entries = ([], Dir 493 false) ∷ (e ∷ [], File 1) ∷ (f ∷ [], File 1) ∷ (g ∷ [], File 2) ∷ [];
+  bodies = (1, body_kinds.File 420 (33 ∷ [])) ∷ (2, body_kinds.File 384 []) ∷ [];
+  next = 3;
+}
+
+rename_one_file : after (op.Rename (e ∷ []) (f ∷ [])) upper (lower ∷ []) ≡ Ok upper
+rename_one_file = refl
+
+rename_over_file : after (op.Rename (e ∷ []) (g ∷ [])) upper (lower ∷ []) ≡ Ok (record {
+  entries = ([], Dir 493 false) ∷ (f ∷ [], File 1) ∷ (g ∷ [], File 1) ∷ [];
+  bodies = (1, body_kinds.File 420 (33 ∷ [])) ∷ [];
+  next = 3;
+})
+rename_over_file = refl
+
+rename_merged : after (op.Rename (d ∷ []) (e ∷ [])) empty (lower ∷ []) ≡ Err CrossDevice
+rename_merged = refl
+
+rename_into_itself : after (op.Rename (d ∷ []) (d ∷ e ∷ [])) empty (lower ∷ []) ≡ Err Invalid
+rename_into_itself = refl
+
+rename_over_directory : after (op.Rename (e ∷ []) (d ∷ [])) upper (lower ∷ []) ≡ Err IsDir
+rename_over_directory = refl
+
+rename_the_root : after (op.Rename [] (e ∷ [])) empty (lower ∷ []) ≡ Err Invalid
+rename_the_root = refl
+
+-- both names share the copy, and the other name below is another file
+link_lower : after (op.Link (d ∷ f ∷ []) (e ∷ [])) empty (lower ∷ []) ≡ Ok (record {
+  entries = ([], Dir 493 false) ∷ (d ∷ [], Dir 448 false) ∷ (d ∷ f ∷ [], File 1) ∷ (e ∷ [], File 1) ∷ [];
+  bodies = (1, body_kinds.File 420 (104 ∷ 105 ∷ [])) ∷ [];
+  next = 2;
+})
+link_lower = refl
+
+-- the new name takes the place of a whiteout
+link_over_whiteout : after (op.Link (e ∷ []) (d ∷ g ∷ [])) (record { entries = ([], Dir 493 false) ∷ (d ∷ [], Dir 448 false) ∷ (d ∷ g ∷ [], Whiteout) ∷ (e ∷ [], File 1) ∷ []; bodies = (1, body_kinds.File 420 []) ∷ []; next = 2 }) (lower ∷ []) ≡ Ok (record {
+  entries = ([], Dir 493 false) ∷ (d ∷ [], Dir 448 false) ∷ (d ∷ g ∷ [], File 1) ∷ (e ∷ [], File 1) ∷ [];
+  bodies = (1, body_kinds.File 420 []) ∷ [];
+  next = 2;
+})
+link_over_whiteout = refl
+
+link_directory : after (op.Link (d ∷ []) (d ∷ g ∷ [])) empty (lower ∷ []) ≡ Err NotPermitted
+link_directory = refl
+
+link_to_seen : after (op.Link (d ∷ f ∷ []) (d ∷ g ∷ [])) empty (lower ∷ []) ≡ Err Exists
+link_to_seen = refl

@@ -40,14 +40,14 @@ use Rattle.snap_upper.proofs.Outcomes.{planned_fits, planned_full}
 -- ---- a free place
 
 -- a whiteout is an inode without blocks, and nothing has neither
-free_inodes : (o : Option Node) → IsFree o → inodes_of o ≡ (if is_whiteout_at o then 1 else 0)
+pub free_inodes : (o : Option Node) → IsFree o → inodes_of o ≡ (if is_whiteout_at o then 1 else 0)
 free_inodes None free = refl
 free_inodes (Some (node.Dir m b)) free = absurd (cc)
 free_inodes (Some (node.File k)) free = absurd (cc)
 free_inodes (Some (node.Symlink k)) free = absurd (cc)
 free_inodes (Some node.Whiteout) free = refl
 
-free_dirs : (o : Option Node) → IsFree o → weight dirs o ≡ 0
+pub free_dirs : (o : Option Node) → IsFree o → weight dirs o ≡ 0
 free_dirs None free = refl
 free_dirs (Some (node.Dir m b)) free = absurd (cc)
 free_dirs (Some (node.File k)) free = absurd (cc)
@@ -72,7 +72,7 @@ space_of_layer t p ok free = record {
 }
 
 -- where nothing stands at the path or below it nothing is taken
-without_bare : (t : Tree) (p : Names) → IsStrictlySortedBy path_cmp (keys_of t.entries) → ((r : Names) → at t (p ++ r) ≡ None) → without t p ≡ t
+pub without_bare : (t : Tree) (p : Names) → IsStrictlySortedBy path_cmp (keys_of t.entries) → ((r : Names) → at t (p ++ r) ≡ None) → without t p ≡ t
 without_bare t p sorted bare =
     same_tree (without t p) t
     (sorted-filter path_cmp (λ e. not (begins p e.0)) t.entries sorted)

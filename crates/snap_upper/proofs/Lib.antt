@@ -4,6 +4,16 @@ pub mod Making
 pub mod Writing
 pub mod Modes
 pub mod Erased
+pub mod Moved
+pub mod Renamable
+pub mod Renames
 pub mod Freed
+pub mod Taken
+pub mod Linked
+pub mod Movable
+pub mod Prepared
+pub mod Shifted
+pub mod LinkCounts
 pub mod Changing
 pub mod Examples
+pub mod Uncharged

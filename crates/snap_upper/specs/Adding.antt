@@ -4,7 +4,7 @@ use Rattle.snap_layer.specs.declared.node.Body.{Body}
 use Rattle.snap_layer.specs.Counts.{blocks_of, body_blocks, name_count}
 use Rattle.snap_layer.specs.Tree.{Tree, body}
 use Rattle.snap_usage.specs.declared.usage.Usage.{Usage}
-use Rattle.snap_merge.specs.Objects.{Object, file, is_shown_dir}
+use Rattle.snap_merge.specs.Objects.{Object, dir, file, symlink, is_shown_dir}
 use Rattle.snap_upper.specs.declared.checking.Found.{Found}
 use Rattle.snap_copyup.specs.declared.putting.Last.{Last}
 use Rattle.snap_copyup.specs.declared.putting.Last.TheVariants.{Nothing, Dir, File, Symlink, Whiteout}
@@ -26,6 +26,13 @@ IsFound (Some f) o = o ≡ Some (file f.mode f.bytes.now)
 abbrev pub with_its_mode : Option Found → ℕ → Last
 with_its_mode None mode = Dir mode false
 with_its_mode (Some f) mode = File mode f.bytes.now
+
+-- the blocks of what is seen: one of a directory, and none of a symlink
+abbrev pub object_blocks : Option Object → ℕ
+object_blocks None = 0
+object_blocks (Some (dir mode)) = 1
+object_blocks (Some (file mode bytes)) = blocks_of (length bytes)
+object_blocks (Some (symlink target)) = 0
 
 -- the blocks of a body, and none of no body
 abbrev pub weight_of : Option Body → ℕ

@@ -1,24 +1,24 @@
 -- The upper layer after an operation, or the operation's error.
-use Rattle.std.specs.Prelude.{ℕ, ◌+◌, ◌-◌, ◌==◌, ◌||◌, Bool, true, false, nat_lt, List, [], ◌∷◌, ◌++◌, length, take, drop, replicate, Option, Some, None, is_some, if◌then◌else◌, Result, Ok, Err}
+use Rattle.std.specs.Prelude.{ℕ, ◌+◌, ◌-◌, ◌==◌, ◌||◌, ◌&&◌, Bool, true, false, nat_lt, not, List, [], ◌∷◌, ◌++◌, length, take, drop, replicate, Option, Some, None, is_some, if◌then◌else◌, Result, Ok, Err}
 use Rattle.std.specs.List.{list_any}
 use Rattle.snap_layer.specs.declared.node.Node.{Node}
 use Rattle.snap_layer.specs.declared.node.Node.TheVariants as node
 use Rattle.snap_layer.specs.declared.node.Body.{Body}
 use Rattle.snap_layer.specs.declared.node.Body.TheVariants as body_kinds
-use Rattle.snap_layer.specs.Tree.{Tree, at, body, number_at, is_whiteout}
+use Rattle.snap_layer.specs.Tree.{Tree, at, body, number_at, begins, is_whiteout}
 use Rattle.snap_layer.specs.Counts.{is_within}
-use Rattle.snap_layer.specs.Edits.{with_entry, with_node, with_new, with_bytes, with_mode, without}
+use Rattle.snap_layer.specs.Edits.{with_entry, with_node, with_new, with_name, with_bytes, with_mode, with_opaque, with_moved, without, inside, relocated}
 use Rattle.snap_usage.specs.Counted.{count_of}
 use Rattle.snap_merge.specs.declared.error.FsError.{FsError}
-use Rattle.snap_merge.specs.declared.error.FsError.TheVariants.{NotFound, NotDir, IsDir, Exists, NotEmpty, Invalid, TooBig, LayerFull}
-use Rattle.snap_merge.specs.Objects.{Object, dir, file, symlink, seen}
+use Rattle.snap_merge.specs.declared.error.FsError.TheVariants.{NotFound, NotDir, IsDir, Exists, NotEmpty, Invalid, BadPath, CrossDevice, NotPermitted, TooBig, LayerFull}
+use Rattle.snap_merge.specs.Objects.{Object, dir, file, symlink, seen, is_shown_dir}
 use Rattle.snap_merge.specs.Walk.{walk}
 use Rattle.snap_merge.specs.Listing.{names}
-use Rattle.snap_path.specs.Text.{Names}
+use Rattle.snap_path.specs.Text.{Names, text_below}
 use Rattle.snap_upper.specs.declared.op.Op.{Op}
-use Rattle.snap_upper.specs.declared.op.Op.TheVariants.{Mkdir, Create, Write, Truncate, SetMode, Symlink, Unlink, Rmdir}
+use Rattle.snap_upper.specs.declared.op.Op.TheVariants.{Mkdir, Create, Write, Truncate, SetMode, Symlink, Link, Unlink, Rmdir, Rename}
 use Rattle.snap_upper.specs.declared.planning.Planned.{Planned}
-use Rattle.snap_copyup.specs.Copying.{below, with_parents, copied_up}
+use Rattle.snap_copyup.specs.Copying.{below, is_pure, with_parents, copied_up}
 
 -- ---- tests
 
@@ -67,7 +67,49 @@ is_root (n ∷ p) = false
 abbrev pub has_names : List Tree → Names → Bool
 has_names s p = nat_lt 0 (length (names s p))
 
--- the tests of an operation over the layers, in order (mkdir(2), open(2) with O_CREAT and O_EXCL, pwrite(2), truncate(2), chmod(2), symlink(2), unlink(2), rmdir(2))
+-- the error where no file and no symlink is seen
+abbrev pub link_error : Option Object → Option FsError
+link_error None = Some NotFound
+link_error (Some (dir mode)) = Some NotPermitted
+link_error (Some (file mode bytes)) = None
+link_error (Some (symlink target)) = None
+
+-- the paths are one
+abbrev pub is_same_path : Names → Names → Bool
+is_same_path p q = begins p q && begins q p
+
+-- both numbers are there, and they are one
+abbrev pub is_same_number : Option ℕ → Option ℕ → Bool
+is_same_number None k = false
+is_same_number (Some j) None = false
+is_same_number (Some j) (Some k) = j == k
+
+-- one path, or two names of one file of the upper layer (rename(2))
+abbrev pub is_same_name : Tree → Names → Names → Bool
+is_same_name u from to = is_same_path from to || is_same_number (number_at u from) (number_at u to)
+
+-- the error where a directory would take the place of another object, or another object that of a directory
+abbrev pub kind_error : Option Object → Option Object → Option FsError
+kind_error moved None = None
+kind_error moved (Some (dir mode)) = error_if (not (is_shown_dir moved)) IsDir
+kind_error moved (Some (file mode bytes)) = error_if (is_shown_dir moved) NotDir
+kind_error moved (Some (symlink target)) = error_if (is_shown_dir moved) NotDir
+
+-- a path of the upper layer that moves with `from` would be longer than 4095 bytes (limits.h, PATH_MAX without the closing NUL)
+abbrev pub is_too_long : Tree → Names → Names → Bool
+is_too_long u from to = list_any (λ e. nat_lt 4095 (length (text_below (relocated from to e.0)))) (inside from u.entries)
+
+-- the tests of a rename that has something to do; a directory that has one of a lower layer below it stays (overlayfs.rst, "renaming directories")
+abbrev pub move_tests : Tree → List Tree → Names → Names → List (Option FsError)
+move_tests u lowers from to =
+    let is_dir = is_shown_dir (seen (u ∷ lowers) from) in
+    error_if (is_dir && begins from to) Invalid ∷ kind_error (seen (u ∷ lowers) from) (seen (u ∷ lowers) to) ∷ error_if (is_dir && not (is_pure u lowers from)) CrossDevice ∷ error_if (has_names (u ∷ lowers) to) NotEmpty ∷ error_if (is_too_long u from to) BadPath ∷ []
+
+-- the tests of a rename over the upper layer and the lower ones (rename(2))
+abbrev pub rename_tests : Tree → List Tree → Names → Names → List (Option FsError)
+rename_tests u lowers from to = walk (u ∷ lowers) from ∷ walk (u ∷ lowers) to ∷ error_if (is_root from || is_root to) Invalid ∷ error_if (not (is_some (seen (u ∷ lowers) from))) NotFound ∷ (if is_same_name u from to then [] else move_tests u lowers from to)
+
+-- the tests of an operation over the layers, in order (mkdir(2), open(2) with O_CREAT and O_EXCL, pwrite(2), truncate(2), chmod(2), symlink(2), link(2), unlink(2), rmdir(2))
 abbrev pub tests : Op → List Tree → List (Option FsError)
 tests (Mkdir path mode) s = walk s path ∷ error_if (is_some (seen s path)) Exists ∷ error_if (nat_lt 4095 mode) Invalid ∷ []
 tests (Create path mode) s = walk s path ∷ error_if (is_some (seen s path)) Exists ∷ error_if (nat_lt 4095 mode) Invalid ∷ []
@@ -75,8 +117,11 @@ tests (Write path offset bytes) s = walk s path ∷ file_error (seen s path) ∷
 tests (Truncate path size) s = walk s path ∷ file_error (seen s path) ∷ error_if (nat_lt 1048576 size) TooBig ∷ []
 tests (SetMode path mode) s = walk s path ∷ mode_error (seen s path) ∷ error_if (nat_lt 4095 mode) Invalid ∷ []
 tests (Symlink path target) s = walk s path ∷ error_if (is_some (seen s path)) Exists ∷ error_if (is_no_target target) Invalid ∷ error_if (nat_lt 4095 (length target)) TooBig ∷ []
+tests (Link from to) s = walk s from ∷ walk s to ∷ link_error (seen s from) ∷ error_if (is_some (seen s to)) Exists ∷ []
 tests (Unlink path) s = walk s path ∷ name_error (seen s path) ∷ []
 tests (Rmdir path) s = walk s path ∷ error_if (is_root path) Invalid ∷ dir_error (seen s path) ∷ error_if (has_names s path) NotEmpty ∷ []
+tests (Rename from to) [] = []
+tests (Rename from to) (u ∷ lowers) = rename_tests u lowers from to
 
 -- the first error of the tests
 abbrev pub first_error : List (Option FsError) → Option FsError
@@ -115,6 +160,12 @@ with_content t (Some k) f = with_bytes t k (body t k) (f (bytes_of (body t k)))
 abbrev pub erased : Tree → List Tree → Names → Tree
 erased u lowers p = let t = with_parents u lowers p in if is_some (below u lowers p) then with_node t p node.Whiteout else without t p
 
+-- the layer with what is seen at `from` under the new path `to`, in place of what stands there; it is copied up first, a directory is opaque where something is below `to`, and a whiteout is left where something is below `from` (overlayfs.rst, "renaming directories", "whiteouts and opaque directories")
+abbrev pub renamed : Tree → List Tree → Names → Names → Tree
+renamed u lowers from to =
+    let t = with_moved (with_parents (copied_up u lowers from) lowers to) from to (is_some (below u lowers from)) in
+    if is_some (below u lowers to) then with_opaque t to (at t to) true else t
+
 -- the effect of an operation on the upper layer
 abbrev pub next_layer : Op → Tree → List Tree → Tree
 next_layer (Mkdir path mode) u lowers = with_entry (with_parents u lowers path) path (node.Dir mode (is_whiteout_at (at u path)))
@@ -123,8 +174,10 @@ next_layer (Write path offset bytes) u lowers = let t = copied_up u lowers path 
 next_layer (Truncate path size) u lowers = let t = copied_up u lowers path in with_content t (number_at t path) (λ old. resized old size)
 next_layer (SetMode path mode) u lowers = let t = copied_up u lowers path in with_mode t path (at t path) mode
 next_layer (Symlink path target) u lowers = let t = with_parents u lowers path in with_new t path (node.Symlink t.next) (body_kinds.Symlink target)
+next_layer (Link from to) u lowers = let t = with_parents (copied_up u lowers from) lowers to in with_name t to (at t from)
 next_layer (Unlink path) u lowers = erased u lowers path
 next_layer (Rmdir path) u lowers = erased u lowers path
+next_layer (Rename from to) u lowers = if is_same_name u from to then u else renamed u lowers from to
 
 -- ---- both
 
@@ -158,5 +211,7 @@ is_planned_in_place (Write path offset bytes) = true
 is_planned_in_place (Truncate path size) = true
 is_planned_in_place (SetMode path mode) = true
 is_planned_in_place (Symlink path target) = true
+is_planned_in_place (Link from to) = false
 is_planned_in_place (Unlink path) = true
 is_planned_in_place (Rmdir path) = false
+is_planned_in_place (Rename from to) = false

@@ -1,11 +1,11 @@
 -- How an operation changes what is seen.
-use Rattle.std.specs.Prelude.{◌≡◌, ◌⊎◌, ℕ, List, [], ◌∷◌, Option, Some, None, Ok}
+use Rattle.std.specs.Prelude.{◌≡◌, ◌⊎◌, ℕ, List, [], ◌∷◌, ◌++◌, Option, Some, None, Ok}
 use Rattle.std.specs.Option.{option_map}
 use Rattle.snap_path.specs.Text.{Names}
 use Rattle.snap_layer.specs.Tree.{Tree, number_at}
 use Rattle.snap_merge.specs.Objects.{Object, dir, file, symlink, seen, AreLayers}
 use Rattle.snap_upper.specs.declared.op.Op.{Op}
-use Rattle.snap_upper.specs.declared.op.Op.TheVariants.{Mkdir, Create, Write, Truncate, SetMode, Symlink, Unlink, Rmdir}
+use Rattle.snap_upper.specs.declared.op.Op.TheVariants.{Mkdir, Create, Write, Truncate, SetMode, Symlink, Link, Unlink, Rmdir, Rename}
 use Rattle.snap_upper.specs.After.{written, resized, after}
 
 -- what is seen at each path
@@ -25,6 +25,16 @@ IsName u p q = (q ≡ p) ⊎ ((k : ℕ) × (number_at u p ≡ Some k) × (number
 pub record Turns (u : Tree) (v w : View) (p : Names) (f : Object → Object) : Type 0 where
   pub here : (q : Names) → IsName u p q → w q ≡ option_map f (v p)
   pub others : (q : Names) → (IsName u p q → ⊥) → w q ≡ v q
+
+-- w shows at `to` and below it what v shows at `from` and below it, nothing there any more, and at every other path what v shows
+pub record Moves (v w : View) (from to : Names) : Type 0 where
+  pub here : (r : Names) → w (to ++ r) ≡ v (from ++ r)
+  pub gone : (r : Names) → w (from ++ r) ≡ None
+  pub others : (q : Names) → ((r : Names) → q ≡ from ++ r → ⊥) → ((r : Names) → q ≡ to ++ r → ⊥) → w q ≡ v q
+
+-- w shows what v shows
+abbrev pub Stays : View → View → Type 0
+Stays v w = (q : Names) → w q ≡ v q
 
 -- the object with other bytes, where it is a file
 abbrev pub with_file_bytes : (List ℕ → List ℕ) → Object → Object
@@ -46,8 +56,10 @@ changed (Write path offset bytes) u v w = Turns u v w path (with_file_bytes (λ 
 changed (Truncate path size) u v w = Turns u v w path (with_file_bytes (λ old. resized old size))
 changed (SetMode path mode) u v w = Turns u v w path (with_object_mode mode)
 changed (Symlink path target) u v w = ShowsAt v w path (Some (symlink target))
+changed (Link from to) u v w = ShowsAt v w to (v from)
 changed (Unlink path) u v w = ShowsAt v w path None
 changed (Rmdir path) u v w = ShowsAt v w path None
+changed (Rename from to) u v w = (IsName u from to × Stays v w) ⊎ ((IsName u from to → ⊥) × Moves v w from to)
 
 -- with any layers below, an operation that gives a next upper layer changes what is seen as `changed` says
 abbrev pub Changes : Op → Tree → Type 0

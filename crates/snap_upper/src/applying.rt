@@ -12,7 +12,9 @@ use super::checking::{
 use super::content::{is_whiteout, resized, written};
 use super::erasing::erase;
 use super::growing::{copy_with, fill, grow};
+use super::linking::link;
 use super::op::Op;
+use super::renaming::rename;
 use snap_copyup::Last;
 use snap_layer::{Bytes, Layer, Shared};
 use snap_merge::{FsError, Stack};
@@ -23,12 +25,21 @@ use snap_path::Path;
 /// (overlayfs.rst, "Non-directories").
 ///
 /// Errors, in this order, of the first that applies:
-/// - `NotFound`, `NotDir`: above the path, from the root on, nothing is seen, or no directory.
+/// - `NotFound`, `NotDir`: above the path, from the root on, nothing is seen, or no directory; of two
+///   paths `from` comes first.
 /// - `Exists`: something is seen where a directory, a file or a symlink is to be made; `NotFound`,
 ///   `IsDir`, `Invalid`: nothing, a directory or a symlink is seen where a file's bytes are to be
 ///   changed; `NotFound`, `Invalid`: nothing or a symlink is seen where a mode is to be set; `NotFound`,
 ///   `IsDir`: nothing or a directory is seen where a name is to be taken; `Invalid`, `NotFound`, `NotDir`,
-///   `NotEmpty`: the root, nothing, no directory or a directory with names where one is to be taken.
+///   `NotEmpty`: the root, nothing, no directory or a directory with names where one is to be taken;
+///   `NotFound`, `NotPermitted`, `Exists`: nothing or a directory is seen that is to get one more name,
+///   or something where that name is to be.
+/// - Of a rename, after the errors above `from` and then above `to`: `Invalid`: one is the root;
+///   `NotFound`: nothing is seen at `from`; `Invalid`: `from` is a directory, and `to` lies below it;
+///   `NotDir`, `IsDir`: a directory would take the place of another object, or another object that of a
+///   directory; `CrossDevice`: `from` is a directory that a lower layer has too; `NotEmpty`: `to` is a
+///   directory with names; `BadPath`: a moved path would have more than 4095 bytes. Where it has nothing to
+///   do, none of the last six comes.
 /// - `Invalid`: the mode is above octal 7777, or the target is empty or has a NUL; `TooBig`: the file
 ///   would have more than 1,048,576 bytes, or the target has more than 4095.
 /// - `LayerFull`: the layer would have more than 65,536 inodes, or a new file's number would pass
@@ -36,7 +47,11 @@ use snap_path::Path;
 /// - `OutOfMemory`: a growth was refused.
 ///
 /// After any of them the layer is as it was. Cost: for each name of the path a look through the layers,
-/// and for a write the bytes of the file.
+/// and for a write the bytes of the file, and for a link those of a lower file. A link is done on a copy
+/// of the layer, which takes as much memory and the time to copy all its bytes, where the layer doesn't
+/// have the directory of `to`, or where it would have 65,536 inodes or more. For a rename the number of
+/// the layer's paths, with their texts; it is done on a copy where `from` has to be copied up, or a
+/// directory above `to` is missing.
 pub fn apply(layer: &mut Layer, lowers: &[Shared], op: &Op) -> Result<(), FsError>
     ensures ok { OnOk result (after op.now layer.old lowers.now ≡ Ok layer.new) }
     ensures error { IfErr result (λ e. (e ≡ FsError.OutOfMemory) ⊎ (after op.now layer.old lowers.now ≡ Err e)) }
@@ -68,8 +83,10 @@ fn change(layer: &mut Layer, lowers: &[Shared], op: &Op) -> Result<(), FsError>
         Op::Truncate { path, size } => truncate(layer, lowers, path, *size),
         Op::SetMode { path, mode } => set_mode(layer, lowers, path, *mode),
         Op::Symlink { path, target } => symlink(layer, lowers, path, target),
+        Op::Link { from, to } => link(layer, lowers, from, to),
         Op::Unlink { path } => unlink(layer, lowers, path),
         Op::Rmdir { path } => rmdir(layer, lowers, path),
+        Op::Rename { from, to } => rename(layer, lowers, from, to),
     }
 }
 

@@ -6,7 +6,7 @@ ghost use Rattle.snap_merge.specs.Objects.{file, seen, AreLayers};
 ghost use Rattle.snap_merge.specs.Walk.{walk};
 ghost use Rattle.snap_upper.specs.declared.op.Op.TheVariants as op;
 ghost use Rattle.std.specs.List.{list_any};
-ghost use Rattle.snap_upper.specs.After.{tests, first_error, error_if, file_error, mode_error, name_error, dir_error, is_no_target};
+ghost use Rattle.snap_upper.specs.After.{tests, first_error, error_if, file_error, mode_error, link_error, name_error, dir_error, is_no_target};
 ghost use Rattle.snap_upper.specs.Adding.{IsFound};
 
 use snap_layer::{Bytes, Shared};
@@ -170,6 +170,32 @@ fn find_file<'a>(stack: &Stack<'a>, path: &Path) -> Result<Found<'a>, FsError>
         Ok(Some(found)) => Ok(found),
         Ok(None) => Err(FsError::IsDir),
         Err(error) => Err(error),
+    }
+}
+
+/// Tests whether what is seen at `from` can get the name `to`.
+pub(crate) fn check_link(stack: &Stack<'_>, from: &Path, to: &Path) -> Result<(), FsError>
+    ensures error { result_err result ≡ first_error (tests (op.Link from.now to.now) stack.now) }
+    ensures layers { AreLayers stack.now }
+{
+    stack.walk(from)?;
+    stack.walk(to)?;
+    check_linked(stack, from)?;
+    if stack.look(to).is_some() {
+        return Err(FsError::Exists);
+    }
+    Ok(())
+}
+
+/// Tests whether a file or a symlink is seen at the path.
+fn check_linked(stack: &Stack<'_>, path: &Path) -> Result<(), FsError>
+    ensures { result_err result ≡ link_error (seen stack.now path.now) }
+{
+    match stack.look(path) {
+        Some(Seen::File { .. }) => Ok(()),
+        Some(Seen::Symlink { .. }) => Ok(()),
+        Some(Seen::Dir { .. }) => Err(FsError::NotPermitted),
+        None => Err(FsError::NotFound),
     }
 }
 

@@ -9,8 +9,10 @@ mod checking;
 mod content;
 mod erasing;
 mod growing;
+mod linking;
 mod op;
 mod planning;
+mod renaming;
 
 pub use applying::apply;
 pub use op::Op;

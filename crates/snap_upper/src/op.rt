@@ -44,6 +44,13 @@ pub enum Op {
         path: Path,
         target: Bytes,
     },
+    /// Gives a file or a symlink one more name, where nothing is seen (link(2)). A lower one is copied up
+    /// first: its other names in lower layers stay names of the lower one (overlayfs.rst, "Non-standard
+    /// behavior").
+    Link {
+        from: Path,
+        to: Path,
+    },
     /// Takes a name of a file or a symlink (unlink(2)). A file goes with its last name in the upper
     /// layer. Where a lower layer shows something there, a whiteout is put (overlayfs.rst, "whiteouts
     /// and opaque directories").
@@ -54,5 +61,13 @@ pub enum Op {
     /// put as in `Unlink`.
     Rmdir {
         path: Path,
+    },
+    /// Gives what is seen at `from` the path `to` (rename(2)). A file, a symlink or an empty directory
+    /// there goes. A directory moves with all that is in it, and only where it has no directory of a lower
+    /// layer below it (overlayfs.rst, "renaming directories"). A whiteout is put at `from` as in `Unlink`.
+    /// Where both are one path, or names of one file in the upper layer, nothing is done.
+    Rename {
+        from: Path,
+        to: Path,
     },
 }

@@ -1,25 +1,26 @@
 ghost use Rattle.std.specs.Prelude.{◌≡◌, [], ◌∷◌, ◌+◌, ◌≤◌, ℕ, List, Some, None, true, length, if◌then◌else◌};
 ghost use Rattle.snap_layer.specs.Tree.{Tree, at, body, number_at};
-ghost use Rattle.snap_layer.specs.Edits.{IsFree, with_node, without};
+ghost use Rattle.snap_layer.specs.Edits.{HasParent, IsFree, with_node, without};
 ghost use Rattle.snap_merge.specs.Objects.{file, seen, AreLayers};
 ghost use Rattle.snap_merge.specs.Walk.{walk, Answers};
 ghost use Rattle.snap_copyup.specs.declared.putting.Last.{Last};
 ghost use Rattle.snap_copyup.specs.Copying.{with_parents, copied_up};
 ghost use Rattle.snap_copyup.specs.Places.{with_last, Fits};
 ghost use Rattle.snap_upper.specs.declared.op.Op.TheVariants as op;
-ghost use Rattle.snap_upper.specs.After.{after, planned, limited, with_content, written, is_planned_in_place};
-ghost use Rattle.snap_upper.specs.Adding.{Takes, weight_of, freed};
+ghost use Rattle.snap_upper.specs.After.{after, planned, tests, first_error, next_layer, limited, with_content, written, is_planned_in_place};
+ghost use Rattle.snap_upper.specs.Adding.{Takes, object_blocks, weight_of, freed};
 ghost use Rattle.snap_layer.specs.declared.node.Node.TheVariants as Node;
 
 use super::applying::apply;
 use super::checking::{
-    Found, check_mode, check_new, check_symlink, check_truncate, check_unlink, check_write,
+    Found, check_link, check_mode, check_new, check_symlink, check_truncate, check_unlink,
+    check_write,
 };
 use super::content::{is_whiteout, own_number};
 use super::op::Op;
 use snap_copyup::{below, missing_dirs};
 use snap_layer::{Bytes, Layer, Shared};
-use snap_merge::{FsError, Stack};
+use snap_merge::{FsError, Seen, Stack};
 use snap_path::Path;
 use snap_usage::{Usage, blocks_of, count};
 
@@ -35,12 +36,13 @@ pub struct Planned {
 
 /// How much the layer would take after the operation over the lower layers, which stand nearest first.
 ///
-/// The errors are those of `apply`, in the same order. It changes nothing. But for `Rmdir` it
-/// takes no memory, and the next layer isn't built. Cost: for each name of the path a look through the
-/// layers, and the number of the layer's paths and files.
+/// The errors are those of `apply`, in the same order. It changes nothing. But for `Rmdir` and some
+/// links it takes no memory, and the next layer isn't built. Cost: for each name of the path a look
+/// through the layers, and the number of the layer's paths and files.
 ///
-/// `Rmdir` is done on a copy of the layer, so its plan takes memory (`OutOfMemory`), and its cost is also
-/// the layer's size with all bytes of its files.
+/// `Rmdir`, and a `Link` where the layer doesn't have the directory of `to`, are done on a copy of the
+/// layer, so their plan takes memory (`OutOfMemory`), and its cost is also the layer's size with all bytes
+/// of its files.
 pub fn plan(layer: &Layer, lowers: &[Shared], op: &Op) -> Result<Planned, FsError>
     ensures answer { Answers (planned (after op.now layer.now lowers.now)) result }
     ensures sure { is_planned_in_place op.now ≡ true → result ≡ planned (after op.now layer.now lowers.now) }
@@ -56,8 +58,15 @@ pub fn plan(layer: &Layer, lowers: &[Shared], op: &Op) -> Result<Planned, FsErro
         Op::Truncate { path, size } => plan_truncate(layer, lowers, path, *size),
         Op::SetMode { path, mode } => plan_mode(layer, lowers, path, *mode),
         Op::Symlink { path, target } => plan_symlink(layer, lowers, path, target),
+        Op::Link { from, to } => {
+            if layer.has_parent(to) {
+                return plan_link(layer, lowers, from, to);
+            }
+            plan_on_copy(layer, lowers, op)
+        }
         Op::Unlink { path } => plan_unlink(layer, lowers, path),
         Op::Rmdir { .. } => plan_on_copy(layer, lowers, op),
+        Op::Rename { .. } => plan_on_copy(layer, lowers, op),
     }
 }
 
@@ -147,6 +156,73 @@ fn plan_symlink(
     check_symlink(&Stack::over(layer, lowers), path, target)?;
     let _ = layer.next_number();
     plan_growth(layer, path, 0, true)
+}
+
+/// How much the layer takes after the link, where it has the directory of `to`.
+fn plan_link(layer: &Layer, lowers: &[Shared], from: &Path, to: &Path) -> Result<Planned, FsError>
+    requires { HasParent layer.now to.now }
+    ensures { result ≡ planned (after (op.Link from.now to.now) layer.now lowers.now) }
+{
+    let stack = Stack::over(layer, lowers);
+    check_link(&stack, from, to)?;
+    let _ = layer.next_number();
+    let _ = from.names();
+    let _ = to.names();
+    if own_number(layer, from).is_none() {
+        let blocks = seen_blocks(&stack, from);
+        return plan_copy(layer, lowers, from, to, blocks);
+    }
+    let now = count(layer);
+    let whiteouts = u64::from(is_whiteout(layer.at(to)));
+    let after = Usage {
+        blocks: now.blocks,
+        inodes: now.inodes - whiteouts,
+    };
+    Ok(Planned { after })
+}
+
+/// The same where what is linked takes so many blocks, and is copied up.
+fn plan_copy(
+    layer: &Layer,
+    lowers: &[Shared],
+    from: &Path,
+    to: &Path,
+    blocks: u64,
+) -> Result<Planned, FsError>
+    requires layers { AreLayers lowers.now }
+    requires passes { first_error (tests (op.Link from.now to.now) (layer.now ∷ lowers.now)) ≡ None }
+    requires parent { HasParent layer.now to.now }
+    requires missing { at layer.now from.now ≡ None }
+    requires size { blocks ≡ object_blocks (seen (layer.now ∷ lowers.now) from.now) }
+    ensures { result ≡ planned (limited (next_layer (op.Link from.now to.now) layer.now lowers.now)) }
+{
+    let _ = from.names();
+    let _ = to.names();
+    let number = layer.next_number();
+    let now = count(layer);
+    let missing = missing_dirs(layer, from) as u64;
+    let whiteouts = u64::from(is_whiteout(layer.at(to)));
+    let inodes = now.inodes - whiteouts + missing + 1;
+    if number == u32::MAX || inodes > MOST_INODES {
+        return Err(FsError::LayerFull);
+    }
+    let after = Usage {
+        blocks: now.blocks + missing + blocks,
+        inodes,
+    };
+    Ok(Planned { after })
+}
+
+/// The blocks of what is seen at the path.
+fn seen_blocks(stack: &Stack<'_>, path: &Path) -> u64
+    ensures { result ≡ object_blocks (seen stack.now path.now) }
+{
+    match stack.look(path) {
+        Some(Seen::File { bytes, .. }) => blocks_of(bytes.len() as u64),
+        Some(Seen::Dir { .. }) => 1,
+        Some(Seen::Symlink { .. }) => 0,
+        None => 0,
+    }
 }
 
 fn plan_unlink(layer: &Layer, lowers: &[Shared], path: &Path) -> Result<Planned, FsError>

@@ -55,6 +55,12 @@ fn unlink(alloc: Global, text: &str) -> Result<Op, Fail> {
     Ok(Op::Unlink { path })
 }
 
+fn link(alloc: Global, from: &str, to: &str) -> Result<Op, Fail> {
+    let from = Path::parse(alloc, from)?;
+    let to = Path::parse(alloc, to)?;
+    Ok(Op::Link { from, to })
+}
+
 fn rmdir(alloc: Global, text: &str) -> Result<Op, Fail> {
     let path = Path::parse(alloc, text)?;
     Ok(Op::Rmdir { path })
@@ -478,5 +484,189 @@ fn the_root_and_directories_with_names_stay(rt: HostRuntime) -> Result<(), Fail>
     ] {
         refuses(&rt, &mut layer, &lowers, op, error)?;
     }
+    Ok(())
+}
+
+#[test]
+fn a_link_is_one_more_name(rt: HostRuntime) -> Result<(), Fail> {
+    let alloc = rt.alloc();
+    let mut layer = Layer::empty(alloc, 493)?;
+    does(&rt, &mut layer, &[], create(alloc, "/f", 420)?, 1, 2);
+    does(&rt, &mut layer, &[], link(alloc, "/f", "/g")?, 1, 2);
+    does(&rt, &mut layer, &[], write(alloc, "/g", 0, b"x")?, 2, 2);
+    for text in ["/f", "/g"] {
+        assert_eq!(rt; at(alloc, &layer, text)?, Some(Node::File { number: 1 }));
+        assert_eq!(rt; read(alloc, &layer, &[], text)?, (Some(120), 1));
+    }
+    Ok(())
+}
+
+#[test]
+fn a_link_of_a_lower_file_copies_it_up(rt: HostRuntime) -> Result<(), Fail> {
+    let alloc = rt.alloc();
+    let lowers = [linked(alloc)?, etc(alloc)?];
+    let mut layer = Layer::empty(alloc, 493)?;
+    does(&rt, &mut layer, &lowers, link(alloc, "/p", "/etc/r")?, 4, 3);
+    let op = write(alloc, "/etc/r", 0, b"x")?;
+    does(&rt, &mut layer, &lowers, op, 4, 3);
+    assert_eq!(rt; read(alloc, &layer, &lowers, "/p")?, (Some(120), 4097));
+    assert_eq!(rt; read(alloc, &layer, &lowers, "/q")?, (Some(7), 4097));
+    does(&rt, &mut layer, &lowers, link(alloc, "/p", "/s")?, 4, 3);
+    Ok(())
+}
+
+#[test]
+fn a_link_takes_the_place_of_a_whiteout(rt: HostRuntime) -> Result<(), Fail> {
+    let alloc = rt.alloc();
+    let lowers = [linked(alloc)?];
+    let mut layer = Layer::empty(alloc, 493)?;
+    does(&rt, &mut layer, &lowers, unlink(alloc, "/q")?, 1, 2);
+    does(&rt, &mut layer, &lowers, link(alloc, "/p", "/q")?, 3, 2);
+    assert_eq!(rt; read(alloc, &layer, &lowers, "/q")?, (Some(7), 4097));
+    does(&rt, &mut layer, &lowers, unlink(alloc, "/p")?, 3, 3);
+    does(&rt, &mut layer, &lowers, link(alloc, "/q", "/p")?, 3, 2);
+    assert_eq!(rt; at(alloc, &layer, "/p")?, Some(Node::File { number: 1 }));
+    Ok(())
+}
+
+#[test]
+fn a_directory_is_not_linked(rt: HostRuntime) -> Result<(), Fail> {
+    let alloc = rt.alloc();
+    let lowers = [etc(alloc)?];
+    let mut layer = Layer::empty(alloc, 493)?;
+    for (from, to, error) in [
+        ("/etc/x/y", "/z", FsError::NotDir),
+        ("/no", "/etc/x/y", FsError::NotDir),
+        ("/no", "/etc/x", FsError::NotFound),
+        ("/etc", "/etc/x", FsError::NotPermitted),
+        ("/", "/z", FsError::NotPermitted),
+        ("/etc/x", "/etc/x", FsError::Exists),
+    ] {
+        refuses(&rt, &mut layer, &lowers, link(alloc, from, to)?, error)?;
+    }
+    Ok(())
+}
+
+fn rename(alloc: Global, from: &str, to: &str) -> Result<Op, Fail> {
+    Ok(Op::Rename {
+        from: Path::parse(alloc, from)?,
+        to: Path::parse(alloc, to)?,
+    })
+}
+
+#[test]
+fn errors_of_a_rename_come_in_order(rt: HostRuntime) -> Result<(), Fail> {
+    let alloc = rt.alloc();
+    let ops = [create(alloc, "/f", 420)?, mkdir(alloc, "/d", 493)?];
+    let mut layer = made(alloc, &ops)?;
+    for (from, to, error) in [
+        ("/f/g", "/no/g", FsError::NotDir),
+        ("/", "/no/g", FsError::NotFound),
+        ("/", "/", FsError::Invalid),
+        ("/no", "/", FsError::Invalid),
+        ("/no", "/no", FsError::NotFound),
+        ("/d", "/d/e", FsError::Invalid),
+        ("/f", "/d", FsError::IsDir),
+        ("/d", "/f", FsError::NotDir),
+    ] {
+        let op = rename(alloc, from, to)?;
+        refuses(&rt, &mut layer, &[], op, error)?;
+    }
+    does(&rt, &mut layer, &[], rename(alloc, "/f", "/f")?, 2, 3);
+    Ok(())
+}
+
+#[test]
+fn a_lower_directory_stays(rt: HostRuntime) -> Result<(), Fail> {
+    let alloc = rt.alloc();
+    let lowers = [etc(alloc)?];
+    let mut layer = Layer::empty(alloc, 493)?;
+    let op = rename(alloc, "/etc", "/e")?;
+    refuses(&rt, &mut layer, &lowers, op, FsError::CrossDevice)?;
+    does(&rt, &mut layer, &lowers, mkdir(alloc, "/n", 493)?, 2, 2);
+    let op = rename(alloc, "/n", "/etc")?;
+    refuses(&rt, &mut layer, &lowers, op, FsError::NotEmpty)
+}
+
+/// A layer with /n/g over one with /d, which is removed.
+fn replacing(rt: &impl Abort, alloc: Global, lowers: &[Shared]) -> Result<Layer, Fail> {
+    let mut layer = Layer::empty(alloc, 493)?;
+    for (op, blocks, inodes) in [
+        (unlink(alloc, "/d/f")?, 2, 3),
+        (rmdir(alloc, "/d")?, 1, 2),
+        (mkdir(alloc, "/n", 493)?, 2, 3),
+        (create(alloc, "/n/g", 420)?, 2, 4),
+    ] {
+        does(rt, &mut layer, lowers, op, blocks, inodes);
+    }
+    Ok(layer)
+}
+
+#[test]
+fn a_directory_moves_over_a_whiteout(rt: HostRuntime) -> Result<(), Fail> {
+    let alloc = rt.alloc();
+    let ops = [mkdir(alloc, "/d", 493)?, create(alloc, "/d/f", 420)?];
+    let lowers = [shared(alloc, made(alloc, &ops)?)?];
+    let mut layer = replacing(&rt, alloc, &lowers)?;
+    does(&rt, &mut layer, &lowers, rename(alloc, "/n", "/d")?, 2, 3);
+    let mode = 493;
+    let opaque = true;
+    assert_eq!(rt; at(alloc, &layer, "/d")?, Some(Node::Dir { mode, opaque }));
+    assert_eq!(rt; at(alloc, &layer, "/d/g")?, Some(Node::File { number: 1 }));
+    assert_eq!(rt; at(alloc, &layer, "/n")?, None);
+    assert_eq!(rt; names(alloc, &layer, &lowers, "/d")?, 1);
+    Ok(())
+}
+
+#[test]
+fn a_lower_file_moves(rt: HostRuntime) -> Result<(), Fail> {
+    let alloc = rt.alloc();
+    let lowers = [etc(alloc)?];
+    let mut layer = Layer::empty(alloc, 493)?;
+    does(&rt, &mut layer, &lowers, mkdir(alloc, "/d", 493)?, 2, 2);
+    let op = rename(alloc, "/etc/x", "/d/y")?;
+    does(&rt, &mut layer, &lowers, op, 5, 5);
+    assert_eq!(rt; at(alloc, &layer, "/etc/x")?, Some(Node::Whiteout));
+    assert_eq!(rt; read(alloc, &layer, &lowers, "/d/y")?, (Some(120), 5000));
+    does(&rt, &mut layer, &lowers, create(alloc, "/f", 420)?, 5, 6);
+    does(&rt, &mut layer, &lowers, rename(alloc, "/f", "/d/y")?, 3, 5);
+    Ok(())
+}
+
+#[test]
+fn two_names_of_a_file_stay(rt: HostRuntime) -> Result<(), Fail> {
+    let alloc = rt.alloc();
+    let lower = linked(alloc)?;
+    let before = lower.layer().copy()?;
+    let mut layer = before.copy()?;
+    does(&rt, &mut layer, &[], rename(alloc, "/p", "/q")?, 3, 2);
+    assert!(rt; layer == before);
+    Ok(())
+}
+
+/// /n and 16 directories in it, one in the other: the path of the last has 4095 bytes.
+fn deep(alloc: Global) -> Result<Layer, Fail> {
+    let mut layer = made(alloc, &[mkdir(alloc, "/n", 493)?])?;
+    let mut text = String::from_str(alloc, "/n")?;
+    for names in 0..16 {
+        text.push('/')?;
+        for _ in 0..(if names < 15 { 255 } else { 252 }) {
+            text.push('a')?;
+        }
+        let op = mkdir(alloc, text.as_str(), 493)?;
+        if apply(&mut layer, &[], &op).is_err() {
+            return Err("a directory is refused").map_err(Fail::from);
+        }
+    }
+    Ok(layer)
+}
+
+#[test]
+fn a_moved_path_has_at_most_4095_bytes(rt: HostRuntime) -> Result<(), Fail> {
+    let alloc = rt.alloc();
+    let mut layer = deep(alloc)?;
+    let op = rename(alloc, "/n", "/nn")?;
+    refuses(&rt, &mut layer, &[], op, FsError::BadPath)?;
+    does(&rt, &mut layer, &[], rename(alloc, "/n", "/m")?, 18, 18);
     Ok(())
 }

@@ -1,4 +1,5 @@
 mod Places
+mod Standing
 mod Ends
 mod Steps
 mod Hold

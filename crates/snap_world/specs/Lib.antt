@@ -2,3 +2,4 @@ pub mod World
 pub mod Hand
 pub mod Move
 pub mod Runs
+pub mod Stacks

@@ -4,9 +4,11 @@ ghost use Rattle.snap_usage.specs.Counted.{count_of};
 ghost use Rattle.snap_book.specs.Held.{share_of};
 ghost use Rattle.snap_world.specs.World.{hand_at, with_hand};
 ghost use Rattle.snap_world.specs.Move.{is_under, is_unsealed, is_working, meets};
+ghost use Rattle.snap_world.specs.Stacks.{layers_in};
 
 use snap_book::{Active, Book, Held, Sealed};
 use snap_ledger::StoreName;
+use snap_merge::Stack;
 use snap_usage::Usage;
 use std::alloc::{AllocError, Global};
 use std::marker::Model;
@@ -87,6 +89,16 @@ impl<N: StoreName> Hand<N> {
         match &self.held {
             Held::Active(active) => active.count(),
             Held::Sealed(sealed) => sealed.usage(),
+        }
+    }
+
+    // Its layer over those of its ancestors.
+    pub(crate) fn stack(&self) -> Stack<'_>
+        ensures { result ≡ layers_in self.now }
+    {
+        match &self.held {
+            Held::Active(active) => active.stack(),
+            Held::Sealed(sealed) => sealed.stack(),
         }
     }
 

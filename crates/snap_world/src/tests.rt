@@ -4,7 +4,7 @@ use crate::{Answer, Step, World};
 use snap_call::{Call, Config, Namespace, Refusal, Reply};
 use snap_layer::Bytes;
 use snap_ledger::{NewTable, StoreName};
-use snap_merge::FsError;
+use snap_merge::{FsError, Seen};
 use snap_path::Path;
 use snap_record::{Labels, Sequence, Text};
 use snap_upper::Op;
@@ -303,6 +303,7 @@ fn first_run<N: StoreName>(rt: &impl Abort, alloc: Global, table: NewTable) -> R
     runs(rt, alloc, &mut world, &last)?;
     reports(rt, &world, 8, 0, 1, usage(4, 3));
     assert_eq!(rt; world.hand("a", "base"), Err(Refusal::NotActive));
+    assert_eq!(rt; world.stack("a", "base").err(), Some(Refusal::NotActive));
     Ok(())
 }
 
@@ -361,6 +362,14 @@ fn commits_twice<N: StoreName>(rt: &impl Abort, alloc: Global, table: NewTable) 
     ];
     let mut world = goes::<N>(rt, alloc, table, usage(100, 100), &lines)?;
     assert_eq!(rt; world.hand("a", "k"), Ok((0, 1)));
+    let shown = match world.stack("a", "k") {
+        Ok(stack) => matches!(
+            stack.look(&Path::root(alloc)),
+            Some(Seen::Dir { mode: 493 })
+        ),
+        Err(_) => false,
+    };
+    assert!(rt; shown);
     assert_eq!(rt;
         (world.count(0), world.share(0), world.count(1)),
         (Some(usage(1, 1)), Some(usage(1, 1)), None)

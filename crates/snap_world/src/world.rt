@@ -1,4 +1,4 @@
-ghost use Rattle.std.specs.Prelude.{◌≡◌, ◌↔◌, ◌⊎◌, [], None, IfOk, IfErr, OnErr, IsErrOf, false, replicate};
+ghost use Rattle.std.specs.Prelude.{◌≡◌, ◌↔◌, ◌⊎◌, [], Err, None, IfOk, IfErr, OnErr, IsErrOf, false, replicate};
 ghost use Rattle.std.specs.Option.{option_map};
 ghost use Rattle.snap_usage.specs.Counted.{count_of};
 ghost use Rattle.snap_call.specs.Forms.{is_config};
@@ -8,12 +8,14 @@ ghost use Rattle.snap_call.specs.declared.refusal.Refusal.TheVariants.{BadArgume
 ghost use Rattle.snap_book.specs.Asking.{slot_of};
 ghost use Rattle.snap_world.specs.World.{Fits, hand_at};
 ghost use Rattle.snap_world.specs.Runs.{Moves, Runs};
+ghost use Rattle.snap_world.specs.Stacks.{IsOver, record_of, stack_of};
 
 use crate::hands::Hands;
 use crate::step::{Answer, Step};
 use snap_book::Book;
 use snap_call::{Config, Entry, Refusal};
 use snap_ledger::{NewTable, StoreName};
+use snap_merge::Stack;
 use snap_record::Record;
 use snap_usage::Usage;
 use std::alloc::{AllocError, AllocFailed, Global};
@@ -118,6 +120,26 @@ impl<N: StoreName> World<N> {
         ensures { result ≡ slot_of self.now.state namespace.now key.now }
     {
         self.book.slot_of(namespace, key)
+    }
+
+    /// What the active snapshot of this key shows, sealed or not: its layer over those of its
+    /// ancestors, nearest first. Bytes that the stack shows are lent by the world.
+    ///
+    /// `NoNamespace` where the store has no such namespace, then `NotFound`, then `NotActive` for a
+    /// view or a committed snapshot. It leaves no entry. Takes no memory. The cost grows with the
+    /// records.
+    pub fn stack(&self, namespace: &str, key: &str) -> Result<Stack<'_>, Refusal>
+        ensures stack { result ≡ stack_of self.now namespace.now key.now }
+        // A snapshot that `hand` finds has a stack.
+        ensures refused { IfErr result (λ why. slot_of self.now.state namespace.now key.now ≡ Err why) }
+        // The layers below its own are those of the committed ancestors of the key's record.
+        ensures ancestors { IfOk result (λ layers. IsOver self.now.state.records layers (record_of self.now.state namespace.now key.now)) }
+    {
+        let (slot, _) = self.hand(namespace, key)?;
+        let Some(hand) = self.hands.get(slot) else {
+            unreachable!()
+        };
+        Ok(hand.stack())
     }
 
     /// What the layer of the slot's snapshot takes, sealed or not. `None` where the slot isn't open.

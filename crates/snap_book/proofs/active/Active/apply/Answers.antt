@@ -1,6 +1,7 @@
 use Rattle.std.proofs.Common.{sym, ◌∙◌}
 use Rattle.snap_upper.specs.After.{after, planned}
-use Rattle.snap_book.proofs.Needs.{planned_needs_none, plan_refused}
+use Rattle.snap_upper.proofs.Uncharged.{planned_needs_none}
+use Rattle.snap_book.proofs.Needs.{plan_refused}
 use Rattle.snap_book.proofs.active.Active.apply.Goals as goal
 
 pub returns-in_err-planned-clause-needs : goal.returns-in_err-planned-clause-needs

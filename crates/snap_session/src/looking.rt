@@ -1,0 +1,121 @@
+// What a snapshot shows at a path.
+ghost use Rattle.std.specs.Prelude.{◌≡◌, IfOk};
+ghost use Rattle.snap_merge.specs.Objects.{object};
+ghost use Rattle.snap_script.specs.declared.command.Lookup.TheVariants as lookups;
+ghost use Rattle.snap_script.specs.Operations.{path_of};
+ghost use Rattle.snap_world.specs.Stacks.{stack_of};
+ghost use Rattle.snap_session.specs.Commands.{shown_of, head_of, looked_up, lookup};
+
+use snap_layer::Bytes;
+use snap_ledger::StoreName;
+use snap_merge::{FsError, Seen, Stack};
+use snap_path::Path;
+use snap_record::{Sequence, Text};
+use snap_script::{Answer, Lookup, Shown, path_of};
+use snap_world::{NoMemory, World};
+use std::alloc::{AllocError, Global};
+
+// How many of a file's bytes are shown.
+const HEAD_BYTES: usize = 16;
+
+// What is seen, with its own target.
+fn shown_of(alloc: Global, seen: Seen<'_>) -> Result<Shown, AllocError>
+    ensures { IfOk result (λ shown. shown ≡ shown_of (object seen.entry)) }
+{
+    match seen {
+        Seen::Dir { mode } => Ok(Shown::Dir { mode }),
+        Seen::File { mode, bytes } => Ok(Shown::File {
+            mode,
+            size: bytes.len() as u64,
+        }),
+        Seen::Symlink { target } => Ok(Shown::Symlink {
+            target: Bytes::copy_of(alloc, target)?,
+        }),
+    }
+}
+
+fn look(alloc: Global, stack: &Stack<'_>, path: &Path) -> Result<Answer, NoMemory>
+    ensures { IfOk result (λ answer. answer ≡ looked_up lookups.Look stack.now path.now) }
+{
+    match stack.look(path) {
+        Some(seen) => Ok(Answer::Seen(Some(shown_of(alloc, seen)?))),
+        None => Ok(Answer::Seen(None)),
+    }
+}
+
+fn list(alloc: Global, stack: &Stack<'_>, path: &Path) -> Result<Answer, NoMemory>
+    ensures { IfOk result (λ answer. answer ≡ looked_up lookups.List stack.now path.now) }
+{
+    match stack.list(alloc, path) {
+        Ok(names) => Ok(Answer::Names(Sequence::from(names))),
+        Err(FsError::OutOfMemory) => Err(NoMemory),
+        Err(error) => Ok(Answer::Failed(error)),
+    }
+}
+
+// The file's first bytes, and how many it has.
+fn head_of(alloc: Global, bytes: &[u8]) -> Result<Answer, AllocError>
+    ensures { IfOk result (λ answer. answer ≡ head_of bytes.now) }
+{
+    let first = &bytes[..HEAD_BYTES.min(bytes.len())];
+    Ok(Answer::Head {
+        head: Bytes::copy_of(alloc, first)?,
+        size: bytes.len() as u64,
+    })
+}
+
+fn read(alloc: Global, stack: &Stack<'_>, path: &Path) -> Result<Answer, NoMemory>
+    ensures { IfOk result (λ answer. answer ≡ looked_up lookups.Read stack.now path.now) }
+{
+    match stack.read(path) {
+        Ok(bytes) => Ok(head_of(alloc, bytes)?),
+        Err(error) => Ok(Answer::Failed(error)),
+    }
+}
+
+fn resolve(alloc: Global, stack: &Stack<'_>, path: &Path) -> Result<Answer, NoMemory>
+    ensures { IfOk result (λ answer. answer ≡ looked_up lookups.Resolve stack.now path.now) }
+{
+    match stack.resolve(alloc, path) {
+        Ok(found) => Ok(Answer::Path(found)),
+        Err(FsError::OutOfMemory) => Err(NoMemory),
+        Err(error) => Ok(Answer::Failed(error)),
+    }
+}
+
+fn looked_up(
+    alloc: Global,
+    lookup: Lookup,
+    stack: &Stack<'_>,
+    path: &Path,
+) -> Result<Answer, NoMemory>
+    ensures { IfOk result (λ answer. answer ≡ looked_up lookup stack.now path.now) }
+{
+    match lookup {
+        Lookup::Look => look(alloc, stack, path),
+        Lookup::List => list(alloc, stack, path),
+        Lookup::Read => read(alloc, stack, path),
+        Lookup::Resolve => resolve(alloc, stack, path),
+    }
+}
+
+pub(crate) fn lookup<N: StoreName>(
+    alloc: Global,
+    world: &World<N>,
+    namespace: Text,
+    key: Text,
+    asked: Lookup,
+    path: Text,
+) -> Result<Answer, NoMemory>
+    ensures { IfOk result (λ answer. answer ≡ lookup asked (path_of path) (stack_of world.now namespace key)) }
+{
+    let stack = match world.stack(namespace.as_str(), key.as_str()) {
+        Ok(stack) => stack,
+        Err(why) => return Ok(Answer::Refused(why)),
+    };
+    match path_of(alloc, &path) {
+        Ok(path) => looked_up(alloc, asked, &stack, &path),
+        Err(FsError::OutOfMemory) => Err(NoMemory),
+        Err(error) => Ok(Answer::Failed(error)),
+    }
+}
