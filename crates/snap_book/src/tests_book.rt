@@ -7,7 +7,7 @@ use snap_ledger::{NewTable, StoreName};
 use snap_merge::FsError;
 use snap_path::Path;
 use snap_record::{Labels, Sequence, Text};
-use snap_upper::Op;
+use snap_upper::{Op, Planned};
 use snap_usage::Usage;
 use std::alloc::Global;
 use std::marker::Brand;
@@ -132,6 +132,10 @@ fn applies<N: StoreName>(
     assert_eq!(rt; active.count(), count);
 }
 
+fn plans<N: StoreName>(rt: &impl Abort, active: &Active<N>, op: &Op, after: Usage) {
+    assert!(rt; active.plan(op) == Ok(Planned { after }));
+}
+
 fn discards<N: StoreName>(rt: &impl Abort, book: &mut Book<N>, held: Held<N>, usage: Usage) {
     assert_eq!(rt; book.discard(0, held), usage);
 }
@@ -218,6 +222,7 @@ fn planned_and_charged<N: StoreName>(
     let mut book = opened::<N>(rt, alloc, table, usage(100, 100), 100, 1)?;
     let mut active = prepared(rt, alloc, &mut book, "a", "k");
     let need = FsError::NeedsCharge(usage(2, 2));
+    plans(rt, &active, &mkdir, usage(2, 2));
     applies(rt, &mut active, &mkdir, Err(need), usage(1, 1));
     let more = (usage(4, 4), usage(4, 4));
     charges(rt, &mut book, &mut active, more, Ok(()), usage(4, 4));

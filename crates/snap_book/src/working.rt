@@ -17,8 +17,8 @@ impl<N: StoreName> Active<N> {
     /// need not cover.
     ///
     /// The errors are those of [`Active::apply`] up to `LayerFull`, in the same order. It changes
-    /// nothing. It takes no memory, but for `Rmdir`, which can answer `OutOfMemory`. The cost is that of
-    /// `snap_upper::plan`.
+    /// nothing. It takes no memory, but for `Link`, `Rmdir` and `Rename`, which can answer `OutOfMemory`. The
+    /// cost is that of `snap_upper::plan`.
     pub fn plan(&self, op: &Op) -> Result<Planned, FsError>
         ensures answer { Answers (planned (after op.now self.now.layer self.now.lowers)) result }
         ensures sure { is_planned_in_place op.now ≡ true → result ≡ planned (after op.now self.now.layer self.now.lowers) }
@@ -36,7 +36,8 @@ impl<N: StoreName> Active<N> {
     ///
     /// After any of them the snapshot is as it was. The share stays, also where the layer shrinks.
     /// The cost is that of a plan and of `snap_upper::apply`: the number of paths times the path's
-    /// number of names, the number of files, and for a write the bytes of the file.
+    /// number of names, the number of files, and the bytes of a file that is written, or copied up; some
+    /// links and renames copy the whole layer.
     ///
     /// That a layer is charged before it is filled is our choice. A disk quota refuses a write in the
     /// same way (write(2), `EDQUOT`).

@@ -172,6 +172,32 @@ impl Layer {
         self.inodes
     }
 
+    /// The inodes that are left where what stands at the path and below it is taken. The inode of a file or
+    /// a symlink at the path goes where it has no name elsewhere (unlink(2)).
+    ///
+    /// Takes no memory. Cost: the number of paths where something stands there, else its logarithm.
+    pub fn inodes_without(&self, path: &Path) -> usize
+        ensures count { result ≡ inode_count (without self.now path.now) }
+        ensures few { result ≤ 65536 }
+        ensures path { IsPath path.now }
+    {
+        let _ = path.names();
+        let _ = self.next_number();
+        let Some(node) = self.at(path) else {
+            return self.inodes;
+        };
+        let left = self.inodes - nodes_inside(&self.entries, path);
+        match node.number() {
+            None => left,
+            Some(number) => {
+                if names_outside(&self.entries, path, number) == 0 {
+                    return left - 1;
+                }
+                left
+            }
+        }
+    }
+
     /// The blocks of 4096 bytes that the layer takes: one for each directory, those of each file however
     /// many names it has, and none for symlinks and whiteouts.
     ///
@@ -551,29 +577,6 @@ impl Layer {
         ensures { result ≡ number_at self.now path.now }
     {
         self.at(path)?.number()
-    }
-
-    /// The inodes that are left where what stands at the path is taken.
-    fn inodes_without(&self, path: &Path) -> usize
-        ensures count { result ≡ inode_count (without self.now path.now) }
-        ensures few { result ≤ 65536 }
-        ensures path { IsPath path.now }
-    {
-        let _ = path.names();
-        let _ = self.next_number();
-        let Some(node) = self.at(path) else {
-            return self.inodes;
-        };
-        let left = self.inodes - nodes_inside(&self.entries, path);
-        match node.number() {
-            None => left,
-            Some(number) => {
-                if names_outside(&self.entries, path, number) == 0 {
-                    return left - 1;
-                }
-                left
-            }
-        }
     }
 
     /// Puts the node at the path, in place of one that stands there.

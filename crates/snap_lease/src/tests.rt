@@ -1,9 +1,9 @@
-//! Worked examples: one lease's life, the last moment, and a sweep set over a long chain.
+//! Worked examples: one lease's life, the last moment, and sweep sets.
 ghost use Rattle.std.specs.Prelude.{IsTrue};
 ghost use Rattle.snap_lease.specs.Reach.{HasParentsWithin};
 
 use super::*;
-use std::alloc::AllocError;
+use std::alloc::{AllocError, Global};
 
 #[test]
 fn a_lease_names_each_snapshot_once(rt: HostRuntime) {
@@ -25,30 +25,6 @@ fn a_lease_names_each_snapshot_once(rt: HostRuntime) {
     assert_eq!(rt; leases.release("a", "L"), Ok(()));
     assert_eq!(rt; leases.release("a", "L"), Err(LeaseError::NoLease));
     assert!(rt; !leases.holds("a", "base"));
-}
-
-#[test]
-fn the_others_keep_their_names_in_order(rt: HostRuntime) {
-    let mut leases = Leases::new(rt.alloc());
-    for lease in ["K", "L", "M"] {
-        assert_eq!(rt; leases.create("a", lease, None), Ok(()));
-        for name in ["c", "b", "base"] {
-            assert_eq!(rt; leases.add("a", lease, name), Ok(()));
-        }
-    }
-    assert_eq!(rt; leases.count("a", "b"), 3);
-    assert_eq!(rt; leases.release("a", "K"), Ok(()));
-    assert_eq!(rt; leases.count("a", "b"), 2);
-    for lease in ["L", "M"] {
-        let names = leases.of("a", lease).unwrap_or(Vec::new(rt.alloc()));
-        let wanted = ["c", "b", "base"];
-        assert!(rt;
-            names
-                .iter()
-                .map(|name| name.as_str())
-                .eq(wanted.iter().copied())
-        );
-    }
 }
 
 #[test]
@@ -99,28 +75,44 @@ fn has_parents_within(parents: &[Option<usize>]) -> bool
     true
 }
 
-// Places 0 to 64 are a chain, each the parent of the next. 65 and 66 are two branches on 30, and 67 stands alone.
+// Whether exactly these places are swept.
+fn sweeps(
+    alloc: Global,
+    parents: &[Option<usize>],
+    roots: &[bool],
+    wanted: &[bool],
+) -> Result<bool, AllocError> {
+    if !has_parents_within(parents) || roots.len() != parents.len() {
+        return Ok(false);
+    }
+    let swept = sweep_set(alloc, parents, roots)?;
+    Ok(swept.as_slice() == wanted)
+}
+
+// Place 0 is the parent of 1, which a lease may name, and of 2, a view.
+#[test]
+fn a_view_keeps_its_parent(rt: HostRuntime) -> Result<(), AllocError> {
+    for (roots, wanted) in [
+        ([false, true, true], [false, false, false]),
+        ([false, false, true], [false, true, false]),
+        ([false, false, false], [true, true, true]),
+    ] {
+        assert!(rt; sweeps(rt.alloc(), &[None, Some(0), Some(0)], &roots, &wanted)?);
+    }
+    Ok(())
+}
+
+// Each place but the first has the one before it as its parent. Place 64 has 64 ancestors.
 #[test]
 fn a_root_keeps_its_chain(rt: HostRuntime) -> Result<(), AllocError> {
-    let mut parents = Vec::new(rt.alloc());
+    let mut parents = vec![in rt.alloc(); None; 1]?;
     for place in 0usize..65 {
-        parents.push(if place == 0 { None } else { Some(place - 1) })?;
+        parents.push(Some(place))?;
     }
-    for parent in [Some(30), Some(30), None] {
-        parents.push(parent)?;
-    }
-    assert!(rt; has_parents_within(parents.as_slice()));
-    // Two roots, or 99 for none, and how many places of the chain they keep.
-    for (first, second, kept) in [(99, 99, 0), (65, 99, 31), (65, 64, 65)] {
-        let mut roots = Vec::new(rt.alloc());
-        for place in 0..parents.len() {
-            roots.push(place == first || place == second)?;
-        }
-        assert!(rt; roots.len() == parents.len());
-        let swept = sweep_set(rt.alloc(), parents.as_slice(), roots.as_slice())?;
-        for (place, is_swept) in swept.iter().enumerate() {
-            assert_eq!(rt; *is_swept, place >= kept && place != first, "at {place}");
-        }
-    }
+    let mut roots = [false; 66];
+    roots[64] = true;
+    let mut wanted = [false; 66];
+    wanted[65] = true;
+    assert!(rt; sweeps(rt.alloc(), parents.as_slice(), &roots, &wanted)?);
     Ok(())
 }

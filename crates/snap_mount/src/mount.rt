@@ -15,7 +15,7 @@ pub enum MountKind {
 impl MountKind {
     ghost use Rattle.snap_mount.specs.Mounts.{kind_word};
 
-    /// The kind's word.
+    /// The kind's word: `bind` or `overlay`. Takes no memory.
     pub fn as_str(&self) -> &'static str
         ensures { result.now ≡ kind_word self.now }
     {
@@ -29,6 +29,7 @@ impl MountKind {
 /// One mount, as containerd's `mount.Mount` describes it.
 #[derive(Debug, Drop, PartialEq, Eq)]
 pub struct Mount {
+    /// The file system type.
     pub kind: MountKind,
     /// The directory that is bound, or the word `overlay`.
     pub source: Text,
@@ -36,6 +37,7 @@ pub struct Mount {
     pub options: Sequence<Text>,
 }
 
+/// A copy of the texts. Its cost and its memory grow with their bytes.
 impl Clone for Mount {
     ghost is_clone = { λ a b. b ≡ a };
 

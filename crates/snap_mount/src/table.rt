@@ -9,7 +9,7 @@ use std::alloc::{AllocError, Global};
 
 /// Whether a text can be the directory that all snapshots lie in: it begins with `/`, has at most
 /// 1024 bytes and none of `:`, `,`, `\` and NUL, which have a meaning of their own in mount
-/// options. Takes no memory.
+/// options. Takes no memory. Its cost grows with the length of the text.
 pub fn is_root_text(text: &str) -> bool
     ensures { result ≡ is_root_text text.now }
 {
@@ -40,7 +40,8 @@ fn is_mark(byte: u8) -> bool
 /// directory of an id is `<root>/snapshots/<id>/fs`, its work directory
 /// `<root>/snapshots/<id>/work`.
 ///
-/// Fails only where memory is wanting. Its cost and its memory grow with the bytes of the texts.
+/// The conditions are that the root passes `is_root_text` and that the snapshot isn't a committed
+/// one. Fails only where memory is wanting. Its cost and its memory grow with the bytes of the texts.
 pub fn mounts_of(
     alloc: Global,
     root: &str,

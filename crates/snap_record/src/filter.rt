@@ -12,6 +12,7 @@ use std::alloc::AllocError;
 /// A label that a snapshot has to have.
 #[derive(Debug, Drop, PartialEq, Eq)]
 pub struct LabelFilter {
+    /// The key that the label has to have.
     pub key: Text,
     /// The value that is asked for. `None` asks only that the label is there, with any value.
     pub value: Option<Text>,
@@ -32,10 +33,13 @@ impl Clone for LabelFilter {
 /// form, and a filter without parts asks for all snapshots.
 #[derive(Debug, Drop, PartialEq, Eq)]
 pub struct Filter {
+    /// The key of an active snapshot or a view, the name of a committed snapshot.
     pub name: Option<Text>,
     /// `Some` of the empty text asks for snapshots without a parent.
     pub parent: Option<Text>,
+    /// What the snapshot has to be.
     pub kind: Option<Kind>,
+    /// The labels that the snapshot has to have, all of them.
     pub labels: Sequence<LabelFilter>,
 }
 

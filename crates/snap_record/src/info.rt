@@ -11,11 +11,13 @@ use std::alloc::AllocError;
 /// `clone` copies the texts and the labels: its cost and its memory grow with their bytes.
 #[derive(Debug, Drop, PartialEq, Eq)]
 pub struct Info {
+    /// What the snapshot is.
     pub kind: Kind,
     /// The key of an active snapshot or a view, the name of a committed snapshot.
     pub name: Text,
     /// The name of the parent, empty where there is none.
     pub parent: Text,
+    /// The snapshot's labels, in their order.
     pub labels: Labels,
     /// The number of the journal entry that made the snapshot.
     pub created: u64,

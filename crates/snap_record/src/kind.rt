@@ -15,7 +15,7 @@ pub enum Kind {
 }
 
 impl Kind {
-    /// The kind's word.
+    /// The kind's word: `View`, `Active` or `Committed`. Takes no memory.
     pub fn as_str(&self) -> &'static str
         ensures { result.now ≡ kind_word self.now }
     {

@@ -55,7 +55,7 @@ impl Labels {
     }
 
     /// Takes the label of a key away, if there is one. The others keep their order: the removal
-    /// closes up. Takes no memory.
+    /// closes up. Takes no memory. Its cost grows with the number of labels.
     pub fn remove(&mut self, key: &Text)
         ensures removed { self.new ≡ without_label self.old key.now }
         ensures distinct { HasDistinctKeys self.new }
@@ -63,14 +63,15 @@ impl Labels {
         self.map.shift_remove(key);
     }
 
-    /// The value of a key. Takes no memory.
+    /// The value of a key, or nothing where it has none. Takes no memory. Costs the same for any
+    /// number of labels, on average.
     pub fn get(&self, key: &Text) -> Option<&Text>
         ensures { option_copied result ≡ value_of self.now key.now }
     {
         self.map.get(key)
     }
 
-    /// How many labels there are.
+    /// How many labels there are. Takes no memory. The cost is constant.
     pub fn len(&self) -> usize
         ensures len { result ≡ length self.now }
         ensures small { result < 2 ^ 63 }
@@ -79,14 +80,14 @@ impl Labels {
         self.map.len()
     }
 
-    /// Whether there are no labels.
+    /// Whether there are no labels. Takes no memory. The cost is constant.
     pub fn is_empty(&self) -> bool
         ensures { IsTrue result ↔ (self.now ≡ []) }
     {
         self.map.is_empty()
     }
 
-    /// The labels, in their order.
+    /// The labels, in their order. Takes no memory. The cost is that of going over them.
     pub fn iter(&self) -> Iter<'_, Text, Text>
         ensures rest { result ≡ self.now }
         ensures runs { ShowsInOrder (deref_pair {K = List ℕ} {X = List ℕ}) }
@@ -98,7 +99,8 @@ impl Labels {
     }
 
     /// Whether these can be a snapshot's labels: at most 64, each with a key of at least 1 byte,
-    /// and at most 4096 bytes of key and value together.
+    /// and at most 4096 bytes of key and value together. Takes no memory. Its cost grows with the
+    /// number of labels.
     pub fn are_valid(&self) -> bool
         ensures { result ≡ are_labels self.now }
     {
@@ -137,7 +139,7 @@ fn is_label(key: &Text, value: &Text) -> bool
     key > 0 && key <= MAX_LABEL_BYTES && value <= MAX_LABEL_BYTES - key
 }
 
-/// A copy of each key and each value.
+/// A copy of each key and each value, in their order. Its cost and its memory grow with their bytes.
 impl Clone for Labels {
     ghost is_clone = { λ a b. b ≡ a };
 

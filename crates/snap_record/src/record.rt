@@ -31,16 +31,18 @@ pub struct Record {
     pub parent: Text,
     /// The number that its directories are named by.
     pub id: u32,
+    /// The labels that it was made with, and as updates left them.
     pub labels: Labels,
     /// The number of the journal entry that made the snapshot.
     pub created: u64,
     /// The number of the journal entry that last changed it.
     pub updated: u64,
+    /// What it holds, by its kind.
     pub content: Content,
 }
 
 impl Content {
-    /// The kind of snapshot that holds it.
+    /// The kind of snapshot that holds it. Takes no memory.
     pub fn kind(&self) -> Kind
         ensures { result ≡ kind_of self.now }
     {
@@ -52,7 +54,7 @@ impl Content {
     }
 
     /// What the snapshot's namespace is charged for it: the stored usage of a committed snapshot,
-    /// the charged usage of an active one, and 0/0 for a view.
+    /// the charged usage of an active one, and 0/0 for a view. Takes no memory.
     pub fn usage(&self) -> Usage
         ensures { result ≡ usage_of self.now }
     {
@@ -68,8 +70,8 @@ impl Content {
 }
 
 impl Record {
-    /// What can be asked of the snapshot. Its cost and its memory grow with the bytes of the texts
-    /// and the labels.
+    /// What can be asked of the snapshot. Fails only where memory is wanting. Its cost and its memory
+    /// grow with the bytes of the texts and the labels.
     pub fn info(&self) -> Result<Info, AllocError>
         ensures { IfOk result (λ info. info ≡ info_of self.now) }
     {

@@ -28,7 +28,7 @@ impl<T> Sequence<T> {
     }
 
     /// Puts an item last. Where memory is wanting, the list is as it was and the error gives the
-    /// item back.
+    /// item back. Costs the same for any number of items, on average.
     pub fn push(&mut self, item: T) -> Result<(), AllocFailed<T>>
         ensures ok { OnOk result (self.new ≡ self.old ++ item ∷ []) }
         ensures err { OnErr result (self.new ≡ self.old) }
@@ -37,21 +37,21 @@ impl<T> Sequence<T> {
         self.items.push(item)
     }
 
-    /// The items, in their order.
+    /// The items, in their order, without a copy. Takes no memory. The cost is constant.
     pub fn as_slice(&self) -> &[T]
         ensures { result.now ≡ self.now }
     {
         self.items.as_slice()
     }
 
-    /// How many items there are.
+    /// How many items there are. Takes no memory. The cost is constant.
     pub fn len(&self) -> usize
         ensures { result ≡ length self.now }
     {
         self.items.len()
     }
 
-    /// Whether there are no items.
+    /// Whether there are no items. Takes no memory. The cost is constant.
     pub fn is_empty(&self) -> bool
         ensures { IsTrue result ↔ (self.now ≡ []) }
     {
@@ -68,7 +68,7 @@ impl<T> From<Vec<T>> for Sequence<T> {
     }
 }
 
-/// A copy of each item. Its cost is that of the items' copies.
+/// A copy of each item. Its cost and its memory are those of the items' copies.
 impl<T: Clone + Drop> Clone for Sequence<T> {
     ghost use Rattle.std.specs.List.{AllZip};
 

@@ -31,7 +31,8 @@ impl Text {
         }
     }
 
-    /// A copy of `text`. Its cost and its memory grow with the length of the text.
+    /// A copy of `text`. Fails only where memory is wanting. Its cost and its memory grow with the
+    /// length of the text.
     pub fn copy_of(alloc: Global, text: &str) -> Result<Text, AllocError>
         ensures { IfOk result (λ t. t ≡ text.now) }
     {
@@ -40,14 +41,14 @@ impl Text {
         })
     }
 
-    /// The text, without a copy.
+    /// The text, without a copy. Takes no memory. The cost is constant.
     pub fn as_str(&self) -> &str
         ensures { result.now ≡ self.now }
     {
         self.text.as_str()
     }
 
-    /// Whether the text is the empty one.
+    /// Whether the text is the empty one. Takes no memory. The cost is constant.
     pub fn is_empty(&self) -> bool
         ensures { IsTrue result ↔ (self.now ≡ []) }
     {
@@ -64,6 +65,7 @@ impl From<String> for Text {
     }
 }
 
+/// A copy of the text. Its cost and its memory grow with the length of the text.
 impl Clone for Text {
     ghost is_clone = { λ a b. b ≡ a };
 

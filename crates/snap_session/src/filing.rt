@@ -93,7 +93,8 @@ fn worked<N: StoreName>(
     recharged(world, n, slot, &Step::Locked(n, call), operation)
 }
 
-// The same of an operation that a step is made of. It is apart, since a step of it has many forms.
+// The same of an operation without its step. The step is made and dropped here alone, which keeps the proof
+// of `worked` small.
 fn operated<N: StoreName>(
     world: &mut World<N>,
     n: u64,

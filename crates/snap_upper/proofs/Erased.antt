@@ -38,7 +38,7 @@ use Rattle.snap_upper.specs.After.{tests, first_error, error_if, name_error, dir
 use Rattle.snap_upper.specs.Changed.{ShowsAt}
 use Rattle.snap_upper.proofs.Outcomes.{test_passes, error_if_passes}
 
-none_from : {A : Type 0} (o : Option A) → is_some o ≡ false → o ≡ None
+pub none_from : {A : Type 0} (o : Option A) → is_some o ≡ false → o ≡ None
 none_from None e = refl
 none_from (Some x) e = absurd (cc)
 

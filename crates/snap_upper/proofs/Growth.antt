@@ -169,13 +169,13 @@ module _ (u : Tree) (ls : List Tree) (p : Names) (last : Last) (blocks : ℕ) (n
   parents : AddsParents u (with_parents u ls p) ls (length p)
   parents = adds_parents u ls p way
 
-  all_inodes : inode_count v + (if is_whiteout_at (at u p) then 1 else 0) ≡ inode_count u + missing + 1
+  pub all_inodes : inode_count v + (if is_whiteout_at (at u p) then 1 else 0) ≡ inode_count u + missing + 1
   all_inodes = omega (arith, adds.inodes, ap {B = ℕ} (λ (o : Option Node). if is_whiteout_at o then 1 else 0) (parents.leaves p (omega arith)), more.0)
 
-  all_blocks : block_count v ≡ block_count u + missing + blocks
+  pub all_blocks : block_count v ≡ block_count u + missing + blocks
   all_blocks = omega (arith, adds.blocks, more.1)
 
-  next_number : v.next ≡ u.next + (if numbered then 1 else 0)
+  pub next_number : v.next ≡ u.next + (if numbered then 1 else 0)
   next_number = omega (arith, adds.next, parents.next)
 
   pub growth_full : (inodes : ℕ) → inodes + (if is_whiteout_at (at u p) then 1 else 0) ≡ inode_count u + missing + 1 → 65536 < inodes → ◌≡◌ {A = Answer} (Err LayerFull) (planned (limited v))

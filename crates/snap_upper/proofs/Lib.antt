@@ -10,10 +10,11 @@ pub mod Renames
 pub mod Freed
 pub mod Taken
 pub mod Linked
+pub mod Named
 pub mod Movable
 pub mod Prepared
 pub mod Shifted
-pub mod LinkCounts
+pub mod MoveCounts
 pub mod Changing
 pub mod Examples
 pub mod Uncharged

@@ -6,7 +6,7 @@ use Rattle.std.specs.Cmp.{nat_cmp_total}
 use Rattle.std.specs.List.Sorted.{IsStrictlySortedBy}
 use Rattle.std.specs.Map.{keys_of}
 use Rattle.std.proofs.lemmas.Bool.Decides.{nat_tests}
-use Rattle.snap_path.specs.Text.{Names}
+use Rattle.snap_path.specs.Text.{Names, IsPath}
 use Rattle.snap_layer.specs.declared.node.Node.{Node}
 use Rattle.snap_layer.specs.declared.node.Node.TheVariants.{Dir, File, Symlink, Whiteout}
 use Rattle.snap_layer.specs.declared.node.Body.{Body}
@@ -18,9 +18,10 @@ use Rattle.snap_layer.specs.Edits.{HasParent, HasPlace, IsFree, IsTakeable, name
 use Rattle.snap_layer.proofs.Lists.{sorted-insert_entry}
 use Rattle.snap_layer.proofs.Paths.{begins-append, begins_itself, split_front}
 use Rattle.snap_layer.proofs.Looks.{split_path, at-without_inside, at-without_outside, sorted-bodies_without}
-use Rattle.snap_layer.proofs.Counting.{inodes_of, weight, dirs, inode_count-with_entry, block_count-with_entry}
+use Rattle.snap_layer.proofs.Counting.{inodes_of, dirs, weight, inode_count-with_entry, block_count-with_entry}
 use Rattle.snap_layer.proofs.Kept.{dir_above, free_is_no_dir, node_with_number, nothing_below}
 use Rattle.snap_layer.proofs.Laws.{Replaces, Replaces-with_node, Replaces-with_new, sorted-with_node, without-with_entry}
+use Rattle.snap_layer.proofs.Replacing.{IsLayer-with_node}
 use Rattle.snap_layer.proofs.Moves.{not_longer, not_root, sorted-without}
 use Rattle.snap_merge.specs.declared.error.FsError.{FsError}
 use Rattle.snap_merge.specs.declared.error.FsError.TheVariants.{Exists, OutOfMemory}
@@ -93,11 +94,11 @@ no_inode (File j) k e = refl
 no_inode (Symlink j) k e = refl
 no_inode Whiteout k e = absurd (cc)
 
-no_dir_in : (n : Node) (k : ℕ) → number_of n ≡ Some k → dirs n ≡ 0
-no_dir_in (Dir m b) k e = absurd (cc)
-no_dir_in (File j) k e = refl
-no_dir_in (Symlink j) k e = refl
-no_dir_in Whiteout k e = absurd (cc)
+no_dir : (n : Node) (k : ℕ) → number_of n ≡ Some k → dirs n ≡ 0
+no_dir (Dir m b) k e = absurd (cc)
+no_dir (File j) k e = refl
+no_dir (Symlink j) k e = refl
+no_dir Whiteout k e = absurd (cc)
 
 hides_all : (n : Node) (k : ℕ) → number_of n ≡ Some k → node_hides (Some n) ≡ true
 hides_all (Dir m b) k e = absurd (cc)
@@ -262,12 +263,6 @@ module _ (u : Tree) (ls : List Tree) (from to : Names) (ok : IsLayer u) (layers 
   same_inodes : inode_count (with_entry room to named.0) ≡ inode_count room
   same_inodes = omega (arith, inode_count-with_entry room to named.0 (sorted-without t to grows), ap inodes_of (at-without_inside t to to (begins_itself to)), no_inode named.0 copies.number.0 named.2)
 
-  pub link_inodes : inode_count (next_layer (op.Link from to) u ls) ≡ inode_count room
-  link_inodes = ap inode_count linked_is ∙ same_inodes
-
-  pub link_blocks : block_count (next_layer (op.Link from to) u ls) ≡ block_count room
-  link_blocks = ap block_count linked_is ∙ omega (arith, block_count-with_entry room to named.0 (sorted-without t to grows), ap (weight dirs) (at-without_inside t to to (begins_itself to)), no_dir_in named.0 copies.number.0 named.2)
-
   pub same_within : is_within (next_layer (op.Link from to) u ls) ≡ is_within room
   same_within = ap is_within linked_is ∙ (λ i. nat_le (same_inodes i) 65536 && nat_le room.next 4294967295)
 
@@ -310,6 +305,26 @@ module _ (u : Tree) (ls : List Tree) (from to : Names) (ok : IsLayer u) (layers 
   pub from_room : with_name room to (at room from) ≡ next_layer (op.Link from to) u ls
   from_room = ap (with_name room to) node_left ∙ ap (λ (v : Tree). with_entry v to named.0) (without_bare room to (sorted-without t to grows) bare) ∙ sym linked_is
 
+  -- ---- what the name takes
+
+  pub linked_inodes : inode_count (next_layer (op.Link from to) u ls) ≡ inode_count room
+  linked_inodes = ap inode_count linked_is ∙ same_inodes
+
+  pub linked_blocks : block_count (next_layer (op.Link from to) u ls) ≡ block_count room
+  linked_blocks =
+      let same : block_count (with_entry room to named.0) ≡ block_count room = omega (arith, block_count-with_entry room to named.0 (sorted-without t to grows), ap (weight dirs) (at-without_inside t to to (begins_itself to)), no_dir named.0 copies.number.0 named.2) in
+      ap block_count linked_is ∙ same
+
+  pub linked_layer : IsLayer room → IsPath to → IsLayer (next_layer (op.Link from to) u ls)
+  linked_layer okr path =
+      let same = without_bare room to (sorted-without t to grows) bare in
+      let put : with_node room to named.0 ≡ next_layer (op.Link from to) u ls = ap (λ (v : Tree). with_entry v to named.0) same ∙ sym linked_is in
+      let few : inode_count (with_node room to named.0) ≤ 65536 = subst (λ n. n ≤ 65536) (sym (ap inode_count put ∙ linked_inodes)) okr.few in
+      subst IsLayer put (IsLayer-with_node room to named.0 okr place path (subst (λ (v : Tree). IsWhole v named.0) (sym same) (okr.nodes from named.0 node_left)) few)
+
+  pub own_copy : (k : ℕ) → number_at u from ≡ Some k → copied_up u ls from ≡ u
+  own_copy k number = copied_own u ls from ok ready.way_from ready.name (ap is_some (node_with_number (at u from) k number).1)
+
   -- ---- the layer has the directory
 
   module _ (parent : HasParent u to) where
@@ -333,8 +348,8 @@ module _ (u : Tree) (ls : List Tree) (from to : Names) (ok : IsLayer u) (layers 
     none_above = none_added copy ls [] to (λ q n r is. let some = stand q n r is in ap is_some (copies.kept q (kept_up q some)) ∙ some)
 
     module _ (k : ℕ) (number : number_at u from ≡ Some k) where
-      pub own_same : with_parents (copied_up u ls from) ls to ≡ u
-      own_same = none_above ∙ copied_own u ls from ok ready.way_from ready.name (ap is_some (node_with_number (at u from) k number).1)
+      own_same : with_parents (copied_up u ls from) ls to ≡ u
+      own_same = none_above ∙ own_copy k number
 
       pub own_put : with_name u to (name_of k (body u k)) ≡ next_layer (op.Link from to) u ls
       own_put =

@@ -28,7 +28,7 @@ use Rattle.snap_copyup.proofs.Parents.{AddsParents, adds_parents, dir_copied, pa
 use Rattle.snap_copyup.proofs.Growing.{grows_from}
 use Rattle.snap_copyup.proofs.Layers.{no_missing}
 use Rattle.snap_copyup.proofs.Copies.{Puts-with_new, not_next, last_copied, copied_view}
-use Rattle.snap_upper.specs.Renamed.{prepared}
+use Rattle.snap_upper.specs.After.{prepared}
 use Rattle.snap_upper.proofs.Movable.{IsRenamable, short_paths}
 
 no_bool : true ≡ false → ⊥

@@ -35,9 +35,8 @@ use Rattle.snap_copyup.proofs.Alone.{below_seen, dir_seen}
 use Rattle.snap_copyup.proofs.Parents.{AddsParents}
 use Rattle.snap_copyup.proofs.Growing.{Grows, grows_from, missing_from}
 use Rattle.snap_copyup.proofs.Layers.{no_missing}
-use Rattle.snap_upper.specs.After.{tests, first_error, after, error_if, kind_error, is_same_name, limited, renamed}
+use Rattle.snap_upper.specs.After.{tests, first_error, after, error_if, kind_error, is_same_name, limited, renamed, prepared, shifted}
 use Rattle.snap_upper.specs.declared.op.Op.TheVariants as op
-use Rattle.snap_upper.specs.Renamed.{prepared, shifted}
 use Rattle.snap_upper.proofs.Outcomes.{after_passes, limited_fits, layer_fits, refused}
 use Rattle.snap_upper.proofs.Movable.{IsRenamable}
 use Rattle.snap_upper.proofs.Prepared.{IsCopy, own_copy, longer_out, added, way_after, lower_no_dir, lower_is_copy}

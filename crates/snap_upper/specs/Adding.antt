@@ -3,7 +3,6 @@ use Rattle.std.specs.Prelude.{◌≡◌, ◌==◌, if◌then◌else◌, ℕ, Boo
 use Rattle.snap_layer.specs.declared.node.Body.{Body}
 use Rattle.snap_layer.specs.Counts.{blocks_of, body_blocks, name_count}
 use Rattle.snap_layer.specs.Tree.{Tree, body}
-use Rattle.snap_usage.specs.declared.usage.Usage.{Usage}
 use Rattle.snap_merge.specs.Objects.{Object, dir, file, symlink, is_shown_dir}
 use Rattle.snap_upper.specs.declared.checking.Found.{Found}
 use Rattle.snap_copyup.specs.declared.putting.Last.{Last}
@@ -27,18 +26,18 @@ abbrev pub with_its_mode : Option Found → ℕ → Last
 with_its_mode None mode = Dir mode false
 with_its_mode (Some f) mode = File mode f.bytes.now
 
--- the blocks of what is seen: one of a directory, and none of a symlink
-abbrev pub object_blocks : Option Object → ℕ
-object_blocks None = 0
-object_blocks (Some (dir mode)) = 1
-object_blocks (Some (file mode bytes)) = blocks_of (length bytes)
-object_blocks (Some (symlink target)) = 0
-
 -- the blocks of a body, and none of no body
 abbrev pub weight_of : Option Body → ℕ
 weight_of None = 0
 weight_of (Some b) = body_blocks b
 
--- what goes with one name of a file number: its body, where it has no other name (link(2), unlink(2))
-abbrev pub freed : Tree → ℕ → Usage
-freed t k = if name_count k t.entries == 1 then record { blocks = weight_of (body t k); inodes = 1 } else record { blocks = 0; inodes = 0 }
+-- the blocks that go with one name of a file number: those of its body, where it has no other name (link(2), unlink(2))
+abbrev pub last_blocks : Tree → ℕ → ℕ
+last_blocks t k = if name_count k t.entries == 1 then weight_of (body t k) else 0
+
+-- the blocks of what is copied up: one of a directory, those of a file, and none of a symlink
+abbrev pub object_blocks : Option Object → ℕ
+object_blocks None = 0
+object_blocks (Some (dir mode)) = 1
+object_blocks (Some (file mode bytes)) = blocks_of (length bytes)
+object_blocks (Some (symlink target)) = 0

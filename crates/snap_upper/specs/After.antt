@@ -160,11 +160,17 @@ with_content t (Some k) f = with_bytes t k (body t k) (f (bytes_of (body t k)))
 abbrev pub erased : Tree → List Tree → Names → Tree
 erased u lowers p = let t = with_parents u lowers p in if is_some (below u lowers p) then with_node t p node.Whiteout else without t p
 
--- the layer with what is seen at `from` under the new path `to`, in place of what stands there; it is copied up first, a directory is opaque where something is below `to`, and a whiteout is left where something is below `from` (overlayfs.rst, "renaming directories", "whiteouts and opaque directories")
+-- the layer before a move: what is seen at `from` is copied up, and the directories above `to` are there (overlayfs.rst, "Non-directories")
+abbrev pub prepared : Tree → List Tree → Names → Names → Tree
+prepared u lowers from to = with_parents (copied_up u lowers from) lowers to
+
+-- the layer after a move of what stands at `from` to `to`, in place of what stands there: it leaves a whiteout or none, and makes a moved directory opaque or not (overlayfs.rst, "whiteouts and opaque directories")
+abbrev pub shifted : Tree → Names → Names → Bool → Bool → Tree
+shifted t from to leaves covers = let v = with_moved t from to leaves in if covers then with_opaque v to (at v to) true else v
+
+-- the layer after a rename: a whiteout is left where something is below `from`, and a directory is opaque where something is below `to`
 abbrev pub renamed : Tree → List Tree → Names → Names → Tree
-renamed u lowers from to =
-    let t = with_moved (with_parents (copied_up u lowers from) lowers to) from to (is_some (below u lowers from)) in
-    if is_some (below u lowers to) then with_opaque t to (at t to) true else t
+renamed u lowers from to = shifted (prepared u lowers from to) from to (is_some (below u lowers from)) (is_some (below u lowers to))
 
 -- the effect of an operation on the upper layer
 abbrev pub next_layer : Op → Tree → List Tree → Tree

@@ -1,4 +1,3 @@
 pub mod After
 pub mod Adding
 pub mod Changed
-pub mod Renamed

@@ -37,7 +37,7 @@ use snap_path::Path;
 /// - Of a rename, after the errors above `from` and then above `to`: `Invalid`: one is the root;
 ///   `NotFound`: nothing is seen at `from`; `Invalid`: `from` is a directory, and `to` lies below it;
 ///   `NotDir`, `IsDir`: a directory would take the place of another object, or another object that of a
-///   directory; `CrossDevice`: `from` is a directory that a lower layer has too; `NotEmpty`: `to` is a
+///   directory; `CrossDevice`: `from` is a directory that is seen, whole or in part, from a lower layer; `NotEmpty`: `to` is a
 ///   directory with names; `BadPath`: a moved path would have more than 4095 bytes. Where it has nothing to
 ///   do, none of the last six comes.
 /// - `Invalid`: the mode is above octal 7777, or the target is empty or has a NUL; `TooBig`: the file
@@ -47,11 +47,10 @@ use snap_path::Path;
 /// - `OutOfMemory`: a growth was refused.
 ///
 /// After any of them the layer is as it was. Cost: for each name of the path a look through the layers,
-/// and for a write the bytes of the file, and for a link those of a lower file. A link is done on a copy
-/// of the layer, which takes as much memory and the time to copy all its bytes, where the layer doesn't
-/// have the directory of `to`, or where it would have 65,536 inodes or more. For a rename the number of
-/// the layer's paths, with their texts; it is done on a copy where `from` has to be copied up, or a
-/// directory above `to` is missing.
+/// and for a write the bytes of the file, and for a link or a rename those of a lower file; for a rename
+/// also the texts of the layer's paths. A link to a directory that the layer lacks is done on a copy of the
+/// layer, which takes as much memory, and the time to copy all its bytes. So is a link of a lower file to
+/// a layer that is full, or nearly; and a rename of a lower object, or to a directory that the layer lacks.
 pub fn apply(layer: &mut Layer, lowers: &[Shared], op: &Op) -> Result<(), FsError>
     ensures ok { OnOk result (after op.now layer.old lowers.now ≡ Ok layer.new) }
     ensures error { IfErr result (λ e. (e ≡ FsError.OutOfMemory) ⊎ (after op.now layer.old lowers.now ≡ Err e)) }

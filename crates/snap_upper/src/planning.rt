@@ -1,25 +1,27 @@
-ghost use Rattle.std.specs.Prelude.{◌≡◌, [], ◌∷◌, ◌+◌, ◌≤◌, ℕ, List, Some, None, true, length, if◌then◌else◌};
+ghost use Rattle.std.specs.Prelude.{◌≡◌, [], ◌∷◌, ◌++◌, ◌+◌, ◌≤◌, ℕ, List, Some, None, is_some, true, false, length};
+ghost use Rattle.std.specs.Option.{option_map};
 ghost use Rattle.snap_layer.specs.Tree.{Tree, at, body, number_at};
-ghost use Rattle.snap_layer.specs.Edits.{HasParent, IsFree, with_node, without};
-ghost use Rattle.snap_merge.specs.Objects.{file, seen, AreLayers};
+ghost use Rattle.snap_layer.specs.Counts.{block_count, inode_count};
+ghost use Rattle.snap_layer.specs.Edits.{HasParent, IsFree, without};
+ghost use Rattle.snap_merge.specs.Objects.{file, object, seen, AreLayers};
 ghost use Rattle.snap_merge.specs.Walk.{walk, Answers};
 ghost use Rattle.snap_copyup.specs.declared.putting.Last.{Last};
 ghost use Rattle.snap_copyup.specs.Copying.{with_parents, copied_up};
 ghost use Rattle.snap_copyup.specs.Places.{with_last, Fits};
 ghost use Rattle.snap_upper.specs.declared.op.Op.TheVariants as op;
-ghost use Rattle.snap_upper.specs.After.{after, planned, tests, first_error, next_layer, limited, with_content, written, is_planned_in_place};
-ghost use Rattle.snap_upper.specs.Adding.{Takes, object_blocks, weight_of, freed};
-ghost use Rattle.snap_layer.specs.declared.node.Node.TheVariants as Node;
+ghost use Rattle.snap_upper.specs.After.{after, first_error, tests, next_layer, planned, limited, erased, renamed, is_same_name, with_content, written, is_planned_in_place};
+ghost use Rattle.snap_upper.specs.Adding.{Takes, weight_of, last_blocks, object_blocks};
 
-use super::applying::apply;
 use super::checking::{
-    Found, check_link, check_mode, check_new, check_symlink, check_truncate, check_unlink,
-    check_write,
+    Found, check_link, check_mode, check_new, check_rmdir, check_symlink, check_truncate,
+    check_unlink, check_write,
 };
 use super::content::{is_whiteout, own_number};
+use super::linking::link;
 use super::op::Op;
+use super::renaming::{check_rename, rename};
 use snap_copyup::{below, missing_dirs};
-use snap_layer::{Bytes, Layer, Shared};
+use snap_layer::{Bytes, Layer, Node, Shared};
 use snap_merge::{FsError, Seen, Stack};
 use snap_path::Path;
 use snap_usage::{Usage, blocks_of, count};
@@ -36,13 +38,16 @@ pub struct Planned {
 
 /// How much the layer would take after the operation over the lower layers, which stand nearest first.
 ///
-/// The errors are those of `apply`, in the same order. It changes nothing. But for `Rmdir` and some
-/// links it takes no memory, and the next layer isn't built. Cost: for each name of the path a look
+/// The errors are those of `apply`, in the same order. It changes nothing. But for `Rmdir`, `Link` and
+/// `Rename` it takes no memory, and the next layer isn't built. Cost: for each name of a path a look
 /// through the layers, and the number of the layer's paths and files.
 ///
-/// `Rmdir`, and a `Link` where the layer doesn't have the directory of `to`, are done on a copy of the
-/// layer, so their plan takes memory (`OutOfMemory`), and its cost is also the layer's size with all bytes
-/// of its files.
+/// `Rmdir`, and a `Rename` to where a directory is seen, take memory for the names in it (`OutOfMemory`),
+/// and their cost is also that of their list.
+///
+/// A `Link` of a lower file to a directory that the layer doesn't have is done on a copy of the layer, and
+/// so is a `Rename` of a lower file. Their plans take memory too, and their cost is also the layer's size
+/// with all bytes of its files. Any other `Link` takes no memory.
 pub fn plan(layer: &Layer, lowers: &[Shared], op: &Op) -> Result<Planned, FsError>
     ensures answer { Answers (planned (after op.now layer.now lowers.now)) result }
     ensures sure { is_planned_in_place op.now ≡ true → result ≡ planned (after op.now layer.now lowers.now) }
@@ -58,28 +63,11 @@ pub fn plan(layer: &Layer, lowers: &[Shared], op: &Op) -> Result<Planned, FsErro
         Op::Truncate { path, size } => plan_truncate(layer, lowers, path, *size),
         Op::SetMode { path, mode } => plan_mode(layer, lowers, path, *mode),
         Op::Symlink { path, target } => plan_symlink(layer, lowers, path, target),
-        Op::Link { from, to } => {
-            if layer.has_parent(to) {
-                return plan_link(layer, lowers, from, to);
-            }
-            plan_on_copy(layer, lowers, op)
-        }
+        Op::Link { from, to } => plan_link(layer, lowers, from, to),
         Op::Unlink { path } => plan_unlink(layer, lowers, path),
-        Op::Rmdir { .. } => plan_on_copy(layer, lowers, op),
-        Op::Rename { .. } => plan_on_copy(layer, lowers, op),
+        Op::Rmdir { path } => plan_rmdir(layer, lowers, path),
+        Op::Rename { from, to } => plan_rename(layer, lowers, from, to),
     }
-}
-
-/// Does the operation on a copy of the layer, and counts what that takes.
-fn plan_on_copy(layer: &Layer, lowers: &[Shared], op: &Op) -> Result<Planned, FsError>
-    ensures { Answers (planned (after op.now layer.now lowers.now)) result }
-{
-    let mut next = layer.copy()?;
-    if let Err(error) = apply(&mut next, lowers, op) {
-        return Err(error);
-    }
-    let after = count(&next);
-    Ok(Planned { after })
 }
 
 fn plan_mkdir(layer: &Layer, lowers: &[Shared], path: &Path, mode: u32) -> Result<Planned, FsError>
@@ -158,66 +146,82 @@ fn plan_symlink(
     plan_growth(layer, path, 0, true)
 }
 
-/// How much the layer takes after the link, where it has the directory of `to`.
 fn plan_link(layer: &Layer, lowers: &[Shared], from: &Path, to: &Path) -> Result<Planned, FsError>
-    requires { HasParent layer.now to.now }
-    ensures { result ≡ planned (after (op.Link from.now to.now) layer.now lowers.now) }
+    ensures { Answers (planned (after (op.Link from.now to.now) layer.now lowers.now)) result }
 {
-    let stack = Stack::over(layer, lowers);
-    check_link(&stack, from, to)?;
+    check_link(&Stack::over(layer, lowers), from, to)?;
     let _ = layer.next_number();
-    let _ = from.names();
-    let _ = to.names();
-    if own_number(layer, from).is_none() {
-        let blocks = seen_blocks(&stack, from);
-        return plan_copy(layer, lowers, from, to, blocks);
+    if own_number(layer, from).is_some() {
+        return plan_name(layer, lowers, from, to);
     }
-    let now = count(layer);
-    let whiteouts = u64::from(is_whiteout(layer.at(to)));
-    let after = Usage {
-        blocks: now.blocks,
-        inodes: now.inodes - whiteouts,
-    };
-    Ok(Planned { after })
+    if layer.has_parent(to) {
+        return plan_copied_name(layer, lowers, from, to);
+    }
+    plan_link_on_copy(layer, lowers, from, to)
 }
 
-/// The same where what is linked takes so many blocks, and is copied up.
-fn plan_copy(
-    layer: &Layer,
-    lowers: &[Shared],
-    from: &Path,
-    to: &Path,
-    blocks: u64,
-) -> Result<Planned, FsError>
+/// How much the layer takes where its file or symlink at `from` gets the name `to`, and the directories
+/// that are missing above that.
+fn plan_name(layer: &Layer, lowers: &[Shared], from: &Path, to: &Path) -> Result<Planned, FsError>
     requires layers { AreLayers lowers.now }
     requires passes { first_error (tests (op.Link from.now to.now) (layer.now ∷ lowers.now)) ≡ None }
-    requires parent { HasParent layer.now to.now }
-    requires missing { at layer.now from.now ≡ None }
-    requires size { blocks ≡ object_blocks (seen (layer.now ∷ lowers.now) from.now) }
+    requires own { is_some (number_at layer.now from.now) ≡ true }
     ensures { result ≡ planned (limited (next_layer (op.Link from.now to.now) layer.now lowers.now)) }
 {
-    let _ = from.names();
     let _ = to.names();
-    let number = layer.next_number();
-    let now = count(layer);
-    let missing = missing_dirs(layer, from) as u64;
-    let whiteouts = u64::from(is_whiteout(layer.at(to)));
-    let inodes = now.inodes - whiteouts + missing + 1;
-    if number == u32::MAX || inodes > MOST_INODES {
+    let _ = layer.next_number();
+    let left = count_without(layer, to);
+    let missing = missing_dirs(layer, to) as u64;
+    let inodes = left.inodes + missing;
+    if inodes > MOST_INODES {
         return Err(FsError::LayerFull);
     }
     let after = Usage {
-        blocks: now.blocks + missing + blocks,
+        blocks: left.blocks + missing,
         inodes,
     };
     Ok(Planned { after })
 }
 
-/// The blocks of what is seen at the path.
-fn seen_blocks(stack: &Stack<'_>, path: &Path) -> u64
-    ensures { result ≡ object_blocks (seen stack.now path.now) }
+/// How much the layer takes where the lower file or symlink at `from` is copied up, and gets the name `to`
+/// in a directory of the layer.
+fn plan_copied_name(
+    layer: &Layer,
+    lowers: &[Shared],
+    from: &Path,
+    to: &Path,
+) -> Result<Planned, FsError>
+    requires layers { AreLayers lowers.now }
+    requires passes { first_error (tests (op.Link from.now to.now) (layer.now ∷ lowers.now)) ≡ None }
+    requires lower { is_some (number_at layer.now from.now) ≡ false }
+    requires parent { HasParent layer.now to.now }
+    ensures { result ≡ planned (limited (next_layer (op.Link from.now to.now) layer.now lowers.now)) }
 {
-    match stack.look(path) {
+    let _ = from.names();
+    let _ = to.names();
+    let number = layer.next_number();
+    let blocks = seen_blocks(Stack::over(layer, lowers).look(from));
+    let left = count_without(layer, to);
+    let missing = missing_dirs(layer, from) as u64;
+    let inodes = left.inodes + missing + 1;
+    if number == u32::MAX {
+        return Err(FsError::LayerFull);
+    }
+    if inodes > MOST_INODES {
+        return Err(FsError::LayerFull);
+    }
+    let after = Usage {
+        blocks: left.blocks + missing + blocks,
+        inodes,
+    };
+    Ok(Planned { after })
+}
+
+/// The blocks that what is seen takes once it is copied up.
+fn seen_blocks(seen: Option<Seen<'_>>) -> u64
+    ensures { result ≡ object_blocks (option_map object seen.entry) }
+{
+    match seen {
         Some(Seen::File { bytes, .. }) => blocks_of(bytes.len() as u64),
         Some(Seen::Dir { .. }) => 1,
         Some(Seen::Symlink { .. }) => 0,
@@ -225,52 +229,161 @@ fn seen_blocks(stack: &Stack<'_>, path: &Path) -> u64
     }
 }
 
+/// Makes the link on a copy of the layer, and counts what that takes.
+fn plan_link_on_copy(
+    layer: &Layer,
+    lowers: &[Shared],
+    from: &Path,
+    to: &Path,
+) -> Result<Planned, FsError>
+    ensures { Answers (planned (after (op.Link from.now to.now) layer.now lowers.now)) result }
+{
+    let mut linked = layer.copy()?;
+    if let Err(error) = link(&mut linked, lowers, from, to) {
+        return Err(error);
+    }
+    let after = count(&linked);
+    Ok(Planned { after })
+}
+
 fn plan_unlink(layer: &Layer, lowers: &[Shared], path: &Path) -> Result<Planned, FsError>
     ensures { result ≡ planned (after (op.Unlink path.now) layer.now lowers.now) }
 {
     check_unlink(&Stack::over(layer, lowers), path)?;
     let _ = layer.next_number();
-    let covers = below(layer, lowers, path).is_some();
-    match own_number(layer, path) {
-        None => return plan_growth(layer, path, 0, false),
-        Some(number) => return plan_erasing(layer, path, number, covers),
-    }
+    plan_erasing(layer, lowers, path)
 }
 
-/// How much the layer takes where the name of the number at the path is taken, and a whiteout is put in
-/// its place where `covers` says so.
-fn plan_erasing(layer: &Layer, path: &Path, number: u32, covers: bool) -> Result<Planned, FsError>
-    requires name { number_at layer.now path.now ≡ Some number }
+fn plan_rmdir(layer: &Layer, lowers: &[Shared], path: &Path) -> Result<Planned, FsError>
+    ensures { Answers (planned (after (op.Rmdir path.now) layer.now lowers.now)) result }
+{
+    check_rmdir(&Stack::over(layer, lowers), layer.alloc(), path)?;
+    let _ = layer.next_number();
+    plan_erasing(layer, lowers, path)
+}
+
+/// How much the layer takes where what is seen at the path is taken: a name, or a directory in which
+/// nothing is seen. A whiteout is put there where a lower layer shows something.
+fn plan_erasing(layer: &Layer, lowers: &[Shared], path: &Path) -> Result<Planned, FsError>
+    requires layers { AreLayers lowers.now }
+    requires way { walk (layer.now ∷ lowers.now) path.now ≡ None }
+    requires there { is_some (seen (layer.now ∷ lowers.now) path.now) ≡ true }
     requires below_root { path.now ≡ [] → ⊥ }
-    ensures { result ≡ planned (limited (if covers then with_node layer.now path.now Node.Whiteout else without layer.now path.now)) }
+    requires clear { (n : List ℕ) → is_some (seen (layer.now ∷ lowers.now) (path.now ++ n ∷ [])) ≡ false }
+    ensures { result ≡ planned (limited (erased layer.now lowers.now path.now)) }
 {
     let _ = path.names();
     let _ = layer.next_number();
-    let now = count(layer);
-    let gone = freed(layer, number);
-    let blocks = now.blocks - gone.blocks;
-    let inodes = now.inodes - gone.inodes + u64::from(covers);
+    if layer.at(path).is_none() {
+        return plan_growth(layer, path, 0, false);
+    }
+    let covers = below(layer, lowers, path).is_some();
+    let left = count_without(layer, path);
+    let inodes = left.inodes + u64::from(covers);
     if inodes > MOST_INODES {
         return Err(FsError::LayerFull);
     }
-    let after = Usage { blocks, inodes };
+    let after = Usage {
+        blocks: left.blocks,
+        inodes,
+    };
     Ok(Planned { after })
 }
 
-/// What goes with one name of the number: its file or symlink, where it has no other name.
-fn freed(layer: &Layer, number: u32) -> Usage
-    ensures { result ≡ freed layer.now number }
+fn plan_rename(layer: &Layer, lowers: &[Shared], from: &Path, to: &Path) -> Result<Planned, FsError>
+    ensures { Answers (planned (after (op.Rename from.now to.now) layer.now lowers.now)) result }
+{
+    let _ = layer.next_number();
+    if !check_rename(layer, lowers, from, to)? {
+        let after = count(layer);
+        return Ok(Planned { after });
+    }
+    if layer.at(from).is_some() {
+        return plan_move(layer, lowers, from, to);
+    }
+    plan_rename_on_copy(layer, lowers, from, to)
+}
+
+/// How much the layer takes where what it has at `from` moves to `to`, and the directories that are missing
+/// above that. What stands at `to` goes, and a whiteout is left at `from` where a lower layer shows
+/// something.
+fn plan_move(layer: &Layer, lowers: &[Shared], from: &Path, to: &Path) -> Result<Planned, FsError>
+    requires layers { AreLayers lowers.now }
+    requires passes { first_error (tests (op.Rename from.now to.now) (layer.now ∷ lowers.now)) ≡ None }
+    requires moves { is_same_name layer.now from.now to.now ≡ false }
+    requires there { is_some (at layer.now from.now) ≡ true }
+    ensures { result ≡ planned (limited (renamed layer.now lowers.now from.now to.now)) }
+{
+    let _ = to.names();
+    let _ = layer.next_number();
+    let leaves = below(layer, lowers, from).is_some();
+    let left = count_without(layer, to);
+    let missing = missing_dirs(layer, to) as u64;
+    let inodes = left.inodes + missing + u64::from(leaves);
+    if inodes > MOST_INODES {
+        return Err(FsError::LayerFull);
+    }
+    let after = Usage {
+        blocks: left.blocks + missing,
+        inodes,
+    };
+    Ok(Planned { after })
+}
+
+/// Makes the rename on a copy of the layer, and counts what that takes.
+fn plan_rename_on_copy(
+    layer: &Layer,
+    lowers: &[Shared],
+    from: &Path,
+    to: &Path,
+) -> Result<Planned, FsError>
+    ensures { Answers (planned (after (op.Rename from.now to.now) layer.now lowers.now)) result }
+{
+    let mut renamed = layer.copy()?;
+    if let Err(error) = rename(&mut renamed, lowers, from, to) {
+        return Err(error);
+    }
+    let after = count(&renamed);
+    Ok(Planned { after })
+}
+
+/// How much the layer takes without what stands at the path, in which there are whiteouts alone.
+fn count_without(layer: &Layer, path: &Path) -> Usage
+    requires { (n : List ℕ) → IsFree (at layer.now (path.now ++ n ∷ [])) }
+    ensures count { result ≡ record { blocks = block_count (without layer.now path.now); inodes = inode_count (without layer.now path.now) } }
+    ensures few { result.inodes ≤ 65536 }
+    ensures fewer { result.blocks ≤ block_count layer.now }
+{
+    Usage {
+        blocks: layer.blocks() - freed_blocks(layer, path),
+        inodes: layer.inodes_without(path) as u64,
+    }
+}
+
+/// The blocks that go with what stands at the path: that of a directory, or those of a file that has no
+/// other name.
+fn freed_blocks(layer: &Layer, path: &Path) -> u64
+    requires { (n : List ℕ) → IsFree (at layer.now (path.now ++ n ∷ [])) }
+    ensures { block_count layer.now ≡ block_count (without layer.now path.now) + result }
+{
+    let _ = layer.next_number();
+    match layer.at(path) {
+        Some(Node::Dir { .. }) => 1,
+        Some(Node::File { number }) => last_blocks(layer, number),
+        Some(Node::Symlink { number }) => last_blocks(layer, number),
+        Some(Node::Whiteout) => 0,
+        None => 0,
+    }
+}
+
+/// The blocks that go with one name of the number: those of its file, where it has no other name.
+fn last_blocks(layer: &Layer, number: u32) -> u64
+    ensures { result ≡ last_blocks layer.now number }
 {
     if layer.link_count(number) == 1 {
-        return Usage {
-            blocks: file_blocks(layer, number),
-            inodes: 1,
-        };
+        return file_blocks(layer, number);
     }
-    Usage {
-        blocks: 0,
-        inodes: 0,
-    }
+    0
 }
 
 /// The blocks of the file or symlink with the number.

@@ -9,8 +9,7 @@ ghost use Rattle.snap_merge.specs.Objects.{object, seen, is_shown_dir, AreLayers
 ghost use Rattle.snap_merge.specs.Walk.{walk};
 ghost use Rattle.snap_copyup.specs.Places.{IsRefusal};
 ghost use Rattle.snap_upper.specs.declared.op.Op.TheVariants as op;
-ghost use Rattle.snap_upper.specs.After.{after, tests, move_tests, first_error, error_if, kind_error, is_root, has_names, is_same_name, is_same_path, is_same_number, is_too_long, limited, renamed};
-ghost use Rattle.snap_upper.specs.Renamed.{prepared, shifted};
+ghost use Rattle.snap_upper.specs.After.{after, tests, move_tests, first_error, error_if, kind_error, is_root, has_names, is_same_name, is_same_path, is_same_number, is_too_long, limited, renamed, prepared, shifted};
 
 use super::checking::visit;
 use super::content::own_number;
@@ -40,7 +39,12 @@ pub(crate) fn rename(
 
 /// Tests whether a rename can be done. The answer is whether it has something to do: one path, or two
 /// names of one file in the layer, stay as they are.
-fn check_rename(layer: &Layer, lowers: &[Shared], from: &Path, to: &Path) -> Result<bool, FsError>
+pub(crate) fn check_rename(
+    layer: &Layer,
+    lowers: &[Shared],
+    from: &Path,
+    to: &Path,
+) -> Result<bool, FsError>
     ensures ok { OnOk result (first_error (tests (op.Rename from.now to.now) (layer.now ∷ lowers.now)) ≡ None) }
     ensures moves { IfOk result (λ moves. moves ≡ not (is_same_name layer.now from.now to.now)) }
     ensures error { IfErr result (λ e. (e ≡ FsError.OutOfMemory) ⊎ (first_error (tests (op.Rename from.now to.now) (layer.now ∷ lowers.now)) ≡ Some e)) }

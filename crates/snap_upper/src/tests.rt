@@ -670,3 +670,38 @@ fn a_moved_path_has_at_most_4095_bytes(rt: HostRuntime) -> Result<(), Fail> {
     does(&rt, &mut layer, &[], rename(alloc, "/n", "/m")?, 18, 18);
     Ok(())
 }
+
+#[test]
+fn names_and_moves_count_what_they_add(rt: HostRuntime) -> Result<(), Fail> {
+    let alloc = rt.alloc();
+    let lowers = [etc(alloc)?];
+    let mut layer = Layer::empty(alloc, 493)?;
+    for (op, blocks, inodes) in [
+        (create(alloc, "/f", 420)?, 1, 2),
+        (link(alloc, "/f", "/etc/g")?, 2, 3),
+        (write(alloc, "/etc/x", 0, b"y")?, 4, 4),
+        (rename(alloc, "/etc/x", "/etc/y")?, 4, 5),
+        (rename(alloc, "/etc/y", "/etc/g")?, 4, 5),
+        (rename(alloc, "/f", "/etc/g")?, 2, 4),
+    ] {
+        does(&rt, &mut layer, &lowers, op, blocks, inodes);
+    }
+    Ok(())
+}
+
+#[test]
+fn a_move_adds_the_directories_above(rt: HostRuntime) -> Result<(), Fail> {
+    let alloc = rt.alloc();
+    let lowers = [etc(alloc)?];
+    let mut layer = Layer::empty(alloc, 493)?;
+    does(&rt, &mut layer, &lowers, create(alloc, "/f", 420)?, 1, 2);
+    does(
+        &rt,
+        &mut layer,
+        &lowers,
+        rename(alloc, "/f", "/etc/f")?,
+        2,
+        3,
+    );
+    Ok(())
+}

@@ -4,8 +4,7 @@ use Rattle.snap_merge.specs.Walk.{walk}
 use Rattle.snap_copyup.specs.Copying.{with_parents, copied_up}
 use Rattle.snap_copyup.specs.Places.{IsRefusal}
 use Rattle.snap_copyup.proofs.Wholes.{IfErr-refused}
-use Rattle.snap_upper.specs.After.{renamed}
-use Rattle.snap_upper.specs.Renamed.{prepared}
+use Rattle.snap_upper.specs.After.{renamed, prepared}
 use Rattle.snap_upper.proofs.Movable.{renamable}
 use Rattle.snap_upper.proofs.Prepared.{way_after}
 use Rattle.snap_upper.proofs.Shifted.{copied_full, prepared_full}

@@ -1,7 +1,7 @@
 use Rattle.std.proofs.Common.{Err, ap}
 use Rattle.snap_layer.specs.declared.error.LayerError.{LayerError}
 use Rattle.snap_layer.specs.Edits.{with_moved}
-use Rattle.snap_upper.specs.Renamed.{shifted}
+use Rattle.snap_upper.specs.After.{shifted}
 use Rattle.snap_upper.proofs.Shifted.{move_refused, shifted_full}
 use Rattle.snap_upper.proofs.renaming.relocate.Goals as goal
 

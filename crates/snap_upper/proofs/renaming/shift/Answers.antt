@@ -4,8 +4,7 @@ use Rattle.snap_layer.specs.Tree.{Tree, at}
 use Rattle.snap_layer.specs.Layers.{IsLayer}
 use Rattle.snap_layer.specs.Edits.{IsMovable}
 use Rattle.snap_copyup.specs.Copying.{below}
-use Rattle.snap_upper.specs.After.{limited, renamed}
-use Rattle.snap_upper.specs.Renamed.{prepared, shifted}
+use Rattle.snap_upper.specs.After.{limited, renamed, prepared, shifted}
 use Rattle.snap_upper.proofs.Outcomes.{limited_fits, layer_fits}
 use Rattle.snap_upper.proofs.Erased.{seen_some}
 use Rattle.snap_upper.proofs.Movable.{renamable}
