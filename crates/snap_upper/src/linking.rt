@@ -106,7 +106,12 @@ fn link_on_copy(layer: &mut Layer, lowers: &[Shared], from: &Path, to: &Path) ->
 }
 
 /// Does the same on a layer that is dropped after an error.
-fn add_link(layer: &mut Layer, lowers: &[Shared], from: &Path, to: &Path) -> Result<(), FsError>
+pub(crate) fn add_link(
+    layer: &mut Layer,
+    lowers: &[Shared],
+    from: &Path,
+    to: &Path,
+) -> Result<(), FsError>
     requires { first_error (tests (op.Link from.now to.now) (layer.old ∷ lowers.now)) ≡ None }
     ensures ok { OnOk result (limited (next_layer (op.Link from.now to.now) layer.old lowers.now) ≡ Ok layer.new) }
     ensures error { IfErr result (λ e. (e ≡ FsError.OutOfMemory) ⊎ (limited (next_layer (op.Link from.now to.now) layer.old lowers.now) ≡ Err e)) }

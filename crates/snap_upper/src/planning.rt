@@ -17,7 +17,7 @@ use super::checking::{
     check_unlink, check_write,
 };
 use super::content::{is_whiteout, own_number};
-use super::linking::link;
+use super::linking::add_link;
 use super::op::Op;
 use super::renaming::{check_rename, rename};
 use snap_copyup::{below, missing_dirs};
@@ -236,10 +236,11 @@ fn plan_link_on_copy(
     from: &Path,
     to: &Path,
 ) -> Result<Planned, FsError>
-    ensures { Answers (planned (after (op.Link from.now to.now) layer.now lowers.now)) result }
+    requires { first_error (tests (op.Link from.now to.now) (layer.now ∷ lowers.now)) ≡ None }
+    ensures { Answers (planned (limited (next_layer (op.Link from.now to.now) layer.now lowers.now))) result }
 {
     let mut linked = layer.copy()?;
-    if let Err(error) = link(&mut linked, lowers, from, to) {
+    if let Err(error) = add_link(&mut linked, lowers, from, to) {
         return Err(error);
     }
     let after = count(&linked);

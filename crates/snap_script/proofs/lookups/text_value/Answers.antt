@@ -2,7 +2,6 @@ use Rattle.std.proofs.Common.{rules, ◌≡◌, ◌∙◌}
 use Rattle.serde_json.specs.Data.{null}
 use Rattle.serde_json.specs.View.{view}
 use Rattle.serde_json.specs.declared.value.Value.{Null, the_lemmas}
-use Rattle.snap_script.specs.Answers.{text_data}
 use Rattle.snap_script.proofs.Texts.{not_text}
 use Rattle.snap_script.proofs.lookups.text_value.Goals as goal
 

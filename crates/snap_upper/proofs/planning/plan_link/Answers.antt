@@ -1,7 +1,8 @@
 use Rattle.std.proofs.Common.{◌∷◌, ap, subst, sym, ◌∙◌}
 use Rattle.snap_merge.specs.Objects.{AreLayers}
+use Rattle.snap_merge.specs.Walk.{Answers}
 use Rattle.snap_upper.specs.declared.op.Op.TheVariants as op
-use Rattle.snap_upper.specs.After.{planned}
+use Rattle.snap_upper.specs.After.{Outcome, planned}
 use Rattle.snap_upper.proofs.Outcomes.{stack_passes, after_passes, answers_same}
 use Rattle.snap_upper.proofs.planning.plan_link.Goals as goal
 
@@ -30,3 +31,13 @@ returns-then-has_parent c =
     let u = c.args.layer.now in
     let ls = c.args.lowers.now in
     answers_same _ _ (c.plan_copied_name.ensures ∙ ap planned (sym (after_passes o u ls (stack_passes o _ (u ∷ ls) c.over.ensures c.in_ok-check_link.ensures.error))))
+
+pub plan_link_on_copy-requires : goal.plan_link_on_copy-requires
+plan_link_on_copy-requires c = stack_passes (op.Link c.args.from.now c.args.to.now) _ (c.args.layer.now ∷ c.args.lowers.now) c.over.ensures c.in_ok-check_link.ensures.error
+
+pub returns : goal.returns
+returns c =
+    let o = op.Link c.args.from.now c.args.to.now in
+    let u = c.args.layer.now in
+    let ls = c.args.lowers.now in
+    subst (λ (a : Outcome). Answers (planned a) c.plan_link_on_copy.result) (sym (after_passes o u ls (stack_passes o _ (u ∷ ls) c.over.ensures c.in_ok-check_link.ensures.error))) c.plan_link_on_copy.ensures
