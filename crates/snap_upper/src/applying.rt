@@ -37,9 +37,9 @@ use snap_path::Path;
 /// - Of a rename, after the errors above `from` and then above `to`: `Invalid`: one is the root;
 ///   `NotFound`: nothing is seen at `from`; `Invalid`: `from` is a directory, and `to` lies below it;
 ///   `NotDir`, `IsDir`: a directory would take the place of another object, or another object that of a
-///   directory; `CrossDevice`: `from` is a directory that is seen, whole or in part, from a lower layer; `NotEmpty`: `to` is a
-///   directory with names; `BadPath`: a moved path would have more than 4095 bytes. Where it has nothing to
-///   do, none of the last six comes.
+///   directory; `CrossDevice`: `from` is a directory that is seen, whole or in part, from a lower layer;
+///   `NotEmpty`: `to` is a directory with names; `BadPath`: a moved path would have more than 4095 bytes.
+///   Where it has nothing to do, none of the last six comes.
 /// - `Invalid`: the mode is above octal 7777, or the target is empty or has a NUL; `TooBig`: the file
 ///   would have more than 1,048,576 bytes, or the target has more than 4095.
 /// - `LayerFull`: the layer would have more than 65,536 inodes, or a new file's number would pass

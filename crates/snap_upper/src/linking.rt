@@ -48,8 +48,8 @@ pub(crate) fn link(
     }
 }
 
-/// Does it in place. A whiteout holds the place of the name, which then can't be refused. It counts, so a
-/// `LayerFull` may be one inode early.
+/// Links a lower file in place. A whiteout is put at `to` first, in whose place the name then goes without
+/// more memory. The whiteout counts, so a `LayerFull` may be one inode early.
 fn link_lower(layer: &mut Layer, lowers: &[Shared], from: &Path, to: &Path) -> Result<(), FsError>
     requires passes { first_error (tests (op.Link from.now to.now) (layer.old ∷ lowers.now)) ≡ None }
     requires parent { HasParent layer.old to.now }
@@ -60,19 +60,24 @@ fn link_lower(layer: &mut Layer, lowers: &[Shared], from: &Path, to: &Path) -> R
     visit(lowers);
     let _ = layer.next_number();
     if layer.at(to).is_some() {
-        return link_held(layer, lowers, from, to);
+        return link_over_whiteout(layer, lowers, from, to);
     }
     layer.add_whiteout(to)?;
     let _ = layer.next_number();
-    if let Err(error) = link_held(layer, lowers, from, to) {
+    if let Err(error) = link_over_whiteout(layer, lowers, from, to) {
         layer.take_name(to);
         return Err(error);
     }
     Ok(())
 }
 
-/// Does it where a whiteout stands at `to`.
-fn link_held(layer: &mut Layer, lowers: &[Shared], from: &Path, to: &Path) -> Result<(), FsError>
+/// Links a lower file in the place of a whiteout at `to`.
+fn link_over_whiteout(
+    layer: &mut Layer,
+    lowers: &[Shared],
+    from: &Path,
+    to: &Path,
+) -> Result<(), FsError>
     requires passes { first_error (tests (op.Link from.now to.now) (layer.old ∷ lowers.now)) ≡ None }
     requires held { at layer.old to.now ≡ Some Node.Whiteout }
     ensures ok { OnOk result (layer.new ≡ next_layer (op.Link from.now to.now) layer.old lowers.now) }
@@ -90,7 +95,7 @@ fn link_held(layer: &mut Layer, lowers: &[Shared], from: &Path, to: &Path) -> Re
     Ok(())
 }
 
-/// Does it on a copy.
+/// Links on a copy of the layer, which takes the layer's place.
 fn link_on_copy(layer: &mut Layer, lowers: &[Shared], from: &Path, to: &Path) -> Result<(), FsError>
     requires { first_error (tests (op.Link from.now to.now) (layer.old ∷ lowers.now)) ≡ None }
     ensures ok { OnOk result (limited (next_layer (op.Link from.now to.now) layer.old lowers.now) ≡ Ok layer.new) }
@@ -105,7 +110,7 @@ fn link_on_copy(layer: &mut Layer, lowers: &[Shared], from: &Path, to: &Path) ->
     Ok(())
 }
 
-/// Does the same on a layer that is dropped after an error.
+/// Links on a layer that its caller drops after an error.
 pub(crate) fn add_link(
     layer: &mut Layer,
     lowers: &[Shared],
@@ -118,7 +123,7 @@ pub(crate) fn add_link(
 {
     visit(lowers);
     let _ = layer.next_number();
-    if let Err(error) = make_room(layer, lowers, from, to) {
+    if let Err(error) = copy_up_and_add_dirs(layer, lowers, from, to) {
         return Err(error);
     }
     let _ = layer.next_number();
@@ -132,7 +137,12 @@ pub(crate) fn add_link(
 
 /// Copies up what is seen at `from`, and adds the directories above `to`. A whiteout at `to` is taken first,
 /// so that it doesn't count.
-fn make_room(layer: &mut Layer, lowers: &[Shared], from: &Path, to: &Path) -> Result<(), FsError>
+fn copy_up_and_add_dirs(
+    layer: &mut Layer,
+    lowers: &[Shared],
+    from: &Path,
+    to: &Path,
+) -> Result<(), FsError>
     requires { first_error (tests (op.Link from.now to.now) (layer.old ∷ lowers.now)) ≡ None }
     ensures ok { OnOk result (layer.new ≡ without (with_parents (copied_up layer.old lowers.now from.now) lowers.now to.now) to.now) }
     ensures error { IfErr result (λ e. IsRefusal (without (with_parents (copied_up layer.old lowers.now from.now) lowers.now to.now) to.now) e) }

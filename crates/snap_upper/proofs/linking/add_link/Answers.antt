@@ -26,7 +26,7 @@ add_name-requires-clause-place c =
     (place c.args.layer.now c.args.lowers.now c.args.from.now c.args.to.now c.next_number.ensures.layer c.visit.ensures c.requires)
 
 pub add_name-requires-clause-there : goal.add_name-requires-clause-there
-add_name-requires-clause-there c = has_body c.make_room.new.layer c.next_number-2.ensures.layer c.args.from.now c.in-Some.number (sym c.own_number.ensures ∙ c.in-Some.is)
+add_name-requires-clause-there c = has_body c.copy_up_and_add_dirs.new.layer c.next_number-2.ensures.layer c.args.from.now c.in-Some.number (sym c.own_number.ensures ∙ c.in-Some.is)
 
 pub add_name-requires-clause-apart : goal.add_name-requires-clause-apart
 add_name-requires-clause-apart c = λ e.

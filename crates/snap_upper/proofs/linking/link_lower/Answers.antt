@@ -4,8 +4,8 @@ use Rattle.snap_layer.specs.Edits.{IsTakeable, without}
 use Rattle.snap_upper.proofs.Linked.{whiteout_from, none_from, free, own_place, held_passes, held_white, held_back, held_takeable, held_same}
 use Rattle.snap_upper.proofs.linking.link_lower.Goals as goal
 
-pub link_held-requires-clause-held : goal.link_held-requires-clause-held
-link_held-requires-clause-held c =
+pub link_over_whiteout-requires-clause-held : goal.link_over_whiteout-requires-clause-held
+link_over_whiteout-requires-clause-held c =
     let u = c.args.layer.now in
     let q = c.args.to.now in
     whiteout_from (at u q) (free u c.args.lowers.now c.args.from.now q c.next_number.ensures.layer c.visit.ensures c.requires.passes) (ap is_some (sym c.at.ensures) ∙ sym c.is_some.ensures ∙ c.if-is_some.true)
@@ -13,15 +13,15 @@ link_held-requires-clause-held c =
 pub add_whiteout-requires : goal.add_whiteout-requires
 add_whiteout-requires c = own_place c.args.layer.now c.args.lowers.now c.args.from.now c.args.to.now c.next_number.ensures.layer c.visit.ensures c.requires.passes c.requires.parent
 
-pub link_held-requires-2-clause-passes : goal.link_held-requires-2-clause-passes
-link_held-requires-2-clause-passes c =
+pub link_over_whiteout-requires-2-clause-passes : goal.link_over_whiteout-requires-2-clause-passes
+link_over_whiteout-requires-2-clause-passes c =
     let u = c.args.layer.now in
     let q = c.args.to.now in
     let none = none_from (at u q) (ap is_some (sym c.at.ensures) ∙ sym c.is_some.ensures ∙ c.if-is_some.false) in
     held_passes u c.add_whiteout.new.self c.args.lowers.now c.args.from.now q c.next_number.ensures.layer c.visit.ensures c.requires.passes none c.in_ok-add_whiteout.ensures.ok
 
-pub link_held-requires-2-clause-held : goal.link_held-requires-2-clause-held
-link_held-requires-2-clause-held c =
+pub link_over_whiteout-requires-2-clause-held : goal.link_over_whiteout-requires-2-clause-held
+link_over_whiteout-requires-2-clause-held c =
     let u = c.args.layer.now in
     let q = c.args.to.now in
     let none = none_from (at u q) (ap is_some (sym c.at.ensures) ∙ sym c.is_some.ensures ∙ c.if-is_some.false) in

@@ -6,7 +6,7 @@ use Rattle.snap_copyup.specs.Copying.{copied_up, with_parents}
 use Rattle.snap_copyup.specs.Places.{IsRefusal}
 use Rattle.snap_copyup.proofs.Wholes.{IfErr-refused}
 use Rattle.snap_upper.proofs.Linked.{whiteout_from, none_from, free, takeable, way_without, room_first, copy_full, way_to, room_is}
-use Rattle.snap_upper.proofs.linking.make_room.Goals as goal
+use Rattle.snap_upper.proofs.linking.copy_up_and_add_dirs.Goals as goal
 
 pub take_name-requires : goal.take_name-requires
 take_name-requires c =

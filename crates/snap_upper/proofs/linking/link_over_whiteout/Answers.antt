@@ -3,7 +3,7 @@ use Rattle.snap_layer.specs.Tree.{Tree, at, body, number_at}
 use Rattle.snap_layer.specs.Layers.{IsLayer}
 use Rattle.snap_layer.specs.Edits.{HasPlace, with_name, name_of}
 use Rattle.snap_upper.proofs.Linked.{held_at, held_place, held_number, held_put}
-use Rattle.snap_upper.proofs.linking.link_held.Goals as goal
+use Rattle.snap_upper.proofs.linking.link_over_whiteout.Goals as goal
 
 no_some : {A : Type 0} {x : A} → Some x ≡ None → ⊥
 no_some e = cc
