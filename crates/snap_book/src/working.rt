@@ -17,11 +17,11 @@ impl<N: StoreName> Active<N> {
     /// need not cover.
     ///
     /// The errors are those of [`Active::apply`] up to `LayerFull`, in the same order. It changes
-    /// nothing. It takes no memory, but for `Link`, `Rmdir` and `Rename`, which can answer `OutOfMemory`. The
-    /// cost is that of `snap_upper::plan`.
+    /// nothing. It takes no memory, but for `Rmdir`, `Rename` and a `Link` of a lower file, which can
+    /// answer `OutOfMemory`. The cost is that of `snap_upper::plan`.
     pub fn plan(&self, op: &Op) -> Result<Planned, FsError>
         ensures answer { Answers (planned (after op.now self.now.layer self.now.lowers)) result }
-        ensures sure { is_planned_in_place op.now ≡ true → result ≡ planned (after op.now self.now.layer self.now.lowers) }
+        ensures sure { is_planned_in_place op.now self.now.layer ≡ true → result ≡ planned (after op.now self.now.layer self.now.lowers) }
     {
         snap_upper::plan(&self.layer, self.lowers.as_slice(), op)
     }
@@ -49,9 +49,9 @@ impl<N: StoreName> Active<N> {
         ensures error { IfErr result (λ e. (e ≡ OutOfMemory) ⊎ (worked op.now self.old.share.usage self.old.layer self.old.lowers ≡ Err e)) }
         ensures unchanged { OnErr result (self.new ≡ self.old) }
         // An error of the operation under the share comes before any memory is taken.
-        ensures first { is_planned_in_place op.now ≡ true → IfErr (worked op.now self.old.share.usage self.old.layer self.old.lowers) (λ e. result ≡ Err e) }
+        ensures first { is_planned_in_place op.now self.old.layer ≡ true → IfErr (worked op.now self.old.share.usage self.old.layer self.old.lowers) (λ e. result ≡ Err e) }
         // So much is asked for exactly where it is the next layer's count and the share doesn't cover it.
-        ensures needs { is_planned_in_place op.now ≡ true → (need : usages.Usage) → IsErrOf result (NeedsCharge need) ↔ ((planned (after op.now self.old.layer self.old.lowers) ≡ Ok (record { after = need })) × ¬ Covers self.old.share.usage need) }
+        ensures needs { is_planned_in_place op.now self.old.layer ≡ true → (need : usages.Usage) → IsErrOf result (NeedsCharge need) ↔ ((planned (after op.now self.old.layer self.old.lowers) ≡ Ok (record { after = need })) × ¬ Covers self.old.share.usage need) }
     {
         let planned = self.plan(op)?;
         let need = planned.after;

@@ -17,7 +17,6 @@ use Rattle.snap_layer.proofs.Kept.{nothing_below}
 use Rattle.snap_layer.proofs.Replacing.{is_within_many, without_nothing}
 use Rattle.snap_layer.proofs.Moving.{moved_becomes}
 use Rattle.snap_layer.proofs.Setting.{dir_mode, dir_stays}
-use Rattle.snap_usage.specs.declared.usage.Usage.{Usage}
 use Rattle.snap_merge.specs.declared.error.FsError.{FsError}
 use Rattle.snap_merge.specs.declared.error.FsError.TheVariants.{LayerFull}
 use Rattle.snap_merge.specs.Objects.{AreLayers}

@@ -11,7 +11,6 @@ use Rattle.snap_merge.specs.Objects.{Object, dir, file, symlink, seen, is_shown_
 use Rattle.snap_merge.specs.Walk.{walk, walk_from, walk_on}
 use Rattle.snap_copyup.specs.Copying.{is_pure}
 use Rattle.snap_upper.specs.declared.op.Op.{Op}
-use Rattle.snap_upper.specs.declared.planning.Planned.{Planned}
 use Rattle.snap_upper.specs.declared.op.Op.TheVariants.{Mkdir, Create, Write, Truncate, SetMode, Symlink, Link, Unlink, Rmdir, Rename}
 use Rattle.snap_upper.specs.After.{Outcome, after, tests, first_error, error_if, file_error, mode_error, name_error, dir_error, link_error, kind_error, is_no_target, is_root, has_names, is_same_name, is_too_long, move_tests, unless, limited, next_layer, planned}
 

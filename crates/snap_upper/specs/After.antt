@@ -209,15 +209,15 @@ abbrev pub planned : Outcome → Result Planned FsError
 planned (Ok t) = Ok (record { after = count_of t })
 planned (Err e) = Err e
 
--- the operations whose plan takes no memory
-abbrev pub is_planned_in_place : Op → Bool
-is_planned_in_place (Mkdir path mode) = true
-is_planned_in_place (Create path mode) = true
-is_planned_in_place (Write path offset bytes) = true
-is_planned_in_place (Truncate path size) = true
-is_planned_in_place (SetMode path mode) = true
-is_planned_in_place (Symlink path target) = true
-is_planned_in_place (Link from to) = false
-is_planned_in_place (Unlink path) = true
-is_planned_in_place (Rmdir path) = false
-is_planned_in_place (Rename from to) = false
+-- the operations whose plan takes no memory; of links those of what the upper layer has
+abbrev pub is_planned_in_place : Op → Tree → Bool
+is_planned_in_place (Mkdir path mode) u = true
+is_planned_in_place (Create path mode) u = true
+is_planned_in_place (Write path offset bytes) u = true
+is_planned_in_place (Truncate path size) u = true
+is_planned_in_place (SetMode path mode) u = true
+is_planned_in_place (Symlink path target) u = true
+is_planned_in_place (Link from to) u = is_some (number_at u from)
+is_planned_in_place (Unlink path) u = true
+is_planned_in_place (Rmdir path) u = false
+is_planned_in_place (Rename from to) u = false

@@ -38,9 +38,9 @@ pub struct Planned {
 
 /// How much the layer would take after the operation over the lower layers, which stand nearest first.
 ///
-/// The errors are those of `apply`, in the same order. It changes nothing. But for `Rmdir`, `Link` and
-/// `Rename` it takes no memory, and the next layer isn't built. Cost: for each name of a path a look
-/// through the layers, and the number of the layer's paths and files.
+/// The errors are those of `apply`, in the same order. It changes nothing. But for `Rmdir`, `Rename` and a
+/// `Link` of a lower file it takes no memory, and the next layer isn't built. Cost: for each name of a path
+/// a look through the layers, and the number of the layer's paths and files.
 ///
 /// `Rmdir`, and a `Rename` to where a directory is seen, take memory for the names in it (`OutOfMemory`),
 /// and their cost is also that of their list.
@@ -50,7 +50,7 @@ pub struct Planned {
 /// with all bytes of its files. Any other `Link` takes no memory.
 pub fn plan(layer: &Layer, lowers: &[Shared], op: &Op) -> Result<Planned, FsError>
     ensures answer { Answers (planned (after op.now layer.now lowers.now)) result }
-    ensures sure { is_planned_in_place op.now ≡ true → result ≡ planned (after op.now layer.now lowers.now) }
+    ensures sure { is_planned_in_place op.now layer.now ≡ true → result ≡ planned (after op.now layer.now lowers.now) }
 {
     match op {
         Op::Mkdir { path, mode } => plan_mkdir(layer, lowers, path, *mode),
@@ -147,7 +147,8 @@ fn plan_symlink(
 }
 
 fn plan_link(layer: &Layer, lowers: &[Shared], from: &Path, to: &Path) -> Result<Planned, FsError>
-    ensures { Answers (planned (after (op.Link from.now to.now) layer.now lowers.now)) result }
+    ensures answer { Answers (planned (after (op.Link from.now to.now) layer.now lowers.now)) result }
+    ensures sure { is_some (number_at layer.now from.now) ≡ true → result ≡ planned (after (op.Link from.now to.now) layer.now lowers.now) }
 {
     check_link(&Stack::over(layer, lowers), from, to)?;
     let _ = layer.next_number();

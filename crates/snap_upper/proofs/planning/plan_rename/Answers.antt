@@ -1,6 +1,4 @@
-use Rattle.std.proofs.Common.{◌≡◌, Result, Ok, sym, ap, ◌∙◌}
-use Rattle.std.specs.Prelude.{is_some}
-use Rattle.snap_layer.specs.Tree.{at}
+use Rattle.std.proofs.Common.{Result, Ok, sym, ap, ◌∙◌}
 use Rattle.snap_usage.specs.declared.usage.Usage.{Usage}
 use Rattle.snap_merge.specs.declared.error.FsError.{FsError}
 use Rattle.snap_upper.specs.declared.planning.Planned.{Planned}
