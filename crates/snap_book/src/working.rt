@@ -1,9 +1,9 @@
 // Operations on the layer of an open snapshot.
-ghost use Rattle.std.specs.Prelude.{◌≡◌, ◌⊎◌, ◌↔◌, OnOk, OnErr, IfErr, IsErrOf, Ok, Err, true};
+ghost use Rattle.std.specs.Prelude.{◌≡◌, ◌⊎◌, ◌↔◌, ◌∷◌, OnOk, OnErr, IfErr, IsErrOf, Ok, Err, false};
 ghost use Rattle.snap_usage.specs.Counted.{Covers};
 ghost use Rattle.snap_usage.specs.declared.usage.Usage as usages;
 ghost use Rattle.snap_merge.specs.declared.error.FsError.TheVariants.{NeedsCharge, OutOfMemory};
-ghost use Rattle.snap_upper.specs.After.{after, planned, is_planned_in_place};
+ghost use Rattle.snap_upper.specs.After.{after, planned, lists_names};
 ghost use Rattle.snap_merge.specs.Walk.{Answers};
 ghost use Rattle.snap_book.specs.Working.{worked};
 
@@ -17,11 +17,11 @@ impl<N: StoreName> Active<N> {
     /// need not cover.
     ///
     /// The errors are those of [`Active::apply`] up to `LayerFull`, in the same order. It changes
-    /// nothing. It takes no memory, but for `Rmdir`, `Rename` and a `Link` of a lower file, which can
-    /// answer `OutOfMemory`. The cost is that of `snap_upper::plan`.
+    /// nothing. It takes no memory but for the names of a directory that is removed or renamed over:
+    /// such a plan can answer `OutOfMemory`. The cost is that of `snap_upper::plan`.
     pub fn plan(&self, op: &Op) -> Result<Planned, FsError>
         ensures answer { Answers (planned (after op.now self.now.layer self.now.lowers)) result }
-        ensures sure { is_planned_in_place op.now self.now.layer ≡ true → result ≡ planned (after op.now self.now.layer self.now.lowers) }
+        ensures sure { lists_names op.now (self.now.layer ∷ self.now.lowers) ≡ false → result ≡ planned (after op.now self.now.layer self.now.lowers) }
     {
         snap_upper::plan(&self.layer, self.lowers.as_slice(), op)
     }
@@ -49,9 +49,9 @@ impl<N: StoreName> Active<N> {
         ensures error { IfErr result (λ e. (e ≡ OutOfMemory) ⊎ (worked op.now self.old.share.usage self.old.layer self.old.lowers ≡ Err e)) }
         ensures unchanged { OnErr result (self.new ≡ self.old) }
         // An error of the operation under the share comes before any memory is taken.
-        ensures first { is_planned_in_place op.now self.old.layer ≡ true → IfErr (worked op.now self.old.share.usage self.old.layer self.old.lowers) (λ e. result ≡ Err e) }
+        ensures first { lists_names op.now (self.old.layer ∷ self.old.lowers) ≡ false → IfErr (worked op.now self.old.share.usage self.old.layer self.old.lowers) (λ e. result ≡ Err e) }
         // So much is asked for exactly where it is the next layer's count and the share doesn't cover it.
-        ensures needs { is_planned_in_place op.now self.old.layer ≡ true → (need : usages.Usage) → IsErrOf result (NeedsCharge need) ↔ ((planned (after op.now self.old.layer self.old.lowers) ≡ Ok (record { after = need })) × ¬ Covers self.old.share.usage need) }
+        ensures needs { lists_names op.now (self.old.layer ∷ self.old.lowers) ≡ false → (need : usages.Usage) → IsErrOf result (NeedsCharge need) ↔ ((planned (after op.now self.old.layer self.old.lowers) ≡ Ok (record { after = need })) × ¬ Covers self.old.share.usage need) }
     {
         let planned = self.plan(op)?;
         let need = planned.after;

@@ -81,7 +81,7 @@ module _ (u t : Tree) (ls : List Tree) (p : Names) (ok : IsLayer u) (free : IsFr
 
 -- ---- what is copied
 
-same_object : (t : Tree) (p : Names) (o : Option Object) → with_last (last_of None o) t p ≡ with_object t p o
+pub same_object : (t : Tree) (p : Names) (o : Option Object) → with_last (last_of None o) t p ≡ with_object t p o
 same_object t p None = refl
 same_object t p (Some (dir mode)) = refl
 same_object t p (Some (file mode bytes)) = refl

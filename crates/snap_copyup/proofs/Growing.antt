@@ -1,24 +1,24 @@
 -- What is added takes inodes.
-use Rattle.std.proofs.Common.{◌≡◌, ℕ, ◌+◌, ◌<◌, ◌≤◌, Bool, true, false, not, List, [], ◌∷◌, ◌++◌, length, Option, Some, None, is_some, refl, sym, ap, subst, ◌∙◌, arith, append-nil, length-append, take, drop}
+use Rattle.std.proofs.Common.{◌≡◌, ℕ, ◌+◌, ◌<◌, ◌≤◌, Bool, true, false, not, List, [], ◌∷◌, ◌++◌, length, Option, Some, None, is_some, refl, sym, ap, subst, ◌∙◌, arith, append-nil, append_assoc, length-append, take, drop}
 use Rattle.std.specs.Prelude.{option_and_then, if◌then◌else◌}
 use Rattle.std.specs.Ordering.{nat_cmp}
 use Rattle.std.specs.List.Sorted.{IsStrictlySortedBy}
 use Rattle.std.specs.Map.{lookup, keys_of}
 use Rattle.std.specs.BTreeMap.{is_at, insert_entry}
 use Rattle.std.proofs.lemmas.List.{at_drop_more, at_drop_all, take_more}
-use Rattle.snap_path.specs.Text.{Names}
+use Rattle.snap_path.specs.Text.{Names, text_below}
 use Rattle.snap_layer.specs.declared.node.Node.{Node}
 use Rattle.snap_layer.specs.declared.node.Node.TheVariants as node
 use Rattle.snap_layer.specs.declared.node.Body.{Body}
 use Rattle.snap_layer.specs.declared.node.Body.TheVariants as body_kinds
-use Rattle.snap_layer.specs.Tree.{Tree, Bodies, IsDirAt, at, begins, number_of, path_cmp}
-use Rattle.snap_layer.specs.Counts.{inode_count, block_count}
+use Rattle.snap_layer.specs.Tree.{Tree, Bodies, IsDirAt, at, begins, has_number, number_of, path_cmp}
+use Rattle.snap_layer.specs.Counts.{inode_count, block_count, name_count}
 use Rattle.snap_layer.specs.Layers.{IsLayer}
 use Rattle.snap_layer.specs.Edits.{with_entry, with_new, without, outside, bodies_without}
 use Rattle.snap_layer.proofs.Lists.{sorted-filter}
 use Rattle.snap_layer.proofs.Paths.{begins_rest}
 use Rattle.snap_layer.proofs.Looks.{at-without, same_tree}
-use Rattle.snap_layer.proofs.Counting.{inodes_of, weight, dirs, inode_count-with_entry, block_count-with_entry, length-insert_new}
+use Rattle.snap_layer.proofs.Counting.{inodes_of, weight, dirs, inode_count-with_entry, block_count-with_entry, name_count-insert_entry, length-insert_new}
 use Rattle.snap_layer.proofs.Kept.{next_is_fresh, nothing_below}
 use Rattle.snap_layer.proofs.Laws.{sorted-with_entry}
 use Rattle.snap_merge.specs.Objects.{Object, dir, file, symlink, seen, is_shown_dir}
@@ -27,29 +27,41 @@ use Rattle.snap_merge.proofs.Views.{walk_same}
 use Rattle.snap_copyup.specs.declared.putting.Last.{Last}
 use Rattle.snap_copyup.specs.declared.putting.Last.TheVariants.{Nothing, Dir, File, Symlink, Whiteout}
 use Rattle.snap_copyup.specs.Copying.{below, copied, with_object, with_parents_from, with_parents}
-use Rattle.snap_copyup.specs.Places.{with_last, TakesMore}
+use Rattle.snap_copyup.specs.Places.{with_last, TakesMore, missing_from}
 use Rattle.snap_copyup.proofs.Alone.{walk_passes, below_seen}
 use Rattle.snap_copyup.proofs.Parents.{AddsParents, dir_copied}
 
 -- ---- directories
 
--- the directories that are missing in the layer at the front and at the longer proper prefixes of front ++ rest
-abbrev pub missing_from : Tree → Names → Names → ℕ
-missing_from u front [] = 0
-missing_from u front (n ∷ rest) = (if is_some (at u front) then 0 else 1) + missing_from u (front ++ n ∷ []) rest
+-- where two layers have the same at each directory, the same are missing
+pub missing_same : (u v : Tree) (front rest : Names) → ((a : Names) (n : List ℕ) (b : Names) → rest ≡ a ++ n ∷ b → at v (front ++ a) ≡ at u (front ++ a)) → missing_from v front rest ≡ missing_from u front rest
+missing_same u v front [] same = refl
+missing_same u v front (n ∷ rest) same =
+    let here : at v front ≡ at u front = subst (λ (q : Names). at v q ≡ at u q) (append-nil front) (same [] n rest refl) in
+    let later = missing_same u v (front ++ n ∷ []) rest (λ a m b is. subst (λ (q : Names). at v q ≡ at u q) (sym (append_assoc front (n ∷ []) a)) (same (n ∷ a) m b (λ i. n ∷ is i))) in
+    λ i. (if is_some (here i) then 0 else 1) + later i
 
-missing_same : (u v : Tree) (m : ℕ) → ((q : Names) → m ≤ length q → at v q ≡ at u q) → (front rest : Names) → m ≤ length front → missing_from v front rest ≡ missing_from u front rest
-missing_same u v m same front [] far = refl
-missing_same u v m same front (n ∷ rest) far =
-    let here : ◌≡◌ {A = ℕ} (if is_some (at v front) then 0 else 1) (if is_some (at u front) then 0 else 1) = ap (λ (o : Option Node). if is_some o then 0 else 1) (same front far) in
-    let later = missing_same u v m same (front ++ n ∷ []) rest (omega (arith, far, length-append front (n ∷ []))) in
-    λ i. here i + later i
+-- where each directory stands, none is missing
+pub missing_none : (t : Tree) (front rest : Names) → ((a : Names) (n : List ℕ) (b : Names) → rest ≡ a ++ n ∷ b → is_some (at t (front ++ a)) ≡ true) → missing_from t front rest ≡ 0
+missing_none t front [] stands = refl
+missing_none t front (n ∷ rest) stands =
+    let here : is_some (at t front) ≡ true = subst (λ (q : Names). is_some (at t q) ≡ true) (append-nil front) (stands [] n rest refl) in
+    let later = missing_none t (front ++ n ∷ []) rest (λ a m b is. subst (λ (q : Names). is_some (at t q) ≡ true) (sym (append_assoc front (n ∷ []) a)) (stands (n ∷ a) m b (λ i. n ∷ is i))) in
+    λ i. (if here i then 0 else 1) + later i
 
--- the layer t has so many directories more than u, and its paths rise
+-- those of a path are those of its front and those further on
+pub missing_split : (t : Tree) (front a b : Names) → missing_from t front (a ++ b) ≡ missing_from t front a + missing_from t (front ++ a) b
+missing_split t front [] b = omega (arith, ap (λ (q : Names). missing_from t q b) (append-nil front))
+missing_split t front (n ∷ a) b =
+    let later = missing_split t (front ++ n ∷ []) a b in
+    omega (arith, later, ap (λ (q : Names). missing_from t q b) (append_assoc front (n ∷ []) a))
+
+-- the layer t has so many directories more than u and no other names, and its paths rise
 pub record Grows (u t : Tree) (n : ℕ) : Type 0 where
   pub sorted : IsStrictlySortedBy path_cmp (keys_of t.entries)
   pub inodes : inode_count t ≡ inode_count u + n
   pub blocks : block_count t ≡ block_count u + n
+  pub names : (k : ℕ) → name_count k t.entries ≡ name_count k u.entries
 
 one_more : (u : Tree) (p : Names) (n : Node) (i : ℕ) → IsStrictlySortedBy path_cmp (keys_of u.entries) → at u p ≡ None → inodes_of (Some n) ≡ i → inode_count (with_entry u p n) ≡ inode_count u + i
 one_more u p n i sorted none is = omega (arith, inode_count-with_entry u p n sorted, ap inodes_of none, is)
@@ -57,15 +69,23 @@ one_more u p n i sorted none is = omega (arith, inode_count-with_entry u p n sor
 one_block : (u : Tree) (p : Names) (mode : ℕ) → IsStrictlySortedBy path_cmp (keys_of u.entries) → at u p ≡ None → block_count (with_entry u p (node.Dir mode false)) ≡ block_count u + 1
 one_block u p mode sorted none = omega (arith, block_count-with_entry u p (node.Dir mode false) sorted, ap (weight dirs) none)
 
+no_names : (u : Tree) (p : Names) (mode k : ℕ) → IsStrictlySortedBy path_cmp (keys_of u.entries) → at u p ≡ None → name_count k (with_entry u p (node.Dir mode false)).entries ≡ name_count k u.entries
+no_names u p mode k sorted none = omega (arith, name_count-insert_entry k u.entries p (node.Dir mode false) sorted, ap (weight (λ m. if has_number k m then 1 else 0)) none)
+
 grows_none : (u : Tree) → IsStrictlySortedBy path_cmp (keys_of u.entries) → Grows u u 0
-grows_none u sorted = record { sorted = sorted; inodes = omega arith; blocks = omega arith }
+grows_none u sorted = record { sorted = sorted; inodes = omega arith; blocks = omega arith; names = λ k. refl }
 
 pub grows_once : (u : Tree) (ls : List Tree) (p : Names) → IsStrictlySortedBy path_cmp (keys_of u.entries) → is_shown_dir (seen (u ∷ ls) p) ≡ true → Grows u (copied u ls p) (if is_some (at u p) then 0 else 1)
 grows_once u ls p sorted is = by (at u p) refl
   where
     seen_as : (o : Option Object) → at u p ≡ None → is_shown_dir o ≡ true → Grows u (with_object u p o) 1
     seen_as None none is = absurd (cc)
-    seen_as (Some (dir k)) none is = record { sorted = sorted-with_entry u p (node.Dir k false) sorted; inodes = one_more u p (node.Dir k false) 1 sorted none refl; blocks = one_block u p k sorted none }
+    seen_as (Some (dir mode)) none is = record {
+      sorted = sorted-with_entry u p (node.Dir mode false) sorted;
+      inodes = one_more u p (node.Dir mode false) 1 sorted none refl;
+      blocks = one_block u p mode sorted none;
+      names = λ k. no_names u p mode k sorted none;
+    }
     seen_as (Some (file k b)) none is = absurd (cc)
     seen_as (Some (symlink b)) none is = absurd (cc)
 
@@ -80,14 +100,22 @@ grows_from u ls front (n ∷ rest) sorted way =
     let once = grows_once u ls front sorted passes.0 in
     let adds = dir_copied u ls front (length front + 1) passes.0 (omega arith) in
     let later = grows_from (copied u ls front) ls (front ++ n ∷ []) rest once.sorted (walk_same (u ∷ ls) (copied u ls front ∷ ls) adds.view (front ++ n ∷ []) rest ∙ passes.1) in
-    let same = missing_same u (copied u ls front) (length front + 1) adds.leaves (front ++ n ∷ []) rest (omega (arith, length-append front (n ∷ []))) in
-    record { sorted = later.sorted; inodes = omega (arith, once.inodes, later.inodes, same); blocks = omega (arith, once.blocks, later.blocks, same) }
+    let same = missing_same u (copied u ls front) (front ++ n ∷ []) rest (λ a m b is. adds.leaves ((front ++ n ∷ []) ++ a) (omega (arith, length-append (front ++ n ∷ []) a, length-append front (n ∷ [])))) in
+    record { sorted = later.sorted; inodes = omega (arith, once.inodes, later.inodes, same); blocks = omega (arith, once.blocks, later.blocks, same); names = λ k. later.names k ∙ once.names k }
 
 -- the directories that a path lacks are those that are added
 pub takes_missing : (u : Tree) (ls : List Tree) (p : Names) → IsLayer u → walk (u ∷ ls) p ≡ None → TakesMore (missing_from u [] p) u (with_parents u ls p)
 takes_missing u ls p ok way = let grows = grows_from u ls [] p ok.sorted_paths way in (grows.inodes, grows.blocks)
 
--- one name further
+-- ---- a path has at most 4095 names
+
+pub few_names : (p : Names) → length p ≤ length (text_below p)
+few_names [] = omega arith
+few_names (n ∷ p) = omega (arith, few_names p, length-append n (text_below p))
+
+-- ---- one name further
+
+-- the directory there is missing or not
 pub missing_more : (u : Tree) (p : Names) (k : ℕ) → k < length p → missing_from u (take k p) (drop k p) ≡ (if is_some (at u (take k p)) then 0 else 1) + missing_from u (take (k + 1) p) (drop (k + 1) p)
 missing_more u p k lt =
     at_drop_more (missing_from u (take k p)) p k [] lt

@@ -6,3 +6,4 @@ pub mod Wholes
 pub mod Steps
 pub mod Copies
 pub mod Layers
+pub mod Both

@@ -1,5 +1,5 @@
 -- What is put at a path, once the directories above it stand.
-use Rattle.std.specs.Prelude.{◌≡◌, ◌⊎◌, ℕ, ◌+◌, ◌≤◌, true, false, List, [], ◌∷◌, ◌++◌, length, Option, Some, None}
+use Rattle.std.specs.Prelude.{◌≡◌, ◌⊎◌, ℕ, ◌+◌, ◌≤◌, true, false, List, [], ◌∷◌, ◌++◌, length, Option, Some, None, is_some, if◌then◌else◌}
 use Rattle.snap_path.specs.Text.{Names}
 use Rattle.snap_layer.specs.declared.node.Node.{Node}
 use Rattle.snap_layer.specs.declared.node.Node.TheVariants as node
@@ -42,6 +42,11 @@ IsRefusal t e = (e ≡ OutOfMemory) ⊎ ((e ≡ LayerFull) × (is_within t ≡ f
 -- the second layer takes so many inodes more than the first, and as many blocks
 abbrev pub TakesMore : ℕ → Tree → Tree → Type 0
 TakesMore n u t = (inode_count t ≡ inode_count u + n) × (block_count t ≡ block_count u + n)
+
+-- of the directories at the front and at the longer proper prefixes of front ++ rest so many are missing in the layer
+abbrev pub missing_from : Tree → Names → Names → ℕ
+missing_from t front [] = 0
+missing_from t front (n ∷ rest) = (if is_some (at t front) then 0 else 1) + missing_from t (front ++ n ∷ []) rest
 
 -- the path's parent, if there is one, is a directory of the layer
 abbrev pub ParentStands : Tree → Names → Type 0

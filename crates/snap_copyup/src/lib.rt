@@ -15,7 +15,7 @@ mod putting;
 pub use adding::{ensure_dirs, put};
 pub use copying::copy_up;
 pub use looking::{below, is_pure};
-pub use missing::missing_dirs;
+pub use missing::{missing_dirs, missing_dirs_of_both};
 pub use putting::Last;
 
 #[cfg(test)]

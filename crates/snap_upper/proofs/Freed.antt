@@ -1,5 +1,5 @@
 -- What a layer takes without what stands at a path.
-use Rattle.std.proofs.Common.{◌≡◌, inl, inr, ℕ, ◌+◌, ◌<◌, ◌≤◌, Bool, true, false, cond, List, [], ◌∷◌, ◌++◌, length, drop, Option, Some, None, Result, Ok, Err, refl, sym, ap, subst, ◌∙◌, arith, append-nil, append_assoc}
+use Rattle.std.proofs.Common.{◌≡◌, inl, inr, ℕ, ◌+◌, Bool, true, false, cond, List, [], ◌∷◌, ◌++◌, length, drop, Option, Some, None, refl, sym, ap, subst, ◌∙◌, arith, append-nil, append_assoc}
 use Rattle.std.specs.Prelude.{◌==◌, option_and_then, if◌then◌else◌}
 use Rattle.std.specs.List.{sum_by}
 use Rattle.std.specs.List.Sorted.{IsStrictlySortedBy}
@@ -24,14 +24,10 @@ use Rattle.snap_layer.proofs.Counting.{dirs, weight, dropped_blocks, weight_of_b
 use Rattle.snap_layer.proofs.Kept.{free_is_no_dir, node_with_number, nothing_below}
 use Rattle.snap_layer.proofs.Laws.{block_count-with_node}
 use Rattle.snap_layer.proofs.Filling.{whiteout_becomes}
-use Rattle.snap_layer.proofs.Replacing.{clears_place, is_within_many, inode_count-with_node}
+use Rattle.snap_layer.proofs.Replacing.{clears_place, inode_count-with_node}
 use Rattle.snap_usage.specs.declared.usage.Usage.{Usage}
-use Rattle.snap_merge.specs.declared.error.FsError.{FsError}
-use Rattle.snap_merge.specs.declared.error.FsError.TheVariants.{LayerFull}
-use Rattle.snap_upper.specs.declared.planning.Planned.{Planned}
-use Rattle.snap_upper.specs.After.{limited, planned}
-use Rattle.snap_upper.specs.Adding.{weight_of, last_blocks}
-use Rattle.snap_upper.proofs.Outcomes.{planned_fits, planned_full}
+use Rattle.snap_upper.specs.Adding.{weight_of, last_blocks, IsNext}
+use Rattle.snap_upper.proofs.Outcomes.{few_from}
 
 -- one entry rises
 one_rises : (p : Names) (n : Node) → IsStrictlySortedBy path_cmp (keys_of ((p, n) ∷ []))
@@ -205,18 +201,19 @@ module _ (u : Tree) (ok : IsLayer u) (p : Names) (clear : (n : List ℕ) → IsF
       by (Some (Symlink k)) e = subst Goal (sym e) (omega (arith, name_blocks u ok p k (ap (option_and_then number_of) e)))
       by (Some Whiteout) e = subst Goal (sym e) refl
 
--- ---- plans
+-- ---- what is left
 
-module _ (u : Tree) (ok : IsLayer u) (p : Names) (path : IsPath p) (place : HasPlace u p) where
-  pub erasing_planned : (covers : Bool) (usage : Usage) → usage.inodes ≡ inode_count (without u p) + (if covers then 1 else 0) → usage.blocks ≡ block_count (without u p) → usage.inodes ≤ 65536
-      → ◌≡◌ {A = Result Planned FsError} (Ok (record { after = usage })) (planned (limited (if covers then with_node u p Whiteout else without u p)))
-  erasing_planned true usage inodes blocks few =
-      planned_fits (with_node u p Whiteout) usage (limited (with_node u p Whiteout)) ((whiteout_becomes u ok p path (inode_count (without u p)) refl place).layer (omega (arith, inodes, few)))
-      (omega (arith, blocks, block_count-with_node u p Whiteout ok)) (omega (arith, inodes, inode_count-with_node u p Whiteout ok)) refl
-  erasing_planned false usage inodes blocks few =
-      planned_fits (without u p) usage (limited (without u p)) (clears_place u p ok place).layer blocks (omega (arith, inodes)) refl
-
-  pub erasing_full : (covers : Bool) (inodes : ℕ) → inodes ≡ inode_count (without u p) + (if covers then 1 else 0) → 65536 < inodes
-      → ◌≡◌ {A = Result Planned FsError} (Err LayerFull) (planned (limited (if covers then with_node u p Whiteout else without u p)))
-  erasing_full true inodes is many = planned_full (with_node u p Whiteout) (limited (with_node u p Whiteout)) (is_within_many (with_node u p Whiteout) (omega (arith, is, inode_count-with_node u p Whiteout ok, many))) refl
-  erasing_full false inodes is many = planned_full (without u p) (limited (without u p)) (is_within_many (without u p) (omega (arith, is, many))) refl
+-- what stands at the path goes, and a whiteout is put there or none
+pub erasing_next : (u : Tree) → IsLayer u → (p : Names) → IsPath p → HasPlace u p → (covers : Bool) (usage : Usage) → usage.inodes ≡ inode_count (without u p) + (if covers then 1 else 0) → usage.blocks ≡ block_count (without u p) → IsNext u (if covers then with_node u p Whiteout else without u p) usage false
+erasing_next u ok p path place true usage inodes blocks = record {
+  inodes = omega (arith, inodes, inode_count-with_node u p Whiteout ok);
+  blocks = omega (arith, blocks, block_count-with_node u p Whiteout ok);
+  number = omega arith;
+  layer = λ within. (whiteout_becomes u ok p path (inode_count (without u p)) refl place).layer (omega (arith, inode_count-with_node u p Whiteout ok, few_from (with_node u p Whiteout) within));
+}
+erasing_next u ok p path place false usage inodes blocks = record {
+  inodes = omega (arith, inodes);
+  blocks = blocks;
+  number = omega arith;
+  layer = λ within. (clears_place u p ok place).layer;
+}

@@ -1,41 +1,44 @@
 -- What is added to a layer, with the directories that are missing above it.
-use Rattle.std.proofs.Common.{◌≡◌, ℕ, ◌+◌, ◌≤◌, ◌<◌, Bool, true, false, not, List, [], ◌∷◌, ◌++◌, length, drop, Option, Some, None, is_some, Result, Ok, Err, refl, sym, ap, subst, ◌∙◌, arith, append-nil, length-append}
+use Rattle.std.proofs.Common.{◌≡◌, ℕ, ◌+◌, ◌≤◌, Bool, true, false, not, List, [], ◌∷◌, ◌++◌, length, drop, Option, Some, None, is_some, refl, sym, ap, subst, ◌∙◌, arith, append-nil, length-append}
 use Rattle.std.specs.Prelude.{option_and_then, if◌then◌else◌}
 use Rattle.std.specs.Ordering.{nat_cmp}
 use Rattle.std.specs.List.Sorted.{IsStrictlySortedBy}
 use Rattle.std.specs.Map.{lookup, keys_of}
 use Rattle.std.specs.BTreeMap.{is_at, insert_entry}
-use Rattle.snap_path.specs.Text.{Names, IsPath, text_below}
+use Rattle.snap_path.specs.Text.{Names, IsPath}
 use Rattle.snap_layer.specs.declared.node.Node.{Node}
 use Rattle.snap_layer.specs.declared.node.Node.TheVariants as node
 use Rattle.snap_layer.specs.declared.node.Body.{Body}
 use Rattle.snap_layer.specs.declared.node.Body.TheVariants as body_kinds
-use Rattle.snap_layer.specs.Tree.{Tree, Bodies, IsDirAt, at, body, begins, number_of, path_cmp}
-use Rattle.snap_layer.specs.Counts.{inode_count, block_count, body_blocks, blocks_of}
+use Rattle.snap_layer.specs.Tree.{Tree, Bodies, IsDirAt, at, body, begins, has_number, number_of, path_cmp}
+use Rattle.snap_layer.specs.Counts.{inode_count, block_count, name_count, body_blocks, blocks_of}
 use Rattle.snap_layer.specs.Layers.{IsLayer}
 use Rattle.snap_layer.specs.Edits.{IsFree, with_entry, with_node, with_new, without, outside, bodies_without}
 use Rattle.snap_layer.proofs.Lists.{sorted-filter}
 use Rattle.snap_layer.proofs.Paths.{begins_rest}
-use Rattle.snap_layer.proofs.Looks.{at-without, same_tree}
-use Rattle.snap_layer.proofs.Counting.{inodes_of, weight, dirs, weight_of_body, inode_count-with_entry, block_count-with_entry, block_count-with_body, length-insert_new}
+use Rattle.snap_layer.proofs.Looks.{at-without, same_tree, number_is, Sets-with_entry, SetsBody-insert_entry}
+use Rattle.snap_layer.proofs.Counting.{inodes_of, weight, dirs, weight_of_body, inode_count-with_entry, block_count-with_entry, block_count-with_body, name_count-insert_entry, length-insert_new}
 use Rattle.snap_layer.proofs.Kept.{next_is_fresh, nothing_below}
-use Rattle.snap_layer.proofs.Replacing.{with_node-free, is_within_yes, is_within_many, is_within_last}
+use Rattle.snap_layer.proofs.Laws.{sorted-with_entry}
+use Rattle.snap_layer.proofs.Replacing.{with_node-free}
 use Rattle.snap_usage.specs.declared.usage.Usage.{Usage}
 use Rattle.snap_merge.specs.Objects.{AreLayers}
 use Rattle.snap_merge.specs.Walk.{walk}
 use Rattle.snap_copyup.specs.declared.putting.Last.{Last}
 use Rattle.snap_copyup.specs.declared.putting.Last.TheVariants.{Nothing, Dir, File, Symlink, Whiteout}
 use Rattle.snap_copyup.specs.Copying.{with_parents}
-use Rattle.snap_merge.specs.declared.error.FsError.{FsError}
-use Rattle.snap_merge.specs.declared.error.FsError.TheVariants.{LayerFull}
 use Rattle.snap_copyup.specs.Places.{with_last, Fits, TakesMore}
 use Rattle.snap_copyup.proofs.Parents.{AddsParents, adds_parents}
 use Rattle.snap_copyup.proofs.Growing.{grows_from}
 use Rattle.snap_copyup.proofs.Layers.{no_missing, IsLayer-put}
-use Rattle.snap_upper.specs.declared.planning.Planned.{Planned}
-use Rattle.snap_upper.specs.After.{limited, planned, is_whiteout_at}
-use Rattle.snap_upper.specs.Adding.{Takes}
-use Rattle.snap_upper.proofs.Outcomes.{planned_fits, planned_full}
+use Rattle.snap_upper.specs.After.{is_whiteout_at}
+use Rattle.snap_upper.specs.Adding.{Takes, IsNext}
+
+none_some : {A : Type 0} {x : A} → None ≡ Some x → ⊥
+none_some e = cc
+
+some_same : {j k : ℕ} → Some j ≡ Some k → j ≡ k
+some_same e = cc
 
 -- ---- a free place
 
@@ -113,21 +116,47 @@ space u ls p ok way free = by (at u p) refl
 
 -- ---- what is added
 
--- one inode more, but for a whiteout that goes, and so many blocks
+-- a node has no other number than its own
+other_number : (k : ℕ) (n : Node) → (number_of n ≡ Some k → ⊥) → has_number k n ≡ false
+other_number k n other = by (has_number k n) refl
+  where
+    by : (b : Bool) → has_number k n ≡ b → has_number k n ≡ false
+    by true e = absurd (other (number_is k n e))
+    by false e = e
+
+free_names : (k : ℕ) (o : Option Node) → IsFree o → weight (λ m. if has_number k m then 1 else 0) o ≡ 0
+free_names k None free = refl
+free_names k (Some (node.Dir m b)) free = absurd (cc)
+free_names k (Some (node.File j)) free = absurd (cc)
+free_names k (Some (node.Symlink j)) free = absurd (cc)
+free_names k (Some node.Whiteout) free = refl
+
+-- one inode more at the path, but for a whiteout that goes, so many blocks, and no name of another number
 record Adds (t v : Tree) (p : Names) (many : ℕ) (numbered : Bool) : Type 0 where
   inodes : inode_count v + (if is_whiteout_at (at t p) then 1 else 0) ≡ inode_count t + 1
   blocks : block_count v ≡ block_count t + many
   next : v.next ≡ t.next + (if numbered then 1 else 0)
+  paths : IsStrictlySortedBy path_cmp (keys_of v.entries)
+  others : (q : Names) → (q ≡ p → ⊥) → at v q ≡ at t q
+  names : (k : ℕ) → (k ≡ t.next → ⊥) → name_count k v.entries ≡ name_count k t.entries
+  bodies : (k : ℕ) → (k ≡ t.next → ⊥) → body v k ≡ body t k
 
 module _ (t : Tree) (p : Names) (has : HasSpace t p) where
   retold : (v : Tree) (blocks b : ℕ) (numbered n : Bool) → blocks ≡ b → numbered ≡ n → Adds t v p b n → Adds t v p blocks numbered
   retold v blocks b numbered n one two adds = subst (λ k. Adds t v p k numbered) (sym one) (subst (λ c. Adds t v p b c) (sym two) adds)
 
-  adds_entry : (n : Node) (v : Tree) → v ≡ with_entry t p n → inodes_of (Some n) ≡ 1 → Adds t v p (dirs n) false
-  adds_entry n v is one = subst (λ (w : Tree). Adds t w p (dirs n) false) (sym is) (record {
+  names_with_entry : (k : ℕ) (n : Node) → (number_of n ≡ Some k → ⊥) → name_count k (with_entry t p n).entries ≡ name_count k t.entries
+  names_with_entry k n other = omega (arith, name_count-insert_entry k t.entries p n has.paths, free_names k (at t p) has.free, ap {B = ℕ} (λ b. if b then 1 else 0) (other_number k n other))
+
+  adds_entry : (n : Node) (v : Tree) → v ≡ with_entry t p n → inodes_of (Some n) ≡ 1 → number_of n ≡ None → Adds t v p (dirs n) false
+  adds_entry n v is one no_number = subst (λ (w : Tree). Adds t w p (dirs n) false) (sym is) (record {
     inodes = omega (arith, inode_count-with_entry t p n has.paths, free_inodes (at t p) has.free, one);
     blocks = omega (arith, block_count-with_entry t p n has.paths, free_dirs (at t p) has.free);
     next = omega arith;
+    paths = sorted-with_entry t p n has.paths;
+    others = (Sets-with_entry t p n).others;
+    names = λ k other. names_with_entry k n (λ e. none_some (sym no_number ∙ e));
+    bodies = λ k other. refl;
   })
 
   abbrev named : Node → Body → Tree
@@ -136,25 +165,25 @@ module _ (t : Tree) (p : Names) (has : HasSpace t p) where
   is_named : (n : Node) (b : Body) → with_new t p n b ≡ named n b
   is_named n b = ap {B = Tree} (λ (w : Tree). record { entries = w.entries; bodies = insert_entry nat_cmp w.bodies t.next b; next = t.next + 1 }) (has.same n)
 
-  adds_new : (n : Node) (b : Body) → inodes_of (Some n) ≡ 0 → dirs n ≡ 0 → Adds t (with_new t p n b) p (body_blocks b) true
-  adds_new n b none no_dir = subst (λ (w : Tree). Adds t w p (body_blocks b) true) (sym (is_named n b)) (record {
+  adds_new : (n : Node) (b : Body) → inodes_of (Some n) ≡ 0 → dirs n ≡ 0 → number_of n ≡ Some t.next → Adds t (with_new t p n b) p (body_blocks b) true
+  adds_new n b none no_dir number = subst (λ (w : Tree). Adds t w p (body_blocks b) true) (sym (is_named n b)) (record {
     inodes = omega (arith, inode_count-with_entry t p n has.paths, free_inodes (at t p) has.free, none, length-insert_new t.bodies t.next b has.numbers has.fresh);
     blocks = omega (arith, block_count-with_entry t p n has.paths, free_dirs (at t p) has.free, no_dir, block_count-with_body (with_entry t p n) t.next b has.numbers, ap (weight_of_body body_blocks) has.fresh);
     next = refl;
+    paths = sorted-with_entry t p n has.paths;
+    others = (Sets-with_entry t p n).others;
+    names = λ k other. names_with_entry k n (λ e. other (some_same (sym e ∙ number)));
+    bodies = (SetsBody-insert_entry t (named n b) t.next b refl).others;
   })
 
   last_adds : (last : Last) (blocks : ℕ) (numbered : Bool) → Takes last blocks numbered → Adds t (with_last last t p) p blocks numbered
   last_adds Nothing blocks numbered is = absurd is
-  last_adds (Dir mode opaque) blocks numbered is = retold (with_entry t p (node.Dir mode opaque)) blocks 1 numbered false is.0 is.1 (adds_entry (node.Dir mode opaque) (with_entry t p (node.Dir mode opaque)) refl refl)
-  last_adds (File mode bytes) blocks numbered is = retold (with_last (File mode bytes) t p) blocks (blocks_of (length bytes)) numbered true is.0 is.1 (adds_new (node.File t.next) (body_kinds.File mode bytes) refl refl)
-  last_adds (Symlink target) blocks numbered is = retold (with_last (Symlink target) t p) blocks 0 numbered true is.0 is.1 (adds_new (node.Symlink t.next) (body_kinds.Symlink target) refl refl)
-  last_adds Whiteout blocks numbered is = retold (with_node t p node.Whiteout) blocks 0 numbered false is.0 is.1 (adds_entry node.Whiteout (with_node t p node.Whiteout) (has.same node.Whiteout) refl)
+  last_adds (Dir mode opaque) blocks numbered is = retold (with_entry t p (node.Dir mode opaque)) blocks 1 numbered false is.0 is.1 (adds_entry (node.Dir mode opaque) (with_entry t p (node.Dir mode opaque)) refl refl refl)
+  last_adds (File mode bytes) blocks numbered is = retold (with_last (File mode bytes) t p) blocks (blocks_of (length bytes)) numbered true is.0 is.1 (adds_new (node.File t.next) (body_kinds.File mode bytes) refl refl refl)
+  last_adds (Symlink target) blocks numbered is = retold (with_last (Symlink target) t p) blocks 0 numbered true is.0 is.1 (adds_new (node.Symlink t.next) (body_kinds.Symlink target) refl refl refl)
+  last_adds Whiteout blocks numbered is = retold (with_node t p node.Whiteout) blocks 0 numbered false is.0 is.1 (adds_entry node.Whiteout (with_node t p node.Whiteout) (has.same node.Whiteout) refl refl)
 
--- ---- plans
-
--- the usage, or the error
-abbrev Answer : Type 0
-Answer = Result Planned FsError
+-- ---- the next layer
 
 module _ (u : Tree) (ls : List Tree) (p : Names) (last : Last) (blocks : ℕ) (numbered : Bool) (ok : IsLayer u) (way : walk (u ∷ ls) p ≡ None) (takes : Takes last blocks numbered) (free : IsFree (at u p)) (missing : ℕ) (more : TakesMore missing u (with_parents u ls p)) where
   abbrev t : Tree
@@ -178,26 +207,25 @@ module _ (u : Tree) (ls : List Tree) (p : Names) (last : Last) (blocks : ℕ) (n
   pub next_number : v.next ≡ u.next + (if numbered then 1 else 0)
   next_number = omega (arith, adds.next, parents.next)
 
-  pub growth_full : (inodes : ℕ) → inodes + (if is_whiteout_at (at u p) then 1 else 0) ≡ inode_count u + missing + 1 → 65536 < inodes → ◌≡◌ {A = Answer} (Err LayerFull) (planned (limited v))
-  growth_full inodes is many = planned_full v (limited v) (is_within_many v (omega (arith, all_inodes, is, many))) refl
+  pub all_paths : IsStrictlySortedBy path_cmp (keys_of v.entries)
+  all_paths = adds.paths
 
-  pub growth_last : numbered ≡ true → u.next ≡ 4294967295 → ◌≡◌ {A = Answer} (Err LayerFull) (planned (limited v))
-  growth_last takes_one last = planned_full v (limited v) (is_within_last v (omega (arith, next_number, ap {B = ℕ} (λ b. if b then 1 else 0) takes_one, last))) refl
+  pub all_others : (q : Names) → (q ≡ p → ⊥) → at v q ≡ at (with_parents u ls p) q
+  all_others = adds.others
 
-  pub growth_planned : AreLayers ls → IsPath p → Fits last u p → (usage : Usage) → usage.inodes + (if is_whiteout_at (at u p) then 1 else 0) ≡ inode_count u + missing + 1 → usage.blocks ≡ block_count u + missing + blocks → usage.inodes ≤ 65536 → (numbered ≡ true → u.next < 4294967295) → ◌≡◌ {A = Answer} (Ok (record { after = usage })) (planned (limited v))
-  growth_planned layers path fit usage inodes is_blocks few below_last =
-      let within = is_within_yes v (omega (arith, all_inodes, inodes, few)) (omega (arith, next_number, fits_number numbered below_last)) in
-      planned_fits v usage (limited v) (IsLayer-put u ls p last ok layers way path fit within) (omega (arith, is_blocks, all_blocks)) (omega (arith, inodes, all_inodes)) refl
-    where
-      fits_number : (b : Bool) → (b ≡ true → u.next < 4294967295) → u.next + (if b then 1 else 0) ≤ 4294967295
-      fits_number true below = omega (arith, below refl)
-      fits_number false below = omega (arith, ok.next.1)
+  pub all_names : (k : ℕ) → (k ≡ u.next → ⊥) → name_count k v.entries ≡ name_count k u.entries
+  all_names k other = adds.names k (λ e. other (e ∙ parents.next)) ∙ (grows_from u ls [] p ok.sorted_paths way).names k
 
--- ---- a path has at most 4095 names
+  pub all_bodies : (k : ℕ) → (k ≡ u.next → ⊥) → body v k ≡ body u k
+  all_bodies k other = adds.bodies k (λ e. other (e ∙ parents.next)) ∙ ap (λ (bs : Bodies). lookup (is_at (nat_cmp k)) bs) parents.bodies
 
-pub few_names : (p : Names) → length p ≤ length (text_below p)
-few_names [] = omega arith
-few_names (n ∷ p) = omega (arith, few_names p, length-append n (text_below p))
+  pub growth_next : AreLayers ls → IsPath p → Fits last u p → (usage : Usage) → usage.inodes + (if is_whiteout_at (at u p) then 1 else 0) ≡ inode_count u + missing + 1 → usage.blocks ≡ block_count u + missing + blocks → IsNext u v usage numbered
+  growth_next layers path fit usage inodes is_blocks = record {
+    inodes = omega (arith, all_inodes, inodes);
+    blocks = omega (arith, is_blocks, all_blocks);
+    number = next_number;
+    layer = λ within. IsLayer-put u ls p last ok layers way path fit within;
+  }
 
 -- at most one whiteout goes
 pub no_more : (b : Bool) → ◌≤◌ (if b then 1 else 0) 1

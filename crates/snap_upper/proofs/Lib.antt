@@ -10,10 +10,12 @@ pub mod Renames
 pub mod Freed
 pub mod Taken
 pub mod Linked
-pub mod Named
+pub mod Left
 pub mod Movable
 pub mod Prepared
+pub mod PreparedCounts
 pub mod Shifted
+pub mod Named
 pub mod MoveCounts
 pub mod Changing
 pub mod Examples

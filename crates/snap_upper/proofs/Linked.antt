@@ -310,6 +310,9 @@ module _ (u : Tree) (ls : List Tree) (from to : Names) (ok : IsLayer u) (layers 
   pub linked_inodes : inode_count (next_layer (op.Link from to) u ls) ≡ inode_count room
   linked_inodes = ap inode_count linked_is ∙ same_inodes
 
+  pub linked_number : (next_layer (op.Link from to) u ls).next ≡ (with_parents (copied_up u ls from) ls to).next
+  linked_number = ap (λ (v : Tree). v.next) linked_is
+
   pub linked_blocks : block_count (next_layer (op.Link from to) u ls) ≡ block_count room
   linked_blocks =
       let same : block_count (with_entry room to named.0) ≡ block_count room = omega (arith, block_count-with_entry room to named.0 (sorted-without t to grows), ap (weight dirs) (at-without_inside t to to (begins_itself to)), no_dir named.0 copies.number.0 named.2) in

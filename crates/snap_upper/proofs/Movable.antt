@@ -56,12 +56,17 @@ front_passes (Some x ∷ xs) ys is = absurd (cc)
 abbrev ends : List Tree → Names → Names → List (Option FsError)
 ends s from to = walk s from ∷ walk s to ∷ error_if (is_root from || is_root to) Invalid ∷ error_if (not (is_some (seen s from))) NotFound ∷ []
 
+-- an error is want of memory, or another's
+pub or_memory : {A : Type 0} (P : FsError → Type 0) (r : Result A FsError) → IfErr r P → IfErr r (λ e. (e ≡ OutOfMemory) ⊎ P e)
+or_memory P (Ok x) holds = holds
+or_memory P (Err e) holds = inr holds
+
 module _ (u : Tree) (ls : List Tree) (from to : Names) where
   -- their error is the rename's
   pub ends_fail : (s : List Tree) (r : Result Bool FsError) (x : FsError) → s ≡ u ∷ ls → IsErrAnd r (λ e. e ≡ x) → Some x ≡ first_error (ends s from to)
-      → IfErr r (λ e. (e ≡ OutOfMemory) ⊎ (first_error (tests (op.Rename from to) (u ∷ ls)) ≡ Some e))
+      → IfErr r (λ e. first_error (tests (op.Rename from to) (u ∷ ls)) ≡ Some e)
   ends_fail s (Ok b) x is same fails = absurd same
-  ends_fail s (Err e) x is same fails = inr (front_fails (ends (u ∷ ls) from to) (if is_same_name u from to then [] else move_tests u ls from to) e (ap (λ (z : List Tree). first_error (ends z from to)) (sym is) ∙ sym fails ∙ ap (λ (y : FsError). Some y) (sym same)))
+  ends_fail s (Err e) x is same fails = front_fails (ends (u ∷ ls) from to) (if is_same_name u from to then [] else move_tests u ls from to) e (ap (λ (z : List Tree). first_error (ends z from to)) (sym is) ∙ sym fails ∙ ap (λ (y : FsError). Some y) (sym same))
 
   -- where they pass, and the rename has something to do, its own tests decide
   pub move_decides : (s : List Tree) → s ≡ u ∷ ls → None ≡ first_error (ends s from to) → is_same_name u from to ≡ false → first_error (tests (op.Rename from to) (u ∷ ls)) ≡ first_error (move_tests u ls from to)
@@ -69,11 +74,21 @@ module _ (u : Tree) (ls : List Tree) (from to : Names) where
       front_passes (ends (u ∷ ls) from to) (if is_same_name u from to then [] else move_tests u ls from to) (ap (λ (z : List Tree). first_error (ends z from to)) (sym is) ∙ sym passes)
       ∙ ap first_error (cond-false (is_same_name u from to) [] (move_tests u ls from to) other)
 
-  pub move_fails : (s : List Tree) (r : Result Bool FsError) (x : FsError) → s ≡ u ∷ ls → None ≡ first_error (ends s from to) → is_same_name u from to ≡ false → IsErrAnd r (λ e. e ≡ x)
-      → (x ≡ OutOfMemory) ⊎ (first_error (move_tests u ls from to) ≡ Some x) → IfErr r (λ e. (e ≡ OutOfMemory) ⊎ (first_error (tests (op.Rename from to) (u ∷ ls)) ≡ Some e))
-  move_fails s (Ok b) x is passes other same fails = absurd same
-  move_fails s (Err e) x is passes other same (inl memory) = inl (same ∙ memory)
-  move_fails s (Err e) x is passes other same (inr fails) = inr (move_decides s is passes other ∙ fails ∙ ap (λ (y : FsError). Some y) (sym same))
+  module _ (s : List Tree) (r : Result Bool FsError) (x : FsError) (is : s ≡ u ∷ ls) (passes : None ≡ first_error (ends s from to)) (other : is_same_name u from to ≡ false) (same : IsErrAnd r (λ e. e ≡ x)) where
+    pub move_fails : first_error (move_tests u ls from to) ≡ Some x → IfErr r (λ e. first_error (tests (op.Rename from to) (u ∷ ls)) ≡ Some e)
+    move_fails fails = by r same
+      where
+        by : (r : Result Bool FsError) → IsErrAnd r (λ e. e ≡ x) → IfErr r (λ e. first_error (tests (op.Rename from to) (u ∷ ls)) ≡ Some e)
+        by (Ok b) same = absurd same
+        by (Err e) same = move_decides s is passes other ∙ fails ∙ ap (λ (y : FsError). Some y) (sym same)
+
+    pub move_fails_or : (x ≡ OutOfMemory) ⊎ (first_error (move_tests u ls from to) ≡ Some x) → IfErr r (λ e. (e ≡ OutOfMemory) ⊎ (first_error (tests (op.Rename from to) (u ∷ ls)) ≡ Some e))
+    move_fails_or (inr fails) = or_memory (λ e. first_error (tests (op.Rename from to) (u ∷ ls)) ≡ Some e) r (move_fails fails)
+    move_fails_or (inl memory) = by r same
+      where
+        by : (r : Result Bool FsError) → IsErrAnd r (λ e. e ≡ x) → IfErr r (λ e. (e ≡ OutOfMemory) ⊎ (first_error (tests (op.Rename from to) (u ∷ ls)) ≡ Some e))
+        by (Ok b) same = absurd same
+        by (Err e) same = inl (same ∙ memory)
 
 -- ---- a directory without names
 
@@ -172,7 +187,7 @@ dir_from : (s : List Tree) (q front : Names) (n : List ℕ) (r : Names) → walk
 dir_from s [] front n r way = subst (λ (x : Names). is_shown_dir (seen s x) ≡ true) (sym (append-nil front)) (walk_passes (seen s front) (walk_from s (front ++ n ∷ []) r) way).0
 dir_from s (m ∷ q) front n r way = subst (λ (x : Names). is_shown_dir (seen s x) ≡ true) (append_assoc front (m ∷ []) q) (dir_from s q (front ++ m ∷ []) n r (walk_passes (seen s front) (walk_from s (front ++ m ∷ []) (q ++ n ∷ r)) way).1)
 
-dir_above : (s : List Tree) (p q : Names) (n : List ℕ) (r : Names) → walk s p ≡ None → p ≡ q ++ n ∷ r → is_shown_dir (seen s q) ≡ true
+pub dir_above : (s : List Tree) (p q : Names) (n : List ℕ) (r : Names) → walk s p ≡ None → p ≡ q ++ n ∷ r → is_shown_dir (seen s q) ≡ true
 dir_above s p q n r way is = dir_from s q [] n r (ap (walk s) (sym is) ∙ way)
 
 some_dir : (o : Option Object) → is_shown_dir o ≡ true → is_some o ≡ true

@@ -1,6 +1,7 @@
 -- Tests that pass, and outcomes.
-use Rattle.std.proofs.Common.{◌≡◌, ◌⊎◌, Bool, true, false, List, ◌∷◌, Option, Some, None, Result, Ok, Err, refl, sym, ap, ◌∙◌, inl, inr}
+use Rattle.std.proofs.Common.{◌≡◌, ◌⊎◌, ℕ, ◌+◌, ◌<◌, ◌≤◌, Bool, true, false, arith, List, ◌∷◌, Option, Some, None, Result, Ok, Err, refl, sym, ap, ◌∙◌, inl, inr}
 use Rattle.std.specs.Prelude.{if◌then◌else◌}
+use Rattle.std.proofs.lemmas.Bool.Decides.{nat_tests}
 use Rattle.snap_layer.specs.declared.error.LayerError.{LayerError}
 use Rattle.snap_layer.specs.declared.error.LayerError.TheVariants as layer_errors
 use Rattle.snap_merge.specs.Errors.{OfLayer}
@@ -8,7 +9,7 @@ use Rattle.snap_merge.specs.Walk.{Answers}
 use Rattle.snap_layer.specs.Tree.{Tree}
 use Rattle.snap_layer.specs.Counts.{is_within, inode_count, block_count}
 use Rattle.snap_layer.specs.Layers.{IsLayer}
-use Rattle.snap_layer.proofs.Replacing.{is_within_yes}
+use Rattle.snap_layer.proofs.Replacing.{is_within_yes, is_within_many, is_within_last}
 use Rattle.snap_usage.specs.declared.usage.Usage.{Usage}
 use Rattle.snap_usage.proofs.Joined.{count_of-IsLayer}
 use Rattle.snap_merge.specs.declared.error.FsError.{FsError}
@@ -16,6 +17,7 @@ use Rattle.snap_merge.specs.declared.error.FsError.TheVariants.{LayerFull, OutOf
 use Rattle.snap_copyup.specs.Places.{IsRefusal}
 use Rattle.snap_upper.specs.declared.planning.Planned.{Planned}
 use Rattle.snap_upper.specs.declared.op.Op.{Op}
+use Rattle.snap_upper.specs.Adding.{IsNext}
 use Rattle.snap_upper.specs.After.{Outcome, after, tests, first_error, error_if, unless, limited, next_layer, planned}
 
 no_bool : true ≡ false → ⊥
@@ -42,6 +44,9 @@ limited_fits t fits = ap (λ b. if b then Ok t else Err LayerFull) fits
 pub limited_full : (t : Tree) → is_within t ≡ false → limited t ≡ Err LayerFull
 limited_full t full = ap (λ b. if b then Ok t else Err LayerFull) full
 
+pub few_from : (t : Tree) → is_within t ≡ true → inode_count t ≤ 65536
+few_from t within = grind (arith, nat_tests)
+
 -- a layer is within the limits
 pub layer_fits : (t : Tree) → IsLayer t → is_within t ≡ true
 layer_fits t ok = is_within_yes t ok.few ok.next.1
@@ -57,6 +62,23 @@ planned_fits t u a ok blocks inodes is =
 
 pub planned_full : (t : Tree) (a : Outcome) → is_within t ≡ false → a ≡ limited t → ◌≡◌ {A = Result Planned FsError} (Err LayerFull) (planned a)
 planned_full t a full is = sym (ap planned (is ∙ limited_full t full))
+
+-- the next layer has no file number left, more inodes than a layer may have, or neither
+module _ (u t : Tree) (usage : Usage) (numbered : Bool) (next : IsNext u t usage numbered) where
+  pub no_number_left : numbered ≡ true → u.next ≡ 4294967295 → ◌≡◌ {A = Result Planned FsError} (Err LayerFull) (planned (limited t))
+  no_number_left one last = planned_full t (limited t) (is_within_last t (omega (arith, next.number, ap {B = ℕ} (λ b. if b then 1 else 0) one, last))) refl
+
+  pub too_many : 65536 < usage.inodes → ◌≡◌ {A = Result Planned FsError} (Err LayerFull) (planned (limited t))
+  too_many many = planned_full t (limited t) (is_within_many t (omega (arith, next.inodes, many))) refl
+
+  pub next_planned : u.next ≤ 4294967295 → (numbered ≡ true → u.next < 4294967295) → usage.inodes ≤ 65536 → ◌≡◌ {A = Result Planned FsError} (Ok (record { after = usage })) (planned (limited t))
+  next_planned low below few =
+      let within = is_within_yes t (omega (arith, next.inodes, few)) (omega (arith, next.number, by numbered below)) in
+      planned_fits t usage (limited t) (next.layer within) next.blocks next.inodes refl
+    where
+      by : (b : Bool) → (b ≡ true → u.next < 4294967295) → u.next + (if b then 1 else 0) ≤ 4294967295
+      by true below = omega (arith, below refl)
+      by false below = omega (arith, low)
 
 -- why a layer was not made is its outcome's error
 pub refused : (t : Tree) (e : FsError) → IsRefusal t e → (e ≡ OutOfMemory) ⊎ (limited t ≡ Err e)

@@ -1,5 +1,5 @@
 -- The layer that a rename moves in: the file that is seen at `from` is copied up, and the directories above `to` are there.
-use Rattle.std.proofs.Common.{◌≡◌, inl, inr, ℕ, ◌+◌, Bool, true, false, List, [], ◌∷◌, ◌++◌, length, Option, Some, None, is_some, refl, sym, ap, subst, ◌∙◌, arith, append_assoc, append-nil}
+use Rattle.std.proofs.Common.{◌≡◌, inl, inr, ℕ, Bool, true, false, List, [], ◌∷◌, ◌++◌, length, Option, Some, None, is_some, refl, sym, ap, subst, ◌∙◌, append_assoc, append-nil}
 use Rattle.std.specs.Prelude.{option_and_then}
 use Rattle.std.specs.Ordering.{nat_cmp}
 use Rattle.std.specs.List.Sorted.{IsStrictlySortedBy}
@@ -7,24 +7,23 @@ use Rattle.std.specs.Map.{lookup, keys_of}
 use Rattle.std.specs.BTreeMap.{is_at}
 use Rattle.snap_path.specs.Text.{Names, IsPath}
 use Rattle.snap_layer.specs.declared.node.Node.{Node}
-use Rattle.snap_layer.specs.declared.node.Node.TheVariants.{Dir, File, Symlink}
+use Rattle.snap_layer.specs.declared.node.Node.TheVariants.{File, Symlink}
 use Rattle.snap_layer.specs.declared.node.Body.{Body}
 use Rattle.snap_layer.specs.declared.node.Body.TheVariants as body_kinds
 use Rattle.snap_layer.specs.Tree.{Tree, Bodies, path_cmp, at, body, begins, number_at, number_of}
 use Rattle.snap_layer.specs.Layers.{IsLayer}
 use Rattle.snap_layer.specs.Edits.{HasParent, IsFree, IsMovable, with_new, bodies_without, outside}
-use Rattle.snap_layer.proofs.Looks.{Sets-with_entry}
 use Rattle.snap_layer.proofs.Paths.{begins_from, begins_itself, split_front}
 use Rattle.snap_layer.proofs.Kept.{dir_above, has_body}
 use Rattle.snap_layer.proofs.Laws.{Replaces, Replaces-with_new, SetsBody-with_new, sorted-with_node}
 use Rattle.snap_layer.proofs.Testing.{moved_names}
 use Rattle.snap_merge.specs.Objects.{Object, dir, file, symlink, seen, is_shown_dir, AreLayers}
-use Rattle.snap_merge.specs.Walk.{walk, walk_from}
+use Rattle.snap_merge.specs.Walk.{walk}
 use Rattle.snap_merge.proofs.Views.{walk_same}
-use Rattle.snap_copyup.specs.Copying.{below, copied, copied_up, with_object, with_parents, with_parents_from, is_pure_over}
+use Rattle.snap_copyup.specs.Copying.{below, copied, copied_up, with_parents, with_parents_from, is_pure_over}
 use Rattle.snap_copyup.specs.Places.{with_last, last_of}
-use Rattle.snap_copyup.proofs.Alone.{walk_passes, below_seen, copied_there, copied_missing, some_dir, free_unseen}
-use Rattle.snap_copyup.proofs.Parents.{AddsParents, adds_parents, dir_copied, parents_stand}
+use Rattle.snap_copyup.proofs.Alone.{below_seen, copied_there, some_dir, free_unseen}
+use Rattle.snap_copyup.proofs.Parents.{AddsParents, Extends, adds_parents, parents_extend, parents_stand}
 use Rattle.snap_copyup.proofs.Growing.{grows_from}
 use Rattle.snap_copyup.proofs.Layers.{no_missing}
 use Rattle.snap_copyup.proofs.Copies.{Puts-with_new, not_next, last_copied, copied_view}
@@ -38,51 +37,6 @@ none_some : {A : Type 0} {x : A} → None ≡ Some x → ⊥
 none_some e = cc
 
 -- ---- directories above a path
-
--- t has all that u has, and has it alone at paths that w doesn't begin with
-pub record Extends (u t : Tree) (w : Names) : Type 0 where
-  pub keeps : (q : Names) (n : Node) → at u q ≡ Some n → at t q ≡ Some n
-  pub beside : (q : Names) → begins q w ≡ false → at t q ≡ at u q
-
-same_extends : (u : Tree) (w : Names) → Extends u u w
-same_extends u w = record { keeps = λ q n e. e; beside = λ q out. refl }
-
-both_extend : (u t v : Tree) (w : Names) → Extends u t w → Extends t v w → Extends u v w
-both_extend u t v w a b = record {
-  keeps = λ q n e. b.keeps q n (a.keeps q n e);
-  beside = λ q out. b.beside q out ∙ a.beside q out;
-}
-
-copied_extends : (u : Tree) (ls : List Tree) (p w : Names) → is_shown_dir (seen (u ∷ ls) p) ≡ true → begins p w ≡ true → Extends u (copied u ls p) w
-copied_extends u ls p w is front = by (at u p) refl
-  where
-    put : (o : Option Object) → at u p ≡ None → is_shown_dir o ≡ true → Extends u (with_object u p o) w
-    put None none is = absurd (cc)
-    put (Some (dir k)) none is =
-        let sets = Sets-with_entry u p (Dir k false) in
-        record {
-          keeps = λ q n e. sets.others q (λ same. none_some (sym none ∙ ap (at u) (sym same) ∙ e)) ∙ e;
-          beside = λ q out. sets.others q (λ same. no_bool (sym (ap (λ (x : Names). begins x w) same ∙ front) ∙ out));
-        }
-    put (Some (file k b)) none is = absurd (cc)
-    put (Some (symlink b)) none is = absurd (cc)
-
-    by : (o : Option Node) → at u p ≡ o → Extends u (copied u ls p) w
-    by (Some n) e = subst (λ (v : Tree). Extends u v w) (sym (copied_there u ls p (ap is_some e))) (same_extends u w)
-    by None e = subst (λ (v : Tree). Extends u v w) (sym (copied_missing u ls p e)) (put (below u ls p) e (sym (ap is_shown_dir (below_seen u ls p e)) ∙ is))
-
-extends_from : (u : Tree) (ls : List Tree) (front rest w : Names) → front ++ rest ≡ w → walk_from (u ∷ ls) front rest ≡ None → Extends u (with_parents_from u ls front rest) w
-extends_from u ls front [] w is way = same_extends u w
-extends_from u ls front (n ∷ rest) w is way =
-    let v = copied u ls front in
-    let passes = walk_passes (seen (u ∷ ls) front) (walk_from (u ∷ ls) (front ++ n ∷ []) rest) way in
-    let adds = dir_copied u ls front (length front + 1) passes.0 (omega arith) in
-    both_extend u v (with_parents_from v ls (front ++ n ∷ []) rest) w (copied_extends u ls front w passes.0 (begins_from front w (n ∷ rest) (sym is)))
-    (extends_from v ls (front ++ n ∷ []) rest w (append_assoc front (n ∷ []) rest ∙ is) (walk_same (u ∷ ls) (v ∷ ls) adds.view (front ++ n ∷ []) rest ∙ passes.1))
-
--- the directories above a path are added where nothing stands
-pub parents_extend : (u : Tree) (ls : List Tree) (p : Names) → walk (u ∷ ls) p ≡ None → Extends u (with_parents u ls p) p
-parents_extend u ls p way = extends_from u ls [] p p refl way
 
 there_from : (u : Tree) (ls : List Tree) (q front : Names) (n : List ℕ) → IsLayer u → is_some (at u (front ++ q)) ≡ true → with_parents_from u ls front (q ++ n ∷ []) ≡ u
 there_from u ls [] front n ok some = copied_there u ls front (subst (λ (x : Names). is_some (at u x) ≡ true) (append-nil front) some)

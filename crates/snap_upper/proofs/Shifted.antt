@@ -15,29 +15,29 @@ use Rattle.snap_layer.specs.declared.node.Node.TheVariants.{Dir, File, Symlink, 
 use Rattle.snap_layer.specs.declared.error.LayerError.{LayerError}
 use Rattle.snap_layer.specs.declared.error.LayerError.TheVariants as layer_errors
 use Rattle.snap_layer.specs.Tree.{Tree, Entries, Bodies, IsDirAt, path_cmp, at, body, begins, is_dir, is_whiteout, number_at, number_of}
-use Rattle.snap_layer.specs.Counts.{inode_count, is_within, name_count}
+use Rattle.snap_layer.specs.Counts.{inode_count, block_count, is_within, name_count}
 use Rattle.snap_layer.specs.Layers.{IsLayer}
 use Rattle.snap_layer.specs.Edits.{inside, outside, with_moved, with_opaque, without}
 use Rattle.snap_layer.proofs.Lists.{same_lists, lookup-filter, sorted-filter}
 use Rattle.snap_layer.proofs.Paths.{path_cmp_total, path_cmp-IsAntisymmetric, begins_itself, begins_rest}
 use Rattle.snap_layer.proofs.Looks.{split_path}
-use Rattle.snap_layer.proofs.Counting.{dropped, inodes_of, inode_count-with_entry, inode_count-without}
+use Rattle.snap_layer.proofs.Counting.{dropped, dirs, inodes_of, weight, block_count-with_entry, inode_count-with_entry, inode_count-without}
 use Rattle.snap_layer.proofs.Kept.{nothing_below}
-use Rattle.snap_layer.proofs.Moves.{sorted-with_moved, inode_count-with_moved, inode_count-with_moved_whiteout}
+use Rattle.snap_layer.proofs.Moves.{sorted-with_moved, block_count-with_moved, inode_count-with_moved, inode_count-with_moved_whiteout}
 use Rattle.snap_layer.proofs.Replacing.{is_within_yes}
 use Rattle.snap_merge.specs.declared.error.FsError.{FsError}
 use Rattle.snap_merge.specs.declared.error.FsError.TheVariants.{IsDir, OutOfMemory}
 use Rattle.snap_merge.specs.Errors.{OfLayer}
 use Rattle.snap_merge.specs.Objects.{Object, dir, file, symlink, seen, is_shown_dir, AreLayers}
 use Rattle.snap_copyup.specs.Copying.{below, copied_up, with_parents}
-use Rattle.snap_copyup.specs.Places.{IsRefusal}
+use Rattle.snap_copyup.specs.Places.{IsRefusal, missing_from}
 use Rattle.snap_copyup.proofs.Alone.{below_seen, dir_seen}
 use Rattle.snap_copyup.proofs.Parents.{AddsParents}
-use Rattle.snap_copyup.proofs.Growing.{Grows, grows_from, missing_from}
+use Rattle.snap_copyup.proofs.Growing.{Grows, grows_from}
 use Rattle.snap_copyup.proofs.Layers.{no_missing}
 use Rattle.snap_upper.specs.After.{tests, first_error, after, error_if, kind_error, is_same_name, limited, renamed, prepared, shifted}
 use Rattle.snap_upper.specs.declared.op.Op.TheVariants as op
-use Rattle.snap_upper.proofs.Outcomes.{after_passes, limited_fits, layer_fits, refused}
+use Rattle.snap_upper.proofs.Outcomes.{after_passes, few_from, limited_fits, layer_fits, refused}
 use Rattle.snap_upper.proofs.Movable.{IsRenamable}
 use Rattle.snap_upper.proofs.Prepared.{IsCopy, own_copy, longer_out, added, way_after, lower_no_dir, lower_is_copy}
 
@@ -116,10 +116,7 @@ module _ (t : Tree) (p : Names) (sorted : IsStrictlySortedBy path_cmp (keys_of t
 
 -- ---- the limits
 
-few_from : (t : Tree) → is_within t ≡ true → inode_count t ≤ 65536
-few_from t within = grind (arith, nat_tests)
-
-last_from : (t : Tree) → is_within t ≡ true → t.next ≤ 4294967295
+pub last_from : (t : Tree) → is_within t ≡ true → t.next ≤ 4294967295
 last_from t within = by (nat_le (inode_count t) 65536) within
   where
     by : (b : Bool) → (b && nat_le t.next 4294967295) ≡ true → t.next ≤ 4294967295
@@ -157,6 +154,16 @@ opaque_inodes t p sorted = by (at t p) refl
     by (Some (Symlink k)) e = refl
     by (Some Whiteout) e = refl
 
+opaque_blocks : (t : Tree) (p : Names) → IsStrictlySortedBy path_cmp (keys_of t.entries) → block_count (with_opaque t p (at t p) true) ≡ block_count t
+opaque_blocks t p sorted = by (at t p) refl
+  where
+    by : (o : Option Node) → at t p ≡ o → block_count (with_opaque t p o true) ≡ block_count t
+    by None e = refl
+    by (Some (Dir m b)) e = omega (arith, block_count-with_entry t p (Dir m true) sorted, ap (weight dirs) e)
+    by (Some (File k)) e = refl
+    by (Some (Symlink k)) e = refl
+    by (Some Whiteout) e = refl
+
 opaque_next : (t : Tree) (p : Names) (o : Option Node) → (with_opaque t p o true).next ≡ t.next
 opaque_next t p None = refl
 opaque_next t p (Some (Dir m b)) = refl
@@ -187,6 +194,10 @@ module _ (t : Tree) (from to : Names) (sorted : IsStrictlySortedBy path_cmp (key
   shifted_inodes apart true covers = marked_inodes true covers ∙ inode_count-with_moved_whiteout t from to sorted apart
   shifted_inodes apart false covers = omega (arith, marked_inodes false covers, inode_count-with_moved t from to sorted)
 
+  pub shifted_blocks : begins to from ≡ false → (leaves covers : Bool) → block_count (shifted t from to leaves covers) ≡ block_count (without t to)
+  shifted_blocks apart leaves true = opaque_blocks (with_moved t from to leaves) to (sorted-with_moved t from to leaves sorted) ∙ block_count-with_moved t from to sorted apart leaves
+  shifted_blocks apart leaves false = block_count-with_moved t from to sorted apart leaves
+
 -- ---- the layers on the way
 
 no_dir_replaced : (moved target : Option Object) → kind_error moved target ≡ None → is_shown_dir moved ≡ false → is_shown_dir target ≡ false
@@ -215,6 +226,9 @@ module _ (u : Tree) (ls : List Tree) (from to : Names) (ok : IsLayer u) (layers 
 
   grows : Grows (copied_up u ls from) (prepared u ls from to) (missing_from (copied_up u ls from) [] to)
   grows = grows_from v ls [] to copied_sorted (way_after u ls from to ok layers is)
+
+  pub prepared_sorted : IsStrictlySortedBy path_cmp (keys_of (prepared u ls from to).entries)
+  prepared_sorted = grows.sorted
 
   adds : AddsParents (copied_up u ls from) (prepared u ls from to) ls (length to)
   adds = added u ls from to ok layers is

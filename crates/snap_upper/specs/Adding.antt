@@ -1,9 +1,14 @@
 -- What is added to a layer, and what it takes.
-use Rattle.std.specs.Prelude.{◌≡◌, ◌==◌, if◌then◌else◌, ℕ, Bool, true, false, length, Option, Some, None}
+use Rattle.std.specs.Prelude.{◌≡◌, ◌==◌, ◌+◌, [], ◌∷◌, ◌++◌, if◌then◌else◌, ℕ, List, Bool, true, false, length, Option, Some, None, is_some}
+use Rattle.snap_path.specs.Text.{Names}
 use Rattle.snap_layer.specs.declared.node.Body.{Body}
-use Rattle.snap_layer.specs.Counts.{blocks_of, body_blocks, name_count}
-use Rattle.snap_layer.specs.Tree.{Tree, body}
-use Rattle.snap_merge.specs.Objects.{Object, dir, file, symlink, is_shown_dir}
+use Rattle.snap_layer.specs.Counts.{blocks_of, body_blocks, name_count, inode_count, block_count, is_within}
+use Rattle.snap_layer.specs.Tree.{Tree, at, body, begins}
+use Rattle.snap_layer.specs.Layers.{IsLayer}
+use Rattle.snap_layer.specs.Edits.{IsFree}
+use Rattle.snap_usage.specs.declared.usage.Usage.{Usage}
+use Rattle.snap_merge.specs.Objects.{Object, dir, file, symlink, seen, is_shown_dir}
+use Rattle.snap_merge.specs.Walk.{walk}
 use Rattle.snap_upper.specs.declared.checking.Found.{Found}
 use Rattle.snap_copyup.specs.declared.putting.Last.{Last}
 use Rattle.snap_copyup.specs.declared.putting.Last.TheVariants.{Nothing, Dir, File, Symlink, Whiteout}
@@ -41,3 +46,20 @@ object_blocks None = 0
 object_blocks (Some (dir mode)) = 1
 object_blocks (Some (file mode bytes)) = blocks_of (length bytes)
 object_blocks (Some (symlink target)) = 0
+
+-- what is seen at `from` can get the path `to`: neither path lies at or below the other, what is copied up is no directory, and in `to` there are whiteouts alone
+pub record IsPlaceable (u : Tree) (ls : List Tree) (from to : Names) : Type 0 where
+  pub way_from : walk (u ∷ ls) from ≡ None
+  pub way_to : walk (u ∷ ls) to ≡ None
+  pub there : is_some (seen (u ∷ ls) from) ≡ true
+  pub lower : at u from ≡ None → is_shown_dir (seen (u ∷ ls) from) ≡ false
+  pub not_inside : begins from to ≡ false
+  pub not_around : begins to from ≡ false
+  pub clear : (n : List ℕ) → IsFree (at u (to ++ n ∷ []))
+
+-- the next layer t of u takes so much, with one file number more or none, and it is a layer where it is within the limits
+pub record IsNext (u t : Tree) (usage : Usage) (numbered : Bool) : Type 0 where
+  pub inodes : usage.inodes ≡ inode_count t
+  pub blocks : usage.blocks ≡ block_count t
+  pub number : t.next ≡ u.next + (if numbered then 1 else 0)
+  pub layer : is_within t ≡ true → IsLayer t

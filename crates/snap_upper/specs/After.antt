@@ -209,15 +209,15 @@ abbrev pub planned : Outcome → Result Planned FsError
 planned (Ok t) = Ok (record { after = count_of t })
 planned (Err e) = Err e
 
--- the operations whose plan takes no memory; of links those of what the upper layer has
-abbrev pub is_planned_in_place : Op → Tree → Bool
-is_planned_in_place (Mkdir path mode) u = true
-is_planned_in_place (Create path mode) u = true
-is_planned_in_place (Write path offset bytes) u = true
-is_planned_in_place (Truncate path size) u = true
-is_planned_in_place (SetMode path mode) u = true
-is_planned_in_place (Symlink path target) u = true
-is_planned_in_place (Link from to) u = is_some (number_at u from)
-is_planned_in_place (Unlink path) u = true
-is_planned_in_place (Rmdir path) u = false
-is_planned_in_place (Rename from to) u = false
+-- the plan lists the names of a directory, which takes memory: of one that is removed, or whose place another takes
+abbrev pub lists_names : Op → List Tree → Bool
+lists_names (Mkdir path mode) s = false
+lists_names (Create path mode) s = false
+lists_names (Write path offset bytes) s = false
+lists_names (Truncate path size) s = false
+lists_names (SetMode path mode) s = false
+lists_names (Symlink path target) s = false
+lists_names (Link from to) s = false
+lists_names (Unlink path) s = false
+lists_names (Rmdir path) s = is_shown_dir (seen s path)
+lists_names (Rename from to) s = is_shown_dir (seen s to)

@@ -1,12 +1,13 @@
 // The tests that an operation has to pass.
-ghost use Rattle.std.specs.Prelude.{◌≡◌, ◌⊎◌, ◌==◌, [], ◌∷◌, is_some, Some, None, OnOk, IfOk, IfErr};
+ghost use Rattle.std.specs.Prelude.{◌≡◌, ◌⊎◌, ◌==◌, [], ◌∷◌, is_some, true, false, Some, None, OnOk, IfOk, IfErr};
+ghost use Rattle.std.specs.Option.{option_map};
 ghost use Rattle.std.specs.Result.{result_err};
 ghost use Rattle.snap_merge.specs.declared.error.FsError.{FsError};
-ghost use Rattle.snap_merge.specs.Objects.{file, seen, AreLayers};
+ghost use Rattle.snap_merge.specs.Objects.{file, object, seen, is_shown_dir, AreLayers};
 ghost use Rattle.snap_merge.specs.Walk.{walk};
 ghost use Rattle.snap_upper.specs.declared.op.Op.TheVariants as op;
 ghost use Rattle.std.specs.List.{list_any};
-ghost use Rattle.snap_upper.specs.After.{tests, first_error, error_if, file_error, mode_error, link_error, name_error, dir_error, is_no_target};
+ghost use Rattle.snap_upper.specs.After.{tests, first_error, error_if, file_error, mode_error, link_error, dir_error, has_names, is_no_target};
 ghost use Rattle.snap_upper.specs.Adding.{IsFound};
 
 use snap_layer::{Bytes, Shared};
@@ -217,6 +218,7 @@ pub(crate) fn check_unlink(stack: &Stack<'_>, path: &Path) -> Result<(), FsError
 pub(crate) fn check_rmdir(stack: &Stack<'_>, alloc: Global, path: &Path) -> Result<(), FsError>
     ensures ok { OnOk result (first_error (tests (op.Rmdir path.now) stack.now) ≡ None) }
     ensures error { IfErr result (λ e. (e ≡ FsError.OutOfMemory) ⊎ (first_error (tests (op.Rmdir path.now) stack.now) ≡ Some e)) }
+    ensures sure { is_shown_dir (seen stack.now path.now) ≡ false → IfErr result (λ e. first_error (tests (op.Rmdir path.now) stack.now) ≡ Some e) }
     ensures layers { AreLayers stack.now }
 {
     stack.walk(path)?;
@@ -224,11 +226,32 @@ pub(crate) fn check_rmdir(stack: &Stack<'_>, alloc: Global, path: &Path) -> Resu
         return Err(FsError::Invalid);
     }
     check_dir(stack, path)?;
+    check_empty(stack, alloc, path)
+}
+
+/// Tests that nothing is seen in the path's directory, if there is one.
+pub(crate) fn check_empty(stack: &Stack<'_>, alloc: Global, path: &Path) -> Result<(), FsError>
+    requires way { walk stack.now path.now ≡ None }
+    requires layers { AreLayers stack.now }
+    ensures ok { OnOk result (has_names stack.now path.now ≡ false) }
+    ensures error { IfErr result (λ e. (e ≡ FsError.OutOfMemory) ⊎ ((e ≡ FsError.NotEmpty) × (has_names stack.now path.now ≡ true))) }
+    ensures sure { is_shown_dir (seen stack.now path.now) ≡ false → result_err result ≡ None }
+{
+    if !is_dir(stack.look(path)) {
+        return Ok(());
+    }
     let names = stack.list(alloc, path)?;
     if !names.is_empty() {
         return Err(FsError::NotEmpty);
     }
     Ok(())
+}
+
+/// Whether it is a directory.
+pub(crate) fn is_dir(seen: Option<Seen<'_>>) -> bool
+    ensures { result ≡ is_shown_dir (option_map object seen.entry) }
+{
+    matches!(seen, Some(Seen::Dir { .. }))
 }
 
 /// Tests whether a directory is seen at the path.

@@ -111,12 +111,7 @@ fn link_on_copy(layer: &mut Layer, lowers: &[Shared], from: &Path, to: &Path) ->
 }
 
 /// Links on a layer that its caller drops after an error.
-pub(crate) fn add_link(
-    layer: &mut Layer,
-    lowers: &[Shared],
-    from: &Path,
-    to: &Path,
-) -> Result<(), FsError>
+fn add_link(layer: &mut Layer, lowers: &[Shared], from: &Path, to: &Path) -> Result<(), FsError>
     requires { first_error (tests (op.Link from.now to.now) (layer.old ∷ lowers.now)) ≡ None }
     ensures ok { OnOk result (limited (next_layer (op.Link from.now to.now) layer.old lowers.now) ≡ Ok layer.new) }
     ensures error { IfErr result (λ e. (e ≡ FsError.OutOfMemory) ⊎ (limited (next_layer (op.Link from.now to.now) layer.old lowers.now) ≡ Err e)) }

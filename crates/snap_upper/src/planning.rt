@@ -1,26 +1,25 @@
-ghost use Rattle.std.specs.Prelude.{◌≡◌, [], ◌∷◌, ◌++◌, ◌+◌, ◌≤◌, ℕ, List, Some, None, is_some, true, false, length};
+ghost use Rattle.std.specs.Prelude.{◌≡◌, [], ◌∷◌, ◌++◌, ◌+◌, ◌≤◌, ℕ, List, None, Some, is_some, true, false, length};
 ghost use Rattle.std.specs.Option.{option_map};
 ghost use Rattle.snap_layer.specs.Tree.{Tree, at, body, number_at};
 ghost use Rattle.snap_layer.specs.Counts.{block_count, inode_count};
-ghost use Rattle.snap_layer.specs.Edits.{HasParent, IsFree, without};
-ghost use Rattle.snap_merge.specs.Objects.{file, object, seen, AreLayers};
+ghost use Rattle.snap_layer.specs.Edits.{IsFree, without};
+ghost use Rattle.snap_merge.specs.Objects.{file, object, seen, is_shown_dir, AreLayers};
 ghost use Rattle.snap_merge.specs.Walk.{walk, Answers};
 ghost use Rattle.snap_copyup.specs.declared.putting.Last.{Last};
 ghost use Rattle.snap_copyup.specs.Copying.{with_parents, copied_up};
 ghost use Rattle.snap_copyup.specs.Places.{with_last, Fits};
 ghost use Rattle.snap_upper.specs.declared.op.Op.TheVariants as op;
-ghost use Rattle.snap_upper.specs.After.{after, first_error, tests, next_layer, planned, limited, erased, renamed, is_same_name, with_content, written, is_planned_in_place};
-ghost use Rattle.snap_upper.specs.Adding.{Takes, weight_of, last_blocks, object_blocks};
+ghost use Rattle.snap_upper.specs.After.{after, first_error, tests, planned, limited, erased, prepared, renamed, is_same_name, with_content, written, lists_names};
+ghost use Rattle.snap_upper.specs.Adding.{Takes, weight_of, last_blocks, object_blocks, IsPlaceable, IsNext};
 
 use super::checking::{
     Found, check_link, check_mode, check_new, check_rmdir, check_symlink, check_truncate,
     check_unlink, check_write,
 };
 use super::content::{is_whiteout, own_number};
-use super::linking::add_link;
 use super::op::Op;
-use super::renaming::{check_rename, rename};
-use snap_copyup::{below, missing_dirs};
+use super::renaming::check_rename;
+use snap_copyup::{below, missing_dirs, missing_dirs_of_both};
 use snap_layer::{Bytes, Layer, Node, Shared};
 use snap_merge::{FsError, Seen, Stack};
 use snap_path::Path;
@@ -38,19 +37,14 @@ pub struct Planned {
 
 /// How much the layer would take after the operation over the lower layers, which stand nearest first.
 ///
-/// The errors are those of `apply`, in the same order. It changes nothing. But for `Rmdir`, `Rename` and a
-/// `Link` of a lower file it takes no memory, and the next layer isn't built. Cost: for each name of a path
-/// a look through the layers, and the number of the layer's paths and files.
+/// The errors are those of `apply`, in the same order. It changes nothing, and the next layer isn't built.
+/// Cost: for each name of a path a look through the layers, and the number of the layer's paths and files.
 ///
-/// `Rmdir`, and a `Rename` to where a directory is seen, take memory for the names in it (`OutOfMemory`),
-/// and their cost is also that of their list.
-///
-/// A `Link` of a lower file to a directory that the layer doesn't have is done on a copy of the layer, and
-/// so is a `Rename` of a lower file. Their plans take memory too, and their cost is also the layer's size
-/// with all bytes of its files. Any other `Link` takes no memory.
+/// It takes no memory but for the names of a directory that is seen at the path of an `Rmdir`, or where a
+/// `Rename` goes to. These plans may answer `OutOfMemory`, and their cost is also that of the list.
 pub fn plan(layer: &Layer, lowers: &[Shared], op: &Op) -> Result<Planned, FsError>
     ensures answer { Answers (planned (after op.now layer.now lowers.now)) result }
-    ensures sure { is_planned_in_place op.now layer.now ≡ true → result ≡ planned (after op.now layer.now lowers.now) }
+    ensures sure { lists_names op.now (layer.now ∷ lowers.now) ≡ false → result ≡ planned (after op.now layer.now lowers.now) }
 {
     match op {
         Op::Mkdir { path, mode } => plan_mkdir(layer, lowers, path, *mode),
@@ -147,75 +141,40 @@ fn plan_symlink(
 }
 
 fn plan_link(layer: &Layer, lowers: &[Shared], from: &Path, to: &Path) -> Result<Planned, FsError>
-    ensures answer { Answers (planned (after (op.Link from.now to.now) layer.now lowers.now)) result }
-    ensures sure { is_some (number_at layer.now from.now) ≡ true → result ≡ planned (after (op.Link from.now to.now) layer.now lowers.now) }
+    ensures { result ≡ planned (after (op.Link from.now to.now) layer.now lowers.now) }
 {
     check_link(&Stack::over(layer, lowers), from, to)?;
-    let _ = layer.next_number();
-    if own_number(layer, from).is_some() {
-        return plan_name(layer, lowers, from, to);
-    }
-    if layer.has_parent(to) {
-        return plan_copied_name(layer, lowers, from, to);
-    }
-    plan_link_on_copy(layer, lowers, from, to)
-}
-
-/// How much the layer takes where its file or symlink at `from` gets the name `to`, and the directories
-/// that are missing above that.
-fn plan_name(layer: &Layer, lowers: &[Shared], from: &Path, to: &Path) -> Result<Planned, FsError>
-    requires layers { AreLayers lowers.now }
-    requires passes { first_error (tests (op.Link from.now to.now) (layer.now ∷ lowers.now)) ≡ None }
-    requires own { is_some (number_at layer.now from.now) ≡ true }
-    ensures { result ≡ planned (limited (next_layer (op.Link from.now to.now) layer.now lowers.now)) }
-{
+    let _ = from.names();
     let _ = to.names();
     let _ = layer.next_number();
-    let left = count_without(layer, to);
-    let missing = missing_dirs(layer, to) as u64;
-    let inodes = left.inodes + missing;
-    if inodes > MOST_INODES {
-        return Err(FsError::LayerFull);
-    }
-    let after = Usage {
-        blocks: left.blocks + missing,
-        inodes,
-    };
-    Ok(Planned { after })
+    let after = count_placed(layer, lowers, from, to);
+    fitting(layer, after, layer.at(from).is_none())
 }
 
-/// How much the layer takes where the lower file or symlink at `from` is copied up, and gets the name `to`
-/// in a directory of the layer.
-fn plan_copied_name(
-    layer: &Layer,
-    lowers: &[Shared],
-    from: &Path,
-    to: &Path,
-) -> Result<Planned, FsError>
+/// How much the layer takes once what is seen at `from` is copied up, where the layer doesn't have it, and
+/// the directories above `to` are added, without what stands at `to`.
+fn count_placed(layer: &Layer, lowers: &[Shared], from: &Path, to: &Path) -> Usage
     requires layers { AreLayers lowers.now }
-    requires passes { first_error (tests (op.Link from.now to.now) (layer.now ∷ lowers.now)) ≡ None }
-    requires lower { is_some (number_at layer.now from.now) ≡ false }
-    requires parent { HasParent layer.now to.now }
-    ensures { result ≡ planned (limited (next_layer (op.Link from.now to.now) layer.now lowers.now)) }
+    requires placeable { IsPlaceable layer.now lowers.now from.now to.now }
+    ensures count { result ≡ record { blocks = block_count (without (prepared layer.now lowers.now from.now to.now) to.now); inodes = inode_count (without (prepared layer.now lowers.now from.now to.now) to.now) } }
+    ensures few { result.inodes ≤ 100000 }
 {
     let _ = from.names();
     let _ = to.names();
-    let number = layer.next_number();
-    let blocks = seen_blocks(Stack::over(layer, lowers).look(from));
+    let _ = layer.next_number();
     let left = count_without(layer, to);
-    let missing = missing_dirs(layer, from) as u64;
-    let inodes = left.inodes + missing + 1;
-    if number == u32::MAX {
-        return Err(FsError::LayerFull);
+    if layer.at(from).is_some() {
+        let missing = missing_dirs(layer, to) as u64;
+        return Usage {
+            blocks: left.blocks + missing,
+            inodes: left.inodes + missing,
+        };
     }
-    if inodes > MOST_INODES {
-        return Err(FsError::LayerFull);
+    let missing = missing_dirs_of_both(layer, from, to) as u64;
+    Usage {
+        blocks: left.blocks + missing + seen_blocks(Stack::over(layer, lowers).look(from)),
+        inodes: left.inodes + missing + 1,
     }
-    let after = Usage {
-        blocks: left.blocks + missing + blocks,
-        inodes,
-    };
-    Ok(Planned { after })
 }
 
 /// The blocks that what is seen takes once it is copied up.
@@ -230,24 +189,6 @@ fn seen_blocks(seen: Option<Seen<'_>>) -> u64
     }
 }
 
-/// Makes the link on a copy of the layer, and counts what that takes.
-fn plan_link_on_copy(
-    layer: &Layer,
-    lowers: &[Shared],
-    from: &Path,
-    to: &Path,
-) -> Result<Planned, FsError>
-    requires { first_error (tests (op.Link from.now to.now) (layer.now ∷ lowers.now)) ≡ None }
-    ensures { Answers (planned (limited (next_layer (op.Link from.now to.now) layer.now lowers.now))) result }
-{
-    let mut linked = layer.copy()?;
-    if let Err(error) = add_link(&mut linked, lowers, from, to) {
-        return Err(error);
-    }
-    let after = count(&linked);
-    Ok(Planned { after })
-}
-
 fn plan_unlink(layer: &Layer, lowers: &[Shared], path: &Path) -> Result<Planned, FsError>
     ensures { result ≡ planned (after (op.Unlink path.now) layer.now lowers.now) }
 {
@@ -257,7 +198,8 @@ fn plan_unlink(layer: &Layer, lowers: &[Shared], path: &Path) -> Result<Planned,
 }
 
 fn plan_rmdir(layer: &Layer, lowers: &[Shared], path: &Path) -> Result<Planned, FsError>
-    ensures { Answers (planned (after (op.Rmdir path.now) layer.now lowers.now)) result }
+    ensures answer { Answers (planned (after (op.Rmdir path.now) layer.now lowers.now)) result }
+    ensures sure { is_shown_dir (seen (layer.now ∷ lowers.now) path.now) ≡ false → result ≡ planned (after (op.Rmdir path.now) layer.now lowers.now) }
 {
     check_rmdir(&Stack::over(layer, lowers), layer.alloc(), path)?;
     let _ = layer.next_number();
@@ -281,72 +223,43 @@ fn plan_erasing(layer: &Layer, lowers: &[Shared], path: &Path) -> Result<Planned
     }
     let covers = below(layer, lowers, path).is_some();
     let left = count_without(layer, path);
-    let inodes = left.inodes + u64::from(covers);
-    if inodes > MOST_INODES {
-        return Err(FsError::LayerFull);
-    }
     let after = Usage {
         blocks: left.blocks,
-        inodes,
+        inodes: left.inodes + u64::from(covers),
     };
-    Ok(Planned { after })
+    fitting(layer, after, false)
 }
 
 fn plan_rename(layer: &Layer, lowers: &[Shared], from: &Path, to: &Path) -> Result<Planned, FsError>
-    ensures { Answers (planned (after (op.Rename from.now to.now) layer.now lowers.now)) result }
+    ensures answer { Answers (planned (after (op.Rename from.now to.now) layer.now lowers.now)) result }
+    ensures sure { is_shown_dir (seen (layer.now ∷ lowers.now) to.now) ≡ false → result ≡ planned (after (op.Rename from.now to.now) layer.now lowers.now) }
 {
     let _ = layer.next_number();
     if !check_rename(layer, lowers, from, to)? {
         let after = count(layer);
         return Ok(Planned { after });
     }
-    if layer.at(from).is_some() {
-        return plan_move(layer, lowers, from, to);
-    }
-    plan_rename_on_copy(layer, lowers, from, to)
+    plan_move(layer, lowers, from, to)
 }
 
-/// How much the layer takes where what it has at `from` moves to `to`, and the directories that are missing
-/// above that. What stands at `to` goes, and a whiteout is left at `from` where a lower layer shows
-/// something.
+/// How much the layer takes where what is seen at `from` moves to `to`. What stands there goes, and a
+/// whiteout is left at `from` where a lower layer shows something.
 fn plan_move(layer: &Layer, lowers: &[Shared], from: &Path, to: &Path) -> Result<Planned, FsError>
     requires layers { AreLayers lowers.now }
     requires passes { first_error (tests (op.Rename from.now to.now) (layer.now ∷ lowers.now)) ≡ None }
     requires moves { is_same_name layer.now from.now to.now ≡ false }
-    requires there { is_some (at layer.now from.now) ≡ true }
     ensures { result ≡ planned (limited (renamed layer.now lowers.now from.now to.now)) }
 {
+    let _ = from.names();
     let _ = to.names();
     let _ = layer.next_number();
     let leaves = below(layer, lowers, from).is_some();
-    let left = count_without(layer, to);
-    let missing = missing_dirs(layer, to) as u64;
-    let inodes = left.inodes + missing + u64::from(leaves);
-    if inodes > MOST_INODES {
-        return Err(FsError::LayerFull);
-    }
+    let left = count_placed(layer, lowers, from, to);
     let after = Usage {
-        blocks: left.blocks + missing,
-        inodes,
+        blocks: left.blocks,
+        inodes: left.inodes + u64::from(leaves),
     };
-    Ok(Planned { after })
-}
-
-/// Makes the rename on a copy of the layer, and counts what that takes.
-fn plan_rename_on_copy(
-    layer: &Layer,
-    lowers: &[Shared],
-    from: &Path,
-    to: &Path,
-) -> Result<Planned, FsError>
-    ensures { Answers (planned (after (op.Rename from.now to.now) layer.now lowers.now)) result }
-{
-    let mut renamed = layer.copy()?;
-    if let Err(error) = rename(&mut renamed, lowers, from, to) {
-        return Err(error);
-    }
-    let after = count(&renamed);
-    Ok(Planned { after })
+    fitting(layer, after, layer.at(from).is_none())
 }
 
 /// How much the layer takes without what stands at the path, in which there are whiteouts alone.
@@ -406,21 +319,28 @@ fn plan_growth(layer: &Layer, path: &Path, blocks: u64, numbered: bool) -> Resul
     ensures { (last : Last) (lowers : List Tree) → Takes last blocks numbered → AreLayers lowers → walk (layer.now ∷ lowers) path.now ≡ None → Fits last layer.now path.now → result ≡ planned (limited (with_last last (with_parents layer.now lowers path.now) path.now)) }
 {
     let _ = path.names();
-    let number = layer.next_number();
+    let _ = layer.next_number();
     let now = count(layer);
     let missing = missing_dirs(layer, path) as u64;
     let whiteouts = u64::from(is_whiteout(layer.at(path)));
-    let inodes = now.inodes + missing + 1 - whiteouts;
+    let after = Usage {
+        blocks: now.blocks + missing + blocks,
+        inodes: now.inodes + missing + 1 - whiteouts,
+    };
+    fitting(layer, after, numbered)
+}
+
+/// The plan of a next layer that takes so much, with one file number more where `numbered` says so.
+fn fitting(layer: &Layer, after: Usage, numbered: bool) -> Result<Planned, FsError>
+    ensures { (next : Tree) → IsNext layer.now next after numbered → result ≡ planned (limited next) }
+{
+    let number = layer.next_number();
     if numbered && number == u32::MAX {
         return Err(FsError::LayerFull);
     }
-    if inodes > MOST_INODES {
+    if after.inodes > MOST_INODES {
         return Err(FsError::LayerFull);
     }
-    let after = Usage {
-        blocks: now.blocks + missing + blocks,
-        inodes,
-    };
     Ok(Planned { after })
 }
 

@@ -9,15 +9,14 @@ ghost use Rattle.snap_merge.specs.Objects.{object, seen, is_shown_dir, AreLayers
 ghost use Rattle.snap_merge.specs.Walk.{walk};
 ghost use Rattle.snap_copyup.specs.Places.{IsRefusal};
 ghost use Rattle.snap_upper.specs.declared.op.Op.TheVariants as op;
-ghost use Rattle.snap_upper.specs.After.{after, tests, move_tests, first_error, error_if, kind_error, is_root, has_names, is_same_name, is_same_path, is_same_number, is_too_long, limited, renamed, prepared, shifted};
+ghost use Rattle.snap_upper.specs.After.{after, tests, move_tests, first_error, error_if, kind_error, is_root, is_same_name, is_same_path, is_same_number, is_too_long, limited, renamed, prepared, shifted};
 
-use super::checking::visit;
+use super::checking::{check_empty, is_dir, visit};
 use super::content::own_number;
 use snap_copyup::{below, copy_up, ensure_dirs, is_pure};
 use snap_layer::{Layer, Shared};
 use snap_merge::{FsError, Seen, Stack};
 use snap_path::Path;
-use std::alloc::Global;
 
 /// Gives what is seen at `from` the path `to`.
 pub(crate) fn rename(
@@ -48,6 +47,8 @@ pub(crate) fn check_rename(
     ensures ok { OnOk result (first_error (tests (op.Rename from.now to.now) (layer.now ∷ lowers.now)) ≡ None) }
     ensures moves { IfOk result (λ moves. moves ≡ not (is_same_name layer.now from.now to.now)) }
     ensures error { IfErr result (λ e. (e ≡ FsError.OutOfMemory) ⊎ (first_error (tests (op.Rename from.now to.now) (layer.now ∷ lowers.now)) ≡ Some e)) }
+    // Memory is taken for the names of a directory that is seen at `to`.
+    ensures sure { is_shown_dir (seen (layer.now ∷ lowers.now) to.now) ≡ false → IfErr result (λ e. first_error (tests (op.Rename from.now to.now) (layer.now ∷ lowers.now)) ≡ Some e) }
     ensures layers { AreLayers (layer.now ∷ lowers.now) }
 {
     check_ends(&Stack::over(layer, lowers), from, to)?;
@@ -113,6 +114,7 @@ fn check_move(layer: &Layer, lowers: &[Shared], from: &Path, to: &Path) -> Resul
     requires layers { AreLayers (layer.now ∷ lowers.now) }
     ensures ok { OnOk result (first_error (move_tests layer.now lowers.now from.now to.now) ≡ None) }
     ensures error { IfErr result (λ e. (e ≡ FsError.OutOfMemory) ⊎ (first_error (move_tests layer.now lowers.now from.now to.now) ≡ Some e)) }
+    ensures sure { is_shown_dir (seen (layer.now ∷ lowers.now) to.now) ≡ false → IfErr result (λ e. first_error (move_tests layer.now lowers.now from.now to.now) ≡ Some e) }
 {
     let stack = Stack::over(layer, lowers);
     let moved = stack.look(from);
@@ -139,13 +141,6 @@ fn is_too_long(layer: &Layer, from: &Path, to: &Path) -> bool
     !layer.has_short_paths(from, to)
 }
 
-/// Whether it is a directory.
-fn is_dir(seen: Option<Seen<'_>>) -> bool
-    ensures { result ≡ is_shown_dir (option_map object seen.entry) }
-{
-    matches!(seen, Some(Seen::Dir { .. }))
-}
-
 /// Tests that a directory takes the place of no other object, and that no other object takes the place of
 /// a directory.
 fn check_kinds(moved: Option<Seen<'_>>, target: Option<Seen<'_>>) -> Result<(), FsError>
@@ -159,23 +154,6 @@ fn check_kinds(moved: Option<Seen<'_>>, target: Option<Seen<'_>>) -> Result<(), 
         Some(Seen::Symlink { .. }) if is_dir(moved) => Err(FsError::NotDir),
         Some(_) => Ok(()),
     }
-}
-
-/// Tests that nothing is seen in the path's directory, if there is one.
-fn check_empty(stack: &Stack<'_>, alloc: Global, path: &Path) -> Result<(), FsError>
-    requires way { walk stack.now path.now ≡ None }
-    requires layers { AreLayers stack.now }
-    ensures ok { OnOk result (has_names stack.now path.now ≡ false) }
-    ensures error { IfErr result (λ e. (e ≡ FsError.OutOfMemory) ⊎ ((e ≡ FsError.NotEmpty) × (has_names stack.now path.now ≡ true))) }
-{
-    if !is_dir(stack.look(path)) {
-        return Ok(());
-    }
-    let names = stack.list(alloc, path)?;
-    if !names.is_empty() {
-        return Err(FsError::NotEmpty);
-    }
-    Ok(())
 }
 
 /// Moves what is seen at `from` to `to`. Where nothing has to be added to the layer first, it is changed in

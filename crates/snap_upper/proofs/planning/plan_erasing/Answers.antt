@@ -1,16 +1,17 @@
 use Rattle.std.proofs.Common.{◌≡◌, ◌+◌, Bool, true, false, refl, sym, ap, subst, ◌∙◌, arith}
 use mir.Val.{bool_byte}
 use Rattle.std.specs.Prelude.{is_some, not, if◌then◌else◌}
+use Rattle.snap_layer.specs.declared.node.Node.TheVariants.{Whiteout}
 use Rattle.snap_layer.specs.Tree.{Tree, at}
 use Rattle.snap_layer.specs.Counts.{inode_count}
-use Rattle.snap_layer.specs.Edits.{IsFree, without}
+use Rattle.snap_layer.specs.Edits.{IsFree, with_node, without}
 use Rattle.snap_usage.specs.declared.usage.Usage.{Usage}
 use Rattle.snap_copyup.specs.declared.putting.Last.TheVariants as last
 use Rattle.snap_copyup.specs.Copying.{below}
 use Rattle.snap_copyup.proofs.Wholes.{vacant}
 use Rattle.snap_upper.specs.After.{planned, limited}
 use Rattle.snap_upper.proofs.Erased.{none_from, seen_some, place_erased, erased_lower, erased_own}
-use Rattle.snap_upper.proofs.Freed.{erasing_planned, erasing_full}
+use Rattle.snap_upper.proofs.Freed.{erasing_next}
 use Rattle.snap_upper.proofs.planning.plan_erasing.Goals as goal
 
 byte_of : (b : Bool) → bool_byte b ≡ (if b then 1 else 0)
@@ -38,19 +39,6 @@ count_without-left-requires c =
     let some : is_some (at u p) ≡ true = ap is_some (sym c.at.ensures) ∙ c.is_none.ensures ∙ ap not c.if-is_none.false in
     (place_erased u c.args.lowers.now p c.next_number.ensures.layer some c.requires.below_root c.requires.clear).clear
 
-pub returns-then-inodes-gt-MOST_INODES : goal.returns-then-inodes-gt-MOST_INODES
-returns-then-inodes-gt-MOST_INODES c =
-    let u = c.args.layer.now in
-    let ls = c.args.lowers.now in
-    let p = c.args.path.now in
-    let ok = c.next_number.ensures.layer in
-    let covers = c.is_some-covers.result in
-    let some : is_some (at u p) ≡ true = ap is_some (sym c.at.ensures) ∙ c.is_none.ensures ∙ ap not c.if-is_none.false in
-    let covered : c.is_some-covers.result ≡ is_some (below u ls p) = c.is_some-covers.ensures ∙ sym (seen_some c.below.result) ∙ ap is_some c.below.ensures in
-    let inodes : c.count_without-left.result.inodes + c.from.result ≡ inode_count (without u p) + (if c.is_some-covers.result then 1 else 0) = omega (arith, ap (λ (n : Usage). n.inodes) c.count_without-left.ensures.count, c.from.ensures, byte_of c.is_some-covers.result) in
-    erasing_full u ok p c.names.ensures.valid (place_erased u ls p ok some c.requires.below_root c.requires.clear) covers (c.count_without-left.result.inodes + c.from.result) inodes c.if-inodes-gt-MOST_INODES.true
-    ∙ ap (λ (t : Tree). planned (limited t)) (sym (erased_own u ls p covers ok some covered))
-
 pub returns : goal.returns
 returns c =
     let u = c.args.layer.now in
@@ -61,5 +49,6 @@ returns c =
     let some : is_some (at u p) ≡ true = ap is_some (sym c.at.ensures) ∙ c.is_none.ensures ∙ ap not c.if-is_none.false in
     let covered : c.is_some-covers.result ≡ is_some (below u ls p) = c.is_some-covers.ensures ∙ sym (seen_some c.below.result) ∙ ap is_some c.below.ensures in
     let inodes : c.count_without-left.result.inodes + c.from.result ≡ inode_count (without u p) + (if c.is_some-covers.result then 1 else 0) = omega (arith, ap (λ (n : Usage). n.inodes) c.count_without-left.ensures.count, c.from.ensures, byte_of c.is_some-covers.result) in
-    erasing_planned u ok p c.names.ensures.valid (place_erased u ls p ok some c.requires.below_root c.requires.clear) covers (record { blocks = c.count_without-left.result.blocks; inodes = c.count_without-left.result.inodes + c.from.result }) inodes (ap (λ (n : Usage). n.blocks) c.count_without-left.ensures.count) c.if-inodes-gt-MOST_INODES.false
+    c.fitting.ensures (if covers then with_node u p Whiteout else without u p)
+    (erasing_next u ok p c.names.ensures.valid (place_erased u ls p ok some c.requires.below_root c.requires.clear) covers (record { blocks = c.count_without-left.result.blocks; inodes = c.count_without-left.result.inodes + c.from.result }) inodes (ap (λ (n : Usage). n.blocks) c.count_without-left.ensures.count))
     ∙ ap (λ (t : Tree). planned (limited t)) (sym (erased_own u ls p covers ok some covered))

@@ -16,10 +16,18 @@ plan_erasing-requires c =
     let erasable = IsErasable-dir (u ∷ ls) p passes in
     record { layers = (subst AreLayers c.over.ensures c.in_ok-check_rmdir.ensures.layers).1; way = erasable.way; there = erasable.there; below_root = erasable.below_root; clear = erasable.clear }
 
-pub returns : goal.returns
-returns c =
+pub returns-clause-answer : goal.returns-clause-answer
+returns-clause-answer c =
     let u = c.args.layer.now in
     let ls = c.args.lowers.now in
     let p = c.args.path.now in
     let passes : first_error (tests (op.Rmdir p) (u ∷ ls)) ≡ None = ap (λ (s : List Tree). first_error (tests (op.Rmdir p) s)) (sym c.over.ensures) ∙ c.in_ok-check_rmdir.ensures.ok in
     answers_same _ _ (c.plan_erasing.ensures ∙ ap planned (sym (after_passes (op.Rmdir p) u ls passes)))
+
+pub returns-clause-sure : goal.returns-clause-sure
+returns-clause-sure c = λ no_dir.
+    let u = c.args.layer.now in
+    let ls = c.args.lowers.now in
+    let p = c.args.path.now in
+    let passes : first_error (tests (op.Rmdir p) (u ∷ ls)) ≡ None = ap (λ (s : List Tree). first_error (tests (op.Rmdir p) s)) (sym c.over.ensures) ∙ c.in_ok-check_rmdir.ensures.ok in
+    c.plan_erasing.ensures ∙ ap planned (sym (after_passes (op.Rmdir p) u ls passes))
