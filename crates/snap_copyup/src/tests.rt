@@ -1,4 +1,4 @@
-use super::{Last, below, copy_up, ensure_dirs, is_pure, missing_dirs, put};
+use super::{Last, below, copy_up, ensure_dirs, is_pure, missing_dirs, missing_dirs_of_both, put};
 use snap_layer::{Body, Bytes, Layer, Node, Shared};
 use snap_merge::{FsError, Seen, Stack};
 use snap_path::Path;
@@ -264,6 +264,30 @@ fn missing_directories_are_counted(rt: HostRuntime) -> Result<(), Fail> {
     ] {
         let path = Path::parse(alloc, text)?;
         assert_eq!(rt; missing_dirs(&layer, &path), missing, "at {text}");
+    }
+    Ok(())
+}
+
+#[test]
+fn directories_above_both_paths_count_once(rt: HostRuntime) -> Result<(), Fail> {
+    let alloc = rt.alloc();
+    let mut layer = Layer::empty(alloc, 493)?;
+    put_dir(&mut layer, &Path::parse(alloc, "/a")?, 493, false)?;
+    for (one, other, missing) in [
+        ("/a/b/f", "/a/c/g", 2),
+        ("/a/b/f", "/a/b/g", 1),
+        ("/a/b/f", "/a/b/c/g", 2),
+        ("/a/b/c/f", "/a/g", 2),
+        ("/d/e/f", "/g/h", 3),
+        ("/d/e/f", "/d/e/f/g", 3),
+        ("/d/e/f", "/", 2),
+    ] {
+        let both = missing_dirs_of_both(
+            &layer,
+            &Path::parse(alloc, one)?,
+            &Path::parse(alloc, other)?,
+        );
+        assert_eq!(rt; both, missing, "at {one} and {other}");
     }
     Ok(())
 }
