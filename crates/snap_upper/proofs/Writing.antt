@@ -68,12 +68,6 @@ pub written_short : (old : List ℕ) (offset : ℕ) (bytes : List ℕ) (m : ℕ)
 written_short old offset [] m a b = a
 written_short old offset (x ∷ xs) m a b = grind (arith, common_steps)
 
--- the bytes that a layer may hold
-pub written_fits : (s : List Tree) (p : Names) (mode : ℕ) (old : List ℕ) (offset : ℕ) (bytes : List ℕ) → AreLayers s → seen s p ≡ Some (file mode old) → offset + length bytes ≤ 1048576 → (mode ≤ 4095) × (length (written old offset bytes) ≤ 1048576)
-written_fits s p mode old offset bytes layers was short =
-    let whole = subst IsWholeObject was (whole_seen s layers p) in
-    (whole.0, written_short old offset bytes 1048576 whole.1 short)
-
 -- the tests of a truncation have passed
 pub record IsSizable (s : List Tree) (p : Names) (size : ℕ) : Type 0 where
   pub way : walk s p ≡ None
@@ -94,9 +88,6 @@ IsSizable-passed s p size passes =
 
 pub resized_length : (old : List ℕ) (size : ℕ) → length (resized old size) ≡ size
 resized_length old size = grind (arith, common_steps)
-
-pub resized_fits : (s : List Tree) (p : Names) (mode : ℕ) (old : List ℕ) (size : ℕ) → AreLayers s → seen s p ≡ Some (file mode old) → size ≤ 1048576 → (mode ≤ 4095) × (length (resized old size) ≤ 1048576)
-resized_fits s p mode old size layers was short = ((subst IsWholeObject was (whole_seen s layers p)).0, omega (arith, resized_length old size, short))
 
 -- a value put twice under one key
 insert_twice : {K X : Type 0} (R : K → K → Ordering) → IsTotalOrder R → (es : List (K × X)) (k : K) (v w : X) → insert_entry R (insert_entry R es k v) k w ≡ insert_entry R es k w
@@ -229,20 +220,3 @@ rewrites t k m old new ok is short =
 -- a layer's blocks are few
 pub few_blocks : (t : Tree) → IsLayer t → block_count t ≤ 65536 * 257
 few_blocks t ok = omega (arith, ok.few, blocks_of_bodies t ok)
-
--- ---- plans
-
-module _ (u : Tree) (ls : List Tree) (p : Names) (k m : ℕ) (old new : List ℕ) (ok : IsLayer u) (is : at u p ≡ Some (File k)) (file_is : body u k ≡ Some (body_kinds.File m old)) (short : length new ≤ 1048576) where
-  -- the file's blocks are among the layer's
-  pub old_blocks : blocks_of (length old) ≤ block_count u
-  old_blocks = omega (arith, (rewrites u k m old [] ok file_is (omega arith)).blocks)
-
-  pub next_blocks : block_count u - blocks_of (length old) + blocks_of (length new) ≤ 65536 * 257
-  next_blocks = let next = rewrites u k m old new ok file_is short in omega (arith, old_blocks, next.blocks, few_blocks (with_body u k (body_kinds.File m new)) next.layer)
-
-  pub filling_planned : (f : List ℕ → List ℕ) → f old ≡ new → (usage : Usage) → usage.blocks + blocks_of (length old) ≡ block_count u + blocks_of (length new) → usage.inodes ≡ inode_count u
-      → ◌≡◌ {A = Result Planned FsError} (Ok (record { after = usage })) (planned (limited (with_content (copied_up u ls p) (number_at (copied_up u ls p) p) f)))
-  filling_planned f gives usage blocks inodes =
-      let next = rewrites u k m old new ok file_is short in
-      planned_fits (with_body u k (body_kinds.File m new)) usage (limited (with_content (copied_up u ls p) (number_at (copied_up u ls p) p) f)) next.layer (omega (arith, blocks, next.blocks)) (inodes ∙ sym next.inodes)
-      (ap limited (own_filled u ls p k m old f ok is file_is ∙ ap (λ (bs : List ℕ). with_body u k (body_kinds.File m bs)) gives))
