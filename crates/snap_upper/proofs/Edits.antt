@@ -1,12 +1,12 @@
 -- A file's bytes that change.
-use Rattle.std.proofs.Common.{◌≡◌, ℕ, ◌≤◌, List, ◌∷◌, length, Option, Some, None, refl, sym, ap, subst, ◌∙◌, arith}
+use Rattle.std.proofs.Common.{◌≡◌, ℕ, ◌≤◌, List, ◌∷◌, length, Option, Some, None, sym, ap, subst, ◌∙◌, arith}
 use Rattle.snap_path.specs.Text.{Names}
 use Rattle.snap_layer.specs.declared.node.Body.{Body}
 use Rattle.snap_layer.specs.declared.node.Body.TheVariants as body_kinds
-use Rattle.snap_layer.specs.Tree.{Tree, at, body, number_at}
+use Rattle.snap_layer.specs.Tree.{Tree, body, number_at}
 use Rattle.snap_layer.specs.Layers.{IsLayer}
 use Rattle.snap_layer.specs.Edits.{with_bytes}
-use Rattle.snap_merge.specs.Objects.{Object, file, seen, AreLayers}
+use Rattle.snap_merge.specs.Objects.{file, seen, AreLayers}
 use Rattle.snap_merge.specs.Walk.{walk}
 use Rattle.snap_copyup.specs.declared.putting.Last.TheVariants as last
 use Rattle.snap_copyup.specs.Copying.{below, copied_up, with_parents}

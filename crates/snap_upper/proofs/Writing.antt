@@ -1,5 +1,5 @@
 -- Bytes that are put into a file.
-use Rattle.std.proofs.Common.{◌≡◌, ◌⊎◌, inl, inr, ℕ, ◌+◌, ◌-◌, ◌*◌, ◌≤◌, false, List, [], ◌∷◌, length, Option, Some, None, is_some, Result, Ok, refl, sym, ap, subst, ◌∙◌, arith, ltb-false}
+use Rattle.std.proofs.Common.{◌≡◌, ◌⊎◌, inl, inr, ℕ, ◌+◌, ◌*◌, ◌≤◌, false, List, [], ◌∷◌, length, Option, Some, None, is_some, refl, sym, ap, subst, ◌∙◌, arith, ltb-false}
 use Rattle.std.specs.Prelude.{nat_lt, option_and_then}
 use Rattle.std.specs.declared.cmp.Ordering.{Ordering}
 use Rattle.std.specs.declared.cmp.Ordering.TheVariants.{Less, Equal, Greater}
@@ -23,10 +23,8 @@ use Rattle.snap_layer.proofs.Counting.{weight_of_body, inode_count-with_body, bl
 use Rattle.snap_layer.proofs.Filling.{file_there}
 use Rattle.snap_layer.proofs.Kept.{IsLayer-with_body}
 use Rattle.snap_layer.proofs.Laws.{Replaces-with_new, SetsBody-with_new}
-use Rattle.snap_usage.specs.declared.usage.Usage.{Usage}
-use Rattle.snap_merge.specs.Objects.{Object, dir, file, symlink, seen, shown_body, AreLayers}
+use Rattle.snap_merge.specs.Objects.{Object, dir, file, symlink, seen, shown_body}
 use Rattle.snap_merge.specs.Walk.{walk}
-use Rattle.snap_merge.specs.declared.error.FsError.{FsError}
 use Rattle.snap_merge.specs.declared.error.FsError.TheVariants.{TooBig}
 use Rattle.snap_merge.proofs.Views.{seen_node}
 use Rattle.snap_copyup.specs.declared.putting.Last.TheVariants as last
@@ -34,12 +32,10 @@ use Rattle.snap_copyup.specs.Copying.{copied, copied_up, with_object, with_paren
 use Rattle.snap_copyup.specs.Places.{with_last}
 use Rattle.snap_copyup.proofs.Alone.{copied_there, copied_missing, below_seen}
 use Rattle.snap_copyup.proofs.Parents.{adds_parents}
-use Rattle.snap_copyup.proofs.Wholes.{IsWholeObject, whole_seen}
 use Rattle.snap_copyup.proofs.Layers.{no_missing}
 use Rattle.snap_upper.specs.declared.op.Op.TheVariants as op
-use Rattle.snap_upper.specs.declared.planning.Planned.{Planned}
-use Rattle.snap_upper.specs.After.{limited, planned, tests, first_error, error_if, file_error, written, resized, bytes_of, with_content}
-use Rattle.snap_upper.proofs.Outcomes.{test_passes, error_if_passes, planned_fits}
+use Rattle.snap_upper.specs.After.{tests, first_error, error_if, file_error, written, resized, bytes_of, with_content}
+use Rattle.snap_upper.proofs.Outcomes.{test_passes, error_if_passes}
 
 -- the tests of a write have passed
 pub record IsWritable (s : List Tree) (p : Names) (offset : ℕ) (bytes : List ℕ) : Type 0 where

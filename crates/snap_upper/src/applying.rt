@@ -95,11 +95,7 @@ pub fn apply_within(
 }
 
 /// Does the change to the layer.
-fn perform(
-    layer: &mut Layer,
-    lowers: &[Shared],
-    change: Change<'_>,
-) -> Result<(), FsError>
+fn perform(layer: &mut Layer, lowers: &[Shared], change: Change<'_>) -> Result<(), FsError>
     requires ready { IsReady change layer.old lowers.now }
     ensures ok { OnOk result (outcome change.entry layer.old lowers.now ≡ Ok layer.new) }
     ensures error { IfErr result (λ e. (e ≡ FsError.OutOfMemory) ⊎ (outcome change.entry layer.old lowers.now ≡ Err e)) }

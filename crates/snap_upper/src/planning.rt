@@ -50,7 +50,11 @@ pub fn plan(layer: &Layer, lowers: &[Shared], op: &Op) -> Result<Planned, FsErro
 }
 
 /// How much the layer takes after the change.
-pub(crate) fn weigh(layer: &Layer, lowers: &[Shared], change: Change<'_>) -> Result<Planned, FsError>
+pub(crate) fn weigh(
+    layer: &Layer,
+    lowers: &[Shared],
+    change: Change<'_>,
+) -> Result<Planned, FsError>
     requires layers { AreLayers lowers.now }
     requires ready { IsReady change layer.now lowers.now }
     ensures { result ≡ planned (outcome change.entry layer.now lowers.now) }
@@ -88,12 +92,7 @@ fn counted_with_mode(layer: &Layer, path: &Path, mode: u32) -> Planned
 }
 
 /// How much the layer takes where what is seen at `from` gets the name `to`.
-fn plan_link(
-    layer: &Layer,
-    lowers: &[Shared],
-    from: &Path,
-    to: &Path,
-) -> Result<Planned, FsError>
+fn plan_link(layer: &Layer, lowers: &[Shared], from: &Path, to: &Path) -> Result<Planned, FsError>
     requires layers { AreLayers lowers.now }
     requires passes { first_error (tests (op.Link from.now to.now) (layer.now ∷ lowers.now)) ≡ None }
     ensures { result ≡ planned (limited (next_layer (op.Link from.now to.now) layer.now lowers.now)) }
@@ -145,11 +144,7 @@ fn seen_blocks(seen: Option<Seen<'_>>) -> u64
 
 /// How much the layer takes where what is seen at the path is taken: a name, or a directory in which
 /// nothing is seen. A whiteout is put there where a lower layer shows something.
-fn plan_erasing(
-    layer: &Layer,
-    lowers: &[Shared],
-    path: &Path,
-) -> Result<Planned, FsError>
+fn plan_erasing(layer: &Layer, lowers: &[Shared], path: &Path) -> Result<Planned, FsError>
     requires layers { AreLayers lowers.now }
     requires way { walk (layer.now ∷ lowers.now) path.now ≡ None }
     requires there { is_some (seen (layer.now ∷ lowers.now) path.now) ≡ true }
@@ -173,12 +168,7 @@ fn plan_erasing(
 
 /// How much the layer takes where what is seen at `from` moves to `to`. What stands there goes, and a
 /// whiteout is left at `from` where a lower layer shows something.
-fn plan_move(
-    layer: &Layer,
-    lowers: &[Shared],
-    from: &Path,
-    to: &Path,
-) -> Result<Planned, FsError>
+fn plan_move(layer: &Layer, lowers: &[Shared], from: &Path, to: &Path) -> Result<Planned, FsError>
     requires layers { AreLayers lowers.now }
     requires passes { first_error (tests (op.Rename from.now to.now) (layer.now ∷ lowers.now)) ≡ None }
     requires moves { is_same_name layer.now from.now to.now ≡ false }
@@ -247,12 +237,7 @@ fn file_blocks(layer: &Layer, number: u32) -> u64
 
 /// How much the layer takes where what takes so many blocks, and a file number where `numbered` says so,
 /// is put at the path, and the directories that are missing above it.
-fn plan_growth(
-    layer: &Layer,
-    path: &Path,
-    blocks: u64,
-    numbered: bool,
-) -> Result<Planned, FsError>
+fn plan_growth(layer: &Layer, path: &Path, blocks: u64, numbered: bool) -> Result<Planned, FsError>
     requires few { blocks ≤ 256 }
     requires free { IsFree (at layer.now path.now) }
     ensures { (last : Last) (lowers : List Tree) → Takes last blocks numbered → AreLayers lowers → walk (layer.now ∷ lowers) path.now ≡ None → Fits last layer.now path.now → result ≡ planned (limited (with_last last (with_parents layer.now lowers path.now) path.now)) }

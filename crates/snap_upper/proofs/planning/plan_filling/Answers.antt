@@ -1,5 +1,5 @@
 use Rattle.std.proofs.Common.{◌≡◌, ◌+◌, ◌-◌, [], Option, Some, length, sym, ap, ◌∙◌, arith}
-use Rattle.snap_layer.specs.Counts.{block_count, blocks_of}
+use Rattle.snap_layer.specs.Counts.{blocks_of}
 use Rattle.snap_layer.specs.declared.node.Body.{Body}
 use Rattle.snap_layer.specs.declared.node.Body.TheVariants as body_kinds
 use Rattle.snap_layer.specs.Edits.{with_body, with_bytes}

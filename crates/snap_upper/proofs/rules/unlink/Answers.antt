@@ -1,4 +1,4 @@
-use Rattle.std.proofs.Common.{◌≡◌, [], ◌∷◌, None, sym, subst}
+use Rattle.std.proofs.Common.{[], ◌∷◌, sym, subst}
 use Rattle.snap_merge.specs.Objects.{AreLayers}
 use Rattle.snap_copyup.proofs.Alone.{dir_seen}
 use Rattle.snap_upper.specs.declared.op.Op.TheVariants as op
