@@ -1,7 +1,6 @@
 //! The book of a store, and the values that its writers hold.
 #![tactic(auto)]
 
-mod accounts;
 mod active;
 mod asking;
 mod book;
@@ -13,14 +12,6 @@ mod open;
 mod opening;
 mod prepare;
 mod recording;
-mod slots;
-#[cfg(test)]
-mod tests;
-#[cfg(test)]
-mod tests_book;
-#[cfg(test)]
-mod tests_looking;
-mod totals;
 mod working;
 
 pub use active::{Active, Held, Sealed};
