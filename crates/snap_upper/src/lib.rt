@@ -17,6 +17,3 @@ mod renaming;
 pub use applying::apply;
 pub use op::Op;
 pub use planning::{Planned, plan};
-
-#[cfg(test)]
-mod tests;
