@@ -26,6 +26,3 @@ pub use records::{MAX_SLOTS, Records};
 pub use refusal::Refusal;
 pub use reply::Reply;
 pub use state::State;
-
-#[cfg(test)]
-mod tests;

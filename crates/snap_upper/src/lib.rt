@@ -19,6 +19,3 @@ mod rules;
 pub use applying::{apply, apply_within};
 pub use op::Op;
 pub use planning::{Planned, plan};
-
-#[cfg(test)]
-mod tests;

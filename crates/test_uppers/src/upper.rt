@@ -1,0 +1,53 @@
+use snap_layer::{Layer, Node};
+use snap_merge::FsError;
+use snap_path::Path;
+use snap_upper::{Op, Planned, apply, plan};
+use snap_usage::Usage;
+use std::test::Fail;
+
+#[test]
+fn a_directory_takes_a_block_and_an_inode(rt: HostRuntime) -> Result<(), Fail> {
+    let layer = Layer::empty(rt.alloc(), 493)?;
+    let path = Path::parse(rt.alloc(), "/d")?;
+    let answer = plan(&layer, &[], &Op::Mkdir { path, mode: 493 });
+    let after = Usage {
+        blocks: 2,
+        inodes: 2,
+    };
+    prove!(answer == Ok(Planned { after }));
+    Ok(())
+}
+
+#[test]
+fn the_root_is_there_and_no_file(rt: HostRuntime) -> Result<(), Fail> {
+    let layer = Layer::empty(rt.alloc(), 493)?;
+    let root = Op::Create {
+        path: Path::root(rt.alloc()),
+        mode: 420,
+    };
+    let create = plan(&layer, &[], &root);
+    prove!(create == Err(FsError::Exists));
+    Ok(())
+}
+
+#[test]
+fn file_numbers_end(rt: HostRuntime) -> Result<(), Fail> {
+    let layer = Layer::empty_from(rt.alloc(), 493, 4_294_967_295)?;
+    let path = Path::parse(rt.alloc(), "/f")?;
+    let answer = plan(&layer, &[], &Op::Create { path, mode: 420 });
+    prove!(answer == Err(FsError::LayerFull));
+    Ok(())
+}
+
+#[test]
+fn a_directory_is_opaque_over_a_whiteout(rt: HostRuntime) -> Result<(), Fail> {
+    let mut layer = Layer::empty(rt.alloc(), 493)?;
+    let white = Path::parse(rt.alloc(), "/w")?;
+    layer.add_whiteout(&white)?;
+    let path = white.clone()?;
+    apply(&mut layer, &[], &Op::Mkdir { path, mode: 448 })?;
+    let node = layer.at(&white);
+    let opaque = true;
+    prove!(node == Some(Node::Dir { mode: 448, opaque }));
+    Ok(())
+}
