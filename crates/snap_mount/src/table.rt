@@ -74,7 +74,7 @@ fn bind(alloc: Global, root: &str, id: u32, access: &str) -> Result<Mount, Alloc
     options.push(Text::copy_of(alloc, "rbind")?)?;
     Ok(Mount {
         kind: MountKind::Bind,
-        source: Text::from(layer_dir(alloc, "", root, id)?),
+        source: Text::from(format!(in alloc; "{root}/snapshots/{id}/fs")?),
         options,
     })
 }
@@ -120,25 +120,18 @@ fn workdir(alloc: Global, root: &str, id: u32) -> Result<Text, AllocError>
     Ok(Text::from(format!(in alloc; "workdir={root}/snapshots/{id}/work")?))
 }
 
-// The layer directory of an id, after what is written before it.
-fn layer_dir(alloc: Global, before: &str, root: &str, id: u32) -> Result<String, AllocError>
-    ensures { IfOk result (λ text. string_bytes text ≡ before.now ++ layer_dir root.now id) }
-{
-    format!(in alloc; "{before}{root}/snapshots/{id}/fs")
-}
-
 fn upperdir(alloc: Global, root: &str, id: u32) -> Result<Text, AllocError>
     ensures { IfOk result (λ text. text ≡ upperdir root.now id) }
 {
-    Ok(Text::from(layer_dir(alloc, "upperdir=", root, id)?))
+    Ok(Text::from(format!(in alloc; "upperdir={root}/snapshots/{id}/fs")?))
 }
 
 fn lowerdir(alloc: Global, root: &str, first: u32, rest: &[u32]) -> Result<Text, AllocError>
     ensures { IfOk result (λ text. text ≡ lowerdir root.now (first ∷ rest.now)) }
 {
-    let mut text = layer_dir(alloc, "lowerdir=", root, first)?;
+    let mut text = format!(in alloc; "lowerdir={root}/snapshots/{first}/fs")?;
     for id in rest {
-        let dir = layer_dir(alloc, ":", root, *id)?;
+        let dir = format!(in alloc; ":{root}/snapshots/{id}/fs")?;
         text.push_str(dir.as_str())?;
     }
     Ok(Text::from(text))
