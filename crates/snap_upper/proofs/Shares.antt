@@ -16,16 +16,9 @@ count_or none (Ok p) = p.after
 count_or none (Err x) = none
 
 -- the plan's answer is the outcome's
-pub planned_ok : (o : Outcome) (need : Usage) → planned o ≡ Ok (record { after = need }) → (t : Tree) × (o ≡ Ok t) × (count_of t ≡ need)
+planned_ok : (o : Outcome) (need : Usage) → planned o ≡ Ok (record { after = need }) → (t : Tree) × (o ≡ Ok t) × (count_of t ≡ need)
 planned_ok (Ok t) need e = (t, refl, ap (count_or need) e)
 planned_ok (Err x) need e = absurd (cc)
-
-pub planned_err : (o : Outcome) (x : FsError) → planned o ≡ Err x → o ≡ Err x
-planned_err (Ok t) x e = absurd (cc)
-planned_err (Err y) x e = ap (λ (z : FsError). Err z) (same e)
-  where
-    same : ◌≡◌ {A = Result Planned FsError} (Err y) (Err x) → y ≡ x
-    same e = cc
 
 both : (a b : Bool) → (a && b) ≡ true → (a ≡ true) × (b ≡ true)
 both true b e = (refl, e)
@@ -48,39 +41,18 @@ covers_from share need e =
 covers_is : (share need : Usage) → Covers share need → covers share need ≡ true
 covers_is share need h = λ i. is_at_most need.blocks share.blocks h.blocks i && is_at_most need.inodes share.inodes h.inodes i
 
--- the layer's count is covered, or it isn't
-pub covered : (share : Usage) (t : Tree) → Covers share (count_of t) → within_share share (Ok t) ≡ Ok t
-covered share t h = ap (λ (b : Bool). if b then Ok t else Err (NeedsCharge (count_of t))) (covers_is share (count_of t) h)
-
-pub uncovered : (share : Usage) (t : Tree) → (Covers share (count_of t) → ⊥) → within_share share (Ok t) ≡ Err (NeedsCharge (count_of t))
+-- the count isn't covered
+uncovered : (share : Usage) (t : Tree) → (Covers share (count_of t) → ⊥) → within_share share (Ok t) ≡ Err (NeedsCharge (count_of t))
 uncovered share t h = by (covers share (count_of t)) refl
   where
     by : (b : Bool) → covers share (count_of t) ≡ b → (if b then Ok t else Err (NeedsCharge (count_of t))) ≡ Err (NeedsCharge (count_of t))
     by true e = absurd (h (covers_from share (count_of t) e))
     by false e = refl
 
--- a next layer under the share is covered by it
-pub covers_next : (share : Usage) (o : Outcome) (t : Tree) → within_share share o ≡ Ok t → (o ≡ Ok t) × Covers share (count_of t)
-covers_next share (Ok u) t e = by (covers share (count_of u)) refl e
-  where
-    same : ◌≡◌ {A = Outcome} (Ok u) (Ok t) → u ≡ t
-    same e = cc
-
-    by : (b : Bool) → covers share (count_of u) ≡ b → ◌≡◌ {A = Outcome} (if b then Ok u else Err (NeedsCharge (count_of u))) (Ok t) → (◌≡◌ {A = Outcome} (Ok u) (Ok t)) × Covers share (count_of t)
-    by true is e = (e, subst (λ (x : Tree). Covers share (count_of x)) (same e) (covers_from share (count_of u) is))
-    by false is e = absurd (cc)
-covers_next share (Err x) t e = absurd (cc)
-
-module _ (share : Usage) (o : Outcome) (need : Usage) (plan : planned o ≡ Ok (record { after = need })) where
-  pub share_covers : Covers share need → within_share share o ≡ o
-  share_covers h =
-      let next = planned_ok o need plan in
-      ap (within_share share) next.1 ∙ covered share next.0 (subst (Covers share) (sym next.2) h) ∙ sym next.1
-
-  pub share_needs : (Covers share need → ⊥) → within_share share o ≡ Err (NeedsCharge need)
-  share_needs h =
-      let next = planned_ok o need plan in
-      ap (within_share share) next.1 ∙ uncovered share next.0 (λ c. h (subst (Covers share) next.2 c)) ∙ ap (λ (x : Usage). Err (NeedsCharge x)) next.2
+share_needs : (share : Usage) (o : Outcome) (need : Usage) → planned o ≡ Ok (record { after = need }) → (Covers share need → ⊥) → within_share share o ≡ Err (NeedsCharge need)
+share_needs share o need plan h =
+    let next = planned_ok o need plan in
+    ap (within_share share) next.1 ∙ uncovered share next.0 (λ c. h (subst (Covers share) next.2 c)) ∙ ap (λ (x : Usage). Err (NeedsCharge x)) next.2
 
 -- so much is asked for exactly where it is the next layer's count and the share doesn't cover it
 needed : (share : Usage) (o : Outcome) (need : Usage) → (o ≡ Err (NeedsCharge need) → ⊥) → within_share share o ≡ Err (NeedsCharge need) → (planned o ≡ Ok (record { after = need })) × (Covers share need → ⊥)
