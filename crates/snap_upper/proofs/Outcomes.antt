@@ -5,7 +5,6 @@ use Rattle.std.proofs.lemmas.Bool.Decides.{nat_tests}
 use Rattle.snap_layer.specs.declared.error.LayerError.{LayerError}
 use Rattle.snap_layer.specs.declared.error.LayerError.TheVariants as layer_errors
 use Rattle.snap_merge.specs.Errors.{OfLayer}
-use Rattle.snap_merge.specs.Walk.{Answers}
 use Rattle.snap_layer.specs.Tree.{Tree}
 use Rattle.snap_layer.specs.Counts.{is_within, inode_count, block_count}
 use Rattle.snap_layer.specs.Layers.{IsLayer}
@@ -93,8 +92,3 @@ stack_passes op s z is passes = sym (passes ∙ ap (λ (x : List Tree). first_er
 pub edit_refused : (x : LayerError) (e : FsError) (t : Tree) → OfLayer x e → (x ≡ layer_errors.LayerFull → is_within t ≡ false) → (e ≡ OutOfMemory) ⊎ (limited t ≡ Err e)
 edit_refused layer_errors.LayerFull e t of full = inr (limited_full t (full refl) ∙ ap (λ (y : FsError). Err y) (sym of))
 edit_refused layer_errors.OutOfMemory e t of full = inl of
-
--- an answer that is due
-pub answers_same : {A : Type 0} (due r : Result A FsError) → r ≡ due → Answers due r
-answers_same due (Ok a) is = sym is
-answers_same due (Err e) is = inr (sym is)

@@ -1,4 +1,4 @@
--- No operation of a layer answers NeedsCharge, and no plan: the error is that of an open snapshot.
+-- No operation answers NeedsCharge of its own: the error is that of a share that is too small.
 use Rattle.std.proofs.Common.{◌≡◌, Bool, true, false, List, [], ◌∷◌, ◌++◌, Option, Some, None, Ok, Err}
 use Rattle.std.specs.Prelude.{ℕ, ◌+◌, ◌&&◌, ◌||◌, not, nat_lt, length, is_some, if◌then◌else◌}
 use Rattle.snap_path.specs.Text.{Names}
@@ -12,7 +12,7 @@ use Rattle.snap_merge.specs.Walk.{walk, walk_from, walk_on}
 use Rattle.snap_copyup.specs.Copying.{is_pure}
 use Rattle.snap_upper.specs.declared.op.Op.{Op}
 use Rattle.snap_upper.specs.declared.op.Op.TheVariants.{Mkdir, Create, Write, Truncate, SetMode, Symlink, Link, Unlink, Rmdir, Rename}
-use Rattle.snap_upper.specs.After.{Outcome, after, tests, first_error, error_if, file_error, mode_error, name_error, dir_error, link_error, kind_error, is_no_target, is_root, has_names, is_same_name, is_too_long, move_tests, unless, limited, next_layer, planned}
+use Rattle.snap_upper.specs.After.{Outcome, after, tests, first_error, error_if, file_error, mode_error, name_error, dir_error, link_error, kind_error, is_no_target, is_root, has_names, is_same_name, is_too_long, move_tests, unless, limited, next_layer}
 
 module _ (need : Usage) where
   -- ---- tests
@@ -175,11 +175,3 @@ module _ (need : Usage) where
 
   pub after_needs_none : (op : Op) (u : Tree) (lowers : List Tree) → after op u lowers ≡ Err (NeedsCharge need) → ⊥
   after_needs_none op u lowers = no_outcome (first_error (tests op (u ∷ lowers))) (limited (next_layer op u lowers)) (no_test op (u ∷ lowers)) (no_limited (next_layer op u lowers))
-
-  -- nor is it the error of a plan
-  pub planned_needs_none : (op : Op) (u : Tree) (lowers : List Tree) → planned (after op u lowers) ≡ Err (NeedsCharge need) → ⊥
-  planned_needs_none op u lowers = by (after op u lowers) (after_needs_none op u lowers)
-    where
-      by : (a : Outcome) → (a ≡ Err (NeedsCharge need) → ⊥) → planned a ≡ Err (NeedsCharge need) → ⊥
-      by (Ok t) never e = cc
-      by (Err x) never e = never (cc)

@@ -1,4 +1,4 @@
-// Operations that are done.
+// An operation that is done on the upper layer.
 ghost use Rattle.std.specs.Prelude.{◌≡◌, ◌⊎◌, ◌∷◌, OnOk, OnErr, IfErr, Ok, Err, false};
 ghost use Rattle.snap_usage.specs.Counted.{count_of, Covers};
 ghost use Rattle.snap_merge.specs.declared.error.FsError.{FsError};
@@ -47,10 +47,11 @@ use snap_usage::Usage;
 /// - `OutOfMemory`: a growth was refused, which may be found before `LayerFull` is.
 ///
 /// After any of them the layer is as it was. Cost: for each name of the path a look through the layers,
-/// and for a write the bytes of the file, and for a link or a rename those of a lower file; for a rename
-/// also the texts of the layer's paths. A link to a directory that the layer lacks is done on a copy of the
-/// layer, which takes as much memory, and the time to copy all its bytes. So is a link of a lower file to
-/// a layer that is full, or nearly; and a rename of a lower object, or to a directory that the layer lacks.
+/// and the bytes of a file that is written, cut or copied up; for a rename also the texts of the layer's
+/// paths, and for a directory that is removed or replaced the list of its names. A link to a directory
+/// that the layer lacks is done on a copy of the layer, which takes as much memory, and the time to copy
+/// all its bytes. So is a link of a lower file to a layer that is full, or nearly; and a rename of a lower
+/// object, or to a directory that the layer lacks.
 pub fn apply(layer: &mut Layer, lowers: &[Shared], op: &Op) -> Result<(), FsError>
     ensures ok { OnOk result (after op.now layer.old lowers.now ≡ Ok layer.new) }
     ensures error { IfErr result (λ e. (e ≡ FsError.OutOfMemory) ⊎ (after op.now layer.old lowers.now ≡ Err e)) }

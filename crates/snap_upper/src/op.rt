@@ -1,11 +1,15 @@
+ghost use Rattle.std.specs.Prelude.{◌≡◌, IfOk};
+ghost use Rattle.snap_upper.specs.declared.op.Op.TheVariants as op;
+
 use snap_layer::Bytes;
 use snap_path::Path;
+use std::alloc::AllocError;
 
 /// An operation on one file or directory of a stack of layers. It changes the upper layer alone.
 ///
 /// Modes are permission bits, at most octal 7777, and are taken as given: there is no umask, and a
 /// parent's set-group-ID bit isn't inherited. No mode refuses an operation.
-#[derive(Clone, Debug, Drop)]
+#[derive(Debug, Drop)]
 pub enum Op {
     /// Makes a directory (mkdir(2)). It is opaque exactly where it takes the place of a whiteout, so
     /// that what the whiteout hid stays hidden (overlayfs.rst, "whiteouts and opaque directories").
@@ -70,4 +74,80 @@ pub enum Op {
         from: Path,
         to: Path,
     },
+}
+
+impl Clone for Op {
+    ghost is_clone = { λ a b. b ≡ a };
+
+    fn clone(&self) -> Result<Op, AllocError> {
+        Ok(match self {
+            Op::Mkdir { path, mode } => Op::Mkdir {
+                path: path.clone()?,
+                mode: *mode,
+            },
+            Op::Create { path, mode } => Op::Create {
+                path: path.clone()?,
+                mode: *mode,
+            },
+            Op::Write {
+                path,
+                offset,
+                bytes,
+            } => clone_write(path, *offset, bytes)?,
+            Op::Truncate { path, size } => Op::Truncate {
+                path: path.clone()?,
+                size: *size,
+            },
+            Op::SetMode { path, mode } => Op::SetMode {
+                path: path.clone()?,
+                mode: *mode,
+            },
+            Op::Symlink { path, target } => clone_symlink(path, target)?,
+            Op::Link { from, to } => clone_link(from, to)?,
+            Op::Unlink { path } => Op::Unlink {
+                path: path.clone()?,
+            },
+            Op::Rmdir { path } => Op::Rmdir {
+                path: path.clone()?,
+            },
+            Op::Rename { from, to } => clone_rename(from, to)?,
+        })
+    }
+}
+
+fn clone_write(path: &Path, offset: u64, bytes: &Bytes) -> Result<Op, AllocError>
+    ensures { IfOk result (λ copy. copy ≡ op.Write path.now offset bytes.now) }
+{
+    Ok(Op::Write {
+        path: path.clone()?,
+        offset,
+        bytes: bytes.clone()?,
+    })
+}
+
+fn clone_symlink(path: &Path, target: &Bytes) -> Result<Op, AllocError>
+    ensures { IfOk result (λ copy. copy ≡ op.Symlink path.now target.now) }
+{
+    Ok(Op::Symlink {
+        path: path.clone()?,
+        target: target.clone()?,
+    })
+}
+
+fn clone_link(from: &Path, to: &Path) -> Result<Op, AllocError>
+    ensures { IfOk result (λ copy. copy ≡ op.Link from.now to.now) }
+{
+    Ok(Op::Link {
+        from: from.clone()?,
+        to: to.clone()?,
+    })
+}
+
+fn clone_rename(from: &Path, to: &Path) -> Result<Op, AllocError>
+    ensures { IfOk result (λ copy. copy ≡ op.Rename from.now to.now) }
+{
+    Ok(Op::Rename {
+        from: from.clone()?,
+        to: to.clone()?,
+    })
 }

@@ -1,10 +1,8 @@
-use Rattle.std.proofs.Common.{◌≡◌, ◌↔◌, List, ◌∷◌, Result, Ok, IsErrOf, ap, subst, ◌∙◌}
+use Rattle.std.proofs.Common.{◌≡◌, ◌↔◌, List, ◌∷◌, Ok, IsErrOf, ap, subst, ◌∙◌}
 use Rattle.snap_layer.specs.Tree.{Tree}
 use Rattle.snap_usage.specs.declared.usage.Usage.{Usage}
 use Rattle.snap_usage.specs.Counted.{Covers}
-use Rattle.snap_merge.specs.declared.error.FsError.{FsError}
 use Rattle.snap_merge.specs.declared.error.FsError.TheVariants.{NeedsCharge}
-use Rattle.snap_upper.specs.declared.planning.Planned.{Planned}
 use Rattle.snap_upper.specs.After.{Outcome, after, planned, lists_names}
 use Rattle.snap_upper.proofs.Shares.{needs_exactly}
 use Rattle.snap_upper.proofs.Uncharged.{after_needs_none}
