@@ -1,5 +1,6 @@
 pub mod Slots
 pub mod Totals
 pub mod Accounts
+pub mod Charged
 pub mod Vacant
 pub mod Entries

@@ -8,6 +8,7 @@ ghost use Rattle.snap_call.specs.Step.{charge as charge_step, trim as trim_step,
 ghost use Rattle.snap_call.specs.declared.call.Given.TheVariants.{Count};
 ghost use Rattle.snap_call.specs.declared.reply.Reply.TheVariants.{Charged, Trimmed, Discarded, Refused};
 ghost use Rattle.snap_call.specs.declared.refusal.Refusal.TheVariants.{OverLimit};
+ghost use Rattle.snap_accounts.specs.Charged.{IsCharged};
 ghost use Rattle.snap_accounts.specs.Totals.{place_if, fits_in, granted_in};
 
 use crate::accounts::Accounts;
@@ -121,11 +122,7 @@ impl<N: StoreName> Accounts<N> {
 
     // Charges the slot so.
     fn recharge(&mut self, share: &mut Share<N>, place: usize, to: Usage)
-        requires slot { share.old.slot < 64 }
-        requires met { Meets (charge_at share.old.slot self.old.records) share.old }
-        requires place { place ≡ place_if (active_at share.old.slot self.old.records) }
-        requires low { place < length self.old.namespaces }
-        requires held { Covers (charge_of place self.old.records) share.old.usage }
+        requires charged { IsCharged self.old place share.old }
         requires fits { fits_in self.old place share.old.usage to ≡ true }
         requires covers { CoversOne to }
         requires entries { self.old.entries < 2 ^ 63 }

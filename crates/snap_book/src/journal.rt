@@ -1,11 +1,11 @@
 // The journal of a round.
-ghost use Rattle.std.specs.Prelude.{◌≡◌, ◌↔◌, ◌<◌, ◌≤◌, ◌+◌, ◌++◌, ◌∷◌, [], length, None, Some, OnOk, IfErr, IsErrOf};
+ghost use Rattle.std.specs.Prelude.{◌≡◌, ◌↔◌, ◌<◌, ◌≤◌, ◌+◌, ◌++◌, ◌∷◌, [], length, None, Some, OnOk, IfErr, IsErrOf, IsTrue};
 ghost use Rattle.snap_call.specs.declared.refusal.Refusal.TheVariants.{JournalFull};
 ghost use Rattle.snap_accounts.specs.Entries.{IsUnrecorded};
 
 use crate::opening::Opening;
 use snap_call::{Entry, Refusal};
-use std::alloc::Global;
+use std::alloc::{AllocError, Global};
 use std::marker::Model;
 
 // The entries of a round, the state that it began at, the most entries, and a copy of the last entry
@@ -44,6 +44,25 @@ impl Journal {
         }
     }
 
+    // The limit is below so many entries more beside one for each open snapshot.
+    fn is_full(&self, owed: u64, more: u64) -> bool
+        requires { length self.now.entries + owed ≤ self.now.limit }
+        ensures { IsTrue result ↔ (self.now.limit < length self.now.entries + owed + more) }
+    {
+        let taken = self.entries.len() as u64 + owed;
+        self.limit - taken < more
+    }
+
+    // Makes room for so many entries more.
+    fn reserve(&mut self, owed: u64, more: u64) -> Result<(), AllocError>
+        requires { length self.old.entries + owed + more ≤ self.old.limit }
+        ensures room { OnOk result (owed + more ≤ self.new.room) }
+        ensures more { self.old.room ≤ self.new.room }
+        ensures same { self.new ≡ record self.old { room = self.new.room } }
+    {
+        self.entries.reserve((owed + more) as usize)
+    }
+
     // Lets in so many entries more beside one for each open snapshot, and makes room for all of them.
     // It is `JournalFull` where the limit is below that, and else `OutOfMemory` where there is no memory.
     pub(crate) fn admit(&mut self, owed: u64, more: u64) -> Result<(), Refusal>
@@ -55,14 +74,13 @@ impl Journal {
         ensures same { self.new ≡ record self.old { room = self.new.room } }
         ensures err { IfErr result IsUnrecorded }
     {
-        let taken = self.entries.len() as u64 + owed;
-        if self.limit - taken < more {
+        if self.is_full(owed, more) {
             return Err(Refusal::JournalFull);
         }
-        if self.entries.reserve((owed + more) as usize).is_err() {
-            return Err(Refusal::OutOfMemory);
+        match self.reserve(owed, more) {
+            Ok(()) => Ok(()),
+            Err(_) => Err(Refusal::OutOfMemory),
         }
-        Ok(())
     }
 
     // One entry more, and its copy. It takes no memory.

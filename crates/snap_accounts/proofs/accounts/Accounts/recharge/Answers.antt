@@ -20,11 +20,11 @@ invariant_of-self g c =
     let s = c.self.inside.state in
     let slot = c.args.share.now.slot in
     let to : Usage = c.args.to in
-    let found = charge_at-issued slot s.records (ap (λ (u : State). (charge_at slot u.records).issued) c.self.view_is ∙ c.requires.met.0) in
+    let found = charge_at-issued slot s.records (ap (λ (u : State). (charge_at slot u.records).issued) c.self.view_is ∙ c.requires.charged.met.0) in
     let r : Record = found.0 in
     let e : active_at slot s.records ≡ Some r = found.1 in
-    let held : usage_of r.content ≡ c.args.share.now.usage = found.3 ∙ (ap (λ (u : State). (charge_at slot u.records).usage) c.self.view_is ∙ c.requires.met.2) in
-    let place : c.args.place ≡ r.namespace = c.requires.place ∙ (ap (λ (u : State). place_if (active_at slot u.records)) (sym c.self.view_is) ∙ ap place_if e) in
+    let held : usage_of r.content ≡ c.args.share.now.usage = found.3 ∙ (ap (λ (u : State). (charge_at slot u.records).usage) c.self.view_is ∙ c.requires.charged.met.2) in
+    let place : c.args.place ≡ r.namespace = c.requires.charged.namespace ∙ (ap (λ (u : State). place_if (active_at slot u.records)) (sym c.self.view_is) ∙ ap place_if e) in
     let total : c.total.result ≡ charge_of r.namespace s.records = c.total.ensures.total ∙ (λ i. charge_of (place i) (sym c.self.view_is i).records) in
     let rest : c.difference-rest.result ≡ minus (charge_of r.namespace s.records) (usage_of r.content) = c.difference-rest.ensures ∙ (λ i. minus (total i) ((c.held.ensures.held ∙ sym held) i)) in
     let after : c.sum-after.result ≡ charge_with r to s.records = c.sum-after.ensures ∙ ap (λ (u : Usage). plus u to) rest in
@@ -34,7 +34,7 @@ invariant_of-self g c =
     let good = good_recharged slot to s r c.self.invariant.good e room in
     accounts_recharged s _ c.self.inside.totals _ c.self.inside.slots _ c.self.inside.opened slot to r c.self.invariant
     (subst (λ (l : List Record). Good (record s { records = l; entries = s.entries + 1 })) (sym is) good)
-    e c.requires.slot refl is
+    e c.requires.charged.low refl is
     (ap open_count is ∙ open_count-recharged slot to s.records)
     (c.set-2.ensures ∙ (λ i. set c.self.inside.totals (place i) (after i)))
     c.set.ensures.charges
