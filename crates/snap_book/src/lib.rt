@@ -14,12 +14,6 @@ mod opening;
 mod prepare;
 mod recording;
 mod slots;
-#[cfg(test)]
-mod tests;
-#[cfg(test)]
-mod tests_book;
-#[cfg(test)]
-mod tests_looking;
 mod totals;
 mod working;
 
