@@ -1,5 +1,5 @@
 -- A commit of an open snapshot.
-use Rattle.std.proofs.Common.{◌≡◌, ℕ, List, None, Some, sym, ap, ◌∙◌, subst}
+use Rattle.std.proofs.Common.{◌≡◌, ℕ, None, sym, ap, ◌∙◌, subst}
 use Rattle.snap_usage.specs.declared.usage.Usage.{Usage}
 use Rattle.snap_usage.specs.Counted.{count_of}
 use Rattle.snap_call.specs.declared.entry.Entry.{Entry}
@@ -11,20 +11,9 @@ use Rattle.snap_call.specs.declared.call.Given.TheVariants.{Layer}
 use Rattle.snap_call.specs.Step.{commit_as, step, IsAllowed, IsCovered}
 use Rattle.snap_book.specs.Active.{ActiveValue}
 use Rattle.std.specs.Prelude.{Option}
-use Rattle.std.specs.Option.{MatchOption}
 use Rattle.snap_layer.specs.Tree.{Tree}
 use Rattle.snap_record.specs.Labels.{Bytes}
-use Rattle.snap_record.specs.declared.record.Record.{Record}
-use Rattle.snap_call.specs.Records.{active_at, with_record, without_slot, committed_as}
-
--- the records after a commit, where the slot is open
-pub commits : (k slot : ℕ) (name : Bytes) (layer : Tree) (number : ℕ) (rs ts : List Record) (r : Record) → k ≡ slot → active_at slot rs ≡ Some r
-    → MatchOption (active_at k rs) (ts ≡ rs) (λ t. ts ≡ with_record (committed_as name layer number t) (without_slot k rs))
-    → ts ≡ with_record (committed_as name layer number r) (without_slot slot rs)
-commits k slot name layer number rs ts r same e h =
-    let P : ℕ → Type 0 = λ j. MatchOption (active_at j rs) (ts ≡ rs) (λ t. ts ≡ with_record (committed_as name layer number t) (without_slot j rs)) in
-    let Q : Option Record → Type 0 = λ o. MatchOption o (ts ≡ rs) (λ t. ts ≡ with_record (committed_as name layer number t) (without_slot slot rs)) in
-    subst Q e (subst P same h)
+use Rattle.snap_call.specs.Records.{active_at}
 
 -- the step of a granted commit, where the book has the state s and the snapshot the value v
 pub settled : (b s t : State) (e : Entry) (a v : ActiveValue) (name : Bytes) (u : Usage) → s ≡ b → v ≡ a

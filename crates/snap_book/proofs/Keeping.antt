@@ -16,7 +16,8 @@ use Rattle.snap_call.specs.declared.call.Given.TheVariants.{Nothing}
 use Rattle.std.proofs.Common.{Bool}
 use Rattle.std.proofs.lemmas.Bool.{lt-ltb}
 use Rattle.std.specs.Prelude.{if◌then◌else◌}
-use Rattle.snap_book.specs.Book.{JournalValue, BookValue, Kept, Recorded, RefusedBy, IsRecorded}
+use Rattle.snap_accounts.specs.Entries.{IsRecorded}
+use Rattle.snap_book.specs.Book.{JournalValue, BookValue, Kept, Recorded, RefusedBy}
 use Rattle.snap_call.proofs.Replaying.{replays_step, step-entries}
 
 -- a call that is recorded: j has room made as m, and then the entry as k

@@ -1,5 +1,3 @@
-pub mod Rows
-pub mod Accounting
 pub mod Keeping
 pub mod Rooted
 pub mod Preparing

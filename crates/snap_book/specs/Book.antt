@@ -1,9 +1,6 @@
 -- What holds of a book whenever no call is under way, and what a recorded call makes of it.
-use Rattle.std.specs.Prelude.{◌≡◌, ℕ, ◌+◌, ◌<◌, ◌≤◌, ◌^◌, List, [], ◌∷◌, ◌++◌, Option, Some, slice_get, length, Result, Ok, Err}
-use Rattle.snap_usage.specs.declared.usage.Usage.{Usage}
-use Rattle.snap_ledger.specs.States.{ChargeState}
+use Rattle.std.specs.Prelude.{◌≡◌, ℕ, ◌+◌, ◌≤◌, ◌^◌, List, [], ◌∷◌, ◌++◌, Option, Some, length, Result, Ok, Err}
 use Rattle.snap_call.specs.declared.call.Call.{Call}
-use Rattle.snap_call.specs.declared.call.Call.TheVariants as calls
 use Rattle.snap_call.specs.declared.call.Given.{Given}
 use Rattle.snap_call.specs.declared.entry.Entry.{Entry}
 use Rattle.snap_call.specs.declared.refusal.Refusal.{Refusal}
@@ -11,9 +8,8 @@ use Rattle.snap_call.specs.declared.refusal.Refusal.TheVariants.{BadArgument, No
 use Rattle.snap_call.specs.declared.reply.Reply.{Reply}
 use Rattle.snap_call.specs.declared.reply.Reply.TheVariants.{Opened, Prepared, Charged, Trimmed, Committed, Discarded, Info, Usage as UsageReply, Refused}
 use Rattle.snap_call.specs.declared.state.State.{State}
-use Rattle.snap_call.specs.Good.{Good}
 use Rattle.snap_call.specs.Journal.{entry, Replays}
-use Rattle.snap_call.specs.Records.{charge_of, charge_at, open_count}
+use Rattle.snap_call.specs.Records.{open_count}
 use Rattle.snap_call.specs.Step.{step, IsAllowed}
 
 -- what clauses see of the journal: its entries, the state that it began at, the most entries, the copy of the last entry until it is taken, and for how many entries more it has memory
@@ -80,54 +76,6 @@ abbrev pub IsRefusedWith : {X Y : Type 0} → Result X (Refusal × Y) → Refusa
 IsRefusedWith (Ok x) why = ⊥
 IsRefusedWith (Err back) why = back.0 ≡ why
 
--- a refusal that leaves no entry
-abbrev pub IsUnrecorded : Refusal → Type 0
-IsUnrecorded JournalFull = Unit {0}
-IsUnrecorded OutOfMemory = Unit {0}
-IsUnrecorded BadArgument = ⊥
-IsUnrecorded NoNamespace = ⊥
-IsUnrecorded NotFound = ⊥
-IsUnrecorded AlreadyExists = ⊥
-IsUnrecorded NotCommitted = ⊥
-IsUnrecorded NotActive = ⊥
-IsUnrecorded HasChildren = ⊥
-IsUnrecorded InUse = ⊥
-IsUnrecorded Leased = ⊥
-IsUnrecorded NoLease = ⊥
-IsUnrecorded LeaseExists = ⊥
-IsUnrecorded TooDeep = ⊥
-IsUnrecorded TooManyActives = ⊥
-IsUnrecorded (OverLimit blocks inodes) = ⊥
-IsUnrecorded BelowCharge = ⊥
-IsUnrecorded NumbersSpent = ⊥
-
--- a refusal that is recorded
-abbrev pub IsRecorded : Refusal → Type 0
-IsRecorded why = IsUnrecorded why → ⊥
-
--- a reply that can stand in an entry
-abbrev pub IsInEntry : Reply → Type 0
-IsInEntry (Refused why) = IsRecorded why
-IsInEntry Opened = Unit {0}
-IsInEntry (Prepared id slot chain) = Unit {0}
-IsInEntry (Charged now) = Unit {0}
-IsInEntry Trimmed = Unit {0}
-IsInEntry (Committed id usage) = Unit {0}
-IsInEntry (Discarded usage) = Unit {0}
-IsInEntry (Info info) = Unit {0}
-IsInEntry (UsageReply usage) = Unit {0}
-
--- a call that asks, and changes nothing but the journal
-abbrev pub Asks : Call → Type 0
-Asks calls.Session = ⊥
-Asks (calls.Prepare namespace key parent labels) = ⊥
-Asks (calls.Charge slot id need want) = ⊥
-Asks (calls.Trim slot id) = ⊥
-Asks (calls.Commit slot id name lease) = ⊥
-Asks (calls.Discard slot id) = ⊥
-Asks (calls.Stat namespace key) = Unit {0}
-Asks (calls.Usage namespace key) = Unit {0}
-
 -- the entries lead from the opening state to this one; each open snapshot has an entry left for its end, and the memory for it; entries are counted from the opening state's, and their numbers stay below 2^62
 pub record Kept (s : State) (j : JournalValue) : Type 0 where
   pub replays : Replays j.opening j.entries s
@@ -135,11 +83,3 @@ pub record Kept (s : State) (j : JournalValue) : Type 0 where
   pub room : open_count s.records ≤ j.room
   pub numbered : s.entries ≡ j.opening.entries + length j.entries
   pub numbers : j.opening.entries + j.limit ≤ 2 ^ 62
-
--- what is kept beside the state agrees with it: a total for each namespace, which is its charge; the charge of each slot; and the number of open snapshots
-pub record AreAccounts (s : State) (totals : List Usage) (charges : List ChargeState) (opened : ℕ) : Type 0 where
-  pub good : Good s
-  pub count : length totals ≡ length s.namespaces
-  pub totals_are : (place : ℕ) → place < length s.namespaces → slice_get totals place ≡ Some (charge_of place s.records)
-  pub charges_are : (slot : ℕ) → slot < 64 → slice_get charges slot ≡ Some (charge_at slot s.records)
-  pub open_are : opened ≡ open_count s.records

@@ -1,8 +1,6 @@
-pub mod Slots
 pub mod Said
 pub mod Asking
 pub mod Book
-pub mod Totals
 pub mod Active
 pub mod Held
 pub mod Working

@@ -1,91 +1,20 @@
-// What is asked of a snapshot, and a session more.
-ghost use Rattle.std.specs.Prelude.{◌≡◌, ◌<◌, ◌≤◌, ◌+◌, ◌^◌, ◌↔◌, length, IfOk, IfErr};
-ghost use Rattle.snap_record.specs.Records.{info_of, usage_of};
-ghost use Rattle.snap_record.specs.declared.record.Record.{Record};
+// What is asked of a snapshot.
+ghost use Rattle.std.specs.Prelude.{◌≡◌, ◌≤◌, ◌+◌, ◌↔◌, length};
 ghost use Rattle.std.specs.Option.{option_map};
 ghost use Rattle.snap_call.specs.Records.{charge_of, open_count};
 ghost use Rattle.snap_call.specs.State.{place_of};
-ghost use Rattle.snap_call.specs.Step.{ask, counted, refused, step};
 ghost use Rattle.snap_call.specs.declared.call.Given.TheVariants.{Nothing};
 ghost use Rattle.snap_call.specs.declared.refusal.Refusal.TheVariants.{JournalFull};
-ghost use Rattle.snap_call.specs.declared.reply.Reply.{Reply};
 ghost use Rattle.snap_call.specs.declared.reply.Reply.TheVariants as replies;
+ghost use Rattle.snap_accounts.specs.Entries.{Asks};
 ghost use Rattle.snap_book.specs.Asking.{slot_of};
-ghost use Rattle.snap_book.specs.Book.{AnsweredBy, Asks, IsInEntry, IsRecorded};
+ghost use Rattle.snap_book.specs.Book.{AnsweredBy};
 
-use crate::accounts::Accounts;
 use crate::book::Book;
-use snap_call::{Call, Given, Refusal, Reply, is_key};
+use snap_call::{Call, Given, Refusal, Reply};
 use snap_ledger::StoreName;
-use snap_record::{Content, Record};
+use snap_record::Content;
 use snap_usage::Usage;
-use std::alloc::AllocError;
-
-impl<N: StoreName> Accounts<N> {
-    // The snapshot of the namespace that has this key.
-    pub(crate) fn find(&self, namespace: &str, key: &str) -> Result<&Record, Refusal>
-        ensures found { IfOk result (λ r. (f : Record → Reply) → ask self.now f namespace.now key.now ≡ (counted self.now, f r.now)) }
-        ensures recorded { IfErr result IsRecorded }
-        ensures refused { IfErr result (λ why. (f : Record → Reply) → ask self.now f namespace.now key.now ≡ refused self.now why) }
-    {
-        if !is_key(key) {
-            return Err(Refusal::BadArgument);
-        }
-        let state = self.state();
-        let Some(place) = state.place_of(namespace) else {
-            return Err(Refusal::NoNamespace);
-        };
-        match state.records.record_at(place, key) {
-            Some(record) => Ok(record),
-            None => Err(Refusal::NotFound),
-        }
-    }
-
-    // The reply with its info.
-    fn stat(&self, namespace: &str, key: &str) -> Result<Reply, AllocError>
-        ensures reply { IfOk result (λ r. ask self.now (λ x. replies.Info (info_of x)) namespace.now key.now ≡ (counted self.now, r)) }
-        ensures recorded { IfOk result IsInEntry }
-    {
-        match self.find(namespace, key) {
-            Ok(record) => Ok(Reply::Info(record.info()?)),
-            Err(why) => Ok(Reply::Refused(why)),
-        }
-    }
-
-    // The reply with what it is charged.
-    fn usage(&self, namespace: &str, key: &str) -> Reply
-        ensures reply { ask self.now (λ x. replies.Usage (usage_of x.content)) namespace.now key.now ≡ (counted self.now, result) }
-        ensures recorded { IsInEntry result }
-    {
-        match self.find(namespace, key) {
-            Ok(record) => Reply::Usage(record.content.usage()),
-            Err(why) => Reply::Refused(why),
-        }
-    }
-
-    // The reply to a call that asks.
-    fn reply_to(&self, call: &Call) -> Result<Reply, AllocError>
-        requires { Asks call.now }
-        ensures reply { IfOk result (λ r. step self.now call.now Nothing ≡ (counted self.now, r)) }
-        ensures recorded { IfOk result IsInEntry }
-    {
-        match call {
-            Call::Stat { namespace, key } => self.stat(namespace.as_str(), key.as_str()),
-            Call::Usage { namespace, key } => Ok(self.usage(namespace.as_str(), key.as_str())),
-            _ => Err(AllocError),
-        }
-    }
-
-    // One session more.
-    pub(crate) fn open_session(&mut self)
-        requires sessions { self.old.sessions < 65536 }
-        requires entries { self.old.entries < 2 ^ 63 }
-        ensures { self.new ≡ record self.old { sessions = self.old.sessions + 1; entries = self.old.entries + 1 } }
-    {
-        self.state.sessions += 1;
-        self.state.entries += 1;
-    }
-}
 
 impl<N: StoreName> Book<N> {
     /// Answers `Stat` or `Usage` (containerd's `Snapshotter.Stat` and `Snapshotter.Usage`): the info of
@@ -100,7 +29,7 @@ impl<N: StoreName> Book<N> {
         ensures answered { AnsweredBy self.old self.new session call Nothing result }
         ensures full { (result ≡ replies.Refused JournalFull) ↔ (self.old.limit ≤ length self.old.journal + open_count self.old.state.records) }
     {
-        if let Err(why) = self.journal.admit(self.accounts.open(), 1) {
+        if let Err(why) = self.journal.admit(self.accounts.open_slots(), 1) {
             return Reply::Refused(why);
         }
         let Ok(reply) = self.accounts.reply_to(&call) else {

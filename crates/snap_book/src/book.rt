@@ -11,10 +11,10 @@ ghost use Rattle.snap_call.specs.declared.refusal.Refusal.TheVariants.{JournalFu
 ghost use Rattle.snap_book.specs.Book.{Recorded, RefusedBy};
 ghost use Rattle.snap_book.specs.Held.{share_of};
 
-use crate::accounts::Accounts;
 use crate::active::{Active, Held};
 use crate::entries::{charge_entry, discard_entry, refused_charge_entry, trim_entry};
 use crate::journal::Journal;
+use snap_accounts::Accounts;
 use snap_call::{Entry, Refusal};
 use snap_ledger::StoreName;
 use snap_record::Record;
@@ -62,7 +62,7 @@ impl<N: StoreName> Book<N> {
         ensures same { IfErr result (λ why. active.new ≡ active.old) }
         ensures full { IsErrOf result JournalFull ↔ (self.old.limit ≤ length self.old.journal + open_count self.old.state.records) }
     {
-        self.journal.admit(self.accounts.open(), 1)?;
+        self.journal.admit(self.accounts.open_slots(), 1)?;
         let slot = active.share.slot();
         let id = active.share.id();
         match self.accounts.charge(&mut active.share, need, want) {
@@ -97,7 +97,7 @@ impl<N: StoreName> Book<N> {
         ensures same { IfErr result (λ why. active.new ≡ active.old) }
         ensures full { IsErrOf result JournalFull ↔ (self.old.limit ≤ length self.old.journal + open_count self.old.state.records) }
     {
-        self.journal.admit(self.accounts.open(), 1)?;
+        self.journal.admit(self.accounts.open_slots(), 1)?;
         let slot = active.share.slot();
         let id = active.share.id();
         let count = active.count();
@@ -156,7 +156,7 @@ impl<N: StoreName> Book<N> {
     pub fn open_slots(&self) -> u64
         ensures { result ≡ open_count self.now.state.records }
     {
-        self.accounts.open()
+        self.accounts.open_slots()
     }
 
     /// How many sessions were opened in the round. Takes no memory. The cost is constant.

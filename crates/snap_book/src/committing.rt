@@ -12,18 +12,19 @@ ghost use Rattle.snap_call.specs.Step.{step, IsAllowed};
 ghost use Rattle.snap_call.specs.declared.call.Call.TheVariants as calls;
 ghost use Rattle.snap_call.specs.declared.call.Given.TheVariants.{Layer as LayerGiven};
 ghost use Rattle.snap_call.specs.declared.refusal.Refusal.TheVariants.{JournalFull};
-ghost use Rattle.snap_book.specs.Book.{IsRecorded, IsRefusedWith, IsUnrecorded, Recorded, RefusedBy};
-ghost use Rattle.snap_book.specs.Totals.{place_if};
+ghost use Rattle.snap_accounts.specs.Entries.{IsUnrecorded};
+ghost use Rattle.snap_accounts.specs.Totals.{place_if};
+ghost use Rattle.snap_book.specs.Book.{IsRefusedWith, Recorded, RefusedBy};
 
-use crate::accounts::{Accounts, sum};
 use crate::active::Sealed;
 use crate::book::Book;
 use crate::recording::twice;
-use snap_call::{Call, Entry, Given, Refusal, Reply, is_key};
+use snap_accounts::Accounts;
+use snap_call::{Call, Entry, Given, Refusal, Reply};
 use snap_layer::Shared;
-use snap_ledger::{Share, StoreName};
+use snap_ledger::StoreName;
 use snap_record::Text;
-use snap_usage::{Usage, count, difference};
+use snap_usage::{Usage, count};
 use std::alloc::{AllocError, Global};
 
 // The call, with copies of its texts.
@@ -74,93 +75,14 @@ fn settlement_of(
     Ok(Settlement { name, entry, copy })
 }
 
-// The name of a commit has its form, and so has its lease, if one is given.
-fn is_formed(name: &str, lease: &Option<Text>) -> bool
-    ensures { result ≡ (is_key name.now && is_lease_text lease.now) }
+// The snapshot's slot is open under its id, and its charge covers the layer's count.
+fn meet<N: StoreName>(accounts: &mut Accounts<N>, sealed: &mut Sealed<N>)
+    ensures same { accounts.new ≡ accounts.old }
+    ensures sealed { sealed.new ≡ sealed.old }
+    ensures issued { (charge_at sealed.old.share.slot accounts.old.records).issued ≡ true }
+    ensures allowed { IsCovered sealed.old.share.id (count_of sealed.old.layer) (active_at sealed.old.share.slot accounts.old.records) }
 {
-    is_key(name)
-        && match lease {
-            Some(lease) => is_key(lease.as_str()),
-            None => true,
-        }
-}
-
-impl<N: StoreName> Accounts<N> {
-    // Why the open snapshot of the slot can't be committed under the name.
-    pub(crate) fn check_commit(
-        &self,
-        slot: u64,
-        name: &str,
-        lease: &Option<Text>,
-    ) -> Result<(), Refusal>
-        requires { (charge_at slot self.now.records).issued ≡ true }
-        ensures formed { OnOk result (is_key name.now ≡ true) }
-        ensures free { OnOk result (has_key (place_if (active_at slot self.now.records)) name.now self.now.records ≡ false) }
-        ensures none { OnOk result (lease.now ≡ None) }
-        ensures recorded { IfErr result IsRecorded }
-        ensures refused { IfErr result (λ why. (layer : Tree) → commit_as self.now slot name.now lease.now layer (active_at slot self.now.records) ≡ refused self.now why) }
-    {
-        if !is_formed(name, lease) {
-            return Err(Refusal::BadArgument);
-        }
-        if self.state().records.has_key(self.place(slot), name) {
-            return Err(Refusal::AlreadyExists);
-        }
-        match lease {
-            Some(_) => Err(Refusal::NoLease),
-            None => Ok(()),
-        }
-    }
-
-    // The charge of the namespace at the place, once what holds so much is charged the count.
-    fn total_with(&self, place: usize, held: Usage, count: Usage) -> Usage
-        requires place { place < length self.now.namespaces }
-        requires held { Covers (charge_of place self.now.records) held }
-        requires count { Covers held count }
-        ensures { result ≡ plus (minus (charge_of place self.now.records) held) count }
-    {
-        let rest = difference(self.total(place), held);
-        sum(rest, count, self.state().limit_at(place))
-    }
-
-    // The snapshot is a committed one, charged for the count of its layer. Takes no memory.
-    pub(crate) fn commit(&mut self, share: Share<N>, name: Text, layer: Shared) -> Usage
-        requires slot { share.slot < 64 }
-        requires entries { self.old.entries < 2 ^ 63 }
-        requires covers { Covers share.usage (count_of layer) }
-        requires formed { is_key name ≡ true }
-        requires free { has_key (place_if (active_at share.slot self.old.records)) name self.old.records ≡ false }
-        ensures allowed { IsCovered share.id (count_of layer) (active_at share.slot self.old.records) }
-        ensures step { commit_as self.old share.slot name None layer (active_at share.slot self.old.records) ≡ (self.new, Committed share.id result) }
-        ensures count { result ≡ count_of layer }
-        ensures open { open_count self.new.records + 1 ≡ open_count self.old.records }
-    {
-        let mut share = share;
-        let slot = share.slot();
-        let held = self.meet(&mut share);
-        let place = self.place(slot);
-        let usage = count(layer.layer());
-        let after = self.total_with(place, held, usage);
-        let number = self.state.entries + 1;
-        self.totals.set(place, after);
-        self.slots.spend(share);
-        self.state.records.commit(slot, name, layer, number);
-        self.open -= 1;
-        self.state.entries = number;
-        usage
-    }
-}
-
-impl<N: StoreName> Accounts<N> {
-    // The snapshot's slot is open under its id, and its charge covers the layer's count.
-    fn meet_sealed(&mut self, sealed: &mut Sealed<N>)
-        ensures same { self.new ≡ self.old }
-        ensures sealed { sealed.new ≡ sealed.old }
-        ensures issued { (charge_at sealed.old.share.slot self.old.records).issued ≡ true }
-        ensures allowed { IsCovered sealed.old.share.id (count_of sealed.old.layer) (active_at sealed.old.share.slot self.old.records) }
-    {
-        self.meet(&mut sealed.share);
-    }
+    accounts.meet(&mut sealed.share);
 }
 
 impl<N: StoreName> Book<N> {
@@ -182,7 +104,7 @@ impl<N: StoreName> Book<N> {
         ensures err { IfErr result (λ back. IsUnrecorded back.0) }
         ensures full { IsRefusedWith result JournalFull ↔ (self.old.limit ≤ length self.old.journal + open_count self.old.state.records) }
     {
-        if let Err(why) = self.journal.admit(self.accounts.open(), 1) {
+        if let Err(why) = self.journal.admit(self.accounts.open_slots(), 1) {
             return Err((why, sealed));
         }
         let Settlement { name, entry, copy } = settlement;
@@ -247,11 +169,11 @@ impl<N: StoreName> Book<N> {
         ensures same { IfErr result (λ back. back.1 ≡ sealed) }
         ensures full { IsRefusedWith result JournalFull ↔ (self.old.limit ≤ length self.old.journal + open_count self.old.state.records) }
     {
-        if let Err(why) = self.journal.admit(self.accounts.open(), 1) {
+        if let Err(why) = self.journal.admit(self.accounts.open_slots(), 1) {
             return Err((why, sealed));
         }
         let mut sealed = sealed;
-        self.accounts.meet_sealed(&mut sealed);
+        meet(&mut self.accounts, &mut sealed);
         let slot = sealed.share.slot();
         let id = sealed.share.id();
         let Ok(call) = commit_call(self.alloc, slot, id, name, lease) else {

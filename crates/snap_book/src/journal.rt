@@ -1,7 +1,7 @@
 // The journal of a round.
 ghost use Rattle.std.specs.Prelude.{◌≡◌, ◌↔◌, ◌<◌, ◌≤◌, ◌+◌, ◌++◌, ◌∷◌, [], length, None, Some, OnOk, IfErr, IsErrOf};
 ghost use Rattle.snap_call.specs.declared.refusal.Refusal.TheVariants.{JournalFull};
-ghost use Rattle.snap_book.specs.Book.{IsUnrecorded};
+ghost use Rattle.snap_accounts.specs.Entries.{IsUnrecorded};
 
 use crate::opening::Opening;
 use snap_call::{Entry, Refusal};
@@ -88,19 +88,5 @@ impl Journal {
         ensures { result.now ≡ self.now.entries }
     {
         self.entries.as_slice()
-    }
-
-    pub(crate) fn opening(&self) -> &Opening
-        ensures { result.now ≡ self.now.opening }
-    {
-        &self.opening
-    }
-
-    // The most entries.
-    pub(crate) fn limit(&self) -> u64
-        ensures limit { result ≡ self.now.limit }
-        ensures most { result ≤ 1048576 }
-    {
-        self.limit
     }
 }

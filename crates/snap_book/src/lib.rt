@@ -1,7 +1,6 @@
 //! The book of a store, and the values that its writers hold.
 #![tactic(auto)]
 
-mod accounts;
 mod active;
 mod asking;
 mod book;
@@ -13,8 +12,6 @@ mod open;
 mod opening;
 mod prepare;
 mod recording;
-mod slots;
-mod totals;
 mod working;
 
 pub use active::{Active, Held, Sealed};

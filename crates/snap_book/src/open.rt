@@ -7,40 +7,17 @@ ghost use Rattle.snap_call.specs.declared.call.Call.TheVariants as calls;
 ghost use Rattle.snap_call.specs.declared.call.Given.TheVariants.{Nothing};
 ghost use Rattle.snap_call.specs.declared.reply.Reply.TheVariants.{Opened};
 ghost use Rattle.snap_call.specs.declared.refusal.Refusal.TheVariants.{BadArgument, JournalFull, NumbersSpent, OutOfMemory};
-ghost use Rattle.snap_book.specs.Book.{Recorded, IsUnrecorded};
+ghost use Rattle.snap_accounts.specs.Entries.{IsUnrecorded};
+ghost use Rattle.snap_book.specs.Book.{Recorded};
 
-use crate::accounts::Accounts;
 use crate::book::Book;
 use crate::entries::session_entry;
 use crate::journal::Journal;
 use crate::opening::Opening;
-use crate::slots::Slots;
-use crate::totals::Totals;
-use snap_call::{Config, Refusal, State};
+use snap_accounts::Accounts;
+use snap_call::{Config, Refusal};
 use snap_ledger::{NewTable, StoreName};
-use std::alloc::{AllocError, Global};
-
-impl<N: StoreName> Accounts<N> {
-    // All namespaces charged 0/0, all slots free. Takes memory for the totals and the charges.
-    pub(crate) fn opening(
-        alloc: Global,
-        table: NewTable,
-        config: Config,
-    ) -> Result<Accounts<N>, AllocError>
-        requires table { table ≡ N.table }
-        requires config { is_config config ≡ true }
-        ensures { IfOk result (λ accounts. accounts ≡ opening config) }
-    {
-        let totals = Totals::zero(alloc, config.namespaces.len())?;
-        let slots = Slots::open(alloc, table)?;
-        Ok(Accounts {
-            state: State::opening(alloc, config),
-            totals,
-            slots,
-            open: 0,
-        })
-    }
-}
+use std::alloc::Global;
 
 impl<N: StoreName> Book<N> {
     /// A book with the namespaces of the configuration and no snapshots.
@@ -77,7 +54,7 @@ impl<N: StoreName> Book<N> {
         ensures err { IfErr result (λ why. IsUnrecorded why ⊎ ((why ≡ NumbersSpent) × (65536 ≤ self.old.state.sessions))) }
         ensures full { IsErrOf result JournalFull ↔ (self.old.limit ≤ length self.old.journal + open_count self.old.state.records) }
     {
-        self.journal.admit(self.accounts.open(), 1)?;
+        self.journal.admit(self.accounts.open_slots(), 1)?;
         let number = self.accounts.state().sessions;
         if number >= 65_536 {
             return Err(Refusal::NumbersSpent);

@@ -4,7 +4,8 @@ ghost use Rattle.snap_call.specs.Journal.{entry};
 ghost use Rattle.snap_call.specs.Records.{open_count};
 ghost use Rattle.snap_call.specs.Step.{counted, refused, step, IsAllowed};
 ghost use Rattle.snap_call.specs.declared.refusal.Refusal.TheVariants.{JournalFull};
-ghost use Rattle.snap_book.specs.Book.{Recorded, RefusedBy, IsRecorded, IsUnrecorded};
+ghost use Rattle.snap_accounts.specs.Entries.{IsRecorded, IsUnrecorded};
+ghost use Rattle.snap_book.specs.Book.{Recorded, RefusedBy};
 
 use crate::book::Book;
 use snap_call::{Call, Entry, Given, Refusal, Reply};
@@ -46,7 +47,7 @@ impl<N: StoreName> Book<N> {
         ensures err { IfErr result IsUnrecorded }
         ensures full { IsErrOf result JournalFull ↔ (self.old.limit ≤ length self.old.journal + open_count self.old.state.records) }
     {
-        self.journal.admit(self.accounts.open(), 1)?;
+        self.journal.admit(self.accounts.open_slots(), 1)?;
         let (entry, copy) = twice(session, call, given, reply)?;
         self.accounts.count_entry();
         self.journal.push(entry, copy);

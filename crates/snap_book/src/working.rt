@@ -35,9 +35,9 @@ impl<N: StoreName> Active<N> {
     /// - `OutOfMemory`: a growth was refused.
     ///
     /// After any of them the snapshot is as it was. The share stays, also where the layer shrinks.
-    /// The cost is that of a plan and of `snap_upper::apply`: the number of paths times the path's
-    /// number of names, the number of files, and the bytes of a file that is written, or copied up; some
-    /// links and renames copy the whole layer.
+    /// The cost is that of `snap_upper::apply_within`: for each name of the path a look through the
+    /// layers, the number of the layer's paths and files, and the bytes of a file that is written, or
+    /// copied up; some links and renames copy the whole layer.
     ///
     /// That a layer is charged before it is filled is our choice. A disk quota refuses a write in the
     /// same way (write(2), `EDQUOT`).
@@ -53,11 +53,7 @@ impl<N: StoreName> Active<N> {
         // So much is asked for exactly where it is the next layer's count and the share doesn't cover it.
         ensures needs { lists_names op.now (self.old.layer ∷ self.old.lowers) ≡ false → (need : usages.Usage) → IsErrOf result (NeedsCharge need) ↔ ((planned (after op.now self.old.layer self.old.lowers) ≡ Ok (record { after = need })) × ¬ Covers self.old.share.usage need) }
     {
-        let planned = self.plan(op)?;
-        let need = planned.after;
-        if !self.share().covers(need) {
-            return Err(FsError::NeedsCharge(need));
-        }
-        snap_upper::apply(&mut self.layer, self.lowers.as_slice(), op)
+        let share = self.share.held();
+        snap_upper::apply_within(&mut self.layer, self.lowers.as_slice(), op, share)
     }
 }

@@ -17,6 +17,3 @@ pub use copying::copy_up;
 pub use looking::{below, is_pure};
 pub use missing::{missing_dirs, missing_dirs_of_both};
 pub use putting::Last;
-
-#[cfg(test)]
-mod tests;

@@ -16,6 +16,3 @@ pub use error::LayerError;
 pub use layer::Layer;
 pub use node::{Body, Bytes, Node};
 pub use shared::Shared;
-
-#[cfg(test)]
-mod tests;

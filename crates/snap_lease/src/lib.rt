@@ -13,8 +13,6 @@ mod entry;
 mod error;
 mod list;
 mod sweep;
-#[cfg(test)]
-mod tests;
 
 pub use error::LeaseError;
 pub use list::Leases;

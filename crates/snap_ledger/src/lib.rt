@@ -8,8 +8,6 @@
 
 mod halves;
 mod rule;
-#[cfg(test)]
-mod tests;
 mod view;
 
 pub use halves::{Charge, NewTable, Share, StoreName};

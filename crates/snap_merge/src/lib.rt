@@ -17,6 +17,3 @@ pub use error::FsError;
 pub use look::hides;
 pub use seen::Seen;
 pub use stack::Stack;
-
-#[cfg(test)]
-mod tests;

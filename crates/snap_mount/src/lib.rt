@@ -7,6 +7,3 @@ mod table;
 
 pub use mount::{Mount, MountKind};
 pub use table::{is_root_text, mounts_of};
-
-#[cfg(test)]
-mod tests;

@@ -15,6 +15,3 @@ mod path;
 
 pub use name::{Name, PathError};
 pub use path::Path;
-
-#[cfg(test)]
-mod tests;

@@ -20,6 +20,3 @@ pub use record::{Content, Record};
 pub use sequence::Sequence;
 pub use text::Text;
 pub use update::{is_well_formed, update_labels};
-
-#[cfg(test)]
-mod tests;

@@ -2,6 +2,7 @@ pub mod Outcomes
 pub mod Growth
 pub mod Making
 pub mod Writing
+pub mod Edits
 pub mod Modes
 pub mod Erased
 pub mod Moved
@@ -18,5 +19,7 @@ pub mod Shifted
 pub mod Named
 pub mod MoveCounts
 pub mod Changing
+pub mod Made
+pub mod Shares
 pub mod Examples
 pub mod Uncharged

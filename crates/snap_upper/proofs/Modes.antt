@@ -1,5 +1,5 @@
 -- A mode that is set.
-use Rattle.std.proofs.Common.{◌≡◌, ℕ, ◌≤◌, true, false, List, [], ◌∷◌, Option, Some, None, is_some, Result, Ok, refl, sym, ap, subst, ◌∙◌, arith, ltb-false}
+use Rattle.std.proofs.Common.{◌≡◌, ℕ, ◌≤◌, true, false, List, [], ◌∷◌, Option, Some, None, is_some, length, Result, Ok, refl, sym, ap, subst, ◌∙◌, arith, ltb-false}
 use Rattle.std.specs.Prelude.{nat_lt}
 use Rattle.snap_path.specs.Text.{Names}
 use Rattle.snap_layer.specs.declared.node.Node.{Node}
@@ -27,10 +27,13 @@ use Rattle.snap_copyup.proofs.Alone.{copied_there, copied_missing, below_seen}
 use Rattle.snap_copyup.proofs.Parents.{adds_parents}
 use Rattle.snap_copyup.proofs.Wholes.{IsWholeObject, whole_seen, vacant}
 use Rattle.snap_copyup.proofs.Layers.{no_missing}
-use Rattle.snap_upper.specs.declared.checking.Found.{Found}
 use Rattle.snap_upper.specs.declared.op.Op.TheVariants as op
+use Rattle.snap_copyup.specs.declared.putting.Last.TheVariants as last
+use Rattle.snap_upper.specs.declared.change.Edit.{Edit}
+use Rattle.snap_upper.specs.declared.change.New.{New}
+use Rattle.snap_upper.specs.declared.change.New.TheVariants as new
+use Rattle.snap_upper.specs.Changes.{as_last, edited, IsShort, IsSound, IsWithMode}
 use Rattle.snap_upper.specs.After.{after, limited, planned, tests, first_error, error_if, mode_error}
-use Rattle.snap_upper.specs.Adding.{IsFound, with_its_mode}
 use Rattle.snap_upper.proofs.Outcomes.{test_passes, error_if_passes, after_passes, planned_fits}
 use Rattle.snap_upper.proofs.Writing.{new_with_body, entry_with_entry}
 
@@ -109,19 +112,17 @@ module _ (u : Tree) (ls : List Tree) (p : Names) (way : walk (u ∷ ls) p ≡ No
   pub file_copy : (m mode : ℕ) (bytes : List ℕ) → seen (u ∷ ls) p ≡ Some (file m bytes) → with_mode (copied_up u ls p) p (at (copied_up u ls p) p) mode ≡ with_body (with_new (with_parents u ls p) p (File (with_parents u ls p).next) (body_kinds.File m bytes)) (with_parents u ls p).next (body_kinds.File mode bytes)
   file_copy m mode bytes was = ap (λ (v : Tree). with_mode v p (at v p) mode) (copied_as (Some (file m bytes)) was) ∙ copy_file_body t p m mode bytes
 
-  pub copy_mode : (f : Option Found) (mode : ℕ) → IsFound f (seen (u ∷ ls) p) → with_mode (copied_up u ls p) p (at (copied_up u ls p) p) mode ≡ with_last (with_its_mode f mode) (with_parents u ls p) p
-  copy_mode None mode is = by (seen (u ∷ ls) p) refl is
+  copy_dir_mode : (mode : ℕ) → is_shown_dir (seen (u ∷ ls) p) ≡ true → with_mode (copied_up u ls p) p (at (copied_up u ls p) p) mode ≡ with_entry (with_parents u ls p) p (Dir mode false)
+  copy_dir_mode mode is = by (seen (u ∷ ls) p) refl is
     where
       by : (o : Option Object) → seen (u ∷ ls) p ≡ o → is_shown_dir o ≡ true → with_mode (copied_up u ls p) p (at (copied_up u ls p) p) mode ≡ with_entry (with_parents u ls p) p (Dir mode false)
       by None e is = absurd (cc)
       by (Some (dir m)) e is = dir_copy m mode e
       by (Some (file m bytes)) e is = absurd (cc)
       by (Some (symlink target)) e is = absurd (cc)
-  copy_mode (Some f) mode is = file_copy f.mode mode f.bytes.now is ∙ new_with_body t p (File t.next) (body_kinds.File f.mode f.bytes.now) (body_kinds.File mode f.bytes.now)
 
-pub mode_fits : (u : Tree) (ls : List Tree) (p : Names) (f : Option Found) (mode : ℕ) → IsLayer u → AreLayers ls → at u p ≡ None → IsFound f (seen (u ∷ ls) p) → mode ≤ 4095 → Fits (with_its_mode f mode) u p
-mode_fits u ls p None mode ok layers none is low = (vacant u p ok none, low)
-mode_fits u ls p (Some f) mode ok layers none is low = (vacant u p ok none, low, (subst IsWholeObject is (whole_seen (u ∷ ls) (ok, layers) p)).1)
+  copy_file_mode : (m mode : ℕ) (bytes : List ℕ) → seen (u ∷ ls) p ≡ Some (file m bytes) → with_mode (copied_up u ls p) p (at (copied_up u ls p) p) mode ≡ with_last (last.File mode bytes) (with_parents u ls p) p
+  copy_file_mode m mode bytes is = file_copy m mode bytes is ∙ new_with_body t p (File t.next) (body_kinds.File m bytes) (body_kinds.File mode bytes)
 
 -- ---- outcomes
 
@@ -131,9 +132,6 @@ module _ (u : Tree) (ls : List Tree) (p : Names) (mode : ℕ) (ok : IsLayer u) (
 
   pub own_mode_after : is_some (at u p) ≡ true → limited (with_mode u p (at u p) mode) ≡ after (op.SetMode p mode) u ls
   own_mode_after some = ap limited (sym (own_mode u ls p mode ok some)) ∙ sym (after_passes (op.SetMode p mode) u ls passes)
-
-  pub copy_mode_after : (f : Option Found) → IsFound f (seen (u ∷ ls) p) → is_some (at u p) ≡ false → limited (with_last (with_its_mode f mode) (with_parents u ls p) p) ≡ after (op.SetMode p mode) u ls
-  copy_mode_after f is none = ap limited (sym (copy_mode u ls p settable.way (none_from (at u p) none) f mode is)) ∙ sym (after_passes (op.SetMode p mode) u ls passes)
 
   pub empty : is_some (at u p) ≡ false → at u p ≡ None
   empty none = none_from (at u p) none
@@ -153,11 +151,36 @@ mode_layer u p mode ok has low = by (at u p) refl has
     by (Some (Symlink k)) e has = absurd has
     by (Some Whiteout) e has = absurd has
 
-pub own_mode_planned : (u : Tree) (ls : List Tree) (p : Names) (mode : ℕ) → IsLayer u → first_error (tests (op.SetMode p mode) (u ∷ ls)) ≡ None → is_some (at u p) ≡ true → (usage : Usage) → usage ≡ record { blocks = block_count u; inodes = inode_count u } → ◌≡◌ {A = Result Planned FsError} (Ok (record { after = usage })) (planned (after (op.SetMode p mode) u ls))
-own_mode_planned u ls p mode ok passes some usage is =
-    let ready = IsSettable-passed (u ∷ ls) p mode passes in
-    planned_fits (with_mode u p (at u p) mode) usage (after (op.SetMode p mode) u ls)
-    (mode_layer u p mode ok (has_mode u ls p ok ready.there some) ready.low)
+pub with_mode_planned : (u : Tree) (p : Names) (mode : ℕ) → IsLayer u → HasMode (at u p) → mode ≤ 4095 → (usage : Usage) → usage ≡ record { blocks = block_count u; inodes = inode_count u } → ◌≡◌ {A = Result Planned FsError} (Ok (record { after = usage })) (planned (limited (with_mode u p (at u p) mode)))
+with_mode_planned u p mode ok has low usage is =
+    planned_fits (with_mode u p (at u p) mode) usage (limited (with_mode u p (at u p) mode))
+    (mode_layer u p mode ok has low)
     (ap (λ (n : Usage). n.blocks) is ∙ sym (block_count-with_mode u ok p mode))
     (ap (λ (n : Usage). n.inodes) is ∙ sym (inode_count-with_mode u ok p mode))
-    (sym (own_mode_after u ls p mode ok passes some))
+    refl
+
+-- ---- changes
+
+module _ (u : Tree) (ls : List Tree) (p : Names) (mode : ℕ) (ok : IsLayer u) (passes : first_error (tests (op.SetMode p mode) (u ∷ ls)) ≡ None) where
+  pub lower_ready : AreLayers ls → is_some (at u p) ≡ false → (n : New) → IsWithMode n (seen (u ∷ ls) p) mode → (walk (u ∷ ls) p ≡ None) × Fits (as_last n) u p × IsSound n
+  lower_ready layers none (new.Dir m opaque) is =
+      let can = settable u ls p mode ok passes in
+      (can.way, (vacant u p ok (none_from (at u p) none), subst (λ (x : ℕ). x ≤ 4095) (sym is.1) can.low), tt)
+  lower_ready layers none (new.File m old edit) is =
+      let can = settable u ls p mode ok passes in
+      let whole = subst IsWholeObject is.1 (whole_seen (u ∷ ls) (ok, layers) p) in
+      let short : length (edited edit old.now) ≤ 1048576 = subst (λ (e : Edit). length (edited e old.now) ≤ 1048576) (sym is.3) whole.1 in
+      (can.way, (vacant u p ok (none_from (at u p) none), subst (λ (x : ℕ). x ≤ 4095) (sym is.2) can.low, short), (subst IsShort (sym is.3) tt, short))
+  lower_ready layers none (new.Symlink target) is = absurd is
+
+  lower_same : at u p ≡ None → (n : New) → IsWithMode n (seen (u ∷ ls) p) mode → with_last (as_last n) (with_parents u ls p) p ≡ with_mode (copied_up u ls p) p (at (copied_up u ls p) p) mode
+  lower_same none (new.Dir m opaque) is =
+      (λ i. with_last (last.Dir (is.1 i) (is.2 i)) (with_parents u ls p) p)
+      ∙ sym (copy_dir_mode u ls p (settable u ls p mode ok passes).way none mode is.0)
+  lower_same none (new.File m old edit) is =
+      (λ i. with_last (last.File (is.2 i) (edited (is.3 i) old.now)) (with_parents u ls p) p)
+      ∙ sym (copy_file_mode u ls p (settable u ls p mode ok passes).way none is.0 mode old.now is.1)
+  lower_same none (new.Symlink target) is = absurd is
+
+  pub lower_after : is_some (at u p) ≡ false → (n : New) → IsWithMode n (seen (u ∷ ls) p) mode → limited (with_last (as_last n) (with_parents u ls p) p) ≡ after (op.SetMode p mode) u ls
+  lower_after none n is = ap limited (lower_same (none_from (at u p) none) n is) ∙ sym (after_passes (op.SetMode p mode) u ls passes)

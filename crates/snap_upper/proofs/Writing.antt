@@ -1,5 +1,5 @@
 -- Bytes that are put into a file.
-use Rattle.std.proofs.Common.{◌≡◌, ◌⊎◌, inl, inr, ℕ, ◌+◌, ◌-◌, ◌*◌, ◌≤◌, false, List, [], ◌∷◌, length, Option, Some, None, is_some, Result, Ok, refl, sym, ap, subst, ◌∙◌, arith, ltb-false}
+use Rattle.std.proofs.Common.{◌≡◌, ◌⊎◌, inl, inr, ℕ, ◌+◌, ◌*◌, ◌≤◌, false, List, [], ◌∷◌, length, Option, Some, None, is_some, refl, sym, ap, subst, ◌∙◌, arith, ltb-false}
 use Rattle.std.specs.Prelude.{nat_lt, option_and_then}
 use Rattle.std.specs.declared.cmp.Ordering.{Ordering}
 use Rattle.std.specs.declared.cmp.Ordering.TheVariants.{Less, Equal, Greater}
@@ -23,10 +23,8 @@ use Rattle.snap_layer.proofs.Counting.{weight_of_body, inode_count-with_body, bl
 use Rattle.snap_layer.proofs.Filling.{file_there}
 use Rattle.snap_layer.proofs.Kept.{IsLayer-with_body}
 use Rattle.snap_layer.proofs.Laws.{Replaces-with_new, SetsBody-with_new}
-use Rattle.snap_usage.specs.declared.usage.Usage.{Usage}
-use Rattle.snap_merge.specs.Objects.{Object, dir, file, symlink, seen, shown_body, AreLayers}
+use Rattle.snap_merge.specs.Objects.{Object, dir, file, symlink, seen, shown_body}
 use Rattle.snap_merge.specs.Walk.{walk}
-use Rattle.snap_merge.specs.declared.error.FsError.{FsError}
 use Rattle.snap_merge.specs.declared.error.FsError.TheVariants.{TooBig}
 use Rattle.snap_merge.proofs.Views.{seen_node}
 use Rattle.snap_copyup.specs.declared.putting.Last.TheVariants as last
@@ -34,12 +32,10 @@ use Rattle.snap_copyup.specs.Copying.{copied, copied_up, with_object, with_paren
 use Rattle.snap_copyup.specs.Places.{with_last}
 use Rattle.snap_copyup.proofs.Alone.{copied_there, copied_missing, below_seen}
 use Rattle.snap_copyup.proofs.Parents.{adds_parents}
-use Rattle.snap_copyup.proofs.Wholes.{IsWholeObject, whole_seen}
 use Rattle.snap_copyup.proofs.Layers.{no_missing}
 use Rattle.snap_upper.specs.declared.op.Op.TheVariants as op
-use Rattle.snap_upper.specs.declared.planning.Planned.{Planned}
-use Rattle.snap_upper.specs.After.{limited, planned, tests, first_error, error_if, file_error, written, resized, bytes_of, with_content}
-use Rattle.snap_upper.proofs.Outcomes.{test_passes, error_if_passes, planned_fits}
+use Rattle.snap_upper.specs.After.{tests, first_error, error_if, file_error, written, resized, bytes_of, with_content}
+use Rattle.snap_upper.proofs.Outcomes.{test_passes, error_if_passes}
 
 -- the tests of a write have passed
 pub record IsWritable (s : List Tree) (p : Names) (offset : ℕ) (bytes : List ℕ) : Type 0 where
@@ -68,12 +64,6 @@ pub written_short : (old : List ℕ) (offset : ℕ) (bytes : List ℕ) (m : ℕ)
 written_short old offset [] m a b = a
 written_short old offset (x ∷ xs) m a b = grind (arith, common_steps)
 
--- the bytes that a layer may hold
-pub written_fits : (s : List Tree) (p : Names) (mode : ℕ) (old : List ℕ) (offset : ℕ) (bytes : List ℕ) → AreLayers s → seen s p ≡ Some (file mode old) → offset + length bytes ≤ 1048576 → (mode ≤ 4095) × (length (written old offset bytes) ≤ 1048576)
-written_fits s p mode old offset bytes layers was short =
-    let whole = subst IsWholeObject was (whole_seen s layers p) in
-    (whole.0, written_short old offset bytes 1048576 whole.1 short)
-
 -- the tests of a truncation have passed
 pub record IsSizable (s : List Tree) (p : Names) (size : ℕ) : Type 0 where
   pub way : walk s p ≡ None
@@ -94,9 +84,6 @@ IsSizable-passed s p size passes =
 
 pub resized_length : (old : List ℕ) (size : ℕ) → length (resized old size) ≡ size
 resized_length old size = grind (arith, common_steps)
-
-pub resized_fits : (s : List Tree) (p : Names) (mode : ℕ) (old : List ℕ) (size : ℕ) → AreLayers s → seen s p ≡ Some (file mode old) → size ≤ 1048576 → (mode ≤ 4095) × (length (resized old size) ≤ 1048576)
-resized_fits s p mode old size layers was short = ((subst IsWholeObject was (whole_seen s layers p)).0, omega (arith, resized_length old size, short))
 
 -- a value put twice under one key
 insert_twice : {K X : Type 0} (R : K → K → Ordering) → IsTotalOrder R → (es : List (K × X)) (k : K) (v w : X) → insert_entry R (insert_entry R es k v) k w ≡ insert_entry R es k w
@@ -229,20 +216,3 @@ rewrites t k m old new ok is short =
 -- a layer's blocks are few
 pub few_blocks : (t : Tree) → IsLayer t → block_count t ≤ 65536 * 257
 few_blocks t ok = omega (arith, ok.few, blocks_of_bodies t ok)
-
--- ---- plans
-
-module _ (u : Tree) (ls : List Tree) (p : Names) (k m : ℕ) (old new : List ℕ) (ok : IsLayer u) (is : at u p ≡ Some (File k)) (file_is : body u k ≡ Some (body_kinds.File m old)) (short : length new ≤ 1048576) where
-  -- the file's blocks are among the layer's
-  pub old_blocks : blocks_of (length old) ≤ block_count u
-  old_blocks = omega (arith, (rewrites u k m old [] ok file_is (omega arith)).blocks)
-
-  pub next_blocks : block_count u - blocks_of (length old) + blocks_of (length new) ≤ 65536 * 257
-  next_blocks = let next = rewrites u k m old new ok file_is short in omega (arith, old_blocks, next.blocks, few_blocks (with_body u k (body_kinds.File m new)) next.layer)
-
-  pub filling_planned : (f : List ℕ → List ℕ) → f old ≡ new → (usage : Usage) → usage.blocks + blocks_of (length old) ≡ block_count u + blocks_of (length new) → usage.inodes ≡ inode_count u
-      → ◌≡◌ {A = Result Planned FsError} (Ok (record { after = usage })) (planned (limited (with_content (copied_up u ls p) (number_at (copied_up u ls p) p) f)))
-  filling_planned f gives usage blocks inodes =
-      let next = rewrites u k m old new ok file_is short in
-      planned_fits (with_body u k (body_kinds.File m new)) usage (limited (with_content (copied_up u ls p) (number_at (copied_up u ls p) p) f)) next.layer (omega (arith, blocks, next.blocks)) (inodes ∙ sym next.inodes)
-      (ap limited (own_filled u ls p k m old f ok is file_is ∙ ap (λ (bs : List ℕ). with_body u k (body_kinds.File m bs)) gives))

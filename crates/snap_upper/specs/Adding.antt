@@ -9,7 +9,6 @@ use Rattle.snap_layer.specs.Edits.{IsFree}
 use Rattle.snap_usage.specs.declared.usage.Usage.{Usage}
 use Rattle.snap_merge.specs.Objects.{Object, dir, file, symlink, seen, is_shown_dir}
 use Rattle.snap_merge.specs.Walk.{walk}
-use Rattle.snap_upper.specs.declared.checking.Found.{Found}
 use Rattle.snap_copyup.specs.declared.putting.Last.{Last}
 use Rattle.snap_copyup.specs.declared.putting.Last.TheVariants.{Nothing, Dir, File, Symlink, Whiteout}
 
@@ -20,16 +19,6 @@ Takes (Dir mode opaque) blocks numbered = (blocks ≡ 1) × (numbered ≡ false)
 Takes (File mode bytes) blocks numbered = (blocks ≡ blocks_of (length bytes)) × (numbered ≡ true)
 Takes (Symlink target) blocks numbered = (blocks ≡ 0) × (numbered ≡ true)
 Takes Whiteout blocks numbered = (blocks ≡ 0) × (numbered ≡ false)
-
--- what is found where a directory or a regular file is seen: the file, or nothing for a directory
-abbrev pub IsFound : Option Found → Option Object → Type 0
-IsFound None o = is_shown_dir o ≡ true
-IsFound (Some f) o = o ≡ Some (file f.mode f.bytes.now)
-
--- a directory that isn't opaque, or the file, with the mode
-abbrev pub with_its_mode : Option Found → ℕ → Last
-with_its_mode None mode = Dir mode false
-with_its_mode (Some f) mode = File mode f.bytes.now
 
 -- the blocks of a body, and none of no body
 abbrev pub weight_of : Option Body → ℕ

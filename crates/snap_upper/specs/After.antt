@@ -1,5 +1,5 @@
 -- The upper layer after an operation, or the operation's error.
-use Rattle.std.specs.Prelude.{ℕ, ◌+◌, ◌-◌, ◌==◌, ◌||◌, ◌&&◌, Bool, true, false, nat_lt, not, List, [], ◌∷◌, ◌++◌, length, take, drop, replicate, Option, Some, None, is_some, if◌then◌else◌, Result, Ok, Err}
+use Rattle.std.specs.Prelude.{ℕ, ◌+◌, ◌-◌, ◌==◌, ◌||◌, ◌&&◌, Bool, true, false, nat_lt, nat_le, not, List, [], ◌∷◌, ◌++◌, length, take, drop, replicate, Option, Some, None, is_some, if◌then◌else◌, Result, Ok, Err}
 use Rattle.std.specs.List.{list_any}
 use Rattle.snap_layer.specs.declared.node.Node.{Node}
 use Rattle.snap_layer.specs.declared.node.Node.TheVariants as node
@@ -8,9 +8,10 @@ use Rattle.snap_layer.specs.declared.node.Body.TheVariants as body_kinds
 use Rattle.snap_layer.specs.Tree.{Tree, at, body, number_at, begins, is_whiteout}
 use Rattle.snap_layer.specs.Counts.{is_within}
 use Rattle.snap_layer.specs.Edits.{with_entry, with_node, with_new, with_name, with_bytes, with_mode, with_opaque, with_moved, without, inside, relocated}
+use Rattle.snap_usage.specs.declared.usage.Usage.{Usage}
 use Rattle.snap_usage.specs.Counted.{count_of}
 use Rattle.snap_merge.specs.declared.error.FsError.{FsError}
-use Rattle.snap_merge.specs.declared.error.FsError.TheVariants.{NotFound, NotDir, IsDir, Exists, NotEmpty, Invalid, BadPath, CrossDevice, NotPermitted, TooBig, LayerFull}
+use Rattle.snap_merge.specs.declared.error.FsError.TheVariants.{NotFound, NotDir, IsDir, Exists, NotEmpty, Invalid, BadPath, CrossDevice, NotPermitted, TooBig, LayerFull, NeedsCharge}
 use Rattle.snap_merge.specs.Objects.{Object, dir, file, symlink, seen, is_shown_dir}
 use Rattle.snap_merge.specs.Walk.{walk}
 use Rattle.snap_merge.specs.Listing.{names}
@@ -208,6 +209,11 @@ after op u lowers = unless (first_error (tests op (u ∷ lowers))) (limited (nex
 abbrev pub planned : Outcome → Result Planned FsError
 planned (Ok t) = Ok (record { after = count_of t })
 planned (Err e) = Err e
+
+-- the outcome of an operation that may fill the share and no more: the next layer, where the share covers its count in both quantities, else so much has to be charged. An error stays
+abbrev pub within_share : Usage → Outcome → Outcome
+within_share share (Ok next) = let need = count_of next in if nat_le need.blocks share.blocks && nat_le need.inodes share.inodes then Ok next else Err (NeedsCharge need)
+within_share share (Err e) = Err e
 
 -- the plan lists the names of a directory, which takes memory: of one that is removed, or whose place another takes
 abbrev pub lists_names : Op → List Tree → Bool

@@ -1,3 +1,4 @@
 pub mod After
 pub mod Adding
 pub mod Changed
+pub mod Changes

@@ -1,24 +1,24 @@
-ghost use Rattle.std.specs.Prelude.{◌≡◌, ◌⊎◌, ◌∷◌, OnOk, OnErr, IfErr, Ok, Err};
+// Operations that are done.
+ghost use Rattle.std.specs.Prelude.{◌≡◌, ◌⊎◌, ◌∷◌, OnOk, OnErr, IfErr, Ok, Err, false};
+ghost use Rattle.snap_usage.specs.Counted.{count_of, Covers};
 ghost use Rattle.snap_merge.specs.declared.error.FsError.{FsError};
 ghost use Rattle.snap_merge.specs.Objects.{seen};
-ghost use Rattle.snap_upper.specs.declared.op.Op.TheVariants as op;
-ghost use Rattle.snap_upper.specs.After.{after};
+ghost use Rattle.snap_upper.specs.After.{after, lists_names, within_share};
 ghost use Rattle.snap_upper.specs.Changed.{changed, Changes};
+ghost use Rattle.snap_upper.specs.Changes.{outcome, IsReady};
 
-use super::checking::{
-    check_mode, check_new, check_rmdir, check_symlink, check_truncate, check_unlink, check_write,
-    visit,
-};
-use super::content::{is_whiteout, resized, written};
+use super::change::Change;
+use super::checking::visit;
 use super::erasing::erase;
-use super::growing::{copy_with, fill, grow};
+use super::growing::{fill, put_new};
 use super::linking::link;
 use super::op::Op;
-use super::renaming::rename;
-use snap_copyup::Last;
-use snap_layer::{Bytes, Layer, Shared};
-use snap_merge::{FsError, Stack};
-use snap_path::Path;
+use super::planning::weigh;
+use super::renaming::shift;
+use super::rules::rule;
+use snap_layer::{Layer, Shared};
+use snap_merge::FsError;
+use snap_usage::Usage;
 
 /// Does the operation on the layer, over the lower layers, which stand nearest first and stay as they
 /// are. What is changed in a lower layer is copied up first, and missing directories above it are added
@@ -44,7 +44,7 @@ use snap_path::Path;
 ///   would have more than 1,048,576 bytes, or the target has more than 4095.
 /// - `LayerFull`: the layer would have more than 65,536 inodes, or a new file's number would pass
 ///   4,294,967,294.
-/// - `OutOfMemory`: a growth was refused.
+/// - `OutOfMemory`: a growth was refused, which may be found before `LayerFull` is.
 ///
 /// After any of them the layer is as it was. Cost: for each name of the path a look through the layers,
 /// and for a write the bytes of the file, and for a link or a rename those of a lower file; for a rename
@@ -62,128 +62,57 @@ pub fn apply(layer: &mut Layer, lowers: &[Shared], op: &Op) -> Result<(), FsErro
 {
     let _ = layer.next_number();
     visit(lowers);
-    change(layer, lowers, op)
+    let change = rule(layer, lowers, op)?;
+    perform(layer, lowers, change)
 }
 
-/// Does the operation on the layer.
-fn change(layer: &mut Layer, lowers: &[Shared], op: &Op) -> Result<(), FsError>
-    ensures ok { OnOk result (after op.now layer.old lowers.now ≡ Ok layer.new) }
-    ensures error { IfErr result (λ e. (e ≡ FsError.OutOfMemory) ⊎ (after op.now layer.old lowers.now ≡ Err e)) }
-    ensures unchanged { OnErr result (layer.new ≡ layer.old) }
-{
-    match op {
-        Op::Mkdir { path, mode } => mkdir(layer, lowers, path, *mode),
-        Op::Create { path, mode } => create(layer, lowers, path, *mode),
-        Op::Write {
-            path,
-            offset,
-            bytes,
-        } => write(layer, lowers, path, *offset, bytes),
-        Op::Truncate { path, size } => truncate(layer, lowers, path, *size),
-        Op::SetMode { path, mode } => set_mode(layer, lowers, path, *mode),
-        Op::Symlink { path, target } => symlink(layer, lowers, path, target),
-        Op::Link { from, to } => link(layer, lowers, from, to),
-        Op::Unlink { path } => unlink(layer, lowers, path),
-        Op::Rmdir { path } => rmdir(layer, lowers, path),
-        Op::Rename { from, to } => rename(layer, lowers, from, to),
-    }
-}
-
-fn mkdir(layer: &mut Layer, lowers: &[Shared], path: &Path, mode: u32) -> Result<(), FsError>
-    ensures ok { OnOk result (after (op.Mkdir path.now mode) layer.old lowers.now ≡ Ok layer.new) }
-    ensures error { IfErr result (λ e. (e ≡ FsError.OutOfMemory) ⊎ (after (op.Mkdir path.now mode) layer.old lowers.now ≡ Err e)) }
-    ensures unchanged { OnErr result (layer.new ≡ layer.old) }
-{
-    check_new(&Stack::over(layer, lowers), path, mode)?;
-    let _ = layer.next_number();
-    let opaque = is_whiteout(layer.at(path));
-    grow(layer, lowers, path, Last::Dir { mode, opaque })
-}
-
-fn create(layer: &mut Layer, lowers: &[Shared], path: &Path, mode: u32) -> Result<(), FsError>
-    ensures ok { OnOk result (after (op.Create path.now mode) layer.old lowers.now ≡ Ok layer.new) }
-    ensures error { IfErr result (λ e. (e ≡ FsError.OutOfMemory) ⊎ (after (op.Create path.now mode) layer.old lowers.now ≡ Err e)) }
-    ensures unchanged { OnErr result (layer.new ≡ layer.old) }
-{
-    check_new(&Stack::over(layer, lowers), path, mode)?;
-    let _ = layer.next_number();
-    let bytes = Bytes::new(Vec::new(layer.alloc()));
-    grow(layer, lowers, path, Last::File { mode, bytes })
-}
-
-fn write(
+/// Does the operation as [`apply`] does it, where the share covers what the layer takes afterwards: the
+/// count of the whole next layer, which is what [`plan`](super::plan) answers.
+///
+/// The errors are those of `apply` in the same order, `LayerFull` last; then `NeedsCharge`, with that count,
+/// where the share doesn't cover it in both quantities; then `OutOfMemory`, as `plan` may answer it, or for a
+/// growth that was refused. After any of them the layer is as it was. The cost is that of `apply`, and the
+/// number of the layer's paths and files.
+pub fn apply_within(
     layer: &mut Layer,
     lowers: &[Shared],
-    path: &Path,
-    offset: u64,
-    bytes: &Bytes,
+    op: &Op,
+    share: Usage,
 ) -> Result<(), FsError>
-    ensures ok { OnOk result (after (op.Write path.now offset bytes.now) layer.old lowers.now ≡ Ok layer.new) }
-    ensures error { IfErr result (λ e. (e ≡ FsError.OutOfMemory) ⊎ (after (op.Write path.now offset bytes.now) layer.old lowers.now ≡ Err e)) }
+    ensures ok { OnOk result (within_share share (after op.now layer.old lowers.now) ≡ Ok layer.new) }
+    ensures covers { OnOk result (Covers share (count_of layer.new)) }
+    ensures error { IfErr result (λ e. (e ≡ FsError.OutOfMemory) ⊎ (within_share share (after op.now layer.old lowers.now) ≡ Err e)) }
     ensures unchanged { OnErr result (layer.new ≡ layer.old) }
+    // An error comes before any memory is taken, but for a list of names.
+    ensures first { lists_names op.now (layer.old ∷ lowers.now) ≡ false → IfErr (within_share share (after op.now layer.old lowers.now)) (λ e. result ≡ Err e) }
 {
-    let found = check_write(&Stack::over(layer, lowers), path, offset, bytes)?;
-    let alloc = layer.alloc();
-    let mode = found.mode;
-    let content = written(alloc, found.bytes, offset as usize, bytes.as_slice())?;
-    fill(layer, lowers, path, mode, content)
-}
-
-fn truncate(layer: &mut Layer, lowers: &[Shared], path: &Path, size: u64) -> Result<(), FsError>
-    ensures ok { OnOk result (after (op.Truncate path.now size) layer.old lowers.now ≡ Ok layer.new) }
-    ensures error { IfErr result (λ e. (e ≡ FsError.OutOfMemory) ⊎ (after (op.Truncate path.now size) layer.old lowers.now ≡ Err e)) }
-    ensures unchanged { OnErr result (layer.new ≡ layer.old) }
-{
-    let found = check_truncate(&Stack::over(layer, lowers), path, size)?;
-    let alloc = layer.alloc();
-    let mode = found.mode;
-    let content = resized(alloc, found.bytes, size as usize)?;
-    fill(layer, lowers, path, mode, content)
-}
-
-fn set_mode(layer: &mut Layer, lowers: &[Shared], path: &Path, mode: u32) -> Result<(), FsError>
-    ensures ok { OnOk result (after (op.SetMode path.now mode) layer.old lowers.now ≡ Ok layer.new) }
-    ensures error { IfErr result (λ e. (e ≡ FsError.OutOfMemory) ⊎ (after (op.SetMode path.now mode) layer.old lowers.now ≡ Err e)) }
-    ensures unchanged { OnErr result (layer.new ≡ layer.old) }
-{
-    let found = check_mode(&Stack::over(layer, lowers), path, mode)?;
-    let _ = layer.next_number();
-    if layer.at(path).is_some() {
-        layer.set_mode(path, mode);
-        let _ = layer.next_number();
-        return Ok(());
+    let change = rule(layer, lowers, op)?;
+    let need = weigh(layer, lowers, change)?.after;
+    if !share.covers(need) {
+        return Err(FsError::NeedsCharge(need));
     }
-    let last = copy_with(layer.alloc(), found, mode)?;
-    grow(layer, lowers, path, last)
+    perform(layer, lowers, change)
 }
 
-fn symlink(layer: &mut Layer, lowers: &[Shared], path: &Path, target: &Bytes) -> Result<(), FsError>
-    ensures ok { OnOk result (after (op.Symlink path.now target.now) layer.old lowers.now ≡ Ok layer.new) }
-    ensures error { IfErr result (λ e. (e ≡ FsError.OutOfMemory) ⊎ (after (op.Symlink path.now target.now) layer.old lowers.now ≡ Err e)) }
+/// Does the change to the layer.
+fn perform(layer: &mut Layer, lowers: &[Shared], change: Change<'_>) -> Result<(), FsError>
+    requires ready { IsReady change layer.old lowers.now }
+    ensures ok { OnOk result (outcome change.entry layer.old lowers.now ≡ Ok layer.new) }
+    ensures error { IfErr result (λ e. (e ≡ FsError.OutOfMemory) ⊎ (outcome change.entry layer.old lowers.now ≡ Err e)) }
     ensures unchanged { OnErr result (layer.new ≡ layer.old) }
 {
-    check_symlink(&Stack::over(layer, lowers), path, target)?;
     let _ = layer.next_number();
-    let target = Bytes::copy_of(layer.alloc(), target.as_slice())?;
-    grow(layer, lowers, path, Last::Symlink { target })
-}
-
-fn unlink(layer: &mut Layer, lowers: &[Shared], path: &Path) -> Result<(), FsError>
-    ensures ok { OnOk result (after (op.Unlink path.now) layer.old lowers.now ≡ Ok layer.new) }
-    ensures error { IfErr result (λ e. (e ≡ FsError.OutOfMemory) ⊎ (after (op.Unlink path.now) layer.old lowers.now ≡ Err e)) }
-    ensures unchanged { OnErr result (layer.new ≡ layer.old) }
-{
-    check_unlink(&Stack::over(layer, lowers), path)?;
-    let _ = layer.next_number();
-    erase(layer, lowers, path)
-}
-
-fn rmdir(layer: &mut Layer, lowers: &[Shared], path: &Path) -> Result<(), FsError>
-    ensures ok { OnOk result (after (op.Rmdir path.now) layer.old lowers.now ≡ Ok layer.new) }
-    ensures error { IfErr result (λ e. (e ≡ FsError.OutOfMemory) ⊎ (after (op.Rmdir path.now) layer.old lowers.now ≡ Err e)) }
-    ensures unchanged { OnErr result (layer.new ≡ layer.old) }
-{
-    check_rmdir(&Stack::over(layer, lowers), layer.alloc(), path)?;
-    let _ = layer.next_number();
-    erase(layer, lowers, path)
+    match change {
+        Change::Nothing => Ok(()),
+        Change::Put { path, new } => put_new(layer, lowers, path, new),
+        Change::Fill { number, edit } => fill(layer, number, edit),
+        Change::SetMode { path, mode } => {
+            layer.set_mode(path, mode);
+            let _ = layer.next_number();
+            Ok(())
+        }
+        Change::Erase { path } => erase(layer, lowers, path),
+        Change::Link { from, to } => link(layer, lowers, from, to),
+        Change::Move { from, to } => shift(layer, lowers, from, to),
+    }
 }

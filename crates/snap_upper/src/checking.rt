@@ -1,14 +1,13 @@
 // The tests that an operation has to pass.
-ghost use Rattle.std.specs.Prelude.{◌≡◌, ◌⊎◌, ◌==◌, [], ◌∷◌, is_some, true, false, Some, None, OnOk, IfOk, IfErr};
+ghost use Rattle.std.specs.Prelude.{◌≡◌, ◌⊎◌, ◌==◌, [], ◌∷◌, is_some, true, false, None, Some, OnOk, IfErr};
 ghost use Rattle.std.specs.Option.{option_map};
 ghost use Rattle.std.specs.Result.{result_err};
 ghost use Rattle.snap_merge.specs.declared.error.FsError.{FsError};
-ghost use Rattle.snap_merge.specs.Objects.{file, object, seen, is_shown_dir, AreLayers};
+ghost use Rattle.snap_merge.specs.Objects.{object, seen, is_shown_dir, AreLayers};
 ghost use Rattle.snap_merge.specs.Walk.{walk};
 ghost use Rattle.snap_upper.specs.declared.op.Op.TheVariants as op;
 ghost use Rattle.std.specs.List.{list_any};
 ghost use Rattle.snap_upper.specs.After.{tests, first_error, error_if, file_error, mode_error, link_error, dir_error, has_names, is_no_target};
-ghost use Rattle.snap_upper.specs.Adding.{IsFound};
 
 use snap_layer::{Bytes, Shared};
 use snap_merge::{FsError, Seen, Stack};
@@ -23,13 +22,6 @@ const MOST_BYTES: u64 = 1_048_576;
 
 /// The most bytes of a symlink's target (limits.h, `PATH_MAX` without the closing NUL).
 const MOST_TARGET: usize = 4095;
-
-/// A regular file that is seen.
-#[derive(Clone, Copy)]
-pub(crate) struct Found<'a> {
-    pub(crate) mode: u32,
-    pub(crate) bytes: &'a [u8],
-}
 
 /// Goes over the layers. Each is one by `IsLayer`, and its lender says so.
 pub(crate) fn visit(lowers: &[Shared])
@@ -64,60 +56,49 @@ pub(crate) fn check_new(stack: &Stack<'_>, path: &Path, mode: u32) -> Result<(),
     Ok(())
 }
 
-/// The file that is seen at the path, where the bytes can be put into it at the offset.
-pub(crate) fn check_write<'a>(
-    stack: &Stack<'a>,
+/// Tests whether the bytes can be put at the offset of the file at the path.
+pub(crate) fn check_write(
+    stack: &Stack<'_>,
     path: &Path,
     offset: u64,
     bytes: &Bytes,
-) -> Result<Found<'a>, FsError>
+) -> Result<(), FsError>
     ensures error { result_err result ≡ first_error (tests (op.Write path.now offset bytes.now) stack.now) }
-    ensures found { IfOk result (λ f. seen stack.now path.now ≡ Some (file f.mode f.bytes.now)) }
     ensures layers { AreLayers stack.now }
 {
     stack.walk(path)?;
-    let found = find_file(stack, path)?;
+    check_file(stack, path)?;
     let end = offset.saturating_add(bytes.as_slice().len() as u64);
     if end > MOST_BYTES {
         return Err(FsError::TooBig);
     }
-    Ok(found)
+    Ok(())
 }
 
-/// The file that is seen at the path, where it can be given so many bytes.
-pub(crate) fn check_truncate<'a>(
-    stack: &Stack<'a>,
-    path: &Path,
-    size: u64,
-) -> Result<Found<'a>, FsError>
+/// Tests whether the file at the path can be given so many bytes.
+pub(crate) fn check_truncate(stack: &Stack<'_>, path: &Path, size: u64) -> Result<(), FsError>
     ensures error { result_err result ≡ first_error (tests (op.Truncate path.now size) stack.now) }
-    ensures found { IfOk result (λ f. seen stack.now path.now ≡ Some (file f.mode f.bytes.now)) }
     ensures layers { AreLayers stack.now }
 {
     stack.walk(path)?;
-    let found = find_file(stack, path)?;
+    check_file(stack, path)?;
     if size > MOST_BYTES {
         return Err(FsError::TooBig);
     }
-    Ok(found)
+    Ok(())
 }
 
-/// The file that is seen at the path, or nothing for a directory, where it can be given the mode.
-pub(crate) fn check_mode<'a>(
-    stack: &Stack<'a>,
-    path: &Path,
-    mode: u32,
-) -> Result<Option<Found<'a>>, FsError>
+/// Tests whether the directory or file at the path can be given the mode.
+pub(crate) fn check_mode(stack: &Stack<'_>, path: &Path, mode: u32) -> Result<(), FsError>
     ensures error { result_err result ≡ first_error (tests (op.SetMode path.now mode) stack.now) }
-    ensures found { IfOk result (λ f. IsFound f (seen stack.now path.now)) }
     ensures layers { AreLayers stack.now }
 {
     stack.walk(path)?;
-    let found = find(stack, path)?;
+    check_has_mode(stack, path)?;
     if mode > GREATEST_MODE {
         return Err(FsError::Invalid);
     }
-    Ok(found)
+    Ok(())
 }
 
 /// Tests whether a symlink with the target can be made at the path.
@@ -149,28 +130,27 @@ fn has_nul(bytes: &[u8]) -> bool
     bytes.iter().any(|byte| *byte == 0)
 }
 
-/// The file that is seen at the path, or nothing for a directory.
-fn find<'a>(stack: &Stack<'a>, path: &Path) -> Result<Option<Found<'a>>, FsError>
-    ensures error { result_err result ≡ mode_error (seen stack.now path.now) }
-    ensures found { IfOk result (λ f. IsFound f (seen stack.now path.now)) }
+/// Tests whether a regular file is seen at the path.
+fn check_file(stack: &Stack<'_>, path: &Path) -> Result<(), FsError>
+    ensures { result_err result ≡ file_error (seen stack.now path.now) }
 {
     match stack.look(path) {
-        Some(Seen::File { mode, bytes }) => Ok(Some(Found { mode, bytes })),
-        Some(Seen::Dir { .. }) => Ok(None),
+        Some(Seen::File { .. }) => Ok(()),
+        Some(Seen::Dir { .. }) => Err(FsError::IsDir),
         Some(Seen::Symlink { .. }) => Err(FsError::Invalid),
         None => Err(FsError::NotFound),
     }
 }
 
-/// The regular file that is seen at the path.
-fn find_file<'a>(stack: &Stack<'a>, path: &Path) -> Result<Found<'a>, FsError>
-    ensures error { result_err result ≡ file_error (seen stack.now path.now) }
-    ensures found { IfOk result (λ f. seen stack.now path.now ≡ Some (file f.mode f.bytes.now)) }
+/// Tests whether a directory or a regular file, which have a mode, is seen at the path.
+fn check_has_mode(stack: &Stack<'_>, path: &Path) -> Result<(), FsError>
+    ensures { result_err result ≡ mode_error (seen stack.now path.now) }
 {
-    match find(stack, path) {
-        Ok(Some(found)) => Ok(found),
-        Ok(None) => Err(FsError::IsDir),
-        Err(error) => Err(error),
+    match stack.look(path) {
+        Some(Seen::File { .. }) => Ok(()),
+        Some(Seen::Dir { .. }) => Ok(()),
+        Some(Seen::Symlink { .. }) => Err(FsError::Invalid),
+        None => Err(FsError::NotFound),
     }
 }
 

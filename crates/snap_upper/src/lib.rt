@@ -5,6 +5,7 @@
 #![tactic(auto)]
 
 mod applying;
+mod change;
 mod checking;
 mod content;
 mod erasing;
@@ -13,7 +14,8 @@ mod linking;
 mod op;
 mod planning;
 mod renaming;
+mod rules;
 
-pub use applying::apply;
+pub use applying::{apply, apply_within};
 pub use op::Op;
 pub use planning::{Planned, plan};

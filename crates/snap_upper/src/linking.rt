@@ -7,13 +7,13 @@ ghost use Rattle.snap_layer.specs.Edits.{HasParent, without};
 ghost use Rattle.snap_copyup.specs.Copying.{with_parents, copied_up};
 ghost use Rattle.snap_copyup.specs.Places.{IsRefusal};
 ghost use Rattle.snap_upper.specs.declared.op.Op.TheVariants as op;
-ghost use Rattle.snap_upper.specs.After.{after, tests, first_error, limited, next_layer};
+ghost use Rattle.snap_upper.specs.After.{tests, first_error, limited, next_layer};
 
-use super::checking::{check_link, visit};
+use super::checking::visit;
 use super::content::own_number;
 use snap_copyup::{copy_up, ensure_dirs};
 use snap_layer::{Layer, Shared};
-use snap_merge::{FsError, Stack};
+use snap_merge::FsError;
 use snap_path::Path;
 
 /// Gives what is seen at `from` the name `to`. Where the layer doesn't have the directory of `to`, or
@@ -24,11 +24,12 @@ pub(crate) fn link(
     from: &Path,
     to: &Path,
 ) -> Result<(), FsError>
-    ensures ok { OnOk result (after (op.Link from.now to.now) layer.old lowers.now ≡ Ok layer.new) }
-    ensures error { IfErr result (λ e. (e ≡ FsError.OutOfMemory) ⊎ (after (op.Link from.now to.now) layer.old lowers.now ≡ Err e)) }
+    requires { first_error (tests (op.Link from.now to.now) (layer.old ∷ lowers.now)) ≡ None }
+    ensures ok { OnOk result (limited (next_layer (op.Link from.now to.now) layer.old lowers.now) ≡ Ok layer.new) }
+    ensures error { IfErr result (λ e. (e ≡ FsError.OutOfMemory) ⊎ (limited (next_layer (op.Link from.now to.now) layer.old lowers.now) ≡ Err e)) }
     ensures unchanged { OnErr result (layer.new ≡ layer.old) }
 {
-    check_link(&Stack::over(layer, lowers), from, to)?;
+    visit(lowers);
     let _ = layer.next_number();
     if !layer.has_parent(to) {
         return link_on_copy(layer, lowers, from, to);

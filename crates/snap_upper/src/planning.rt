@@ -1,26 +1,25 @@
-ghost use Rattle.std.specs.Prelude.{◌≡◌, [], ◌∷◌, ◌++◌, ◌+◌, ◌≤◌, ℕ, List, None, Some, is_some, true, false, length};
+ghost use Rattle.std.specs.Prelude.{◌≡◌, [], ◌∷◌, ◌++◌, ◌+◌, ◌≤◌, ℕ, List, None, Some, Ok, is_some, true, false, length};
 ghost use Rattle.std.specs.Option.{option_map};
 ghost use Rattle.snap_layer.specs.Tree.{Tree, at, body, number_at};
 ghost use Rattle.snap_layer.specs.Counts.{block_count, inode_count};
-ghost use Rattle.snap_layer.specs.Edits.{IsFree, without};
+ghost use Rattle.snap_layer.specs.Edits.{IsFree, HasMode, with_mode, without};
 ghost use Rattle.snap_merge.specs.Objects.{file, object, seen, is_shown_dir, AreLayers};
 ghost use Rattle.snap_merge.specs.Walk.{walk, Answers};
 ghost use Rattle.snap_copyup.specs.declared.putting.Last.{Last};
 ghost use Rattle.snap_copyup.specs.Copying.{with_parents, copied_up};
 ghost use Rattle.snap_copyup.specs.Places.{with_last, Fits};
 ghost use Rattle.snap_upper.specs.declared.op.Op.TheVariants as op;
-ghost use Rattle.snap_upper.specs.After.{after, first_error, tests, planned, limited, erased, prepared, renamed, is_same_name, with_content, written, lists_names};
+ghost use Rattle.snap_upper.specs.After.{after, first_error, tests, planned, limited, next_layer, erased, prepared, renamed, is_same_name, with_content, lists_names};
+ghost use Rattle.snap_layer.specs.declared.node.Body.TheVariants as body_kinds;
+ghost use Rattle.snap_upper.specs.Changes.{edited, outcome, IsReady, IsShort};
 ghost use Rattle.snap_upper.specs.Adding.{Takes, weight_of, last_blocks, object_blocks, IsPlaceable, IsNext};
 
-use super::checking::{
-    Found, check_link, check_mode, check_new, check_rmdir, check_symlink, check_truncate,
-    check_unlink, check_write,
-};
-use super::content::{is_whiteout, own_number};
+use super::change::{Change, Edit};
+use super::content::is_whiteout;
 use super::op::Op;
-use super::renaming::check_rename;
+use super::rules::rule;
 use snap_copyup::{below, missing_dirs, missing_dirs_of_both};
-use snap_layer::{Bytes, Layer, Node, Shared};
+use snap_layer::{Body, Layer, Node, Shared};
 use snap_merge::{FsError, Seen, Stack};
 use snap_path::Path;
 use snap_usage::{Usage, blocks_of, count};
@@ -46,104 +45,58 @@ pub fn plan(layer: &Layer, lowers: &[Shared], op: &Op) -> Result<Planned, FsErro
     ensures answer { Answers (planned (after op.now layer.now lowers.now)) result }
     ensures sure { lists_names op.now (layer.now ∷ lowers.now) ≡ false → result ≡ planned (after op.now layer.now lowers.now) }
 {
-    match op {
-        Op::Mkdir { path, mode } => plan_mkdir(layer, lowers, path, *mode),
-        Op::Create { path, mode } => plan_create(layer, lowers, path, *mode),
-        Op::Write {
-            path,
-            offset,
-            bytes,
-        } => plan_write(layer, lowers, path, *offset, bytes),
-        Op::Truncate { path, size } => plan_truncate(layer, lowers, path, *size),
-        Op::SetMode { path, mode } => plan_mode(layer, lowers, path, *mode),
-        Op::Symlink { path, target } => plan_symlink(layer, lowers, path, target),
-        Op::Link { from, to } => plan_link(layer, lowers, from, to),
-        Op::Unlink { path } => plan_unlink(layer, lowers, path),
-        Op::Rmdir { path } => plan_rmdir(layer, lowers, path),
-        Op::Rename { from, to } => plan_rename(layer, lowers, from, to),
+    let change = rule(layer, lowers, op)?;
+    weigh(layer, lowers, change)
+}
+
+/// How much the layer takes after the change.
+pub(crate) fn weigh(
+    layer: &Layer,
+    lowers: &[Shared],
+    change: Change<'_>,
+) -> Result<Planned, FsError>
+    requires layers { AreLayers lowers.now }
+    requires ready { IsReady change layer.now lowers.now }
+    ensures { result ≡ planned (outcome change.entry layer.now lowers.now) }
+{
+    let _ = layer.next_number();
+    match change {
+        Change::Nothing => Ok(counted(layer)),
+        Change::Put { path, new } => plan_growth(layer, path, new.blocks(), new.is_numbered()),
+        Change::Fill { number, edit } => plan_filling(layer, number, edit),
+        Change::SetMode { path, mode } => Ok(counted_with_mode(layer, path, mode)),
+        Change::Erase { path } => plan_erasing(layer, lowers, path),
+        Change::Link { from, to } => plan_link(layer, lowers, from, to),
+        Change::Move { from, to } => plan_move(layer, lowers, from, to),
     }
 }
 
-fn plan_mkdir(layer: &Layer, lowers: &[Shared], path: &Path, mode: u32) -> Result<Planned, FsError>
-    ensures { result ≡ planned (after (op.Mkdir path.now mode) layer.now lowers.now) }
+/// What the layer takes.
+fn counted(layer: &Layer) -> Planned
+    ensures { Ok result ≡ planned (Ok layer.now) }
 {
-    check_new(&Stack::over(layer, lowers), path, mode)?;
     let _ = layer.next_number();
-    plan_growth(layer, path, 1, false)
+    let after = count(layer);
+    Planned { after }
 }
 
-fn plan_create(layer: &Layer, lowers: &[Shared], path: &Path, mode: u32) -> Result<Planned, FsError>
-    ensures { result ≡ planned (after (op.Create path.now mode) layer.now lowers.now) }
+/// What the layer takes, which a mode doesn't change.
+fn counted_with_mode(layer: &Layer, path: &Path, mode: u32) -> Planned
+    requires there { HasMode (at layer.now path.now) }
+    requires low { mode ≤ 4095 }
+    ensures { Ok result ≡ planned (limited (with_mode layer.now path.now (at layer.now path.now) mode)) }
 {
-    check_new(&Stack::over(layer, lowers), path, mode)?;
     let _ = layer.next_number();
-    plan_growth(layer, path, 0, true)
+    let after = count(layer);
+    Planned { after }
 }
 
-fn plan_write(
-    layer: &Layer,
-    lowers: &[Shared],
-    path: &Path,
-    offset: u64,
-    bytes: &Bytes,
-) -> Result<Planned, FsError>
-    ensures { result ≡ planned (after (op.Write path.now offset bytes.now) layer.now lowers.now) }
-{
-    let found = check_write(&Stack::over(layer, lowers), path, offset, bytes)?;
-    let _ = layer.next_number();
-    let new = size_after(found.bytes.len(), offset as usize, bytes.as_slice());
-    plan_filling(layer, lowers, path, found, new)
-}
-
-fn plan_truncate(
-    layer: &Layer,
-    lowers: &[Shared],
-    path: &Path,
-    size: u64,
-) -> Result<Planned, FsError>
-    ensures { result ≡ planned (after (op.Truncate path.now size) layer.now lowers.now) }
-{
-    let found = check_truncate(&Stack::over(layer, lowers), path, size)?;
-    let _ = layer.next_number();
-    plan_filling(layer, lowers, path, found, size as usize)
-}
-
-fn plan_mode(layer: &Layer, lowers: &[Shared], path: &Path, mode: u32) -> Result<Planned, FsError>
-    ensures { result ≡ planned (after (op.SetMode path.now mode) layer.now lowers.now) }
-{
-    let found = check_mode(&Stack::over(layer, lowers), path, mode)?;
-    let _ = layer.next_number();
-    if layer.at(path).is_some() {
-        let after = count(layer);
-        return Ok(Planned { after });
-    }
-    let _ = path.names();
-    match found {
-        None => return plan_growth(layer, path, 1, false),
-        Some(file) => {
-            let blocks = blocks_of(file.bytes.len() as u64);
-            return plan_growth(layer, path, blocks, true);
-        }
-    }
-}
-
-fn plan_symlink(
-    layer: &Layer,
-    lowers: &[Shared],
-    path: &Path,
-    target: &Bytes,
-) -> Result<Planned, FsError>
-    ensures { result ≡ planned (after (op.Symlink path.now target.now) layer.now lowers.now) }
-{
-    check_symlink(&Stack::over(layer, lowers), path, target)?;
-    let _ = layer.next_number();
-    plan_growth(layer, path, 0, true)
-}
-
+/// How much the layer takes where what is seen at `from` gets the name `to`.
 fn plan_link(layer: &Layer, lowers: &[Shared], from: &Path, to: &Path) -> Result<Planned, FsError>
-    ensures { result ≡ planned (after (op.Link from.now to.now) layer.now lowers.now) }
+    requires layers { AreLayers lowers.now }
+    requires passes { first_error (tests (op.Link from.now to.now) (layer.now ∷ lowers.now)) ≡ None }
+    ensures { result ≡ planned (limited (next_layer (op.Link from.now to.now) layer.now lowers.now)) }
 {
-    check_link(&Stack::over(layer, lowers), from, to)?;
     let _ = from.names();
     let _ = to.names();
     let _ = layer.next_number();
@@ -189,23 +142,6 @@ fn seen_blocks(seen: Option<Seen<'_>>) -> u64
     }
 }
 
-fn plan_unlink(layer: &Layer, lowers: &[Shared], path: &Path) -> Result<Planned, FsError>
-    ensures { result ≡ planned (after (op.Unlink path.now) layer.now lowers.now) }
-{
-    check_unlink(&Stack::over(layer, lowers), path)?;
-    let _ = layer.next_number();
-    plan_erasing(layer, lowers, path)
-}
-
-fn plan_rmdir(layer: &Layer, lowers: &[Shared], path: &Path) -> Result<Planned, FsError>
-    ensures answer { Answers (planned (after (op.Rmdir path.now) layer.now lowers.now)) result }
-    ensures sure { is_shown_dir (seen (layer.now ∷ lowers.now) path.now) ≡ false → result ≡ planned (after (op.Rmdir path.now) layer.now lowers.now) }
-{
-    check_rmdir(&Stack::over(layer, lowers), layer.alloc(), path)?;
-    let _ = layer.next_number();
-    plan_erasing(layer, lowers, path)
-}
-
 /// How much the layer takes where what is seen at the path is taken: a name, or a directory in which
 /// nothing is seen. A whiteout is put there where a lower layer shows something.
 fn plan_erasing(layer: &Layer, lowers: &[Shared], path: &Path) -> Result<Planned, FsError>
@@ -228,18 +164,6 @@ fn plan_erasing(layer: &Layer, lowers: &[Shared], path: &Path) -> Result<Planned
         inodes: left.inodes + u64::from(covers),
     };
     fitting(layer, after, false)
-}
-
-fn plan_rename(layer: &Layer, lowers: &[Shared], from: &Path, to: &Path) -> Result<Planned, FsError>
-    ensures answer { Answers (planned (after (op.Rename from.now to.now) layer.now lowers.now)) result }
-    ensures sure { is_shown_dir (seen (layer.now ∷ lowers.now) to.now) ≡ false → result ≡ planned (after (op.Rename from.now to.now) layer.now lowers.now) }
-{
-    let _ = layer.next_number();
-    if !check_rename(layer, lowers, from, to)? {
-        let after = count(layer);
-        return Ok(Planned { after });
-    }
-    plan_move(layer, lowers, from, to)
 }
 
 /// How much the layer takes where what is seen at `from` moves to `to`. What stands there goes, and a
@@ -344,43 +268,30 @@ fn fitting(layer: &Layer, after: Usage, numbered: bool) -> Result<Planned, FsErr
     Ok(Planned { after })
 }
 
-/// How much the layer takes where the regular file that is found at the path gets so many bytes.
-fn plan_filling(
-    layer: &Layer,
-    lowers: &[Shared],
-    path: &Path,
-    found: Found<'_>,
-    size: usize,
-) -> Result<Planned, FsError>
-    requires layers { AreLayers lowers.now }
-    requires way { walk (layer.now ∷ lowers.now) path.now ≡ None }
-    requires there { seen (layer.now ∷ lowers.now) path.now ≡ Some (file found.mode found.bytes.now) }
-    requires few { size ≤ 1048576 }
-    ensures { (f : List ℕ → List ℕ) → length (f found.entry.bytes.now) ≡ size → result ≡ planned (limited (with_content (copied_up layer.now lowers.now path.now) (number_at (copied_up layer.now lowers.now path.now) path.now) f)) }
+/// How much the layer takes where its file with the number is edited.
+fn plan_filling(layer: &Layer, number: u32, edit: Edit<'_>) -> Result<Planned, FsError>
+    requires there { (m : ℕ) × (old : List ℕ) × (body layer.now number ≡ Some (body_kinds.File m old)) × IsShort edit × (length (edited edit old) ≤ 1048576) }
+    ensures { result ≡ planned (limited (with_content layer.now (Some number) (edited edit.entry))) }
 {
     let _ = layer.next_number();
-    let new = blocks_of(size as u64);
-    match own_number(layer, path) {
-        Some(_) => {
-            let now = count(layer);
-            let old = blocks_of(found.bytes.len() as u64);
-            let after = Usage {
-                blocks: now.blocks - old + new,
-                inodes: now.inodes,
-            };
-            return Ok(Planned { after });
-        }
-        None => return plan_growth(layer, path, new, true),
-    }
+    let now = count(layer);
+    let size = file_size(layer, number);
+    let new = blocks_of(edit.size(size) as u64);
+    let old = blocks_of(size as u64);
+    let after = Usage {
+        blocks: now.blocks - old + new,
+        inodes: now.inodes,
+    };
+    Ok(Planned { after })
 }
 
-/// The size of a file of `old` bytes once the bytes are written at the offset.
-fn size_after(old: usize, offset: usize, bytes: &[u8]) -> usize
-    requires { offset + length bytes.now ≤ 1048576 }
-    ensures { (was : List ℕ) → length was ≡ old → result ≡ length (written was offset bytes.now) }
+/// The size of the layer's file with the number.
+fn file_size(layer: &Layer, number: u32) -> usize
+    ensures { (m : ℕ) (old : List ℕ) → body layer.now number ≡ Some (body_kinds.File m old) → result ≡ length old }
 {
-    if bytes.is_empty() {
-        return old;
+    match layer.body(number) {
+        Some(Body::File { bytes, .. }) => bytes.as_slice().len(),
+        Some(Body::Symlink { .. }) => 0,
+        None => 0,
     }
-    old.max(offset + bytes.len())
 }

@@ -9,7 +9,7 @@ ghost use Rattle.snap_merge.specs.Objects.{object, seen, is_shown_dir, AreLayers
 ghost use Rattle.snap_merge.specs.Walk.{walk};
 ghost use Rattle.snap_copyup.specs.Places.{IsRefusal};
 ghost use Rattle.snap_upper.specs.declared.op.Op.TheVariants as op;
-ghost use Rattle.snap_upper.specs.After.{after, tests, move_tests, first_error, error_if, kind_error, is_root, is_same_name, is_same_path, is_same_number, is_too_long, limited, renamed, prepared, shifted};
+ghost use Rattle.snap_upper.specs.After.{tests, move_tests, first_error, error_if, kind_error, is_root, is_same_name, is_same_path, is_same_number, is_too_long, limited, renamed, prepared, shifted};
 
 use super::checking::{check_empty, is_dir, visit};
 use super::content::own_number;
@@ -17,24 +17,6 @@ use snap_copyup::{below, copy_up, ensure_dirs, is_pure};
 use snap_layer::{Layer, Shared};
 use snap_merge::{FsError, Seen, Stack};
 use snap_path::Path;
-
-/// Gives what is seen at `from` the path `to`.
-pub(crate) fn rename(
-    layer: &mut Layer,
-    lowers: &[Shared],
-    from: &Path,
-    to: &Path,
-) -> Result<(), FsError>
-    ensures ok { OnOk result (after (op.Rename from.now to.now) layer.old lowers.now ≡ Ok layer.new) }
-    ensures error { IfErr result (λ e. (e ≡ FsError.OutOfMemory) ⊎ (after (op.Rename from.now to.now) layer.old lowers.now ≡ Err e)) }
-    ensures unchanged { OnErr result (layer.new ≡ layer.old) }
-{
-    let _ = layer.next_number();
-    if !check_rename(layer, lowers, from, to)? {
-        return Ok(());
-    }
-    shift(layer, lowers, from, to)
-}
 
 /// Tests whether a rename can be done. The answer is whether it has something to do: one path, or two
 /// names of one file in the layer, stay as they are.
@@ -158,7 +140,12 @@ fn check_kinds(moved: Option<Seen<'_>>, target: Option<Seen<'_>>) -> Result<(), 
 
 /// Moves what is seen at `from` to `to`. Where nothing has to be added to the layer first, it is changed in
 /// place. Else the steps are done on a copy of it, so that each error leaves it as it was.
-fn shift(layer: &mut Layer, lowers: &[Shared], from: &Path, to: &Path) -> Result<(), FsError>
+pub(crate) fn shift(
+    layer: &mut Layer,
+    lowers: &[Shared],
+    from: &Path,
+    to: &Path,
+) -> Result<(), FsError>
     requires passes { first_error (tests (op.Rename from.now to.now) (layer.old ∷ lowers.now)) ≡ None }
     requires moves { is_same_name layer.old from.now to.now ≡ false }
     ensures ok { OnOk result (limited (renamed layer.old lowers.now from.now to.now) ≡ Ok layer.new) }

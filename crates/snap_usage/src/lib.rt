@@ -7,8 +7,6 @@
 #![tactic(auto)]
 
 mod counting;
-#[cfg(test)]
-mod tests;
 mod usage;
 
 pub use counting::{count, recount};

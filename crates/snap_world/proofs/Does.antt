@@ -28,7 +28,8 @@ use Rattle.snap_merge.specs.declared.error.FsError.TheVariants as errors
 use Rattle.snap_upper.specs.declared.op.Op.{Op}
 use Rattle.snap_book.specs.Working.{worked}
 use Rattle.snap_book.specs.Active.{ActiveValue, root_mode}
-use Rattle.snap_book.specs.Book.{BookValue, AnsweredBy, Asks, Recorded}
+use Rattle.snap_accounts.specs.Entries.{Asks}
+use Rattle.snap_book.specs.Book.{BookValue, AnsweredBy, Recorded}
 use Rattle.snap_world.specs.declared.step.Answer.{Answer}
 use Rattle.snap_world.specs.declared.step.Answer.TheVariants as answers
 use Rattle.snap_world.specs.declared.step.Step.TheVariants as steps

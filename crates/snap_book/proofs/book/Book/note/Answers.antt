@@ -16,5 +16,5 @@ invariant_of-self-2 g c =
     let moved : step s c.args.call c.args.given ≡ (counted s, c.args.reply) = subst (λ (b : BookValue). step b.state c.args.call c.args.given ≡ (counted b.state, c.args.reply)) (sym c.self.view_is) c.requires.same in
     let same : open_count c.count_entry.new.self.records ≡ open_count s.records = ap (λ (u : State). open_count u.records) c.count_entry.ensures in
     kept_push _ _ _ _ _ e _ c.self.invariant c.in_ok-admit.ensures.same c.push.ensures.entry c.in_ok-entry.ensures.0 allowed (moved ∙ (λ i. (sym c.count_entry.ensures i, c.args.reply)))
-    (omega (arith, same, c.open.ensures, c.in_ok-admit.ensures.below))
-    (omega (arith, same, c.open.ensures, c.in_ok-admit.ensures.room, c.push.ensures.room))
+    (omega (arith, same, c.open_slots.ensures, c.in_ok-admit.ensures.below))
+    (omega (arith, same, c.open_slots.ensures, c.in_ok-admit.ensures.room, c.push.ensures.room))

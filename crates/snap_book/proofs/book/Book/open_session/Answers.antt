@@ -16,5 +16,5 @@ invariant_of-self-2 g c =
     kept_push _ _ _ _ _ (entry c.state.result.now.sessions calls.Session Nothing Opened) _ c.self.invariant c.in_ok-admit.ensures.same c.push.ensures.entry c.session_entry.ensures
     few
     (session_step s _ few c.open_session.ensures)
-    (omega (arith, same, c.open.ensures, c.in_ok-admit.ensures.below))
-    (omega (arith, same, c.open.ensures, c.in_ok-admit.ensures.room, c.push.ensures.room))
+    (omega (arith, same, c.open_slots.ensures, c.in_ok-admit.ensures.below))
+    (omega (arith, same, c.open_slots.ensures, c.in_ok-admit.ensures.room, c.push.ensures.room))

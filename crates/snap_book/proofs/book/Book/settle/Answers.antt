@@ -3,7 +3,7 @@ use Rattle.snap_call.specs.declared.entry.Entry.{Entry}
 use Rattle.snap_call.specs.Records.{active_at, has_key}
 use Rattle.snap_call.specs.Step.{IsAllowed}
 use Rattle.snap_book.specs.Book.{BookValue}
-use Rattle.snap_book.specs.Totals.{place_if}
+use Rattle.snap_accounts.specs.Totals.{place_if}
 use Rattle.snap_book.proofs.Commits.{settled}
 use Rattle.snap_book.proofs.Keeping.{kept_push, recorded_push}
 use Rattle.snap_book.proofs.book.Book.settle.Goals as goal
@@ -18,8 +18,8 @@ invariant_of-self-2 g c =
     let allowed : IsAllowed c.self.inside.accounts e.call e.given = subst (λ (b : BookValue). IsAllowed b.state e.call e.given) (sym c.self.view_is) c.requires.allowed in
     let moved = settled _ _ _ e _ _ c.args.settlement.name _ (ap (λ (b : BookValue). b.state) c.self.view_is) c.sealed.view_is c.requires.granted c.requires.reply c.commit-usage.ensures.step c.commit-usage.ensures.count in
     kept_push _ _ _ _ _ e _ c.self.invariant c.in_default.ensures.same c.push.ensures.entry refl allowed moved
-    (omega (arith, c.commit-usage.ensures.open, c.open.ensures, c.in_default.ensures.below))
-    (omega (arith, c.commit-usage.ensures.open, c.open.ensures, c.in_default.ensures.room, c.push.ensures.room))
+    (omega (arith, c.commit-usage.ensures.open, c.open_slots.ensures, c.in_default.ensures.below))
+    (omega (arith, c.commit-usage.ensures.open, c.open_slots.ensures, c.in_default.ensures.room, c.push.ensures.room))
 
 pub returns-clause-granted : goal.returns-clause-granted
 returns-clause-granted g c =

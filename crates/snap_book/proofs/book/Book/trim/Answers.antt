@@ -13,5 +13,5 @@ invariant_of-self-2 g c =
     let e : Entry = entry c.args.session (calls.Trim share.slot share.id) (Count c.count-count.result) Trimmed in
     let is : c.trim_entry.result ≡ e = c.trim_entry.ensures ∙ (λ i. entry c.args.session (calls.Trim (c.slot-slot.ensures i) (c.id-id.ensures i)) (Count c.count-count.result) Trimmed) in
     kept_push _ _ _ _ _ e _ c.self.invariant c.in_ok-admit.ensures.same c.push.ensures.entry is c.trim.ensures.allowed c.trim.ensures.step
-    (omega (arith, c.trim.ensures.open, c.open.ensures, c.in_ok-admit.ensures.below))
-    (omega (arith, c.trim.ensures.open, c.open.ensures, c.in_ok-admit.ensures.room, c.push.ensures.room))
+    (omega (arith, c.trim.ensures.open, c.open_slots.ensures, c.in_ok-admit.ensures.below))
+    (omega (arith, c.trim.ensures.open, c.open_slots.ensures, c.in_ok-admit.ensures.room, c.push.ensures.room))

@@ -1,0 +1,4 @@
+pub mod Rows
+pub mod Accounting
+pub mod Prepared
+pub mod Commits

@@ -1,0 +1,70 @@
+use Rattle.std.proofs.Common.{◌≡◌, ◌<◌, ◌+◌, ℕ, List, length, set, true, refl, sym, ap, ◌∙◌, subst, arith}
+use Rattle.snap_usage.specs.declared.usage.Usage.{Usage}
+use Rattle.snap_ledger.specs.States.{ChargeState, plus}
+use Rattle.snap_record.specs.declared.record.Record.{Record}
+use Rattle.snap_call.specs.declared.state.State.{State}
+use Rattle.snap_call.specs.Good.{Good}
+use Rattle.snap_call.specs.Records.{charge_of, active_at, has_key, open_count, with_record}
+use Rattle.snap_call.specs.State.{covers, limit_at, is_base, is_too_deep}
+use Rattle.snap_call.specs.Step.{new_active, one}
+use Rattle.snap_accounts.proofs.Accounting.{accounts_same}
+use Rattle.snap_accounts.proofs.Prepared.{accounts_prepared, charge_in-free, open-most, open_count-prepared}
+use Rattle.snap_accounts.proofs.accounts.Accounts.insert.Goals as goal
+
+abbrev as_charge : ℕ → ℕ → Usage → ChargeState
+as_charge slot id u = record { slot = slot; id = id; usage = u; issued = true }
+
+pub invariant_of-self : goal.invariant_of-self
+invariant_of-self g c =
+    let s = c.self.inside.state in
+    let same : c.insert.new.self ≡ s.records = c.in_default.ensures.err in
+    accounts_same s (record s { records = c.insert.new.self }) c.self.inside.totals c.self.inside.slots c.self.inside.opened c.self.invariant
+    (subst (λ (l : List Record). Good (record s { records = l })) (sym same) c.self.invariant.good)
+    refl same
+
+pub overflow_add-self-3 : goal.overflow_add-self-3
+overflow_add-self-3 g c =
+    let most = open-most c.self.inside.state c.self.inside.totals c.self.inside.slots c.self.inside.opened c.self.invariant in
+    omega (arith, most)
+
+pub issue-requires-clause-free : goal.issue-requires-clause-free
+issue-requires-clause-free g c =
+    let s = c.self.inside.state in
+    charge_in-free s c.self.inside.totals c.self.inside.slots c.self.inside.opened c.args.vacancy.slot c.self.invariant c.requires.vacant.low
+    (ap (λ (u : State). active_at c.args.vacancy.slot u.records) c.self.view_is ∙ c.requires.vacant.free)
+
+pub invariant_of-self-2 : goal.invariant_of-self-2
+invariant_of-self-2 g c =
+    let s = c.self.inside.state in
+    let place = c.args.vacancy.place in
+    let slot = c.args.vacancy.slot in
+    let key = c.args.added.key in
+    let parent = c.args.added.parent in
+    let view : s ≡ c.args.self.now = c.self.view_is in
+    let made : c.args.added ≡ new_active s place key parent slot = c.requires.added ∙ ap (λ (u : State). new_active u place key parent slot) (sym view) in
+    let is : c.insert.new.self ≡ with_record (new_active s place key parent slot) s.records = c.in-Ok.ensures.ok ∙ ap (λ (r : Record). with_record r s.records) made in
+    let total : c.total.result ≡ charge_of place s.records = c.total.ensures.total ∙ ap (λ (u : State). charge_of place u.records) (sym view) in
+    let after : c.sum-after.result ≡ plus (charge_of place s.records) one = c.sum-after.ensures ∙ (λ i. plus (total i) (c.one.ensures i)) in
+    accounts_prepared s c.self.inside.totals c.set.new.self c.self.inside.slots c.issue.new.self c.self.inside.opened place slot key parent c.insert.new.self c.self.invariant
+    (subst (λ (u : State). place < length u.namespaces) (sym view) c.requires.vacant.place)
+    (ap (λ (u : State). has_key place key u.records) view ∙ c.requires.vacant.new)
+    (ap (λ (u : State). is_base place parent u.records) view ∙ c.requires.vacant.base)
+    (ap (λ (u : State). is_too_deep place parent u.records) view ∙ c.requires.vacant.deep)
+    c.requires.vacant.low
+    (ap (λ (u : State). active_at slot u.records) view ∙ c.requires.vacant.free)
+    (ap (λ (u : State). covers (limit_at place u.namespaces) (plus (charge_of place u.records) one)) view ∙ c.requires.vacant.fits)
+    is
+    (c.set.ensures ∙ ap (set c.self.inside.totals place) after)
+    (c.issue.ensures.charges ∙ (λ i. set c.self.inside.slots slot (as_charge slot (made i).id (c.one-2.ensures i))))
+
+pub returns-clause-open : goal.returns-clause-open
+returns-clause-open g c =
+    let s = c.self.inside.state in
+    let place = c.args.vacancy.place in
+    let slot = c.args.vacancy.slot in
+    let key = c.args.added.key in
+    let parent = c.args.added.parent in
+    let view : s ≡ c.args.self.now = c.self.view_is in
+    let made : c.args.added ≡ new_active s place key parent slot = c.requires.added ∙ ap (λ (u : State). new_active u place key parent slot) (sym view) in
+    let is : c.insert.new.self ≡ with_record (new_active s place key parent slot) s.records = c.in-Ok.ensures.ok ∙ ap (λ (r : Record). with_record r s.records) made in
+    open_count-prepared s place key parent slot c.insert.new.self is ∙ ap (λ (u : State). open_count u.records + 1) view

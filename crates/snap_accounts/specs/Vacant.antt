@@ -1,0 +1,20 @@
+-- Where a new snapshot can go.
+use Rattle.std.specs.Prelude.{◌≡◌, ℕ, ◌<◌, ◌≤◌, true, false, None, length}
+use Rattle.snap_ledger.specs.States.{plus}
+use Rattle.snap_record.specs.Labels.{Bytes}
+use Rattle.snap_call.specs.declared.state.State.{State}
+use Rattle.snap_call.specs.Records.{charge_of, active_at, has_key}
+use Rattle.snap_call.specs.State.{covers, limit_at, is_base, is_too_deep}
+use Rattle.snap_call.specs.Step.{one}
+use Rattle.snap_accounts.specs.declared.preparing.Vacancy.{Vacancy}
+
+-- a snapshot of this key and parent can be added there: the namespace is one of the store's, has no snapshot of the key and the parent as a base that is not too deep, its limit covers 1/1 more, the slot is free, and an id is left
+pub record IsVacant (s : State) (v : Vacancy) (key parent : Bytes) : Type 0 where
+  pub place : v.place < length s.namespaces
+  pub new : has_key v.place key s.records ≡ false
+  pub base : is_base v.place parent s.records ≡ true
+  pub deep : is_too_deep v.place parent s.records ≡ false
+  pub low : v.slot < 64
+  pub free : active_at v.slot s.records ≡ None
+  pub fits : covers (limit_at v.place s.namespaces) (plus (charge_of v.place s.records) one) ≡ true
+  pub numbers : s.next_id ≤ 4294967295

@@ -1,0 +1,103 @@
+// The state, and what is kept beside it.
+ghost use Rattle.std.specs.Prelude.{◌≡◌, ◌<◌, ◌+◌, ◌^◌, IfOk, length, true};
+ghost use Rattle.snap_usage.specs.Counted.{Covers};
+ghost use Rattle.snap_call.specs.Forms.{is_config};
+ghost use Rattle.snap_call.specs.Good.{Good};
+ghost use Rattle.snap_call.specs.Records.{charge_of, open_count};
+ghost use Rattle.snap_call.specs.State.{limit_at, opening};
+ghost use Rattle.snap_call.specs.Step.{counted};
+
+use crate::slots::Slots;
+use crate::totals::Totals;
+use snap_call::{Config, State};
+use snap_ledger::{NewTable, StoreName};
+use snap_usage::Usage;
+use std::alloc::{AllocError, Global};
+use std::marker::Model;
+
+/// The state of a store, the totals of its namespaces, the charges of its slots and the number of those
+/// that are open. Usages are in blocks of 4096 bytes and in inodes.
+#[derive(Drop)]
+pub struct Accounts<N: StoreName> {
+    pub(crate) state: State,
+    pub(crate) totals: Totals,
+    pub(crate) slots: Slots<N>,
+    pub(crate) opened: u64,
+}
+
+impl<N: StoreName> Model for Accounts<N> {
+    ghost use Rattle.snap_call.specs.declared.state.State.{State};
+    ghost use Rattle.snap_accounts.specs.Accounts.{AreAccounts};
+
+    ghost Value = { State };
+
+    ghost view = { λ a. a.state };
+
+    ghost invariant = { λ a. AreAccounts a.state a.totals a.slots a.opened };
+}
+
+impl<N: StoreName> Accounts<N> {
+    /// The state of a new store: all namespaces of the configuration are charged 0/0, and all slots are
+    /// free. Takes memory for the totals and the charges. The cost grows with the number of namespaces.
+    pub fn opening(
+        alloc: Global,
+        table: NewTable,
+        config: Config,
+    ) -> Result<Accounts<N>, AllocError>
+        requires table { table ≡ N.table }
+        requires config { is_config config ≡ true }
+        ensures { IfOk result (λ accounts. accounts ≡ opening config) }
+    {
+        let totals = Totals::zero(alloc, config.namespaces.len())?;
+        let slots = Slots::open(alloc, table)?;
+        Ok(Accounts {
+            state: State::opening(alloc, config),
+            totals,
+            slots,
+            opened: 0,
+        })
+    }
+
+    /// The state. Takes no memory. The cost is constant.
+    pub fn state(&self) -> &State
+        ensures same { result.now ≡ self.now }
+        ensures good { Good self.now }
+    {
+        &self.state
+    }
+
+    /// How many slots are open. Takes no memory. The cost is constant.
+    pub fn open_slots(&self) -> u64
+        ensures { result ≡ open_count self.now.records }
+    {
+        self.opened
+    }
+
+    /// What the namespace at a place is charged. Its limit covers that. Takes no memory. The cost is
+    /// constant.
+    pub fn total(&self, place: usize) -> Usage
+        requires { place < length self.now.namespaces }
+        ensures total { result ≡ charge_of place self.now.records }
+        ensures within { Covers (limit_at place self.now.namespaces) result }
+    {
+        self.totals.at(place)
+    }
+
+    /// Counts an entry that leaves the state as it is otherwise. Takes no memory. The cost is constant.
+    pub fn count_entry(&mut self)
+        requires { self.old.entries < 2 ^ 63 }
+        ensures { self.new ≡ counted self.old }
+    {
+        self.state.entries += 1;
+    }
+
+    /// Opens a session, and counts its entry. Takes no memory. The cost is constant.
+    pub fn open_session(&mut self)
+        requires sessions { self.old.sessions < 65536 }
+        requires entries { self.old.entries < 2 ^ 63 }
+        ensures { self.new ≡ record self.old { sessions = self.old.sessions + 1; entries = self.old.entries + 1 } }
+    {
+        self.state.sessions += 1;
+        self.state.entries += 1;
+    }
+}

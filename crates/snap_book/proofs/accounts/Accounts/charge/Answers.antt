@@ -1,8 +1,0 @@
-use Rattle.std.proofs.Common.{ap, ◌∙◌}
-use Rattle.snap_call.specs.declared.state.State.{State}
-use Rattle.snap_call.specs.Records.{open_count}
-use Rattle.snap_call.proofs.Counts.{open_count-recharged}
-use Rattle.snap_book.proofs.accounts.Accounts.charge.Goals as goal
-
-pub returns-in-Some-clause-open : goal.returns-in-Some-clause-open
-returns-in-Some-clause-open g c = ap (λ (s : State). open_count s.records) c.recharge.ensures.state ∙ (open_count-recharged _ _ _ ∙ ap (λ (s : State). open_count s.records) c.meet-held.ensures.same)

@@ -1,0 +1,21 @@
+use Rattle.std.proofs.Common.{◌∷◌, ap, subst, ◌∙◌}
+use Rattle.snap_merge.specs.Objects.{AreLayers}
+use Rattle.snap_upper.specs.declared.op.Op.TheVariants as op
+use Rattle.snap_upper.specs.After.{is_whiteout_at}
+use Rattle.snap_upper.proofs.Outcomes.{stack_passes}
+use Rattle.snap_upper.proofs.Making.{new, vacant_unseen, dir_after}
+use Rattle.snap_upper.proofs.rules.mkdir.Goals as goal
+
+pub returns-clause-ok : goal.returns-clause-ok
+returns-clause-ok c =
+    let u = c.args.layer.now in
+    let ls = c.args.lowers.now in
+    let p = c.args.path.now in
+    let ok = c.next_number.ensures.layer in
+    let passes = stack_passes (op.Mkdir p c.args.mode) _ (u ∷ ls) c.over.ensures c.in_ok-check_new.ensures.error in
+    let made = new u ls p c.args.mode passes in
+    record {
+      layers = (subst AreLayers c.over.ensures c.in_ok-check_new.ensures.layers).1;
+      ready = (made.way, (vacant_unseen u ls p ok made.unseen, made.low), tt);
+      same = dir_after u ls p c.args.mode passes c.is_whiteout-opaque.result (c.is_whiteout-opaque.ensures ∙ ap is_whiteout_at c.at.ensures);
+    }

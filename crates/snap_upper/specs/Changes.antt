@@ -1,0 +1,82 @@
+-- What an operation does to the layer, once its tests have passed.
+use Rattle.std.specs.Prelude.{◌≡◌, ◌+◌, ◌≤◌, ℕ, ◌∷◌, ◌++◌, [], Bool, true, false, List, length, Option, Some, None, Ok, is_some}
+use Rattle.snap_layer.specs.Tree.{Tree, at, body}
+use Rattle.snap_layer.specs.Edits.{HasMode, with_mode}
+use Rattle.snap_merge.specs.Objects.{Object, file, seen, is_shown_dir, AreLayers}
+use Rattle.snap_layer.specs.declared.node.Body.TheVariants as body_kinds
+use Rattle.snap_merge.specs.Walk.{walk}
+use Rattle.snap_copyup.specs.declared.putting.Last.{Last}
+use Rattle.snap_copyup.specs.declared.putting.Last.TheVariants as last
+use Rattle.snap_copyup.specs.Copying.{with_parents}
+use Rattle.snap_copyup.specs.Places.{with_last, Fits}
+use Rattle.snap_upper.specs.declared.op.Op.{Op}
+use Rattle.snap_upper.specs.declared.op.Op.TheVariants as op
+use Rattle.snap_upper.specs.declared.change.Edit.{Edit}
+use Rattle.snap_upper.specs.declared.change.Edit.TheVariants.{Keep, Write, Resize}
+use Rattle.snap_upper.specs.declared.change.New.{New}
+use Rattle.snap_upper.specs.declared.change.New.TheVariants.{Dir, File, Symlink}
+use Rattle.snap_upper.specs.declared.change.Change.{Change}
+use Rattle.snap_upper.specs.declared.change.Change.TheVariants.{Nothing, Put, Fill, SetMode, Erase, Link, Move}
+use Rattle.snap_upper.specs.After.{Outcome, after, limited, written, resized, with_content, erased, renamed, next_layer, first_error, tests, is_same_name}
+
+-- the bytes after the edit
+abbrev pub edited : Edit → List ℕ → List ℕ
+edited Keep old = old
+edited (Write offset bytes) old = written old offset bytes.now
+edited (Resize size) old = resized old size
+
+-- the edit makes no file of too many bytes
+abbrev pub IsShort : Edit → Type 0
+IsShort Keep = Unit {0}
+IsShort (Write offset bytes) = offset + length bytes.now ≤ 1048576
+IsShort (Resize size) = size ≤ 1048576
+
+-- what is put, with its bytes
+abbrev pub as_last : New → Last
+as_last (Dir mode opaque) = last.Dir mode opaque
+as_last (File mode old edit) = last.File mode (edited edit old.now)
+as_last (Symlink target) = last.Symlink target.now
+
+-- it takes a file number
+abbrev pub is_numbered : New → Bool
+is_numbered (Dir mode opaque) = false
+is_numbered (File mode old edit) = true
+is_numbered (Symlink target) = true
+
+-- its bytes are those of a layer's file, changed by a short edit
+abbrev pub IsSound : New → Type 0
+IsSound (Dir mode opaque) = Unit {0}
+IsSound (File mode old edit) = IsShort edit × (length (edited edit old.now) ≤ 1048576)
+IsSound (Symlink target) = Unit {0}
+
+-- the next layer, or the error of one that passes the limits
+abbrev pub outcome : Change → Tree → List Tree → Outcome
+outcome Nothing u lowers = Ok u
+outcome (Put path new) u lowers = limited (with_last (as_last new) (with_parents u lowers path.now) path.now)
+outcome (Fill number edit) u lowers = limited (with_content u (Some number) (edited edit))
+outcome (SetMode path mode) u lowers = limited (with_mode u path.now (at u path.now) mode)
+outcome (Erase path) u lowers = limited (erased u lowers path.now)
+outcome (Link from to) u lowers = limited (next_layer (op.Link from.now to.now) u lowers)
+outcome (Move from to) u lowers = limited (renamed u lowers from.now to.now)
+
+-- the change can be made: what the steps ask for is there
+abbrev pub IsReady : Change → Tree → List Tree → Type 0
+IsReady Nothing u lowers = Unit {0}
+IsReady (Put path new) u lowers = (walk (u ∷ lowers) path.now ≡ None) × Fits (as_last new) u path.now × IsSound new
+IsReady (Fill number edit) u lowers = (m : ℕ) × (old : List ℕ) × (body u number ≡ Some (body_kinds.File m old)) × IsShort edit × (length (edited edit old) ≤ 1048576)
+IsReady (SetMode path mode) u lowers = HasMode (at u path.now) × (mode ≤ 4095)
+IsReady (Erase path) u lowers = (walk (u ∷ lowers) path.now ≡ None) × (is_some (seen (u ∷ lowers) path.now) ≡ true) × (path.now ≡ [] → ⊥) × ((n : List ℕ) → is_some (seen (u ∷ lowers) (path.now ++ n ∷ [])) ≡ false)
+IsReady (Link from to) u lowers = first_error (tests (op.Link from.now to.now) (u ∷ lowers)) ≡ None
+IsReady (Move from to) u lowers = (first_error (tests (op.Rename from.now to.now) (u ∷ lowers)) ≡ None) × (is_same_name u from.now to.now ≡ false)
+
+-- it is the directory or file that is seen, with the mode
+abbrev pub IsWithMode : New → Option Object → ℕ → Type 0
+IsWithMode (Dir mode opaque) o m = (is_shown_dir o ≡ true) × (mode ≡ m) × (opaque ≡ false)
+IsWithMode (File mode old edit) o m = (n : ℕ) × (o ≡ Some (file n old.now)) × (mode ≡ m) × (edit ≡ Keep)
+IsWithMode (Symlink target) o m = ⊥
+
+-- it is the change of the operation
+pub record IsChange (c : Change) (op : Op) (u : Tree) (lowers : List Tree) : Type 0 where
+  pub layers : AreLayers lowers
+  pub ready : IsReady c u lowers
+  pub same : outcome c u lowers ≡ after op u lowers

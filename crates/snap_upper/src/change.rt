@@ -1,0 +1,133 @@
+// What an operation does to the layer, once its tests have passed.
+ghost use Rattle.std.specs.Prelude.{◌≡◌, ◌≤◌, ℕ, Bool, List, IfOk, length};
+ghost use Rattle.snap_upper.specs.Adding.{Takes};
+ghost use Rattle.snap_upper.specs.Changes.{edited, as_last, is_numbered, IsShort, IsSound};
+
+use super::content::{resized, written};
+use snap_copyup::Last;
+use snap_layer::Bytes;
+use snap_path::Path;
+use snap_usage::blocks_of;
+use std::alloc::{AllocError, Global};
+
+/// How the bytes of a file change.
+#[derive(Clone, Copy)]
+pub(crate) enum Edit<'a> {
+    /// They stay.
+    Keep,
+    /// The bytes are put at the offset.
+    Write { offset: usize, bytes: &'a [u8] },
+    /// The file is cut, or filled with zero bytes, to so many.
+    Resize { size: usize },
+}
+
+/// What is put at a path: as `Last`, whose bytes and targets aren't made yet.
+#[derive(Clone, Copy)]
+pub(crate) enum New<'a> {
+    Dir {
+        mode: u32,
+        opaque: bool,
+    },
+    /// A file with what the edit makes of the old bytes.
+    File {
+        mode: u32,
+        old: &'a [u8],
+        edit: Edit<'a>,
+    },
+    Symlink {
+        target: &'a [u8],
+    },
+}
+
+/// What an operation that has passed its tests does to the layer. It takes no memory.
+#[derive(Clone, Copy)]
+pub(crate) enum Change<'a> {
+    /// Nothing.
+    Nothing,
+    /// It is put at the path, with the directories that are missing above it.
+    Put { path: &'a Path, new: New<'a> },
+    /// The bytes of the layer's own file with the number change.
+    Fill { number: u32, edit: Edit<'a> },
+    /// The mode of the layer's own directory or file changes.
+    SetMode { path: &'a Path, mode: u32 },
+    /// What is seen goes.
+    Erase { path: &'a Path },
+    /// What is seen at `from` gets the name `to`.
+    Link { from: &'a Path, to: &'a Path },
+    /// What is seen at `from` moves to `to`.
+    Move { from: &'a Path, to: &'a Path },
+}
+
+impl<'a> Edit<'a> {
+    /// The size of a file of `old` bytes afterwards.
+    pub(crate) fn size(self, old: usize) -> usize
+        requires { IsShort self }
+        ensures { (was : List ℕ) → length was ≡ old → result ≡ length (edited self.entry was) }
+    {
+        match self {
+            Edit::Keep => old,
+            Edit::Write { offset, bytes } => {
+                if bytes.is_empty() {
+                    return old;
+                }
+                old.max(offset + bytes.len())
+            }
+            Edit::Resize { size } => size,
+        }
+    }
+
+    /// The bytes afterwards.
+    pub(crate) fn content(self, alloc: Global, old: &[u8]) -> Result<Bytes, AllocError>
+        requires { IsShort self }
+        ensures { IfOk result (λ b. b ≡ edited self.entry old.now) }
+    {
+        match self {
+            Edit::Keep => Bytes::copy_of(alloc, old),
+            Edit::Write { offset, bytes } => written(alloc, old, offset, bytes),
+            Edit::Resize { size } => resized(alloc, old, size),
+        }
+    }
+}
+
+impl<'a> New<'a> {
+    /// The blocks that it takes.
+    pub(crate) fn blocks(self) -> u64
+        requires { IsSound self }
+        ensures few { result ≤ 256 }
+        ensures takes { (numbered : Bool) → is_numbered self.entry ≡ numbered → Takes (as_last self.entry) result numbered }
+    {
+        match self {
+            New::Dir { .. } => 1,
+            New::File { old, edit, .. } => blocks_of(edit.size(old.len()) as u64),
+            New::Symlink { .. } => 0,
+        }
+    }
+
+    /// Whether it takes a file number.
+    pub(crate) fn is_numbered(self) -> bool
+        ensures { result ≡ is_numbered self.entry }
+    {
+        match self {
+            New::Dir { .. } => false,
+            New::File { .. } => true,
+            New::Symlink { .. } => true,
+        }
+    }
+
+    /// The same with its own bytes.
+    pub(crate) fn last(self, alloc: Global) -> Result<Last, AllocError>
+        requires { IsSound self }
+        ensures { IfOk result (λ last. last ≡ as_last self.entry) }
+    {
+        match self {
+            New::Dir { mode, opaque } => Ok(Last::Dir { mode, opaque }),
+            New::File { mode, old, edit } => Ok(Last::File {
+                mode,
+                bytes: edit.content(alloc, old)?,
+            }),
+            New::Symlink { target } => Ok(Last::Symlink {
+                target: Bytes::copy_of(alloc, target)?,
+            }),
+        }
+    }
+}

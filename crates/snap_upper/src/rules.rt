@@ -1,0 +1,256 @@
+// The rule of each operation: its tests, and the change that it makes where they pass.
+ghost use Rattle.std.specs.Prelude.{◌≡◌, ◌⊎◌, ◌≤◌, ◌∷◌, ℕ, List, Some, None, IfOk, IfErr, Err, false};
+ghost use Rattle.snap_layer.specs.Tree.{at, number_at};
+ghost use Rattle.snap_merge.specs.declared.error.FsError.{FsError};
+ghost use Rattle.snap_merge.specs.Objects.{file, seen, AreLayers};
+ghost use Rattle.snap_merge.specs.Walk.{walk};
+ghost use Rattle.snap_copyup.specs.Copying.{copied_up};
+ghost use Rattle.snap_upper.specs.declared.op.Op.TheVariants as op;
+ghost use Rattle.snap_upper.specs.After.{after, limited, with_content, lists_names, mode_error};
+ghost use Rattle.snap_upper.specs.Changes.{edited, outcome, IsChange, IsReady, IsShort, IsWithMode};
+
+use super::change::{Change, Edit, New};
+use super::checking::{
+    check_link, check_mode, check_new, check_rmdir, check_symlink, check_truncate, check_unlink,
+    check_write,
+};
+use super::content::{is_whiteout, own_number};
+use super::op::Op;
+use super::renaming::check_rename;
+use snap_copyup::below;
+use snap_layer::{Bytes, Layer, Shared};
+use snap_merge::{FsError, Seen, Stack};
+use snap_path::Path;
+
+/// The change that the operation makes on the layer over the lower layers, where its tests pass.
+pub(crate) fn rule<'a>(
+    layer: &Layer,
+    lowers: &'a [Shared],
+    op: &'a Op,
+) -> Result<Change<'a>, FsError>
+    ensures ok { IfOk result (λ c. IsChange c op.now layer.now lowers.now) }
+    ensures error { IfErr result (λ e. (e ≡ FsError.OutOfMemory) ⊎ (after op.now layer.now lowers.now ≡ Err e)) }
+    ensures sure { lists_names op.now (layer.now ∷ lowers.now) ≡ false → IfErr result (λ e. after op.now layer.now lowers.now ≡ Err e) }
+{
+    match op {
+        Op::Mkdir { path, mode } => mkdir(layer, lowers, path, *mode),
+        Op::Create { path, mode } => create(layer, lowers, path, *mode),
+        Op::Write {
+            path,
+            offset,
+            bytes,
+        } => write(layer, lowers, path, *offset, bytes),
+        Op::Truncate { path, size } => truncate(layer, lowers, path, *size),
+        Op::SetMode { path, mode } => set_mode(layer, lowers, path, *mode),
+        Op::Symlink { path, target } => symlink(layer, lowers, path, target),
+        Op::Link { from, to } => link(layer, lowers, from, to),
+        Op::Unlink { path } => unlink(layer, lowers, path),
+        Op::Rmdir { path } => rmdir(layer, lowers, path),
+        Op::Rename { from, to } => rename(layer, lowers, from, to),
+    }
+}
+
+fn mkdir<'a>(
+    layer: &Layer,
+    lowers: &'a [Shared],
+    path: &'a Path,
+    mode: u32,
+) -> Result<Change<'a>, FsError>
+    ensures ok { IfOk result (λ c. IsChange c (op.Mkdir path.now mode) layer.now lowers.now) }
+    ensures error { IfErr result (λ e. after (op.Mkdir path.now mode) layer.now lowers.now ≡ Err e) }
+{
+    check_new(&Stack::over(layer, lowers), path, mode)?;
+    let _ = layer.next_number();
+    let opaque = is_whiteout(layer.at(path));
+    let new = New::Dir { mode, opaque };
+    Ok(Change::Put { path, new })
+}
+
+fn create<'a>(
+    layer: &Layer,
+    lowers: &'a [Shared],
+    path: &'a Path,
+    mode: u32,
+) -> Result<Change<'a>, FsError>
+    ensures ok { IfOk result (λ c. IsChange c (op.Create path.now mode) layer.now lowers.now) }
+    ensures error { IfErr result (λ e. after (op.Create path.now mode) layer.now lowers.now ≡ Err e) }
+{
+    check_new(&Stack::over(layer, lowers), path, mode)?;
+    let _ = layer.next_number();
+    let old: &[u8] = &[];
+    let edit = Edit::Keep;
+    let new = New::File { mode, old, edit };
+    Ok(Change::Put { path, new })
+}
+
+fn symlink<'a>(
+    layer: &Layer,
+    lowers: &'a [Shared],
+    path: &'a Path,
+    target: &'a Bytes,
+) -> Result<Change<'a>, FsError>
+    ensures ok { IfOk result (λ c. IsChange c (op.Symlink path.now target.now) layer.now lowers.now) }
+    ensures error { IfErr result (λ e. after (op.Symlink path.now target.now) layer.now lowers.now ≡ Err e) }
+{
+    check_symlink(&Stack::over(layer, lowers), path, target)?;
+    let _ = layer.next_number();
+    let target = target.as_slice();
+    let new = New::Symlink { target };
+    Ok(Change::Put { path, new })
+}
+
+fn write<'a>(
+    layer: &Layer,
+    lowers: &'a [Shared],
+    path: &'a Path,
+    offset: u64,
+    bytes: &'a Bytes,
+) -> Result<Change<'a>, FsError>
+    ensures ok { IfOk result (λ c. IsChange c (op.Write path.now offset bytes.now) layer.now lowers.now) }
+    ensures error { IfErr result (λ e. after (op.Write path.now offset bytes.now) layer.now lowers.now ≡ Err e) }
+{
+    check_write(&Stack::over(layer, lowers), path, offset, bytes)?;
+    let _ = layer.next_number();
+    let edit = Edit::Write {
+        offset: offset as usize,
+        bytes: bytes.as_slice(),
+    };
+    editing(layer, lowers, path, edit)
+}
+
+fn truncate<'a>(
+    layer: &Layer,
+    lowers: &'a [Shared],
+    path: &'a Path,
+    size: u64,
+) -> Result<Change<'a>, FsError>
+    ensures ok { IfOk result (λ c. IsChange c (op.Truncate path.now size) layer.now lowers.now) }
+    ensures error { IfErr result (λ e. after (op.Truncate path.now size) layer.now lowers.now ≡ Err e) }
+{
+    check_truncate(&Stack::over(layer, lowers), path, size)?;
+    let _ = layer.next_number();
+    let edit = Edit::Resize {
+        size: size as usize,
+    };
+    editing(layer, lowers, path, edit)
+}
+
+/// The change of the bytes of the regular file that is seen at the path: of the layer's own, or of a lower
+/// one, which is copied up with the new bytes in place of its own.
+fn editing<'a>(
+    layer: &Layer,
+    lowers: &'a [Shared],
+    path: &'a Path,
+    edit: Edit<'a>,
+) -> Result<Change<'a>, FsError>
+    requires layers { AreLayers lowers.now }
+    requires way { walk (layer.now ∷ lowers.now) path.now ≡ None }
+    requires there { (m : ℕ) × (old : List ℕ) × (seen (layer.now ∷ lowers.now) path.now ≡ Some (file m old)) }
+    requires short { IsShort edit }
+    ensures ok { IfOk result (λ c. IsReady c layer.now lowers.now × (outcome c layer.now lowers.now ≡ limited (with_content (copied_up layer.now lowers.now path.now) (number_at (copied_up layer.now lowers.now path.now) path.now) (edited edit.entry)))) }
+    ensures sure { IfErr result (λ e. ⊥) }
+{
+    let _ = layer.next_number();
+    if let Some(number) = own_number(layer, path) {
+        return Ok(Change::Fill { number, edit });
+    }
+    let Some(Seen::File { mode, bytes }) = below(layer, lowers, path) else {
+        return Err(FsError::NotFound);
+    };
+    let old = bytes;
+    let new = New::File { mode, old, edit };
+    Ok(Change::Put { path, new })
+}
+
+fn set_mode<'a>(
+    layer: &Layer,
+    lowers: &'a [Shared],
+    path: &'a Path,
+    mode: u32,
+) -> Result<Change<'a>, FsError>
+    ensures ok { IfOk result (λ c. IsChange c (op.SetMode path.now mode) layer.now lowers.now) }
+    ensures error { IfErr result (λ e. after (op.SetMode path.now mode) layer.now lowers.now ≡ Err e) }
+{
+    check_mode(&Stack::over(layer, lowers), path, mode)?;
+    let _ = layer.next_number();
+    if layer.at(path).is_some() {
+        return Ok(Change::SetMode { path, mode });
+    }
+    let new = lower_with(layer, lowers, path, mode)?;
+    Ok(Change::Put { path, new })
+}
+
+/// The directory or file that is seen at the path below the layer, with the mode.
+fn lower_with<'a>(
+    layer: &Layer,
+    lowers: &'a [Shared],
+    path: &Path,
+    mode: u32,
+) -> Result<New<'a>, FsError>
+    requires nothing { at layer.now path.now ≡ None }
+    requires there { mode_error (seen (layer.now ∷ lowers.now) path.now) ≡ None }
+    ensures ok { IfOk result (λ new. IsWithMode new (seen (layer.now ∷ lowers.now) path.now) mode) }
+    ensures sure { IfErr result (λ e. ⊥) }
+{
+    match below(layer, lowers, path) {
+        Some(Seen::Dir { .. }) => {
+            let opaque = false;
+            Ok(New::Dir { mode, opaque })
+        }
+        Some(Seen::File { bytes, .. }) => {
+            let old = bytes;
+            let edit = Edit::Keep;
+            Ok(New::File { mode, old, edit })
+        }
+        _ => Err(FsError::NotFound),
+    }
+}
+
+fn link<'a>(
+    layer: &Layer,
+    lowers: &'a [Shared],
+    from: &'a Path,
+    to: &'a Path,
+) -> Result<Change<'a>, FsError>
+    ensures ok { IfOk result (λ c. IsChange c (op.Link from.now to.now) layer.now lowers.now) }
+    ensures error { IfErr result (λ e. after (op.Link from.now to.now) layer.now lowers.now ≡ Err e) }
+{
+    check_link(&Stack::over(layer, lowers), from, to)?;
+    Ok(Change::Link { from, to })
+}
+
+fn unlink<'a>(layer: &Layer, lowers: &'a [Shared], path: &'a Path) -> Result<Change<'a>, FsError>
+    ensures ok { IfOk result (λ c. IsChange c (op.Unlink path.now) layer.now lowers.now) }
+    ensures error { IfErr result (λ e. after (op.Unlink path.now) layer.now lowers.now ≡ Err e) }
+{
+    check_unlink(&Stack::over(layer, lowers), path)?;
+    let _ = layer.next_number();
+    Ok(Change::Erase { path })
+}
+
+fn rmdir<'a>(layer: &Layer, lowers: &'a [Shared], path: &'a Path) -> Result<Change<'a>, FsError>
+    ensures ok { IfOk result (λ c. IsChange c (op.Rmdir path.now) layer.now lowers.now) }
+    ensures error { IfErr result (λ e. (e ≡ FsError.OutOfMemory) ⊎ (after (op.Rmdir path.now) layer.now lowers.now ≡ Err e)) }
+    ensures sure { lists_names (op.Rmdir path.now) (layer.now ∷ lowers.now) ≡ false → IfErr result (λ e. after (op.Rmdir path.now) layer.now lowers.now ≡ Err e) }
+{
+    check_rmdir(&Stack::over(layer, lowers), layer.alloc(), path)?;
+    let _ = layer.next_number();
+    Ok(Change::Erase { path })
+}
+
+fn rename<'a>(
+    layer: &Layer,
+    lowers: &'a [Shared],
+    from: &'a Path,
+    to: &'a Path,
+) -> Result<Change<'a>, FsError>
+    ensures ok { IfOk result (λ c. IsChange c (op.Rename from.now to.now) layer.now lowers.now) }
+    ensures error { IfErr result (λ e. (e ≡ FsError.OutOfMemory) ⊎ (after (op.Rename from.now to.now) layer.now lowers.now ≡ Err e)) }
+    ensures sure { lists_names (op.Rename from.now to.now) (layer.now ∷ lowers.now) ≡ false → IfErr result (λ e. after (op.Rename from.now to.now) layer.now lowers.now ≡ Err e) }
+{
+    let _ = layer.next_number();
+    if !check_rename(layer, lowers, from, to)? {
+        return Ok(Change::Nothing);
+    }
+    Ok(Change::Move { from, to })
+}
