@@ -62,7 +62,13 @@ fn a_store_is_opened_with_its_namespaces(rt: HostRuntime) -> Result<(), Fail> {
     let (first, none) = (state.place_of("a"), state.place_of("z"));
     prove!(first == Some(0) && none == None);
     let limit = state.limit_at(0);
-    prove!(limit == Usage { blocks: 100, inodes: 100 });
+    prove!(
+        limit
+            == Usage {
+                blocks: 100,
+                inodes: 100
+            }
+    );
     prove!(state.next_id == 1);
     Ok(())
 }

@@ -38,19 +38,3 @@ fn file_numbers_end(rt: HostRuntime) -> Result<(), Fail> {
     prove!(answer == Err(FsError::LayerFull));
     Ok(())
 }
-
-fn takes_directory(op: &Op, text: &str) -> bool {
-    match op {
-        Op::Rmdir { path } => path.as_str() == text,
-        _ => false,
-    }
-}
-
-#[test]
-fn an_operation_is_cloned(rt: HostRuntime) -> Result<(), Fail> {
-    let path = Path::parse(rt.alloc(), "/d")?;
-    let op = Op::Rmdir { path };
-    let copy = op.clone()?;
-    assert!(rt; takes_directory(&copy, "/d"));
-    Ok(())
-}
