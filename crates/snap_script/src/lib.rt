@@ -21,6 +21,3 @@ pub use answer::{Answer, Shown};
 pub use command::{Command, FileCommand, Lookup, path_of};
 pub use fault::{Fault, Field, ReadError};
 pub use line::{Line, MAX_LINE_BYTES, read_line};
-
-#[cfg(test)]
-mod tests;

@@ -19,8 +19,3 @@ pub use running::{replay, replay_within};
 pub use session::Session;
 pub use snap_world::NoMemory;
 pub use stop::{LineFault, Stop};
-
-#[cfg(test)]
-mod running_tests;
-#[cfg(test)]
-mod tests;

@@ -9,8 +9,6 @@ mod filing;
 mod hands;
 mod locked;
 mod step;
-#[cfg(test)]
-mod tests;
 mod world;
 
 pub use step::{Answer, Step};

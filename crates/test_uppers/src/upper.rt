@@ -1,7 +1,7 @@
-use snap_layer::{Layer, Node};
+use snap_layer::Layer;
 use snap_merge::FsError;
 use snap_path::Path;
-use snap_upper::{Op, Planned, apply, plan};
+use snap_upper::{Op, Planned, plan};
 use snap_usage::Usage;
 use std::test::Fail;
 
@@ -36,18 +36,5 @@ fn file_numbers_end(rt: HostRuntime) -> Result<(), Fail> {
     let path = Path::parse(rt.alloc(), "/f")?;
     let answer = plan(&layer, &[], &Op::Create { path, mode: 420 });
     prove!(answer == Err(FsError::LayerFull));
-    Ok(())
-}
-
-#[test]
-fn a_directory_is_opaque_over_a_whiteout(rt: HostRuntime) -> Result<(), Fail> {
-    let mut layer = Layer::empty(rt.alloc(), 493)?;
-    let white = Path::parse(rt.alloc(), "/w")?;
-    layer.add_whiteout(&white)?;
-    let path = white.clone()?;
-    apply(&mut layer, &[], &Op::Mkdir { path, mode: 448 })?;
-    let node = layer.at(&white);
-    let opaque = true;
-    prove!(node == Some(Node::Dir { mode: 448, opaque }));
     Ok(())
 }
