@@ -71,7 +71,7 @@ impl<N: StoreName> Accounts<N> {
         }
     }
 
-    // What is free in it.
+    // What is free in the namespace at a place.
     pub(crate) fn free(&self, place: usize) -> Usage
         requires { place < length self.now.namespaces }
         ensures { result ≡ minus (limit_at place self.now.namespaces) (charge_of place self.now.records) }
