@@ -1,7 +1,6 @@
-use snap_call::Refusal;
 use snap_merge::FsError;
 use snap_record::Text;
-use snap_script::{Answer, Field, path_of};
+use snap_script::{Field, path_of};
 use std::test::Fail;
 
 #[test]
@@ -15,17 +14,5 @@ fn a_closing_slash_is_no_path(rt: HostRuntime) -> Result<(), Fail> {
     let text = Text::copy_of(rt.alloc(), "/etc/")?;
     let path = path_of(rt.alloc(), &text).err();
     prove!(path == Some(FsError::BadPath) || path == Some(FsError::OutOfMemory));
-    Ok(())
-}
-
-#[test]
-fn an_answer_is_a_line(rt: HostRuntime) -> Result<(), Fail> {
-    let over = Answer::Refused(Refusal::OverLimit {
-        free_blocks: 5,
-        free_inodes: 0,
-    });
-    let line = over.line(rt.alloc())?;
-    let text = line.as_str();
-    prove!(text == "{\"error\":\"OverLimit\",\"free\":[5,0],\"from\":\"book\"}\n");
     Ok(())
 }
