@@ -1,4 +1,4 @@
-//! Tests of snap_script; no part of the product.
+//! Tests of snap_script and snap_session; no part of the product.
 //!
 //! A test whose facts are `prove!` alone is a witness: they follow from the contracts, whatever the
 //! bodies are.
@@ -6,3 +6,5 @@
 
 #[cfg(test)]
 mod script;
+#[cfg(test)]
+mod session;

@@ -1,8 +1,12 @@
-//! Tests of snap_call; no part of the product.
+//! Tests of snap_call, snap_book and snap_world; no part of the product.
 //!
 //! A test whose facts are `prove!` alone is a witness: they follow from the contracts, whatever the
 //! bodies are.
 #![tactic(auto)]
 
 #[cfg(test)]
+mod book;
+#[cfg(test)]
 mod call;
+#[cfg(test)]
+mod world;

@@ -1,0 +1,84 @@
+ghost use Rattle.std.specs.Prelude.{◌≡◌, [], ◌∷◌, IfOk, codes};
+
+use snap_book::{Active, Book, Held, Sealed};
+use snap_call::{Config, Namespace, Refusal};
+use snap_ledger::{NewTable, StoreName};
+use snap_record::{Labels, Sequence, Text};
+use snap_usage::Usage;
+use std::alloc::Global;
+use std::marker::Brand;
+use std::sync::Mutex;
+use std::test::Fail;
+
+/// The namespace a with the limit.
+fn config(alloc: Global, blocks: u64, inodes: u64) -> Result<Config, Fail>
+    ensures { IfOk result (λ c. c ≡ record { root = codes "/r"; namespaces = record { name = codes "a"; limit = record { blocks = blocks; inodes = inodes } } ∷ []; journal = 100; first_id = 1 }) }
+{
+    let mut namespaces = Sequence::new(alloc);
+    namespaces.push(Namespace {
+        name: Text::copy_of(alloc, "a")?,
+        limit: Usage { blocks, inodes },
+    })?;
+    Ok(Config {
+        root: Text::copy_of(alloc, "/r")?,
+        namespaces,
+        journal: 100,
+        first_id: 1,
+    })
+}
+
+fn opened<N: StoreName>(alloc: Global, table: NewTable) -> Result<(), Fail>
+    requires { table ≡ N.table }
+{
+    let mut book = Book::<N>::open(alloc, table, config(alloc, 100, 100)?)?;
+    let (total, none) = (book.totals("a"), book.totals("z"));
+    prove!(total == Some(Usage { blocks: 0, inodes: 0 }) && none == None);
+    let (open, found) = (book.open_slots(), book.slot_of("a", "k"));
+    prove!(open == 0 && found == Err(Refusal::NotFound));
+    let first = book.open_session()?;
+    prove!(first == 0);
+    Ok(())
+}
+
+#[test]
+fn a_book_is_opened_empty(rt: HostRuntime) -> Result<(), Fail> {
+    let table = NewTable::new(rt.alloc())?;
+    opened::<Brand>(rt.alloc(), table)
+}
+
+fn prepared<N: StoreName>(alloc: Global, table: NewTable) -> Result<(), Fail>
+    requires { table ≡ N.table }
+{
+    let mut book = Book::<N>::open(alloc, table, config(alloc, 100, 100)?)?;
+    let active = book.prepare(0, "a", "k", "", &Labels::new(alloc))?;
+    let (share, count, spare) = (active.share(), active.count(), active.spare());
+    let freed = book.discard(0, Held::Active(active));
+    prove!(share == Usage { blocks: 1, inodes: 1 });
+    prove!(count == Usage { blocks: 1, inodes: 1 });
+    prove!(spare == Usage { blocks: 0, inodes: 0 });
+    prove!(freed == Usage { blocks: 1, inodes: 1 });
+    Ok(())
+}
+
+#[test]
+fn a_snapshot_begins_with_its_root(rt: HostRuntime) -> Result<(), Fail> {
+    let table = NewTable::new(rt.alloc())?;
+    prepared::<Brand>(rt.alloc(), table)
+}
+
+fn sends<T: Send>(_value: &T) {}
+
+fn syncs<T: Sync>(_value: &T) {}
+
+// What writers hold, and the book in its lock, can be handed to other threads.
+fn are_sent<N: StoreName + Send + Sync>(
+    active: &Active<N>,
+    sealed: &Sealed<N>,
+    book: &Book<N>,
+    lock: &Mutex<Book<N>>,
+) {
+    sends(active);
+    sends(sealed);
+    sends(book);
+    syncs(lock);
+}
