@@ -90,7 +90,10 @@ fn more_reads_than_allowed(rt: HostRuntime) {
     let mut input = THREE;
     let mut output = Vec::new(rt.alloc());
     let ended = replay_within(rt.alloc(), &mut input, &mut output, 1);
-    assert_eq!(rt; (ended, output.as_slice()), (Err(Stop::InputFailed), ANSWERS));
+    assert_eq!(rt;
+        (ended, output.as_slice()),
+        (Err(Stop::InputFailed), ANSWERS)
+    );
 }
 
 #[test]

@@ -28,7 +28,14 @@ fn opened<N: StoreName>(alloc: Global, table: NewTable) -> Result<(), Fail>
     };
     let world = World::<N>::open(alloc, table, config)?;
     let (total, open) = (world.totals("a"), world.open_slots());
-    prove!(total == Some(Usage { blocks: 0, inodes: 0 }) && open == 0);
+    prove!(
+        total
+            == Some(Usage {
+                blocks: 0,
+                inodes: 0
+            })
+            && open == 0
+    );
     let (share, hand) = (world.share(0), world.hand("a", "k"));
     prove!(share == None && hand == Err(Refusal::NotFound));
     Ok(())

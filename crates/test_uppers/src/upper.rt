@@ -1,7 +1,7 @@
-use snap_layer::Layer;
+use snap_layer::{Layer, Node};
 use snap_merge::FsError;
 use snap_path::Path;
-use snap_upper::{Op, Planned, plan};
+use snap_upper::{Op, Planned, apply, plan};
 use snap_usage::Usage;
 use std::test::Fail;
 
@@ -36,5 +36,28 @@ fn file_numbers_end(rt: HostRuntime) -> Result<(), Fail> {
     let path = Path::parse(rt.alloc(), "/f")?;
     let answer = plan(&layer, &[], &Op::Create { path, mode: 420 });
     prove!(answer == Err(FsError::LayerFull));
+    Ok(())
+}
+
+fn is_opaque(node: Option<Node>) -> bool {
+    match node {
+        Some(Node::Dir { opaque, .. }) => opaque,
+        _ => false,
+    }
+}
+
+// No view shows the mark, so no script can.
+#[test]
+fn a_directory_in_place_of_a_whiteout_is_opaque(rt: HostRuntime) -> Result<(), Fail> {
+    let mut layer = Layer::empty(rt.alloc(), 493)?;
+    let path = Path::parse(rt.alloc(), "/d")?;
+    assert!(rt; layer.has_place(&path));
+    layer.add_whiteout(&path)?;
+    let op = Op::Mkdir {
+        path: path.clone()?,
+        mode: 493,
+    };
+    apply(&mut layer, &[], &op)?;
+    assert!(rt; is_opaque(layer.at(&path)));
     Ok(())
 }
