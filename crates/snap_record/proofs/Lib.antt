@@ -1,1 +1,2 @@
 pub mod UpdateLemmas
+mod Examples
