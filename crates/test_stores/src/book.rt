@@ -6,7 +6,6 @@ use snap_ledger::{NewTable, StoreName};
 use snap_record::{Labels, Sequence, Text};
 use snap_usage::Usage;
 use std::alloc::Global;
-use std::marker::Brand;
 use std::sync::Mutex;
 use std::test::Fail;
 
@@ -27,6 +26,7 @@ fn config(alloc: Global, blocks: u64, inodes: u64) -> Result<Config, Fail>
     })
 }
 
+// A new store is charged nothing, and has no snapshot. A witness: it is proved, and not run.
 fn opened<N: StoreName>(alloc: Global, table: NewTable) -> Result<(), Fail>
     requires { table ≡ N.table }
 {
@@ -47,12 +47,7 @@ fn opened<N: StoreName>(alloc: Global, table: NewTable) -> Result<(), Fail>
     Ok(())
 }
 
-#[test]
-fn a_book_is_opened_empty(rt: HostRuntime) -> Result<(), Fail> {
-    let table = NewTable::new(rt.alloc())?;
-    opened::<Brand>(rt.alloc(), table)
-}
-
+// A new snapshot is charged 1/1 for its root, and gives it back. A witness: it is proved, and not run.
 fn prepared<N: StoreName>(alloc: Global, table: NewTable) -> Result<(), Fail>
     requires { table ≡ N.table }
 {
@@ -89,12 +84,6 @@ fn prepared<N: StoreName>(alloc: Global, table: NewTable) -> Result<(), Fail>
             }
     );
     Ok(())
-}
-
-#[test]
-fn a_snapshot_begins_with_its_root(rt: HostRuntime) -> Result<(), Fail> {
-    let table = NewTable::new(rt.alloc())?;
-    prepared::<Brand>(rt.alloc(), table)
 }
 
 fn sends<T: Send>(_value: &T) {}

@@ -1,4 +1,4 @@
-//! Tests of snap_call, snap_book and snap_world; no part of the product.
+//! Tests of snap_call and snap_book; no part of the product.
 //!
 //! A test whose facts are `prove!` alone is a witness: they follow from the contracts, whatever the
 //! bodies are.
@@ -8,5 +8,3 @@
 mod book;
 #[cfg(test)]
 mod call;
-#[cfg(test)]
-mod world;
