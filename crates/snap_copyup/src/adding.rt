@@ -84,7 +84,7 @@ fn put_from(
         return put_from(layer, lowers, path, names + 1, last);
     }
     let front = path.front(names)?;
-    let _ = layer.next_number();
+    layer.show_is_layer();
     put_parent(layer, lowers, &front)?;
     match put_from(layer, lowers, path, names + 1, last) {
         Ok(()) => return Ok(()),

@@ -33,7 +33,7 @@ pub fn copy_up(layer: &mut Layer, lowers: &[Shared], path: &Path) -> Result<(), 
     ensures view { OnOk result ((q : Names) → seen (layer.new ∷ lowers.now) q ≡ seen (layer.old ∷ lowers.now) q) }
 {
     visit(lowers);
-    let _ = layer.next_number();
+    layer.show_is_layer();
     let last = copy_below(layer, lowers, path)?;
     put(layer, lowers, path, last)
 }

@@ -16,7 +16,7 @@ pub fn missing_dirs(layer: &Layer, path: &Path) -> usize
     ensures count { (lowers : List Tree) → walk (layer.now ∷ lowers) path.now ≡ None → TakesMore result layer.now (with_parents layer.now lowers path.now) }
     ensures few { result ≤ length path.now }
 {
-    let _ = layer.next_number();
+    layer.show_is_layer();
     missing_after(layer, path, 0)
 }
 
@@ -28,7 +28,7 @@ pub fn missing_dirs_of_both(layer: &Layer, one: &Path, other: &Path) -> usize
     ensures count { (lowers : List Tree) → walk (layer.now ∷ lowers) one.now ≡ None → walk (layer.now ∷ lowers) other.now ≡ None → TakesMore result layer.now (with_parents (with_parents layer.now lowers one.now) lowers other.now) }
     ensures few { result ≤ length one.now + length other.now }
 {
-    let _ = layer.next_number();
+    layer.show_is_layer();
     let shared = shared_names(one.names(), other.names());
     let first = one.names().len().min(shared + 1);
     missing_after(layer, one, 0) + missing_after(layer, other, first)

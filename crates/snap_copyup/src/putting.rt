@@ -34,7 +34,7 @@ pub(crate) fn put_last(layer: &mut Layer, path: &Path, last: Last) -> Result<(),
     ensures error { IfErr result (λ e. IsRefusal (with_last last layer.old path.now) e) }
     ensures unchanged { OnErr result (layer.new ≡ layer.old) }
 {
-    let _ = layer.next_number();
+    layer.show_is_layer();
     match last {
         Last::Nothing => {}
         Last::Dir { mode, opaque } => layer.add_dir(path, mode, opaque)?,
@@ -59,7 +59,7 @@ pub(crate) fn put_parent(layer: &mut Layer, lowers: &[Shared], path: &Path) -> R
     ensures error { IfErr result (λ e. IsRefusal (copied layer.old lowers.now path.now) e) }
     ensures unchanged { OnErr result (layer.new ≡ layer.old) }
 {
-    let _ = layer.next_number();
+    layer.show_is_layer();
     match below(layer, lowers, path) {
         Some(Seen::Dir { mode }) => {
             let opaque = false;

@@ -190,6 +190,7 @@ pub(crate) fn are_short(entries: &BTreeMap<Path, Node>, from: &Path, to: &Path) 
     let front = from.as_str().len();
     let target = to.as_str().len();
     entries.iter().all(|(other, _)| {
-        !begins(from.names(), other.names()) || other.as_str().len() + target <= MAX_PATH_BYTES + front
+        !begins(from.names(), other.names())
+            || other.as_str().len() + target <= MAX_PATH_BYTES + front
     })
 }

@@ -92,7 +92,7 @@ impl<'a> Stack<'a> {
         ensures { AreLayers self.now }
     {
         if let Some(top) = self.top {
-            let _ = top.next_number();
+            top.show_is_layer();
         }
         visit(self.lowers);
     }

@@ -61,7 +61,7 @@ pub fn apply(layer: &mut Layer, lowers: &[Shared], op: &Op) -> Result<(), FsErro
     ensures view { OnOk result (changed op.now layer.old (seen (layer.old ∷ lowers.now)) (seen (layer.new ∷ lowers.now))) }
     ensures law { Changes op.now layer.old }
 {
-    let _ = layer.next_number();
+    layer.show_is_layer();
     visit(lowers);
     let change = rule(layer, lowers, op)?;
     perform(layer, lowers, change)
@@ -102,14 +102,14 @@ fn perform(layer: &mut Layer, lowers: &[Shared], change: Change<'_>) -> Result<(
     ensures error { IfErr result (λ e. (e ≡ FsError.OutOfMemory) ⊎ (outcome change.entry layer.old lowers.now ≡ Err e)) }
     ensures unchanged { OnErr result (layer.new ≡ layer.old) }
 {
-    let _ = layer.next_number();
+    layer.show_is_layer();
     match change {
         Change::Nothing => Ok(()),
         Change::Put { path, new } => put_new(layer, lowers, path, new),
         Change::Fill { number, edit } => fill(layer, number, edit),
         Change::SetMode { path, mode } => {
             layer.set_mode(path, mode);
-            let _ = layer.next_number();
+            layer.show_is_layer();
             Ok(())
         }
         Change::Erase { path } => erase(layer, lowers, path),

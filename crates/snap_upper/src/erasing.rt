@@ -22,7 +22,7 @@ pub(crate) fn erase(layer: &mut Layer, lowers: &[Shared], path: &Path) -> Result
     ensures error { IfErr result (λ e. (e ≡ FsError.OutOfMemory) ⊎ (limited (erased layer.old lowers.now path.now) ≡ Err e)) }
     ensures unchanged { OnErr result (layer.new ≡ layer.old) }
 {
-    let _ = layer.next_number();
+    layer.show_is_layer();
     let covers = below(layer, lowers, path).is_some();
     if layer.at(path).is_none() {
         return grow(layer, lowers, path, Last::Whiteout);
@@ -31,10 +31,10 @@ pub(crate) fn erase(layer: &mut Layer, lowers: &[Shared], path: &Path) -> Result
         if let Err(error) = layer.add_whiteout(path) {
             return Err(FsError::from(error));
         }
-        let _ = layer.next_number();
+        layer.show_is_layer();
         return Ok(());
     }
     layer.take_name(path);
-    let _ = layer.next_number();
+    layer.show_is_layer();
     Ok(())
 }

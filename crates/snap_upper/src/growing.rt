@@ -32,7 +32,7 @@ pub(crate) fn grow(
     if let Err(error) = put(layer, lowers, path, last) {
         return Err(error);
     }
-    let _ = layer.next_number();
+    layer.show_is_layer();
     Ok(())
 }
 
@@ -63,7 +63,7 @@ pub(crate) fn fill(layer: &mut Layer, number: u32, edit: Edit<'_>) -> Result<(),
 {
     let content = edited_bytes(layer, number, edit)?;
     layer.set_bytes(number, content);
-    let _ = layer.next_number();
+    layer.show_is_layer();
     Ok(())
 }
 

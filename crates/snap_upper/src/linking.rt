@@ -30,20 +30,20 @@ pub(crate) fn link(
     ensures unchanged { OnErr result (layer.new ≡ layer.old) }
 {
     visit(lowers);
-    let _ = layer.next_number();
+    layer.show_is_layer();
     if !layer.has_parent(to) {
         return link_on_copy(layer, lowers, from, to);
     }
     if let Some(number) = own_number(layer, from) {
         layer.add_name(to, number)?;
-        let _ = layer.next_number();
+        layer.show_is_layer();
         return Ok(());
     }
     match link_lower(layer, lowers, from, to) {
         Err(FsError::LayerFull) => return link_on_copy(layer, lowers, from, to),
         Err(error) => return Err(error),
         Ok(()) => {
-            let _ = layer.next_number();
+            layer.show_is_layer();
             return Ok(());
         }
     }
@@ -59,12 +59,12 @@ fn link_lower(layer: &mut Layer, lowers: &[Shared], from: &Path, to: &Path) -> R
     ensures unchanged { OnErr result (layer.new ≡ layer.old) }
 {
     visit(lowers);
-    let _ = layer.next_number();
+    layer.show_is_layer();
     if layer.at(to).is_some() {
         return link_over_whiteout(layer, lowers, from, to);
     }
     layer.add_whiteout(to)?;
-    let _ = layer.next_number();
+    layer.show_is_layer();
     if let Err(error) = link_over_whiteout(layer, lowers, from, to) {
         layer.take_name(to);
         return Err(error);
@@ -86,9 +86,9 @@ fn link_over_whiteout(
     ensures unchanged { OnErr result (layer.new ≡ layer.old) }
 {
     visit(lowers);
-    let _ = layer.next_number();
+    layer.show_is_layer();
     copy_up(layer, lowers, from)?;
-    let _ = layer.next_number();
+    layer.show_is_layer();
     let Some(number) = own_number(layer, from) else {
         return Ok(());
     };
@@ -118,16 +118,16 @@ fn add_link(layer: &mut Layer, lowers: &[Shared], from: &Path, to: &Path) -> Res
     ensures error { IfErr result (λ e. (e ≡ FsError.OutOfMemory) ⊎ (limited (next_layer (op.Link from.now to.now) layer.old lowers.now) ≡ Err e)) }
 {
     visit(lowers);
-    let _ = layer.next_number();
+    layer.show_is_layer();
     if let Err(error) = copy_up_and_add_dirs(layer, lowers, from, to) {
         return Err(error);
     }
-    let _ = layer.next_number();
+    layer.show_is_layer();
     let Some(number) = own_number(layer, from) else {
         return Ok(());
     };
     layer.add_name(to, number)?;
-    let _ = layer.next_number();
+    layer.show_is_layer();
     Ok(())
 }
 
@@ -144,7 +144,7 @@ fn copy_up_and_add_dirs(
     ensures error { IfErr result (λ e. IsRefusal (without (with_parents (copied_up layer.old lowers.now from.now) lowers.now to.now) to.now) e) }
 {
     visit(lowers);
-    let _ = layer.next_number();
+    layer.show_is_layer();
     if layer.at(to).is_some() {
         layer.take_name(to);
         return copy_up(layer, lowers, from);

@@ -119,7 +119,7 @@ fn is_too_long(layer: &Layer, from: &Path, to: &Path) -> bool
     requires { (is_root from.now || is_root to.now) ≡ false }
     ensures { result ≡ is_too_long layer.now from.now to.now }
 {
-    let _ = layer.next_number();
+    layer.show_is_layer();
     !layer.has_short_paths(from, to)
 }
 
@@ -154,18 +154,18 @@ pub(crate) fn shift(
 {
     visit(lowers);
     let _ = to.names();
-    let _ = layer.next_number();
+    layer.show_is_layer();
     let leaves = below(layer, lowers, from).is_some();
     let covers = below(layer, lowers, to).is_some();
     if layer.at(from).is_some() && layer.has_parent(to) {
         relocate(layer, from, to, leaves, covers)?;
-        let _ = layer.next_number();
+        layer.show_is_layer();
         return Ok(());
     }
     let mut next = prepare(layer, lowers, from, to)?;
-    let _ = next.next_number();
+    next.show_is_layer();
     relocate(&mut next, from, to, leaves, covers)?;
-    let _ = next.next_number();
+    next.show_is_layer();
     *layer = next;
     Ok(())
 }
@@ -184,7 +184,7 @@ fn prepare(layer: &Layer, lowers: &[Shared], from: &Path, to: &Path) -> Result<L
     ensures error { IfErr result (λ e. IsRefusal (renamed layer.now lowers.now from.now to.now) e) }
 {
     visit(lowers);
-    let _ = layer.next_number();
+    layer.show_is_layer();
     let mut next = layer.copy()?;
     copy_up(&mut next, lowers, from)?;
     ensure_dirs(&mut next, lowers, to)?;
@@ -205,7 +205,7 @@ fn relocate(
     ensures error { IfErr result (λ e. IsRefusal (shifted layer.old from.now to.now leaves covers) e) }
     ensures unchanged { OnErr result (layer.new ≡ layer.old) }
 {
-    let _ = layer.next_number();
+    layer.show_is_layer();
     layer.move_tree(from, to, leaves)?;
     if covers && is_dir_there(layer, to) {
         layer.set_opaque(to, true);

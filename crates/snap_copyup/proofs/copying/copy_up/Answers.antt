@@ -11,7 +11,7 @@ use Rattle.snap_copyup.proofs.copying.copy_up.Goals as goal
 pub put-requires-clause-fit : goal.put-requires-clause-fit
 put-requires-clause-fit c =
     let u = c.args.layer.now in
-    subst (λ (l : Last). Fits l u c.args.path.now) (sym c.in_ok-last.ensures) (copy_fits u c.args.lowers.now c.args.path.now c.next_number.ensures.layer c.visit.ensures)
+    subst (λ (l : Last). Fits l u c.args.path.now) (sym c.in_ok-last.ensures) (copy_fits u c.args.lowers.now c.args.path.now c.show_is_layer.ensures.layer c.visit.ensures)
 
 pub returns-clause-ok : goal.returns-clause-ok
 returns-clause-ok c =
@@ -36,5 +36,5 @@ returns-clause-view c =
     OnOk-weaker c.put.result
     (λ (e : c.put.new.layer ≡ with_last c.in_ok-last.last (with_parents u ls p) p) q.
     ap (λ (v : Tree). seen (v ∷ ls) q) (e ∙ ap (λ (l : Last). with_last l t p) c.in_ok-last.ensures ∙ last_copied u ls p c.requires)
-    ∙ copied_view u ls p c.requires c.next_number.ensures.layer c.visit.ensures q)
+    ∙ copied_view u ls p c.requires c.show_is_layer.ensures.layer c.visit.ensures q)
     c.put.ensures.ok

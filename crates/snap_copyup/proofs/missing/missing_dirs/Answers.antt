@@ -8,4 +8,4 @@ pub returns-clause-count : goal.returns-clause-count
 returns-clause-count c = λ lowers way.
     let u = c.args.layer.now in
     let p = c.args.path.now in
-    subst (λ (n : ℕ). TakesMore n u (with_parents u lowers p)) (sym c.missing_after.ensures.count) (takes_missing u lowers p c.next_number.ensures.layer way)
+    subst (λ (n : ℕ). TakesMore n u (with_parents u lowers p)) (sym c.missing_after.ensures.count) (takes_missing u lowers p c.show_is_layer.ensures.layer way)

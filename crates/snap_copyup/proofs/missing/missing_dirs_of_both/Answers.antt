@@ -20,7 +20,7 @@ returns-clause-count c = λ lowers way_one way_other.
     let other = c.names-2.ensures.names in
     let shared = c.shared_names-shared.ensures in
     subst (λ (n : ℕ). TakesMore n u (with_parents (with_parents u lowers p) lowers q)) (sym sum)
-    (takes_both u lowers p q c.next_number.ensures.layer way_one way_other k s (omega (arith, shared.few, ap length one))
+    (takes_both u lowers p q c.show_is_layer.ensures.layer way_one way_other k s (omega (arith, shared.few, ap length one))
     (sym (ap (take k) one) ∙ shared.same ∙ ap (take k) other)
     (λ in_one in_other same. shared.most (omega (arith, in_one, ap length one)) (omega (arith, in_other, ap length other)) (ap (take (k + 1)) one ∙ same ∙ sym (ap (take (k + 1)) other)))
     (omega (arith, c.min-first.ensures, ap length c.names-3.ensures.names)))

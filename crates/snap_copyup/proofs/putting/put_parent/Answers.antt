@@ -7,4 +7,4 @@ use Rattle.snap_copyup.proofs.putting.put_parent.Goals as goal
 pub put_last-requires-clause-fit : goal.put_last-requires-clause-fit
 put_last-requires-clause-fit c =
     let is = sym c.below.ensures ∙ ap (option_map object) c.in-Some-Dir.is ∙ ap (λ s. Some (object s)) c.in-Some-Dir.field-0-is in
-    (vacant c.args.layer.now c.args.path.now c.next_number.ensures.layer c.requires.nothing, subst IsWholeObject is (whole_below c.args.layer.now c.args.lowers.now c.requires.layers c.args.path.now))
+    (vacant c.args.layer.now c.args.path.now c.show_is_layer.ensures.layer c.requires.nothing, subst IsWholeObject is (whole_below c.args.layer.now c.args.lowers.now c.requires.layers c.args.path.now))

@@ -16,7 +16,7 @@ add_whiteout-requires c =
     let u = c.args.layer.now in
     let p = c.args.path.now in
     let some : is_some (at u p) ≡ true = ap is_some (sym c.at.ensures) ∙ c.is_none.ensures ∙ ap not c.if-is_none.false in
-    place_erased u c.args.lowers.now p c.next_number.ensures.layer some c.requires.below_root c.requires.clear
+    place_erased u c.args.lowers.now p c.show_is_layer.ensures.layer some c.requires.below_root c.requires.clear
 
 pub returns-in-Err-clause-error : goal.returns-in-Err-clause-error
 returns-in-Err-clause-error c =
@@ -25,7 +25,7 @@ returns-in-Err-clause-error c =
     let p = c.args.path.now in
     let some : is_some (at u p) ≡ true = ap is_some (sym c.at.ensures) ∙ c.is_none.ensures ∙ ap not c.if-is_none.false in
     let covers : is_some (below u ls p) ≡ true = ap is_some (sym c.below.ensures) ∙ seen_some c.below.result ∙ sym c.is_some-covers.ensures ∙ c.if-covers.true in
-    subst (λ (t : Tree). (c.from.result ≡ OutOfMemory) ⊎ (limited t ≡ Err c.from.result)) (sym (erased_covered u ls p c.next_number.ensures.layer some covers))
+    subst (λ (t : Tree). (c.from.result ≡ OutOfMemory) ⊎ (limited t ≡ Err c.from.result)) (sym (erased_covered u ls p c.show_is_layer.ensures.layer some covers))
     (edit_refused c.in-Err.error c.from.result (with_node u p Whiteout) c.from.ensures (λ full. c.in-Err.ensures.full.0 (ap (λ (x : LayerError). Err x) full)))
 
 pub returns-then-covers-clause-ok : goal.returns-then-covers-clause-ok
@@ -36,14 +36,14 @@ returns-then-covers-clause-ok c =
     let some : is_some (at u p) ≡ true = ap is_some (sym c.at.ensures) ∙ c.is_none.ensures ∙ ap not c.if-is_none.false in
     let covers : is_some (below u ls p) ≡ true = ap is_some (sym c.below.ensures) ∙ seen_some c.below.result ∙ sym c.is_some-covers.ensures ∙ c.if-covers.true in
     let next = c.add_whiteout.new.self in
-    ap limited (erased_covered u ls p c.next_number.ensures.layer some covers ∙ sym c.in_default.ensures.ok) ∙ limited_fits next (layer_fits next c.next_number-then-covers.ensures.layer)
+    ap limited (erased_covered u ls p c.show_is_layer.ensures.layer some covers ∙ sym c.in_default.ensures.ok) ∙ limited_fits next (layer_fits next c.show_is_layer-then-covers.ensures.layer)
 
 pub take_name-requires : goal.take_name-requires
 take_name-requires c =
     let u = c.args.layer.now in
     let p = c.args.path.now in
     let some : is_some (at u p) ≡ true = ap is_some (sym c.at.ensures) ∙ c.is_none.ensures ∙ ap not c.if-is_none.false in
-    takeable_erased u c.args.lowers.now p c.next_number.ensures.layer some c.requires.below_root c.requires.clear
+    takeable_erased u c.args.lowers.now p c.show_is_layer.ensures.layer some c.requires.below_root c.requires.clear
 
 pub returns-clause-ok : goal.returns-clause-ok
 returns-clause-ok c =
@@ -53,4 +53,4 @@ returns-clause-ok c =
     let some : is_some (at u p) ≡ true = ap is_some (sym c.at.ensures) ∙ c.is_none.ensures ∙ ap not c.if-is_none.false in
     let bare : is_some (below u ls p) ≡ false = ap is_some (sym c.below.ensures) ∙ seen_some c.below.result ∙ sym c.is_some-covers.ensures ∙ c.if-covers.false in
     let next = c.take_name.new.self in
-    ap limited (erased_bare u ls p c.next_number.ensures.layer some bare ∙ sym c.take_name.ensures) ∙ limited_fits next (layer_fits next c.next_number-2.ensures.layer)
+    ap limited (erased_bare u ls p c.show_is_layer.ensures.layer some bare ∙ sym c.take_name.ensures) ∙ limited_fits next (layer_fits next c.show_is_layer-2.ensures.layer)

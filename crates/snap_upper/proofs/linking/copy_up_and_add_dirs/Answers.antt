@@ -14,7 +14,7 @@ take_name-requires c =
     let ls = c.args.lowers.now in
     let p = c.args.from.now in
     let q = c.args.to.now in
-    let ok = c.next_number.ensures.layer in
+    let ok = c.show_is_layer.ensures.layer in
     let some : is_some (at u q) ≡ true = ap is_some (sym c.at.ensures) ∙ sym c.is_some.ensures ∙ c.if-is_some.true in
     let white = whiteout_from (at u q) (free u ls p q ok c.visit.ensures c.requires) some in
     takeable u ls p q ok c.visit.ensures c.requires white
@@ -25,7 +25,7 @@ copy_up-requires c =
     let ls = c.args.lowers.now in
     let p = c.args.from.now in
     let q = c.args.to.now in
-    let ok = c.next_number.ensures.layer in
+    let ok = c.show_is_layer.ensures.layer in
     let some : is_some (at u q) ≡ true = ap is_some (sym c.at.ensures) ∙ sym c.is_some.ensures ∙ c.if-is_some.true in
     let white = whiteout_from (at u q) (free u ls p q ok c.visit.ensures c.requires) some in
     ap (λ (v : Tree). walk (v ∷ ls) p) c.take_name.ensures ∙ way_without u ls p q ok c.visit.ensures c.requires white
@@ -36,7 +36,7 @@ returns-then-is_some-clause-ok c =
     let ls = c.args.lowers.now in
     let p = c.args.from.now in
     let q = c.args.to.now in
-    let ok = c.next_number.ensures.layer in
+    let ok = c.show_is_layer.ensures.layer in
     let some : is_some (at u q) ≡ true = ap is_some (sym c.at.ensures) ∙ sym c.is_some.ensures ∙ c.if-is_some.true in
     let white = whiteout_from (at u q) (free u ls p q ok c.visit.ensures c.requires) some in
     subst (λ (v : Tree). OnOk c.copy_up.result (c.copy_up.new.layer ≡ v)) (ap (λ (v : Tree). copied_up v ls p) c.take_name.ensures ∙ room_first u ls p q ok c.visit.ensures c.requires white) c.copy_up.ensures.ok
@@ -47,7 +47,7 @@ returns-then-is_some-clause-error c =
     let ls = c.args.lowers.now in
     let p = c.args.from.now in
     let q = c.args.to.now in
-    let ok = c.next_number.ensures.layer in
+    let ok = c.show_is_layer.ensures.layer in
     let some : is_some (at u q) ≡ true = ap is_some (sym c.at.ensures) ∙ sym c.is_some.ensures ∙ c.if-is_some.true in
     let white = whiteout_from (at u q) (free u ls p q ok c.visit.ensures c.requires) some in
     subst (λ (v : Tree). IfErr c.copy_up.result (λ e. IsRefusal v e)) (ap (λ (v : Tree). copied_up v ls p) c.take_name.ensures ∙ room_first u ls p q ok c.visit.ensures c.requires white) c.copy_up.ensures.error
@@ -58,7 +58,7 @@ returns-in_err-copy_up-clause-error c =
     let ls = c.args.lowers.now in
     let p = c.args.from.now in
     let q = c.args.to.now in
-    let ok = c.next_number.ensures.layer in
+    let ok = c.show_is_layer.ensures.layer in
     let none = none_from (at u q) (ap is_some (sym c.at.ensures) ∙ sym c.is_some.ensures ∙ c.if-is_some.false) in
     IfErr-refused c.from_residual.result c.in_err-copy_up.field-0.0 (copied_up u ls p) (without (with_parents (copied_up u ls p) ls q) q) c.from_residual.ensures.1 (copy_full u ls p q ok c.visit.ensures c.requires none) c.in_err-copy_up.ensures.error
 
@@ -68,7 +68,7 @@ ensure_dirs-requires c =
     let ls = c.args.lowers.now in
     let p = c.args.from.now in
     let q = c.args.to.now in
-    ap (λ (v : Tree). walk (v ∷ ls) q) c.in_ok-copy_up.ensures.ok ∙ way_to u ls p q c.next_number.ensures.layer c.visit.ensures c.requires
+    ap (λ (v : Tree). walk (v ∷ ls) q) c.in_ok-copy_up.ensures.ok ∙ way_to u ls p q c.show_is_layer.ensures.layer c.visit.ensures c.requires
 
 pub returns-clause-ok : goal.returns-clause-ok
 returns-clause-ok c =
@@ -76,7 +76,7 @@ returns-clause-ok c =
     let ls = c.args.lowers.now in
     let p = c.args.from.now in
     let q = c.args.to.now in
-    let ok = c.next_number.ensures.layer in
+    let ok = c.show_is_layer.ensures.layer in
     let none = none_from (at u q) (ap is_some (sym c.at.ensures) ∙ sym c.is_some.ensures ∙ c.if-is_some.false) in
     subst (λ (v : Tree). OnOk c.ensure_dirs.result (c.ensure_dirs.new.layer ≡ v)) (ap (λ (v : Tree). with_parents v ls q) c.in_ok-copy_up.ensures.ok ∙ room_is u ls p q ok c.visit.ensures c.requires none) c.ensure_dirs.ensures.ok
 
@@ -86,6 +86,6 @@ returns-clause-error c =
     let ls = c.args.lowers.now in
     let p = c.args.from.now in
     let q = c.args.to.now in
-    let ok = c.next_number.ensures.layer in
+    let ok = c.show_is_layer.ensures.layer in
     let none = none_from (at u q) (ap is_some (sym c.at.ensures) ∙ sym c.is_some.ensures ∙ c.if-is_some.false) in
     subst (λ (v : Tree). IfErr c.ensure_dirs.result (λ e. IsRefusal v e)) (ap (λ (v : Tree). with_parents v ls q) c.in_ok-copy_up.ensures.ok ∙ room_is u ls p q ok c.visit.ensures c.requires none) c.ensure_dirs.ensures.error

@@ -6,10 +6,10 @@ use Rattle.snap_upper.proofs.linking.link.Goals as goal
 
 pub add_name-requires-clause-place : goal.add_name-requires-clause-place
 add_name-requires-clause-place c =
-    own_place c.args.layer.now c.args.lowers.now c.args.from.now c.args.to.now c.next_number.ensures.layer c.visit.ensures c.requires (c.has_parent.ensures.0 c.if-not-has_parent.false)
+    own_place c.args.layer.now c.args.lowers.now c.args.from.now c.args.to.now c.show_is_layer.ensures.layer c.visit.ensures c.requires (c.has_parent.ensures.0 c.if-not-has_parent.false)
 
 pub returns-in-Some-clause-ok : goal.returns-in-Some-clause-ok
 returns-in-Some-clause-ok c =
-    let made = own_put c.args.layer.now c.args.lowers.now c.args.from.now c.args.to.now c.next_number.ensures.layer c.visit.ensures c.requires (c.has_parent.ensures.0 c.if-not-has_parent.false) c.in-Some.number (sym c.own_number.ensures ∙ c.in-Some.is) in
+    let made = own_put c.args.layer.now c.args.lowers.now c.args.from.now c.args.to.now c.show_is_layer.ensures.layer c.visit.ensures c.requires (c.has_parent.ensures.0 c.if-not-has_parent.false) c.in-Some.number (sym c.own_number.ensures ∙ c.in-Some.is) in
     let next = c.add_name.new.self in
-    ap limited (sym made ∙ sym c.in_ok-add_name.ensures.ok) ∙ limited_fits next (layer_fits next c.next_number-in-Some.ensures.layer)
+    ap limited (sym made ∙ sym c.in_ok-add_name.ensures.ok) ∙ limited_fits next (layer_fits next c.show_is_layer-in-Some.ensures.layer)

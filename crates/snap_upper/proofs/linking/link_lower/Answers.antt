@@ -8,24 +8,24 @@ pub link_over_whiteout-requires-clause-held : goal.link_over_whiteout-requires-c
 link_over_whiteout-requires-clause-held c =
     let u = c.args.layer.now in
     let q = c.args.to.now in
-    whiteout_from (at u q) (free u c.args.lowers.now c.args.from.now q c.next_number.ensures.layer c.visit.ensures c.requires.passes) (ap is_some (sym c.at.ensures) ∙ sym c.is_some.ensures ∙ c.if-is_some.true)
+    whiteout_from (at u q) (free u c.args.lowers.now c.args.from.now q c.show_is_layer.ensures.layer c.visit.ensures c.requires.passes) (ap is_some (sym c.at.ensures) ∙ sym c.is_some.ensures ∙ c.if-is_some.true)
 
 pub add_whiteout-requires : goal.add_whiteout-requires
-add_whiteout-requires c = own_place c.args.layer.now c.args.lowers.now c.args.from.now c.args.to.now c.next_number.ensures.layer c.visit.ensures c.requires.passes c.requires.parent
+add_whiteout-requires c = own_place c.args.layer.now c.args.lowers.now c.args.from.now c.args.to.now c.show_is_layer.ensures.layer c.visit.ensures c.requires.passes c.requires.parent
 
 pub link_over_whiteout-requires-2-clause-passes : goal.link_over_whiteout-requires-2-clause-passes
 link_over_whiteout-requires-2-clause-passes c =
     let u = c.args.layer.now in
     let q = c.args.to.now in
     let none = none_from (at u q) (ap is_some (sym c.at.ensures) ∙ sym c.is_some.ensures ∙ c.if-is_some.false) in
-    held_passes u c.add_whiteout.new.self c.args.lowers.now c.args.from.now q c.next_number.ensures.layer c.visit.ensures c.requires.passes none c.in_ok-add_whiteout.ensures.ok
+    held_passes u c.add_whiteout.new.self c.args.lowers.now c.args.from.now q c.show_is_layer.ensures.layer c.visit.ensures c.requires.passes none c.in_ok-add_whiteout.ensures.ok
 
 pub link_over_whiteout-requires-2-clause-held : goal.link_over_whiteout-requires-2-clause-held
 link_over_whiteout-requires-2-clause-held c =
     let u = c.args.layer.now in
     let q = c.args.to.now in
     let none = none_from (at u q) (ap is_some (sym c.at.ensures) ∙ sym c.is_some.ensures ∙ c.if-is_some.false) in
-    held_white u c.add_whiteout.new.self c.args.lowers.now c.args.from.now q c.next_number.ensures.layer c.visit.ensures c.requires.passes none c.in_ok-add_whiteout.ensures.ok
+    held_white u c.add_whiteout.new.self c.args.lowers.now c.args.from.now q c.show_is_layer.ensures.layer c.visit.ensures c.requires.passes none c.in_ok-add_whiteout.ensures.ok
 
 pub take_name-requires : goal.take_name-requires
 take_name-requires c =
@@ -33,7 +33,7 @@ take_name-requires c =
     let q = c.args.to.now in
     let none = none_from (at u q) (ap is_some (sym c.at.ensures) ∙ sym c.is_some.ensures ∙ c.if-is_some.false) in
     subst (λ (v : Tree). IsTakeable v q) (sym c.in-Err.ensures.unchanged)
-    (held_takeable u c.add_whiteout.new.self c.args.lowers.now c.args.from.now q c.next_number.ensures.layer c.visit.ensures c.requires.passes none c.in_ok-add_whiteout.ensures.ok c.requires.parent)
+    (held_takeable u c.add_whiteout.new.self c.args.lowers.now c.args.from.now q c.show_is_layer.ensures.layer c.visit.ensures c.requires.passes none c.in_ok-add_whiteout.ensures.ok c.requires.parent)
 
 pub returns-in-Err-clause-unchanged : goal.returns-in-Err-clause-unchanged
 returns-in-Err-clause-unchanged c =
@@ -42,7 +42,7 @@ returns-in-Err-clause-unchanged c =
     let none = none_from (at u q) (ap is_some (sym c.at.ensures) ∙ sym c.is_some.ensures ∙ c.if-is_some.false) in
     c.take_name.ensures
     ∙ ap (λ (v : Tree). without v q) c.in-Err.ensures.unchanged
-    ∙ held_back u c.add_whiteout.new.self c.args.lowers.now c.args.from.now q c.next_number.ensures.layer c.visit.ensures c.requires.passes none c.in_ok-add_whiteout.ensures.ok
+    ∙ held_back u c.add_whiteout.new.self c.args.lowers.now c.args.from.now q c.show_is_layer.ensures.layer c.visit.ensures c.requires.passes none c.in_ok-add_whiteout.ensures.ok
 
 pub returns-clause-ok : goal.returns-clause-ok
 returns-clause-ok c =
@@ -50,4 +50,4 @@ returns-clause-ok c =
     let q = c.args.to.now in
     let none = none_from (at u q) (ap is_some (sym c.at.ensures) ∙ sym c.is_some.ensures ∙ c.if-is_some.false) in
     c.in_default.ensures.ok
-    ∙ held_same u c.add_whiteout.new.self c.args.lowers.now c.args.from.now q c.next_number.ensures.layer c.visit.ensures c.requires.passes none c.in_ok-add_whiteout.ensures.ok c.requires.parent c.next_number-2.ensures.layer
+    ∙ held_same u c.add_whiteout.new.self c.args.lowers.now c.args.from.now q c.show_is_layer.ensures.layer c.visit.ensures c.requires.passes none c.in_ok-add_whiteout.ensures.ok c.requires.parent c.show_is_layer-2.ensures.layer

@@ -10,17 +10,17 @@ no_some e = cc
 
 pub returns-in_default-clause-ok : goal.returns-in_default-clause-ok
 returns-in_default-clause-ok c =
-    let number = held_number c.args.layer.now c.args.lowers.now c.args.from.now c.args.to.now c.next_number.ensures.layer c.visit.ensures c.requires.passes c.requires.held in
+    let number = held_number c.args.layer.now c.args.lowers.now c.args.from.now c.args.to.now c.show_is_layer.ensures.layer c.visit.ensures c.requires.passes c.requires.held in
     absurd (no_some (sym number.1 ∙ ap (λ (v : Tree). number_at v c.args.from.now) (sym c.in_ok-copy_up.ensures.ok) ∙ sym c.own_number.ensures ∙ c.in_default.is))
 
 pub add_name-requires-clause-place : goal.add_name-requires-clause-place
 add_name-requires-clause-place c =
     subst (λ (v : Tree). HasPlace v c.args.to.now) (sym c.in_ok-copy_up.ensures.ok)
-    (held_place c.args.layer.now c.args.lowers.now c.args.from.now c.args.to.now c.next_number.ensures.layer c.visit.ensures c.requires.passes c.requires.held)
+    (held_place c.args.layer.now c.args.lowers.now c.args.from.now c.args.to.now c.show_is_layer.ensures.layer c.visit.ensures c.requires.passes c.requires.held)
 
 pub returns-in_err-add_name-clause-unchanged : goal.returns-in_err-add_name-clause-unchanged
 returns-in_err-add_name-clause-unchanged c =
-    let there = held_at c.args.layer.now c.args.lowers.now c.args.from.now c.args.to.now c.next_number.ensures.layer c.visit.ensures c.requires.passes c.requires.held in
+    let there = held_at c.args.layer.now c.args.lowers.now c.args.from.now c.args.to.now c.show_is_layer.ensures.layer c.visit.ensures c.requires.passes c.requires.held in
     absurd (no_some (sym there ∙ ap (λ (v : Tree). at v c.args.to.now) (sym c.in_ok-copy_up.ensures.ok) ∙ c.in_err-add_name.ensures.sure))
 
 pub returns-clause-ok : goal.returns-clause-ok
@@ -31,4 +31,4 @@ returns-clause-ok c =
     let number = ap (λ (v : Tree). number_at v c.args.from.now) (sym same) ∙ sym c.own_number.ensures ∙ c.in-Some.is in
     c.in_ok-add_name.ensures.ok
     ∙ ap (λ (v : Tree). with_name v q (name_of k (body v k))) same
-    ∙ held_put c.args.layer.now c.args.lowers.now c.args.from.now q c.next_number.ensures.layer c.visit.ensures c.requires.passes c.requires.held k number (subst IsLayer same c.next_number-2.ensures.layer)
+    ∙ held_put c.args.layer.now c.args.lowers.now c.args.from.now q c.show_is_layer.ensures.layer c.visit.ensures c.requires.passes c.requires.held k number (subst IsLayer same c.show_is_layer-2.ensures.layer)

@@ -29,7 +29,7 @@ returns-then-is_none c =
     let ls = c.args.lowers.now in
     let p = c.args.path.now in
     let none = none_from (at u p) (ap is_some (sym c.at.ensures) ∙ c.is_none.ensures ∙ ap not c.if-is_none.true) in
-    c.plan_growth.ensures last.Whiteout ls (refl, refl) c.requires.layers c.requires.way (vacant u p c.next_number.ensures.layer none)
+    c.plan_growth.ensures last.Whiteout ls (refl, refl) c.requires.layers c.requires.way (vacant u p c.show_is_layer.ensures.layer none)
     ∙ ap (λ (t : Tree). planned (limited t)) (sym (erased_lower u ls p none c.requires.there))
 
 pub count_without-left-requires : goal.count_without-left-requires
@@ -37,14 +37,14 @@ count_without-left-requires c =
     let u = c.args.layer.now in
     let p = c.args.path.now in
     let some : is_some (at u p) ≡ true = ap is_some (sym c.at.ensures) ∙ c.is_none.ensures ∙ ap not c.if-is_none.false in
-    (place_erased u c.args.lowers.now p c.next_number.ensures.layer some c.requires.below_root c.requires.clear).clear
+    (place_erased u c.args.lowers.now p c.show_is_layer.ensures.layer some c.requires.below_root c.requires.clear).clear
 
 pub returns : goal.returns
 returns c =
     let u = c.args.layer.now in
     let ls = c.args.lowers.now in
     let p = c.args.path.now in
-    let ok = c.next_number.ensures.layer in
+    let ok = c.show_is_layer.ensures.layer in
     let covers = c.is_some-covers.result in
     let some : is_some (at u p) ≡ true = ap is_some (sym c.at.ensures) ∙ c.is_none.ensures ∙ ap not c.if-is_none.false in
     let covered : c.is_some-covers.result ≡ is_some (below u ls p) = c.is_some-covers.ensures ∙ sym (seen_some c.below.result) ∙ ap is_some c.below.ensures in

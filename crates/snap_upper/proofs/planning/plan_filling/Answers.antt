@@ -12,7 +12,7 @@ use Rattle.snap_upper.proofs.planning.plan_filling.Goals as goal
 
 pub overflow_sub-after : goal.overflow_sub-after
 overflow_sub-after c =
-    let ok = c.next_number.ensures.layer in
+    let ok = c.show_is_layer.ensures.layer in
     let t = c.requires.there in
     let size = c.file_size-size.ensures t.0 t.1 t.2 in
     let before = (rewrites c.args.layer.now c.args.number t.0 t.1 (edited c.args.edit t.1) ok t.2 t.4).blocks in
@@ -23,13 +23,13 @@ pub overflow_add-after : goal.overflow_add-after
 overflow_add-after c =
     let t = c.requires.there in
     let size = c.file_size-size.ensures t.0 t.1 t.2 in
-    omega (arith, c.blocks_of-new.ensures, c.size.ensures t.1 (sym size), t.4, ap (λ (n : Usage). n.blocks) c.count-now.ensures.bodies, few_blocks c.args.layer.now c.next_number.ensures.layer)
+    omega (arith, c.blocks_of-new.ensures, c.size.ensures t.1 (sym size), t.4, ap (λ (n : Usage). n.blocks) c.count-now.ensures.bodies, few_blocks c.args.layer.now c.show_is_layer.ensures.layer)
 
 pub returns : goal.returns
 returns c =
     let u = c.args.layer.now in
     let k = c.args.number in
-    let ok = c.next_number.ensures.layer in
+    let ok = c.show_is_layer.ensures.layer in
     let t = c.requires.there in
     let size = c.file_size-size.ensures t.0 t.1 t.2 in
     let new = edited c.args.edit t.1 in

@@ -9,7 +9,7 @@ use Rattle.snap_upper.proofs.PreparedCounts.{prepared_next}
 use Rattle.snap_upper.proofs.planning.plan_link.Goals as goal
 
 pub count_placed-after-requires-clause-placeable : goal.count_placed-after-requires-clause-placeable
-count_placed-after-requires-clause-placeable c = linkable c.args.layer.now c.args.lowers.now c.args.from.now c.args.to.now c.next_number.ensures.layer c.requires.layers c.requires.passes
+count_placed-after-requires-clause-placeable c = linkable c.args.layer.now c.args.lowers.now c.args.from.now c.args.to.now c.show_is_layer.ensures.layer c.requires.layers c.requires.passes
 
 pub returns : goal.returns
 returns c =
@@ -17,7 +17,7 @@ returns c =
     let ls = c.args.lowers.now in
     let from = c.args.from.now in
     let to = c.args.to.now in
-    let ok = c.next_number.ensures.layer in
+    let ok = c.show_is_layer.ensures.layer in
     let lower = c.is_none.result in
     let passes = c.requires.passes in
     let layers = c.requires.layers in

@@ -23,7 +23,7 @@ count_placed-left-requires c =
     let ls = c.args.lowers.now in
     let from = c.args.from.now in
     let to = c.args.to.now in
-    record { layers = c.requires.layers; placeable = placeable u ls from to c.next_number.ensures.layer c.requires.layers (renamable u ls from to c.requires.passes c.requires.moves) }
+    record { layers = c.requires.layers; placeable = placeable u ls from to c.show_is_layer.ensures.layer c.requires.layers (renamable u ls from to c.requires.passes c.requires.moves) }
 
 pub returns : goal.returns
 returns c =
@@ -31,7 +31,7 @@ returns c =
     let ls = c.args.lowers.now in
     let from = c.args.from.now in
     let to = c.args.to.now in
-    let ok = c.next_number.ensures.layer in
+    let ok = c.show_is_layer.ensures.layer in
     let lower = c.is_none.result in
     let is = renamable u ls from to c.requires.passes c.requires.moves in
     let leaves : is_some (below u ls from) ≡ c.is_some-leaves.result = ap is_some (sym c.below.ensures) ∙ seen_some c.below.result ∙ sym c.is_some-leaves.ensures in

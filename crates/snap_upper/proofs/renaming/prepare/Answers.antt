@@ -19,7 +19,7 @@ returns-in_err-copy_up-clause-error c =
     let x = c.in_err-copy_up.field-0.0 in
     let is = renamable u ls from to c.requires.passes c.requires.moves in
     let refusal = subst (λ (t : Tree). IsRefusal (copied_up t ls from) x) c.in_ok-next.ensures c.in_err-copy_up.ensures.error in
-    IfErr-refused c.from_residual-in_err-copy_up.result x (copied_up u ls from) (renamed u ls from to) c.from_residual-in_err-copy_up.ensures.1 (copied_full u ls from to c.next_number.ensures.layer c.visit.ensures is) refusal
+    IfErr-refused c.from_residual-in_err-copy_up.result x (copied_up u ls from) (renamed u ls from to) c.from_residual-in_err-copy_up.ensures.1 (copied_full u ls from to c.show_is_layer.ensures.layer c.visit.ensures is) refusal
 
 pub ensure_dirs-requires : goal.ensure_dirs-requires
 ensure_dirs-requires c =
@@ -29,7 +29,7 @@ ensure_dirs-requires c =
     let to = c.args.to.now in
     let is = renamable u ls from to c.requires.passes c.requires.moves in
     let next = c.in_ok-copy_up.ensures.ok ∙ ap (λ (t : Tree). copied_up t ls from) c.in_ok-next.ensures in
-    ap (λ (t : Tree). walk (t ∷ ls) to) next ∙ way_after u ls from to c.next_number.ensures.layer c.visit.ensures is
+    ap (λ (t : Tree). walk (t ∷ ls) to) next ∙ way_after u ls from to c.show_is_layer.ensures.layer c.visit.ensures is
 
 pub returns-in_err-ensure_dirs-clause-error : goal.returns-in_err-ensure_dirs-clause-error
 returns-in_err-ensure_dirs-clause-error c =
@@ -41,4 +41,4 @@ returns-in_err-ensure_dirs-clause-error c =
     let is = renamable u ls from to c.requires.passes c.requires.moves in
     let next = c.in_ok-copy_up.ensures.ok ∙ ap (λ (t : Tree). copied_up t ls from) c.in_ok-next.ensures in
     let refusal = subst (λ (t : Tree). IsRefusal (with_parents t ls to) x) next c.in_err-ensure_dirs.ensures.error in
-    IfErr-refused c.from_residual-in_err-ensure_dirs.result x (prepared u ls from to) (renamed u ls from to) c.from_residual-in_err-ensure_dirs.ensures.1 (prepared_full u ls from to c.next_number.ensures.layer c.visit.ensures is) refusal
+    IfErr-refused c.from_residual-in_err-ensure_dirs.result x (prepared u ls from to) (renamed u ls from to) c.from_residual-in_err-ensure_dirs.ensures.1 (prepared_full u ls from to c.show_is_layer.ensures.layer c.visit.ensures is) refusal

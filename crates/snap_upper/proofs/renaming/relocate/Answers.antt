@@ -12,4 +12,4 @@ returns-in_err-move_tree-clause-error c =
     let to = c.args.to.now in
     move_refused c.from_residual.result c.in_err-move_tree.field-0.0 (with_moved u from to c.args.leaves) (shifted u from to c.args.leaves c.args.covers) c.from_residual.ensures.1
     (λ full. c.in_err-move_tree.ensures.full.0 (ap (λ (x : LayerError). Err x) full))
-    (shifted_full u from to c.next_number.ensures.layer.sorted_paths c.args.leaves c.args.covers)
+    (shifted_full u from to c.show_is_layer.ensures.layer.sorted_paths c.args.leaves c.args.covers)

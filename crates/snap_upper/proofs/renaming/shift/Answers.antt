@@ -18,7 +18,7 @@ relocate-requires c =
     let ls = c.args.lowers.now in
     let from = c.args.from.now in
     let to = c.args.to.now in
-    let ok = c.next_number.ensures.layer in
+    let ok = c.show_is_layer.ensures.layer in
     let is = renamable u ls from to c.requires.passes c.requires.moves in
     let some : is_some (at u from) ≡ true = ap is_some (sym c.at.ensures) ∙ sym c.is_some.ensures ∙ c.if-is_some.true in
     let same = prepared_there u ls from to ok c.visit.ensures is some (c.has_parent.ensures.0 c.if-has_parent.true) in
@@ -32,7 +32,7 @@ returns-in_err-relocate-clause-error c =
     let to = c.args.to.now in
     let is = renamable u ls from to c.requires.passes c.requires.moves in
     let some : is_some (at u from) ≡ true = ap is_some (sym c.at.ensures) ∙ sym c.is_some.ensures ∙ c.if-is_some.true in
-    let same = prepared_there u ls from to c.next_number.ensures.layer c.visit.ensures is some (c.has_parent.ensures.0 c.if-has_parent.true) in
+    let same = prepared_there u ls from to c.show_is_layer.ensures.layer c.visit.ensures is some (c.has_parent.ensures.0 c.if-has_parent.true) in
     let leaves : is_some (below u ls from) ≡ c.is_some-leaves.result = ap is_some (sym c.below.ensures) ∙ seen_some c.below.result ∙ sym c.is_some-leaves.ensures in
     let covers : is_some (below u ls to) ≡ c.is_some-covers.result = ap is_some (sym c.below-2.ensures) ∙ seen_some c.below-2.result ∙ sym c.is_some-covers.ensures in
     refused_same c.from_residual.result c.in_err-relocate.field-0.0 (shifted u from to c.is_some-leaves.result c.is_some-covers.result) (renamed u ls from to) c.from_residual.ensures.1 (λ i. shifted (sym same i) from to (sym leaves i) (sym covers i)) c.in_err-relocate.ensures.error
@@ -45,12 +45,12 @@ returns-then-has_parent-clause-ok c =
     let to = c.args.to.now in
     let is = renamable u ls from to c.requires.passes c.requires.moves in
     let some : is_some (at u from) ≡ true = ap is_some (sym c.at.ensures) ∙ sym c.is_some.ensures ∙ c.if-is_some.true in
-    let same = prepared_there u ls from to c.next_number.ensures.layer c.visit.ensures is some (c.has_parent.ensures.0 c.if-has_parent.true) in
+    let same = prepared_there u ls from to c.show_is_layer.ensures.layer c.visit.ensures is some (c.has_parent.ensures.0 c.if-has_parent.true) in
     let leaves : is_some (below u ls from) ≡ c.is_some-leaves.result = ap is_some (sym c.below.ensures) ∙ seen_some c.below.result ∙ sym c.is_some-leaves.ensures in
     let covers : is_some (below u ls to) ≡ c.is_some-covers.result = ap is_some (sym c.below-2.ensures) ∙ seen_some c.below-2.result ∙ sym c.is_some-covers.ensures in
     let next = c.relocate.new.layer in
     let shifts : renamed u ls from to ≡ shifted u from to c.is_some-leaves.result c.is_some-covers.result = λ i. shifted (same i) from to (leaves i) (covers i) in
-    ap limited (shifts ∙ sym c.in_ok-relocate.ensures.ok) ∙ limited_fits next (layer_fits next c.next_number-then-has_parent.ensures.layer)
+    ap limited (shifts ∙ sym c.in_ok-relocate.ensures.ok) ∙ limited_fits next (layer_fits next c.show_is_layer-then-has_parent.ensures.layer)
 
 pub relocate-requires-2 : goal.relocate-requires-2
 relocate-requires-2 c =
@@ -60,4 +60,4 @@ relocate-requires-2 c =
     let to = c.args.to.now in
     let is = renamable u ls from to c.requires.passes c.requires.moves in
     let same : c.in_ok-next.next ≡ prepared u ls from to = c.in_ok-next.ensures.ok in
-    subst (λ (t : Tree). IsMovable t from to) (sym same) (prepared_movable u ls from to c.next_number.ensures.layer c.visit.ensures is c.names.ensures.valid (subst IsLayer same c.next_number-2.ensures.layer))
+    subst (λ (t : Tree). IsMovable t from to) (sym same) (prepared_movable u ls from to c.show_is_layer.ensures.layer c.visit.ensures is c.names.ensures.valid (subst IsLayer same c.show_is_layer-2.ensures.layer))

@@ -1,6 +1,6 @@
 use Rattle.std.proofs.Common.{length}
 use Rattle.snap_usage.proofs.Above.{above, Left}
-use Rattle.snap_usage.proofs.counting.recount.Given as goal
+use Rattle.snap_usage.proofs.usage.recount.Given as goal
 
 -- what is counted, and what the bodies above `after` add, is what the layer takes
 abbrev pub invariant-loop-number : goal.invariant-loop-number
