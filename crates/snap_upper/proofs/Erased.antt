@@ -17,7 +17,7 @@ use Rattle.snap_layer.specs.Edits.{HasPlace, IsTakeable, outside, with_node, wit
 use Rattle.snap_layer.proofs.Paths.{split_front}
 use Rattle.snap_layer.proofs.Looks.{at-without_outside, body-bodies_without, kept_by_name}
 use Rattle.snap_layer.proofs.Laws.{Takes, Takes-without, Replaces, Replaces-with_node}
-use Rattle.snap_merge.specs.declared.seen.Seen.{Seen}
+use Rattle.snap_merge.specs.declared.look.Seen.{Seen}
 use Rattle.snap_merge.specs.Objects.{Object, dir, file, symlink, object, seen, is_shown_dir, AreLayers}
 use Rattle.snap_merge.specs.Walk.{walk}
 use Rattle.snap_merge.specs.Listing.{names}

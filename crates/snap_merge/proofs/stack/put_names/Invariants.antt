@@ -1,7 +1,7 @@
 use Rattle.std.proofs.Common.{◌≡◌}
 use Rattle.std.specs.Vec.Iter.{into_iter_items}
 use Rattle.snap_merge.specs.Listing.{put_names}
-use Rattle.snap_merge.proofs.list.put_names.Given as goal
+use Rattle.snap_merge.proofs.stack.put_names.Given as goal
 
 -- the names that are left give what all give
 abbrev pub invariant-loop-name : goal.invariant-loop-name

@@ -1,5 +1,5 @@
 use Rattle.std.proofs.Common.{◌≡◌, ℕ, List, Bor, map, take}
-use Rattle.snap_merge.proofs.words.Words.of.Given as goal
+use Rattle.snap_merge.proofs.resolve.Words.of.Given as goal
 
 -- the words so far are the names so far
 abbrev pub invariant-loop-name : goal.invariant-loop-name

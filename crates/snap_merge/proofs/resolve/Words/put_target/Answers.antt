@@ -1,6 +1,6 @@
 use Rattle.std.proofs.Common.{◌≡◌, ℕ, ◌-◌, ◌++◌, List, Bor, length, drop, take, map, ap, ◌∙◌}
 use Rattle.std.proofs.lemmas.List.{map-append, take_rest}
-use Rattle.snap_merge.proofs.words.Words.put_target.Goals as goal
+use Rattle.snap_merge.proofs.resolve.Words.put_target.Goals as goal
 
 pub returns : goal.returns
 returns c =

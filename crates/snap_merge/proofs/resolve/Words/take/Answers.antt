@@ -1,6 +1,6 @@
 use Rattle.std.proofs.Common.{◌≡◌, ℕ, ◌+◌, List, Bor, drop, ◌∷◌, map, sym, ap, ◌∙◌}
 use Rattle.std.proofs.lemmas.List.{drop_more}
-use Rattle.snap_merge.proofs.words.Words.take.Goals as goal
+use Rattle.snap_merge.proofs.resolve.Words.take.Goals as goal
 
 pub returns : goal.returns
 returns c =

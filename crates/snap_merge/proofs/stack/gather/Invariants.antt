@@ -1,6 +1,6 @@
 use Rattle.std.proofs.Common.{◌≡◌, drop}
 use Rattle.snap_merge.specs.Listing.{gathered}
-use Rattle.snap_merge.proofs.list.gather.Given as goal
+use Rattle.snap_merge.proofs.stack.gather.Given as goal
 
 -- the layers that are left give what all give
 abbrev pub invariant-loop-shared : goal.invariant-loop-shared
