@@ -25,12 +25,12 @@ use Rattle.snap_merge.proofs.Listings.{listing_is}
 use Rattle.snap_merge.proofs.Views.{seen_node, seen_through, seen_alike}
 use Rattle.snap_merge.proofs.Hiding.{hidden_by, hides_from_above, hides_alike}
 use Rattle.snap_merge.proofs.Above.{nothing_seen}
-use Rattle.snap_copyup.specs.declared.putting.Last.TheVariants as last
+use Rattle.snap_copyup.specs.declared.parents.Last.TheVariants as last
 use Rattle.snap_copyup.specs.Copying.{below, with_parents}
 use Rattle.snap_copyup.specs.Places.{with_last}
 use Rattle.snap_copyup.proofs.Alone.{below_seen, free_unseen}
 use Rattle.snap_copyup.proofs.Elsewhere.{shown_same}
-use Rattle.snap_copyup.proofs.Parents.{AddsParents, adds_parents}
+use Rattle.snap_copyup.proofs.ParentDirs.{AddsParents, adds_parents}
 use Rattle.snap_copyup.proofs.Layers.{no_missing}
 use Rattle.snap_upper.specs.declared.op.Op.TheVariants as op
 use Rattle.snap_merge.specs.declared.error.FsError.TheVariants.{Invalid, NotEmpty}

@@ -5,8 +5,8 @@ use Rattle.snap_layer.specs.Edits.{HasMode, with_mode}
 use Rattle.snap_merge.specs.Objects.{Object, file, seen, is_shown_dir, AreLayers}
 use Rattle.snap_layer.specs.declared.node.Body.TheVariants as body_kinds
 use Rattle.snap_merge.specs.Walk.{walk}
-use Rattle.snap_copyup.specs.declared.putting.Last.{Last}
-use Rattle.snap_copyup.specs.declared.putting.Last.TheVariants as last
+use Rattle.snap_copyup.specs.declared.parents.Last.{Last}
+use Rattle.snap_copyup.specs.declared.parents.Last.TheVariants as last
 use Rattle.snap_copyup.specs.Copying.{with_parents}
 use Rattle.snap_copyup.specs.Places.{with_last, Fits}
 use Rattle.snap_upper.specs.declared.op.Op.{Op}

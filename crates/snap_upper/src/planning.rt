@@ -5,7 +5,7 @@ ghost use Rattle.snap_layer.specs.Counts.{block_count, inode_count};
 ghost use Rattle.snap_layer.specs.Edits.{IsFree, HasMode, with_mode, without};
 ghost use Rattle.snap_merge.specs.Objects.{file, object, seen, is_shown_dir, AreLayers};
 ghost use Rattle.snap_merge.specs.Walk.{walk, Answers};
-ghost use Rattle.snap_copyup.specs.declared.putting.Last.{Last};
+ghost use Rattle.snap_copyup.specs.declared.parents.Last.{Last};
 ghost use Rattle.snap_copyup.specs.Copying.{with_parents, copied_up};
 ghost use Rattle.snap_copyup.specs.Places.{with_last, Fits};
 ghost use Rattle.snap_upper.specs.declared.op.Op.TheVariants as op;

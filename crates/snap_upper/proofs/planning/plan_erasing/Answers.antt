@@ -6,7 +6,7 @@ use Rattle.snap_layer.specs.Tree.{Tree, at}
 use Rattle.snap_layer.specs.Counts.{inode_count}
 use Rattle.snap_layer.specs.Edits.{IsFree, with_node, without}
 use Rattle.snap_usage.specs.declared.usage.Usage.{Usage}
-use Rattle.snap_copyup.specs.declared.putting.Last.TheVariants as last
+use Rattle.snap_copyup.specs.declared.parents.Last.TheVariants as last
 use Rattle.snap_copyup.specs.Copying.{below}
 use Rattle.snap_copyup.proofs.Wholes.{vacant}
 use Rattle.snap_upper.specs.After.{planned, limited}

@@ -7,7 +7,7 @@ use Rattle.snap_copyup.specs.Copying.{copied, with_parents_from}
 use Rattle.snap_copyup.specs.Places.{with_last, IsRefusal}
 use Rattle.snap_copyup.proofs.Steps.{present, missing, seen_next}
 use Rattle.snap_copyup.proofs.Wholes.{IfErr-refused}
-use Rattle.snap_copyup.proofs.adding.+put_from.Goals as goal
+use Rattle.snap_copyup.proofs.parents.+put_from.Goals as goal
 
 pub put_from-requires : goal.put_from-requires
 put_from-requires t c =

@@ -1,5 +1,5 @@
 use Rattle.std.proofs.Common.{◌-◌, length}
-use Rattle.snap_copyup.proofs.adding.+put_from.Given as goal
+use Rattle.snap_copyup.proofs.parents.+put_from.Given as goal
 
 -- the names that are left
 abbrev pub decreases-put_from : goal.decreases-put_from

@@ -3,8 +3,8 @@ use Rattle.snap_layer.specs.Tree.{Tree}
 use Rattle.snap_merge.specs.Objects.{seen}
 use Rattle.snap_copyup.specs.Copying.{with_parents}
 use Rattle.snap_copyup.proofs.Alone.{OnOk-weaker}
-use Rattle.snap_copyup.proofs.Parents.{adds_parents}
-use Rattle.snap_copyup.proofs.adding.ensure_dirs.Goals as goal
+use Rattle.snap_copyup.proofs.ParentDirs.{adds_parents}
+use Rattle.snap_copyup.proofs.parents.ensure_dirs.Goals as goal
 
 pub returns-clause-view : goal.returns-clause-view
 returns-clause-view c =

@@ -3,7 +3,7 @@ use Rattle.std.specs.Cmp.Lexicographic.{pointwise, same_text, other_text}
 use Rattle.std.specs.Prelude.{nat_eq}
 use Rattle.std.proofs.lemmas.List.{get_or-take, get_or_default, take_more_same}
 use Rattle.snap_path.specs.Text.{Names}
-use Rattle.snap_copyup.proofs.missing.shared_names.Goals as goal
+use Rattle.snap_copyup.proofs.parents.shared_names.Goals as goal
 
 no_test : (b : Bool) → true ≡ not b → false ≡ b
 no_test false e = cc

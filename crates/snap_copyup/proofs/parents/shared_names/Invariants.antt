@@ -1,5 +1,5 @@
 use Rattle.std.proofs.Common.{◌≡◌, take}
-use Rattle.snap_copyup.proofs.missing.shared_names.Given as goal
+use Rattle.snap_copyup.proofs.parents.shared_names.Given as goal
 
 -- both begin with the names that were compared
 abbrev pub invariant-loop-names : goal.invariant-loop-names

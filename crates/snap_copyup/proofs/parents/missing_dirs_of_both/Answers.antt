@@ -3,7 +3,7 @@ use Rattle.snap_copyup.specs.Copying.{with_parents}
 use Rattle.snap_copyup.specs.Places.{TakesMore, missing_from}
 use Rattle.snap_copyup.proofs.Growing.{few_names}
 use Rattle.snap_copyup.proofs.Both.{takes_both}
-use Rattle.snap_copyup.proofs.missing.missing_dirs_of_both.Goals as goal
+use Rattle.snap_copyup.proofs.parents.missing_dirs_of_both.Goals as goal
 
 pub overflow_add-result : goal.overflow_add-result
 overflow_add-result c = omega (arith, c.missing_after.ensures.few, c.missing_after-2.ensures.few, few_names c.args.one.now, few_names c.args.other.now, c.names.ensures.valid.1, c.names-2.ensures.valid.1)

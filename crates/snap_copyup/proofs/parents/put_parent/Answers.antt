@@ -2,7 +2,7 @@ use Rattle.std.proofs.Common.{Some, sym, ap, subst, ◌∙◌}
 use Rattle.std.specs.Option.{option_map}
 use Rattle.snap_merge.specs.Objects.{object}
 use Rattle.snap_copyup.proofs.Wholes.{IsWholeObject, whole_below, vacant}
-use Rattle.snap_copyup.proofs.putting.put_parent.Goals as goal
+use Rattle.snap_copyup.proofs.parents.put_parent.Goals as goal
 
 pub put_last-requires-clause-fit : goal.put_last-requires-clause-fit
 put_last-requires-clause-fit c =

@@ -1,7 +1,7 @@
 use Rattle.std.proofs.Common.{subst}
 use Rattle.snap_copyup.specs.Places.{Fits}
 use Rattle.snap_copyup.proofs.Steps.{place}
-use Rattle.snap_copyup.proofs.putting.put_last.Goals as goal
+use Rattle.snap_copyup.proofs.parents.put_last.Goals as goal
 
 pub add_file-requires-clause-place : goal.add_file-requires-clause-place
 add_file-requires-clause-place c =

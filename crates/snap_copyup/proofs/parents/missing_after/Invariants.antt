@@ -1,6 +1,6 @@
 use Rattle.std.proofs.Common.{◌≡◌, ◌+◌, ◌≤◌, take, drop}
 use Rattle.snap_copyup.specs.Places.{missing_from}
-use Rattle.snap_copyup.proofs.missing.missing_after.Given as goal
+use Rattle.snap_copyup.proofs.parents.missing_after.Given as goal
 
 -- those that were counted and those that are left are all
 abbrev pub invariant-loop-names : goal.invariant-loop-names

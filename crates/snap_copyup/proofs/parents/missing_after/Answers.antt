@@ -2,8 +2,8 @@ use Rattle.std.proofs.Common.{◌≡◌, ℕ, ◌<◌, ◌≤◌, Bool, true, fa
 use Rattle.std.specs.Prelude.{is_some, not, if◌then◌else◌}
 use Rattle.snap_layer.specs.Tree.{at}
 use Rattle.snap_copyup.proofs.Growing.{missing_more, missing_end}
-use Rattle.snap_copyup.proofs.missing.missing_after.Goals as goal
-use Rattle.snap_copyup.proofs.missing.missing_after.Goals.{then-is_none, else-is_none}
+use Rattle.snap_copyup.proofs.parents.missing_after.Goals as goal
+use Rattle.snap_copyup.proofs.parents.missing_after.Goals.{then-is_none, else-is_none}
 
 pub loop-names-preserved : goal.loop-names-preserved
 loop-names-preserved c =

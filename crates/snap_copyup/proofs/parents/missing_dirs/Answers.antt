@@ -2,7 +2,7 @@ use Rattle.std.proofs.Common.{ℕ, sym, subst}
 use Rattle.snap_copyup.specs.Copying.{with_parents}
 use Rattle.snap_copyup.specs.Places.{TakesMore}
 use Rattle.snap_copyup.proofs.Growing.{takes_missing}
-use Rattle.snap_copyup.proofs.missing.missing_dirs.Goals as goal
+use Rattle.snap_copyup.proofs.parents.missing_dirs.Goals as goal
 
 pub returns-clause-count : goal.returns-clause-count
 returns-clause-count c = λ lowers way.
