@@ -3,7 +3,7 @@ use Rattle.std.proofs.Common.{◌≡◌, ◌↔◌, Result, Ok, Err, IsErrOf, Is
 use Rattle.snap_usage.specs.declared.usage.Usage.{Usage}
 use Rattle.snap_merge.specs.declared.error.FsError.{FsError}
 use Rattle.snap_merge.specs.declared.error.FsError.TheVariants.{NeedsCharge}
-use Rattle.snap_upper.specs.declared.planning.Planned.{Planned}
+use Rattle.snap_upper.specs.declared.usage.Planned.{Planned}
 
 -- a result that has the error of the plan asks for no charge, and the plan has no count
 pub plan_refused : {A : Type 0} (r : Result A FsError) (plan : Result Planned FsError) (x : FsError) (need : Usage) (P : Type 0) → (plan ≡ Err (NeedsCharge need) → ⊥) → plan ≡ Err x → IsErrAnd r (λ y. y ≡ x) → IsErrOf r (NeedsCharge need) ↔ ((plan ≡ Ok (record { after = need })) × P)

@@ -154,9 +154,6 @@ pub(crate) fn usage_or(default: Usage, field: Field, line: &Value) -> Result<Usa
 pub(crate) fn extra(line: &Value) -> Result<Usage, Fault>
     ensures { result ≡ extra_of (view line.now) }
 {
-    let nothing = Usage {
-        blocks: 0,
-        inodes: 0,
-    };
+    let nothing = Usage::ZERO;
     usage_or(nothing, Field::Extra, line)
 }

@@ -149,10 +149,7 @@ fn total_of<N: StoreName>(world: &World<N>, name: &str) -> Usage
 {
     match world.totals(name) {
         Some(total) => total,
-        None => Usage {
-            blocks: 0,
-            inodes: 0,
-        },
+        None => Usage::ZERO,
     }
 }
 

@@ -13,18 +13,13 @@ use snap_usage::Usage;
 use snap_world::{Answer as StepAnswer, NoMemory, Step, World};
 use std::slice;
 
-const NOTHING: Usage = Usage {
-    blocks: 0,
-    inodes: 0,
-};
-
 // What the snapshot in the slot is charged.
 pub(crate) fn share_at<N: StoreName>(world: &World<N>, slot: u64) -> Usage
     ensures { result ≡ share_at slot world.now }
 {
     match world.share(slot) {
         Some(share) => share,
-        None => NOTHING,
+        None => Usage::ZERO,
     }
 }
 
@@ -34,7 +29,7 @@ pub(crate) fn count_at<N: StoreName>(world: &World<N>, slot: u64) -> Usage
 {
     match world.count(slot) {
         Some(count) => count,
-        None => NOTHING,
+        None => Usage::ZERO,
     }
 }
 

@@ -19,7 +19,7 @@ use Rattle.snap_merge.specs.Objects.{Object, dir, file, symlink, seen, shown_bod
 use Rattle.snap_merge.specs.Walk.{walk}
 use Rattle.snap_merge.specs.declared.error.FsError.{FsError}
 use Rattle.snap_merge.specs.declared.error.FsError.TheVariants.{Invalid}
-use Rattle.snap_upper.specs.declared.planning.Planned.{Planned}
+use Rattle.snap_upper.specs.declared.usage.Planned.{Planned}
 use Rattle.snap_merge.proofs.Views.{seen_node}
 use Rattle.snap_copyup.specs.Copying.{copied, copied_up, with_object, with_parents}
 use Rattle.snap_copyup.specs.Places.{with_last, Fits}

@@ -5,18 +5,13 @@ ghost use Rattle.snap_merge.specs.declared.error.FsError.{FsError};
 ghost use Rattle.snap_merge.specs.Objects.{file, seen, AreLayers};
 ghost use Rattle.snap_merge.specs.Walk.{walk};
 ghost use Rattle.snap_copyup.specs.Copying.{copied_up};
-ghost use Rattle.snap_upper.specs.declared.op.Op.TheVariants as op;
 ghost use Rattle.snap_upper.specs.After.{after, limited, with_content, lists_names, mode_error};
 ghost use Rattle.snap_upper.specs.Changes.{edited, outcome, IsChange, IsReady, IsShort, IsWithMode};
+ghost use Rattle.snap_upper.specs.declared.op.Op.TheVariants as op;
 
-use super::change::{Change, Edit, New};
-use super::checking::{
-    check_link, check_mode, check_new, check_rmdir, check_symlink, check_truncate, check_unlink,
-    check_write,
-};
-use super::content::{is_whiteout, own_number};
+use super::change::{Change, Edit, New, is_whiteout, own_number};
+use super::checks::{check_link, check_mode, check_new, check_rename, check_rmdir, check_symlink, check_truncate, check_unlink, check_write};
 use super::op::Op;
-use super::renaming::check_rename;
 use snap_copyup::below;
 use snap_layer::{Bytes, Layer, Shared};
 use snap_merge::{FsError, Seen, Stack};

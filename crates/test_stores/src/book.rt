@@ -34,10 +34,7 @@ fn opened<N: StoreName>(alloc: Global, table: NewTable) -> Result<(), Fail>
     let (total, none) = (book.totals("a"), book.totals("z"));
     prove!(
         total
-            == Some(Usage {
-                blocks: 0,
-                inodes: 0
-            })
+            == Some(Usage::ZERO)
             && none == None
     );
     let (open, found) = (book.open_slots(), book.slot_of("a", "k"));
@@ -71,10 +68,7 @@ fn prepared<N: StoreName>(alloc: Global, table: NewTable) -> Result<(), Fail>
     );
     prove!(
         spare
-            == Usage {
-                blocks: 0,
-                inodes: 0
-            }
+            == Usage::ZERO
     );
     prove!(
         freed
