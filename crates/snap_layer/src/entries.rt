@@ -4,7 +4,7 @@ ghost use Rattle.std.specs.Option.{option_copied};
 ghost use Rattle.std.specs.List.{list_all};
 ghost use Rattle.std.specs.Map.{lookup, values_of};
 ghost use Rattle.std.specs.BTreeMap.{is_at, insert_entry, IsOrdered};
-ghost use Rattle.snap_layer.specs.Tree.{path_cmp, begins, name_below, names_below, has_number, is_dir, is_whiteout};
+ghost use Rattle.snap_layer.specs.Tree.{path_cmp, begins, name_below, is_dir, is_whiteout};
 ghost use Rattle.snap_layer.specs.Counts.{name_count};
 ghost use Rattle.snap_layer.specs.Edits.{inside, outside, relocated, relocate, put_all, with_moved, IsFree};
 ghost use Rattle.snap_path.specs.Text.{Names, IsPath, text_of};

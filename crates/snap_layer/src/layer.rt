@@ -1,10 +1,10 @@
-ghost use Rattle.std.specs.Prelude.{◌≡◌, ◌↔◌, ◌<◌, ◌≤◌, ◌+◌, ℕ, [], ◌++◌, Some, None, IfOk, IfSome, OnOk, OnErr, IsErrOf, IsSome, IsTrue, length, take, find, nat_lt, true, false};
+ghost use Rattle.std.specs.Prelude.{◌≡◌, ◌↔◌, ◌<◌, ◌≤◌, ◌+◌, ℕ, [], ◌++◌, Some, None, IfOk, OnOk, OnErr, IsErrOf, IsSome, IsTrue, length, take, find, nat_lt, true, false};
 ghost use Rattle.std.specs.Option.{option_copied};
 ghost use Rattle.std.specs.Map.{keys_of};
 ghost use Rattle.snap_path.specs.Text.{Names, IsPath, text_below};
 ghost use Rattle.snap_layer.specs.Tree.{Tree, at, body, number_at, names_below, number_of, has_number, IsDirAt};
 ghost use Rattle.snap_layer.specs.Counts.{dir_count, whiteout_count, name_count, inode_count, block_count, is_within};
-ghost use Rattle.snap_layer.specs.Layers.{IsLayer, IsFile, IsWhole, is_target};
+ghost use Rattle.snap_layer.specs.Layers.{IsLayer, IsFile, is_target};
 ghost use Rattle.snap_layer.specs.Equal.{tree_eq};
 ghost use Rattle.snap_layer.specs.Edits.{root_only, with_entry, with_node, with_new, with_name, name_of, with_bytes, with_mode, with_file_mode, with_opaque, with_moved, without, HasParent, HasRoom, HasPlace, IsTakeable, IsMovable, IsRegular, HasMode};
 

@@ -272,9 +272,6 @@ no_node u ls p there number = by (at u p) refl
     by (Some (Symlink k)) e = let other = sym (ap (option_and_then number_of) e) ∙ number in absurd (cc)
     by (Some Whiteout) e = let other = sym (ap name_error (seen_node u ls p Whiteout e)) ∙ there in absurd (cc)
 
-pub name_seen : (s : List Tree) (p : Names) → first_error (tests (op.Unlink p) s) ≡ None → name_error (seen s p) ≡ None
-name_seen s p passes = (test_passes (name_error (seen s p)) [] (test_passes (walk s p) (name_error (seen s p) ∷ []) passes).1).0
-
 pub erased_own : (u : Tree) (ls : List Tree) (p : Names) (covers : Bool) → IsLayer u → is_some (at u p) ≡ true → covers ≡ is_some (below u ls p) → erased u ls p ≡ (if covers then with_node u p Whiteout else without u p)
 erased_own u ls p covers ok some is =
     ap (λ (t : Tree). if is_some (below u ls p) then with_node t p Whiteout else without t p) (no_missing u ls p ok some)

@@ -46,17 +46,38 @@ pub(crate) enum Change<'a> {
     /// Nothing.
     Nothing,
     /// It is put at the path, with the directories that are missing above it.
-    Put { path: &'a Path, new: New<'a> },
+    Put {
+        path: &'a Path,
+        new: New<'a>,
+    },
     /// The bytes of the layer's own file with the number change.
-    Fill { number: u32, edit: Edit<'a> },
+    Fill {
+        number: u32,
+        edit: Edit<'a>,
+    },
     /// The mode of the layer's own directory or file changes.
-    SetMode { path: &'a Path, mode: u32 },
-    /// What is seen goes.
-    Erase { path: &'a Path },
+    SetMode {
+        path: &'a Path,
+        mode: u32,
+    },
+    /// What is seen goes. A whiteout is put where `covers` says that a lower layer shows something.
+    Erase {
+        path: &'a Path,
+        covers: bool,
+    },
     /// What is seen at `from` gets the name `to`.
-    Link { from: &'a Path, to: &'a Path },
-    /// What is seen at `from` moves to `to`.
-    Move { from: &'a Path, to: &'a Path },
+    Link {
+        from: &'a Path,
+        to: &'a Path,
+    },
+    /// What is seen at `from` moves to `to`. A lower layer shows something at `from` where `leaves` says so,
+    /// and at `to` where `covers` does.
+    Move {
+        from: &'a Path,
+        to: &'a Path,
+        leaves: bool,
+        covers: bool,
+    },
 }
 
 impl<'a> Edit<'a> {

@@ -1,15 +1,13 @@
 // The tests that an operation has to pass.
-ghost use Rattle.std.specs.Prelude.{◌≡◌, ◌⊎◌, ◌==◌, [], ◌∷◌, is_some, true, false, None, Some, OnOk, IfErr, ◌↔◌, IsTrue, ◌||◌, not, OnErr, IfOk, Ok, Err};
+ghost use Rattle.std.specs.Prelude.{◌≡◌, ◌⊎◌, ◌==◌, [], ◌∷◌, is_some, true, false, None, Some, OnOk, IfErr, ◌||◌, not, IfOk, Ok, Err};
 ghost use Rattle.std.specs.Option.{option_map};
 ghost use Rattle.std.specs.Result.{result_err};
 ghost use Rattle.std.specs.List.{list_any};
-ghost use Rattle.snap_layer.specs.Tree.{at, begins, IsDirAt};
-ghost use Rattle.snap_layer.specs.Edits.{IsMovable};
+ghost use Rattle.snap_layer.specs.Tree.{begins};
 ghost use Rattle.snap_merge.specs.declared.error.FsError.{FsError};
 ghost use Rattle.snap_merge.specs.Objects.{object, seen, is_shown_dir, AreLayers};
 ghost use Rattle.snap_merge.specs.Walk.{walk};
-ghost use Rattle.snap_copyup.specs.Places.{IsRefusal};
-ghost use Rattle.snap_upper.specs.After.{tests, first_error, error_if, file_error, mode_error, link_error, dir_error, has_names, is_no_target, move_tests, kind_error, is_root, is_same_name, is_same_path, is_same_number, is_too_long, limited, renamed, prepared, shifted};
+ghost use Rattle.snap_upper.specs.After.{tests, first_error, error_if, file_error, mode_error, link_error, dir_error, has_names, is_no_target, move_tests, kind_error, is_root, is_same_name, is_same_path, is_same_number, is_too_long};
 ghost use Rattle.snap_upper.specs.declared.op.Op.TheVariants as op;
 
 use super::change::own_number;
@@ -346,4 +344,3 @@ fn check_kinds(moved: Option<Seen<'_>>, target: Option<Seen<'_>>) -> Result<(), 
         Some(_) => Ok(()),
     }
 }
-

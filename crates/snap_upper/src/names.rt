@@ -1,20 +1,16 @@
 // Names in the upper layer: one more for a file or a symlink, and a rename.
-ghost use Rattle.std.specs.Prelude.{◌≡◌, ◌⊎◌, ◌∷◌, OnOk, OnErr, IfErr, Ok, Err, Some, None, ◌↔◌, IsTrue, [], ◌||◌, not, is_some, false, true, IfOk};
-ghost use Rattle.std.specs.Option.{option_map};
-ghost use Rattle.std.specs.Result.{result_err};
-ghost use Rattle.snap_layer.specs.Tree.{at, begins, IsDirAt};
+ghost use Rattle.std.specs.Prelude.{◌≡◌, ◌⊎◌, ◌∷◌, OnOk, OnErr, IfErr, Ok, Err, Some, None, ◌↔◌, IsTrue, is_some, false, true, IfOk};
+ghost use Rattle.snap_layer.specs.Tree.{at, IsDirAt};
 ghost use Rattle.snap_layer.specs.Edits.{HasParent, without, IsMovable};
 ghost use Rattle.snap_layer.specs.declared.node.Node.TheVariants as Node;
 ghost use Rattle.snap_merge.specs.declared.error.FsError.{FsError};
-ghost use Rattle.snap_merge.specs.Objects.{object, seen, is_shown_dir, AreLayers};
-ghost use Rattle.snap_merge.specs.Walk.{walk};
-ghost use Rattle.snap_copyup.specs.Copying.{with_parents, copied_up};
+ghost use Rattle.snap_copyup.specs.Copying.{below, with_parents, copied_up};
 ghost use Rattle.snap_copyup.specs.Places.{IsRefusal};
-ghost use Rattle.snap_upper.specs.After.{tests, first_error, limited, next_layer, move_tests, error_if, kind_error, is_root, is_same_name, is_same_path, is_same_number, is_too_long, renamed, prepared, shifted};
+ghost use Rattle.snap_upper.specs.After.{tests, first_error, limited, next_layer, is_same_name, renamed, prepared, shifted};
 ghost use Rattle.snap_upper.specs.declared.op.Op.TheVariants as op;
 
 use super::change::own_number;
-use snap_copyup::{below, copy_up, ensure_dirs};
+use snap_copyup::{copy_up, ensure_dirs};
 use snap_layer::{Layer, Shared};
 use snap_merge::{FsError, show_are_layers};
 use snap_path::Path;
@@ -156,16 +152,21 @@ fn copy_up_and_add_dirs(
     ensure_dirs(layer, lowers, to)
 }
 
-/// Moves what is seen at `from` to `to`. Where nothing has to be added to the layer first, it is changed in
-/// place. Else the steps are done on a copy of it, so that each error leaves it as it was.
+/// Moves what is seen at `from` to `to`. A lower layer shows something at `from` where `leaves` says so, and
+/// at `to` where `covers` does. Where nothing has to be added to the layer first, it is changed in place.
+/// Else the steps are done on a copy of it, so that each error leaves it as it was.
 pub(crate) fn shift(
     layer: &mut Layer,
     lowers: &[Shared],
     from: &Path,
     to: &Path,
+    leaves: bool,
+    covers: bool,
 ) -> Result<(), FsError>
     requires passes { first_error (tests (op.Rename from.now to.now) (layer.old ∷ lowers.now)) ≡ None }
     requires moves { is_same_name layer.old from.now to.now ≡ false }
+    requires leaves { leaves ≡ is_some (below layer.old lowers.now from.now) }
+    requires covers { covers ≡ is_some (below layer.old lowers.now to.now) }
     ensures ok { OnOk result (limited (renamed layer.old lowers.now from.now to.now) ≡ Ok layer.new) }
     ensures error { IfErr result (λ e. (e ≡ FsError.OutOfMemory) ⊎ (limited (renamed layer.old lowers.now from.now to.now) ≡ Err e)) }
     ensures unchanged { OnErr result (layer.new ≡ layer.old) }
@@ -173,8 +174,6 @@ pub(crate) fn shift(
     show_are_layers(lowers);
     let _ = to.names();
     layer.show_is_layer();
-    let leaves = below(layer, lowers, from).is_some();
-    let covers = below(layer, lowers, to).is_some();
     if layer.at(from).is_some() && layer.has_parent(to) {
         relocate(layer, from, to, leaves, covers)?;
         layer.show_is_layer();

@@ -1,16 +1,19 @@
 // The rule of each operation: its tests, and the change that it makes where they pass.
-ghost use Rattle.std.specs.Prelude.{◌≡◌, ◌⊎◌, ◌≤◌, ◌∷◌, ℕ, List, Some, None, IfOk, IfErr, Err, false};
+ghost use Rattle.std.specs.Prelude.{◌≡◌, ◌⊎◌, ◌∷◌, ℕ, List, Some, None, IfOk, IfErr, Err, false, is_some};
 ghost use Rattle.snap_layer.specs.Tree.{at, number_at};
 ghost use Rattle.snap_merge.specs.declared.error.FsError.{FsError};
 ghost use Rattle.snap_merge.specs.Objects.{file, seen, AreLayers};
 ghost use Rattle.snap_merge.specs.Walk.{walk};
-ghost use Rattle.snap_copyup.specs.Copying.{copied_up};
+ghost use Rattle.snap_copyup.specs.Copying.{below, copied_up};
 ghost use Rattle.snap_upper.specs.After.{after, limited, with_content, lists_names, mode_error};
 ghost use Rattle.snap_upper.specs.Changes.{edited, outcome, IsChange, IsReady, IsShort, IsWithMode};
 ghost use Rattle.snap_upper.specs.declared.op.Op.TheVariants as op;
 
 use super::change::{Change, Edit, New, is_whiteout, own_number};
-use super::checks::{check_link, check_mode, check_new, check_rename, check_rmdir, check_symlink, check_truncate, check_unlink, check_write};
+use super::checks::{
+    check_link, check_mode, check_new, check_rename, check_rmdir, check_symlink, check_truncate,
+    check_unlink, check_write,
+};
 use super::op::Op;
 use snap_copyup::below;
 use snap_layer::{Bytes, Layer, Shared};
@@ -220,7 +223,8 @@ fn unlink<'a>(layer: &Layer, lowers: &'a [Shared], path: &'a Path) -> Result<Cha
 {
     check_unlink(&Stack::over(layer, lowers), path)?;
     layer.show_is_layer();
-    Ok(Change::Erase { path })
+    let covers = is_below(layer, lowers, path);
+    Ok(Change::Erase { path, covers })
 }
 
 fn rmdir<'a>(layer: &Layer, lowers: &'a [Shared], path: &'a Path) -> Result<Change<'a>, FsError>
@@ -230,7 +234,8 @@ fn rmdir<'a>(layer: &Layer, lowers: &'a [Shared], path: &'a Path) -> Result<Chan
 {
     check_rmdir(&Stack::over(layer, lowers), layer.alloc(), path)?;
     layer.show_is_layer();
-    Ok(Change::Erase { path })
+    let covers = is_below(layer, lowers, path);
+    Ok(Change::Erase { path, covers })
 }
 
 fn rename<'a>(
@@ -247,5 +252,19 @@ fn rename<'a>(
     if !check_rename(layer, lowers, from, to)? {
         return Ok(Change::Nothing);
     }
-    Ok(Change::Move { from, to })
+    let leaves = is_below(layer, lowers, from);
+    let covers = is_below(layer, lowers, to);
+    Ok(Change::Move {
+        from,
+        to,
+        leaves,
+        covers,
+    })
+}
+
+/// Whether the lower layers show something at the path, and the layer doesn't hide it there.
+fn is_below(layer: &Layer, lowers: &[Shared], path: &Path) -> bool
+    ensures { result ≡ is_some (below layer.now lowers.now path.now) }
+{
+    below(layer, lowers, path).is_some()
 }

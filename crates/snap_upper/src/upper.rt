@@ -6,7 +6,7 @@ ghost use Rattle.snap_usage.specs.Counted.{count_of, Covers};
 ghost use Rattle.snap_merge.specs.declared.error.FsError.{FsError};
 ghost use Rattle.snap_merge.specs.Objects.{seen};
 ghost use Rattle.snap_merge.specs.Walk.{walk};
-ghost use Rattle.snap_copyup.specs.Copying.{with_parents};
+ghost use Rattle.snap_copyup.specs.Copying.{below, with_parents};
 ghost use Rattle.snap_copyup.specs.Places.{with_last, Fits};
 ghost use Rattle.snap_upper.specs.After.{after, lists_names, within_share, limited, with_content, erased};
 ghost use Rattle.snap_upper.specs.Changed.{changed, Changes};
@@ -17,7 +17,7 @@ use super::names::{link, shift};
 use super::op::Op;
 use super::rules::rule;
 use super::usage::weigh;
-use snap_copyup::{Last, below, put};
+use snap_copyup::{Last, put};
 use snap_layer::{Body, Bytes, Layer, Shared};
 use snap_merge::{FsError, show_are_layers};
 use snap_path::Path;
@@ -116,19 +116,19 @@ fn perform(layer: &mut Layer, lowers: &[Shared], change: Change<'_>) -> Result<(
             layer.show_is_layer();
             Ok(())
         }
-        Change::Erase { path } => erase(layer, lowers, path),
+        Change::Erase { path, covers } => erase(layer, lowers, path, covers),
         Change::Link { from, to } => link(layer, lowers, from, to),
-        Change::Move { from, to } => shift(layer, lowers, from, to),
+        Change::Move {
+            from,
+            to,
+            leaves,
+            covers,
+        } => shift(layer, lowers, from, to, leaves, covers),
     }
 }
 
 /// Puts it at the path, with the directories that are missing above it.
-pub(crate) fn grow(
-    layer: &mut Layer,
-    lowers: &[Shared],
-    path: &Path,
-    last: Last,
-) -> Result<(), FsError>
+fn grow(layer: &mut Layer, lowers: &[Shared], path: &Path, last: Last) -> Result<(), FsError>
     requires way { walk (layer.old ∷ lowers.now) path.now ≡ None }
     requires fit { Fits last layer.old path.now }
     ensures ok { OnOk result (limited (with_last last (with_parents layer.old lowers.now path.now) path.now) ≡ Ok layer.new) }
@@ -143,12 +143,7 @@ pub(crate) fn grow(
 }
 
 /// Makes it with its own bytes, and puts it at the path, with the directories that are missing above it.
-pub(crate) fn put_new(
-    layer: &mut Layer,
-    lowers: &[Shared],
-    path: &Path,
-    new: New<'_>,
-) -> Result<(), FsError>
+fn put_new(layer: &mut Layer, lowers: &[Shared], path: &Path, new: New<'_>) -> Result<(), FsError>
     requires way { walk (layer.old ∷ lowers.now) path.now ≡ None }
     requires fit { Fits (as_last new) layer.old path.now }
     requires sound { IsSound new }
@@ -161,7 +156,7 @@ pub(crate) fn put_new(
 }
 
 /// Edits the bytes of the layer's file with the number.
-pub(crate) fn fill(layer: &mut Layer, number: u32, edit: Edit<'_>) -> Result<(), FsError>
+fn fill(layer: &mut Layer, number: u32, edit: Edit<'_>) -> Result<(), FsError>
     requires there { (m : ℕ) × (old : List ℕ) × (body layer.old number ≡ Some (body_kinds.File m old)) × IsShort edit × (length (edited edit old) ≤ 1048576) }
     ensures ok { OnOk result (limited (with_content layer.old (Some number) (edited edit.entry)) ≡ Ok layer.new) }
     ensures error { IfErr result (λ e. e ≡ FsError.OutOfMemory) }
@@ -187,18 +182,18 @@ fn edited_bytes(layer: &Layer, number: u32, edit: Edit<'_>) -> Result<Bytes, All
 }
 
 /// Takes what the layer has at the path, a name or a directory with whiteouts alone, and puts a whiteout
-/// there where a lower layer shows something.
-pub(crate) fn erase(layer: &mut Layer, lowers: &[Shared], path: &Path) -> Result<(), FsError>
+/// there where `covers` says that a lower layer shows something.
+fn erase(layer: &mut Layer, lowers: &[Shared], path: &Path, covers: bool) -> Result<(), FsError>
     requires way { walk (layer.old ∷ lowers.now) path.now ≡ None }
     requires there { is_some (seen (layer.old ∷ lowers.now) path.now) ≡ true }
     requires below_root { path.now ≡ [] → ⊥ }
     requires clear { (n : List ℕ) → is_some (seen (layer.old ∷ lowers.now) (path.now ++ n ∷ [])) ≡ false }
+    requires covers { covers ≡ is_some (below layer.old lowers.now path.now) }
     ensures ok { OnOk result (limited (erased layer.old lowers.now path.now) ≡ Ok layer.new) }
     ensures error { IfErr result (λ e. (e ≡ FsError.OutOfMemory) ⊎ (limited (erased layer.old lowers.now path.now) ≡ Err e)) }
     ensures unchanged { OnErr result (layer.new ≡ layer.old) }
 {
     layer.show_is_layer();
-    let covers = below(layer, lowers, path).is_some();
     if layer.at(path).is_none() {
         return grow(layer, lowers, path, Last::Whiteout);
     }

@@ -1,14 +1,14 @@
 // How much the upper layer takes after an operation.
 ghost use Rattle.std.specs.Prelude.{◌≡◌, [], ◌∷◌, ◌++◌, ◌+◌, ◌≤◌, ℕ, List, None, Some, Ok, is_some, true, false, length};
 ghost use Rattle.std.specs.Option.{option_map};
-ghost use Rattle.snap_layer.specs.Tree.{Tree, at, body, number_at};
+ghost use Rattle.snap_layer.specs.Tree.{Tree, at, body};
 ghost use Rattle.snap_layer.specs.Counts.{block_count, inode_count};
 ghost use Rattle.snap_layer.specs.Edits.{IsFree, HasMode, with_mode, without};
 ghost use Rattle.snap_layer.specs.declared.node.Body.TheVariants as body_kinds;
-ghost use Rattle.snap_merge.specs.Objects.{file, object, seen, is_shown_dir, AreLayers};
+ghost use Rattle.snap_merge.specs.Objects.{object, seen, AreLayers};
 ghost use Rattle.snap_merge.specs.Walk.{walk, Answers};
 ghost use Rattle.snap_copyup.specs.declared.parents.Last.{Last};
-ghost use Rattle.snap_copyup.specs.Copying.{with_parents, copied_up};
+ghost use Rattle.snap_copyup.specs.Copying.{below, with_parents};
 ghost use Rattle.snap_copyup.specs.Places.{with_last, Fits};
 ghost use Rattle.snap_upper.specs.After.{after, first_error, tests, planned, limited, next_layer, erased, prepared, renamed, is_same_name, with_content, lists_names};
 ghost use Rattle.snap_upper.specs.Changes.{edited, outcome, IsReady, IsShort};
@@ -18,7 +18,7 @@ ghost use Rattle.snap_upper.specs.declared.op.Op.TheVariants as op;
 use super::change::{Change, Edit, is_whiteout};
 use super::op::Op;
 use super::rules::rule;
-use snap_copyup::{below, missing_dirs, missing_dirs_of_both};
+use snap_copyup::{missing_dirs, missing_dirs_of_both};
 use snap_layer::{Body, Layer, Node, Shared};
 use snap_merge::{FsError, Seen, Stack};
 use snap_path::Path;
@@ -63,9 +63,14 @@ pub(crate) fn weigh(
         Change::Put { path, new } => plan_growth(layer, path, new.blocks(), new.is_numbered()),
         Change::Fill { number, edit } => plan_filling(layer, number, edit),
         Change::SetMode { path, mode } => Ok(counted_with_mode(layer, path, mode)),
-        Change::Erase { path } => plan_erasing(layer, lowers, path),
+        Change::Erase { path, covers } => plan_erasing(layer, path, covers),
         Change::Link { from, to } => plan_link(layer, lowers, from, to),
-        Change::Move { from, to } => plan_move(layer, lowers, from, to),
+        Change::Move {
+            from,
+            to,
+            leaves,
+            ..
+        } => plan_move(layer, lowers, from, to, leaves),
     }
 }
 
@@ -141,21 +146,17 @@ fn seen_blocks(seen: Option<Seen<'_>>) -> u64
 }
 
 /// How much the layer takes where what is seen at the path is taken: a name, or a directory in which
-/// nothing is seen. A whiteout is put there where a lower layer shows something.
-fn plan_erasing(layer: &Layer, lowers: &[Shared], path: &Path) -> Result<Planned, FsError>
-    requires layers { AreLayers lowers.now }
-    requires way { walk (layer.now ∷ lowers.now) path.now ≡ None }
-    requires there { is_some (seen (layer.now ∷ lowers.now) path.now) ≡ true }
+/// nothing is seen. A whiteout is put there where `covers` says that a lower layer shows something.
+fn plan_erasing(layer: &Layer, path: &Path, covers: bool) -> Result<Planned, FsError>
     requires below_root { path.now ≡ [] → ⊥ }
-    requires clear { (n : List ℕ) → is_some (seen (layer.now ∷ lowers.now) (path.now ++ n ∷ [])) ≡ false }
-    ensures { result ≡ planned (limited (erased layer.now lowers.now path.now)) }
+    requires clear { (n : List ℕ) → IsFree (at layer.now (path.now ++ n ∷ [])) }
+    ensures { (lowers : List Tree) → AreLayers lowers → walk (layer.now ∷ lowers) path.now ≡ None → is_some (seen (layer.now ∷ lowers) path.now) ≡ true → covers ≡ is_some (below layer.now lowers path.now) → result ≡ planned (limited (erased layer.now lowers path.now)) }
 {
     let _ = path.names();
     layer.show_is_layer();
     if layer.at(path).is_none() {
         return plan_growth(layer, path, 0, false);
     }
-    let covers = below(layer, lowers, path).is_some();
     let left = count_without(layer, path);
     let after = Usage {
         blocks: left.blocks,
@@ -165,17 +166,23 @@ fn plan_erasing(layer: &Layer, lowers: &[Shared], path: &Path) -> Result<Planned
 }
 
 /// How much the layer takes where what is seen at `from` moves to `to`. What stands there goes, and a
-/// whiteout is left at `from` where a lower layer shows something.
-fn plan_move(layer: &Layer, lowers: &[Shared], from: &Path, to: &Path) -> Result<Planned, FsError>
+/// whiteout is left at `from` where `leaves` says that a lower layer shows something.
+fn plan_move(
+    layer: &Layer,
+    lowers: &[Shared],
+    from: &Path,
+    to: &Path,
+    leaves: bool,
+) -> Result<Planned, FsError>
     requires layers { AreLayers lowers.now }
     requires passes { first_error (tests (op.Rename from.now to.now) (layer.now ∷ lowers.now)) ≡ None }
     requires moves { is_same_name layer.now from.now to.now ≡ false }
+    requires leaves { leaves ≡ is_some (below layer.now lowers.now from.now) }
     ensures { result ≡ planned (limited (renamed layer.now lowers.now from.now to.now)) }
 {
     let _ = from.names();
     let _ = to.names();
     layer.show_is_layer();
-    let leaves = below(layer, lowers, from).is_some();
     let left = count_placed(layer, lowers, from, to);
     let after = Usage {
         blocks: left.blocks,

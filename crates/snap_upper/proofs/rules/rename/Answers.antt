@@ -21,4 +21,4 @@ returns-clause-ok c =
     let to = c.args.to.now in
     let passes = c.in_ok-check_rename.ensures.ok in
     let other = has_something c.in_ok-check_rename.field-0 (is_same_name u from to) c.in_ok-check_rename.ensures.moves c.if-not-branch.false in
-    record { layers = c.in_ok-check_rename.ensures.layers.1; ready = (passes, other); same = moves_after u ls from to passes other }
+    record { layers = c.in_ok-check_rename.ensures.layers.1; ready = (passes, other, c.is_below-leaves.ensures, c.is_below-covers.ensures); same = moves_after u ls from to passes other }

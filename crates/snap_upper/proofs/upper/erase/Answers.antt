@@ -8,7 +8,7 @@ use Rattle.snap_merge.specs.declared.error.FsError.TheVariants.{OutOfMemory}
 use Rattle.snap_copyup.specs.Copying.{below}
 use Rattle.snap_upper.specs.After.{limited}
 use Rattle.snap_upper.proofs.Outcomes.{limited_fits, layer_fits, edit_refused}
-use Rattle.snap_upper.proofs.Erased.{seen_some, place_erased, takeable_erased, erased_covered, erased_bare}
+use Rattle.snap_upper.proofs.Erased.{place_erased, takeable_erased, erased_covered, erased_bare}
 use Rattle.snap_upper.proofs.upper.erase.Goals as goal
 
 pub add_whiteout-requires : goal.add_whiteout-requires
@@ -24,7 +24,7 @@ returns-in-Err-clause-error c =
     let ls = c.args.lowers.now in
     let p = c.args.path.now in
     let some : is_some (at u p) ≡ true = ap is_some (sym c.at.ensures) ∙ c.is_none.ensures ∙ ap not c.if-is_none.false in
-    let covers : is_some (below u ls p) ≡ true = ap is_some (sym c.below.ensures) ∙ seen_some c.below.result ∙ sym c.is_some-covers.ensures ∙ c.if-covers.true in
+    let covers : is_some (below u ls p) ≡ true = sym c.requires.covers ∙ c.if-covers.true in
     subst (λ (t : Tree). (c.from.result ≡ OutOfMemory) ⊎ (limited t ≡ Err c.from.result)) (sym (erased_covered u ls p c.show_is_layer.ensures.layer some covers))
     (edit_refused c.in-Err.error c.from.result (with_node u p Whiteout) c.from.ensures (λ full. c.in-Err.ensures.full.0 (ap (λ (x : LayerError). Err x) full)))
 
@@ -34,7 +34,7 @@ returns-then-covers-clause-ok c =
     let ls = c.args.lowers.now in
     let p = c.args.path.now in
     let some : is_some (at u p) ≡ true = ap is_some (sym c.at.ensures) ∙ c.is_none.ensures ∙ ap not c.if-is_none.false in
-    let covers : is_some (below u ls p) ≡ true = ap is_some (sym c.below.ensures) ∙ seen_some c.below.result ∙ sym c.is_some-covers.ensures ∙ c.if-covers.true in
+    let covers : is_some (below u ls p) ≡ true = sym c.requires.covers ∙ c.if-covers.true in
     let next = c.add_whiteout.new.self in
     ap limited (erased_covered u ls p c.show_is_layer.ensures.layer some covers ∙ sym c.in_default.ensures.ok) ∙ limited_fits next (layer_fits next c.show_is_layer-then-covers.ensures.layer)
 
@@ -51,6 +51,6 @@ returns-clause-ok c =
     let ls = c.args.lowers.now in
     let p = c.args.path.now in
     let some : is_some (at u p) ≡ true = ap is_some (sym c.at.ensures) ∙ c.is_none.ensures ∙ ap not c.if-is_none.false in
-    let bare : is_some (below u ls p) ≡ false = ap is_some (sym c.below.ensures) ∙ seen_some c.below.result ∙ sym c.is_some-covers.ensures ∙ c.if-covers.false in
+    let bare : is_some (below u ls p) ≡ false = sym c.requires.covers ∙ c.if-covers.false in
     let next = c.take_name.new.self in
     ap limited (erased_bare u ls p c.show_is_layer.ensures.layer some bare ∙ sym c.take_name.ensures) ∙ limited_fits next (layer_fits next c.show_is_layer-2.ensures.layer)
