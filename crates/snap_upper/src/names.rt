@@ -179,6 +179,29 @@ pub(crate) fn shift(
         layer.show_is_layer();
         return Ok(());
     }
+    shift_on_copy(layer, lowers, from, to, leaves, covers)
+}
+
+/// The same on a copy of the layer, which takes the layer's place.
+fn shift_on_copy(
+    layer: &mut Layer,
+    lowers: &[Shared],
+    from: &Path,
+    to: &Path,
+    leaves: bool,
+    covers: bool,
+) -> Result<(), FsError>
+    requires passes { first_error (tests (op.Rename from.now to.now) (layer.old ∷ lowers.now)) ≡ None }
+    requires moves { is_same_name layer.old from.now to.now ≡ false }
+    requires leaves { leaves ≡ is_some (below layer.old lowers.now from.now) }
+    requires covers { covers ≡ is_some (below layer.old lowers.now to.now) }
+    ensures ok { OnOk result (limited (renamed layer.old lowers.now from.now to.now) ≡ Ok layer.new) }
+    ensures error { IfErr result (λ e. (e ≡ FsError.OutOfMemory) ⊎ (limited (renamed layer.old lowers.now from.now to.now) ≡ Err e)) }
+    ensures unchanged { OnErr result (layer.new ≡ layer.old) }
+{
+    show_are_layers(lowers);
+    let _ = to.names();
+    layer.show_is_layer();
     let mut next = prepare(layer, lowers, from, to)?;
     next.show_is_layer();
     relocate(&mut next, from, to, leaves, covers)?;

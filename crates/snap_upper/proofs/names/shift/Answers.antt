@@ -4,7 +4,7 @@ use Rattle.snap_layer.specs.Tree.{Tree, at}
 use Rattle.snap_layer.specs.Layers.{IsLayer}
 use Rattle.snap_layer.specs.Edits.{IsMovable}
 use Rattle.snap_copyup.specs.Copying.{below}
-use Rattle.snap_upper.specs.After.{limited, renamed, prepared, shifted}
+use Rattle.snap_upper.specs.After.{limited, renamed, shifted}
 use Rattle.snap_upper.proofs.Outcomes.{limited_fits, layer_fits}
 use Rattle.snap_upper.proofs.Movable.{renamable}
 use Rattle.snap_upper.proofs.Prepared.{prepared_movable, prepared_there}
@@ -50,13 +50,3 @@ returns-then-has_parent-clause-ok c =
     let next = c.relocate.new.layer in
     let shifts : renamed u ls from to ≡ shifted u from to c.args.leaves c.args.covers = λ i. shifted (same i) from to (leaves i) (covers i) in
     ap limited (shifts ∙ sym c.in_ok-relocate.ensures.ok) ∙ limited_fits next (layer_fits next c.show_is_layer-then-has_parent.ensures.layer)
-
-pub relocate-requires-2 : goal.relocate-requires-2
-relocate-requires-2 c =
-    let u = c.args.layer.now in
-    let ls = c.args.lowers.now in
-    let from = c.args.from.now in
-    let to = c.args.to.now in
-    let is = renamable u ls from to c.requires.passes c.requires.moves in
-    let same : c.in_ok-next.next ≡ prepared u ls from to = c.in_ok-next.ensures.ok in
-    subst (λ (t : Tree). IsMovable t from to) (sym same) (prepared_movable u ls from to c.show_is_layer.ensures.layer c.show_are_layers.ensures is c.names.ensures.valid (subst IsLayer same c.show_is_layer-2.ensures.layer))
