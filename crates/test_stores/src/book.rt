@@ -32,11 +32,7 @@ fn opened<N: StoreName>(alloc: Global, table: NewTable) -> Result<(), Fail>
 {
     let mut book = Book::<N>::open(alloc, table, config(alloc, 100, 100)?)?;
     let (total, none) = (book.totals("a"), book.totals("z"));
-    prove!(
-        total
-            == Some(Usage::ZERO)
-            && none == None
-    );
+    prove!(total == Some(Usage::ZERO) && none == None);
     let (open, found) = (book.open_slots(), book.slot_of("a", "k"));
     prove!(open == 0 && found == Err(Refusal::NotFound));
     let first = book.open_session()?;
@@ -66,10 +62,7 @@ fn prepared<N: StoreName>(alloc: Global, table: NewTable) -> Result<(), Fail>
                 inodes: 1
             }
     );
-    prove!(
-        spare
-            == Usage::ZERO
-    );
+    prove!(spare == Usage::ZERO);
     prove!(
         freed
             == Usage {

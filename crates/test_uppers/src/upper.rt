@@ -10,7 +10,14 @@ use std::test::Fail;
 fn a_directory_takes_a_block_and_an_inode(rt: HostRuntime) -> Result<(), Fail> {
     let layer = Layer::empty(rt.alloc(), DEFAULT_MODE)?;
     let path = Path::parse(rt.alloc(), "/d")?;
-    let answer = plan(&layer, &[], &Op::Mkdir { path, mode: DEFAULT_MODE });
+    let answer = plan(
+        &layer,
+        &[],
+        &Op::Mkdir {
+            path,
+            mode: DEFAULT_MODE,
+        },
+    );
     let after = Usage {
         blocks: 2,
         inodes: 2,
