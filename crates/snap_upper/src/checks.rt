@@ -11,7 +11,7 @@ ghost use Rattle.snap_upper.specs.After.{tests, first_error, error_if, file_erro
 ghost use Rattle.snap_upper.specs.declared.op.Op.TheVariants as op;
 
 use super::change::own_number;
-use snap_copyup::{below, is_pure};
+use snap_copyup::is_pure;
 use snap_layer::{Bytes, Layer, Shared};
 use snap_merge::{FsError, Seen, Stack, is_dir};
 use snap_path::Path;
