@@ -1,5 +1,6 @@
 -- The commands of a script. The fields of a command are tested in the order in which they stand.
-use Rattle.std.specs.Prelude.{ℕ, if◌then◌else◌, List, [], Option, Some, None, Result, Ok, Err, codes}
+use Rattle.std.specs.Prelude.{ℕ, List, [], ◌∷◌, Option, None, Result, Ok, Err, codes}
+use Rattle.std.specs.Map.{lookup}
 use Rattle.std.specs.Str.{bytes_eq}
 use Rattle.serde_json.specs.Data.{Data}
 use Rattle.serde_json.specs.Find.{as_str}
@@ -170,30 +171,35 @@ command_of (verbs.File verb) line = file_of verb line
 command_of (verbs.Lookup lookup) line = lookup_of lookup line
 command_of verbs.Report line = Ok commands.Report
 
+-- the words of the commands
+abbrev pub words : List (List ℕ × Verb)
+words =
+    (codes "open", verbs.Open)
+    ∷ (codes "session", verbs.Session)
+    ∷ (codes "prepare", verbs.Prepare)
+    ∷ (codes "charge", verbs.Charge)
+    ∷ (codes "trim", verbs.Trim)
+    ∷ (codes "commit", verbs.Commit)
+    ∷ (codes "discard", verbs.Discard)
+    ∷ (codes "stat", verbs.Stat)
+    ∷ (codes "usage", verbs.Usage)
+    ∷ (codes "mkdir", verbs.File file_verbs.Mkdir)
+    ∷ (codes "create", verbs.File file_verbs.Create)
+    ∷ (codes "write", verbs.File file_verbs.Write)
+    ∷ (codes "truncate", verbs.File file_verbs.Truncate)
+    ∷ (codes "setmode", verbs.File file_verbs.SetMode)
+    ∷ (codes "symlink", verbs.File file_verbs.Symlink)
+    ∷ (codes "link", verbs.File file_verbs.Link)
+    ∷ (codes "unlink", verbs.File file_verbs.Unlink)
+    ∷ (codes "rmdir", verbs.File file_verbs.Rmdir)
+    ∷ (codes "rename", verbs.File file_verbs.Rename)
+    ∷ (codes "look", verbs.Lookup lookups.Look)
+    ∷ (codes "list", verbs.Lookup lookups.List)
+    ∷ (codes "read", verbs.Lookup lookups.Read)
+    ∷ (codes "resolve", verbs.Lookup lookups.Resolve)
+    ∷ (codes "report", verbs.Report)
+    ∷ []
+
 -- the verb of a word
 unfoldable pub verb_of : List ℕ → Option Verb
-verb_of word =
-    if bytes_eq word (codes "open") then Some verbs.Open else
-    (if bytes_eq word (codes "session") then Some verbs.Session else
-    (if bytes_eq word (codes "prepare") then Some verbs.Prepare else
-    (if bytes_eq word (codes "charge") then Some verbs.Charge else
-    (if bytes_eq word (codes "trim") then Some verbs.Trim else
-    (if bytes_eq word (codes "commit") then Some verbs.Commit else
-    (if bytes_eq word (codes "discard") then Some verbs.Discard else
-    (if bytes_eq word (codes "stat") then Some verbs.Stat else
-    (if bytes_eq word (codes "usage") then Some verbs.Usage else
-    (if bytes_eq word (codes "mkdir") then Some (verbs.File file_verbs.Mkdir) else
-    (if bytes_eq word (codes "create") then Some (verbs.File file_verbs.Create) else
-    (if bytes_eq word (codes "write") then Some (verbs.File file_verbs.Write) else
-    (if bytes_eq word (codes "truncate") then Some (verbs.File file_verbs.Truncate) else
-    (if bytes_eq word (codes "setmode") then Some (verbs.File file_verbs.SetMode) else
-    (if bytes_eq word (codes "symlink") then Some (verbs.File file_verbs.Symlink) else
-    (if bytes_eq word (codes "link") then Some (verbs.File file_verbs.Link) else
-    (if bytes_eq word (codes "unlink") then Some (verbs.File file_verbs.Unlink) else
-    (if bytes_eq word (codes "rmdir") then Some (verbs.File file_verbs.Rmdir) else
-    (if bytes_eq word (codes "rename") then Some (verbs.File file_verbs.Rename) else
-    (if bytes_eq word (codes "look") then Some (verbs.Lookup lookups.Look) else
-    (if bytes_eq word (codes "list") then Some (verbs.Lookup lookups.List) else
-    (if bytes_eq word (codes "read") then Some (verbs.Lookup lookups.Read) else
-    (if bytes_eq word (codes "resolve") then Some (verbs.Lookup lookups.Resolve) else
-    (if bytes_eq word (codes "report") then Some verbs.Report else None)))))))))))))))))))))))
+verb_of word = lookup (bytes_eq word) words

@@ -3,7 +3,7 @@ use Rattle.serde_json.specs.Data.{null}
 use Rattle.serde_json.specs.View.{view}
 use Rattle.serde_json.specs.declared.value.Value.{Null, the_lemmas}
 use Rattle.snap_script.proofs.Texts.{not_text}
-use Rattle.snap_script.proofs.lookups.text_value.Goals as goal
+use Rattle.snap_script.proofs.values.text_value.Goals as goal
 
 pub returns-in-Err : goal.returns-in-Err
 returns-in-Err c =

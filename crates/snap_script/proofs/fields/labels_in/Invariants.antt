@@ -1,7 +1,7 @@
 use Rattle.std.proofs.Common.{◌≡◌, []}
 use Rattle.serde_json.specs.View.{members_view}
 use Rattle.snap_script.specs.Fields.{labels_with}
-use Rattle.snap_script.proofs.lists.labels_in.Given as goal
+use Rattle.snap_script.proofs.fields.labels_in.Given as goal
 
 abbrev pub invariant-loop-key : goal.invariant-loop-key
 invariant-loop-key l = record {

@@ -1,3 +1,4 @@
+// The commands of lines, read from their values.
 ghost use Rattle.serde_json.specs.View.{view};
 ghost use Rattle.snap_script.specs.declared.command.Command.TheVariants as variants;
 ghost use Rattle.snap_script.specs.declared.command.FileCommand.TheVariants as file_variants;
@@ -7,10 +8,9 @@ ghost use Rattle.snap_script.specs.Gives.{Gives};
 use crate::command::{Command, FileCommand, Lookup};
 use crate::fault::{Field, ReadError};
 use crate::fields::{
-    extra, lent_text, mode_or, number_or, optional_text, required_mode, required_number,
-    required_usage, text, usage_or,
+    content, extra, labels, lent_text, mode_or, namespaces, number_or, optional_text,
+    required_mode, required_number, required_usage, text, usage_or,
 };
-use crate::lists::{content, labels, namespaces};
 use crate::verb::{FileVerb, Verb};
 use serde_json::Value;
 use snap_call::{Config, MAX_JOURNAL};
