@@ -1,4 +1,5 @@
--- The commands of a script. The fields of a command are tested in the order in which they stand.
+-- The commands of a script; cited by the public clause of `read_line` through Lines.antt. The fields of a command are
+-- tested in the order in which they stand.
 use Rattle.std.specs.Prelude.{ℕ, List, [], ◌∷◌, Option, None, Result, Ok, Err, codes}
 use Rattle.std.specs.Map.{lookup}
 use Rattle.std.specs.Str.{bytes_eq}

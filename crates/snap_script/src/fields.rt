@@ -5,7 +5,7 @@ ghost use Rattle.serde_json.specs.View.{view, items_view, members_view};
 ghost use Rattle.snap_script.specs.declared.fault.Field.TheVariants as fields;
 ghost use Rattle.snap_script.specs.Faults.{field_name};
 ghost use Rattle.snap_script.specs.Fields.{required, defaulted, number_of, mode_of, some_text_of, pair_in, pair_of, usage_of, usage_with, labels_with, labels_of, namespace_in, namespace_of, namespaces_in, namespaces_of, repeated, fill_of, content_of};
-ghost use Rattle.snap_script.specs.Commands.{text, extra_of};
+ghost use Rattle.snap_script.specs.Commands.{text};
 ghost use Rattle.snap_script.specs.Gives.{Gives, GivesAll};
 
 use crate::fault::{Fault, Field, ReadError};
@@ -153,17 +153,6 @@ pub(crate) fn usage_or(default: Usage, field: Field, line: &Value) -> Result<Usa
         Some(value) => usage(value).ok_or(Fault::BadField(field)),
         None => Ok(default),
     }
-}
-
-/// The extra amount of a file command, nothing where the line has none.
-pub(crate) fn extra(line: &Value) -> Result<Usage, Fault>
-    ensures { result ≡ extra_of (view line.now) }
-{
-    let nothing = Usage {
-        blocks: 0,
-        inodes: 0,
-    };
-    usage_or(nothing, Field::Extra, line)
 }
 
 /// The labels of an object's members, where each is a text.

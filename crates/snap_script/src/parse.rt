@@ -8,17 +8,24 @@ ghost use Rattle.snap_script.specs.Gives.{Gives};
 use crate::command::{Command, FileCommand, Lookup};
 use crate::fault::{Field, ReadError};
 use crate::fields::{
-    content, extra, labels, lent_text, mode_or, namespaces, number_or, optional_text,
-    required_mode, required_number, required_usage, text, usage_or,
+    content, labels, lent_text, mode_or, namespaces, number_or, optional_text, required_mode,
+    required_number, required_usage, text, usage_or,
 };
 use crate::verb::{FileVerb, Verb};
 use serde_json::Value;
 use snap_call::{Config, MAX_JOURNAL};
 use snap_layer::Bytes;
+use snap_usage::Usage;
 use std::alloc::Global;
 
 /// The id of a store's first snapshot.
 const FIRST_ID: u32 = 1;
+
+/// The extra amount of a file command, where the line has none.
+const NO_EXTRA: Usage = Usage {
+    blocks: 0,
+    inodes: 0,
+};
 
 /// The mode of a new directory, where the line has none.
 const DIRECTORY_MODE: u32 = 0o755;
@@ -236,7 +243,7 @@ fn file(alloc: Global, verb: FileVerb, line: &Value) -> Result<Command, ReadErro
         namespace: text(alloc, Field::Namespace, line)?,
         key: text(alloc, Field::Key, line)?,
         operation: file_command_of(alloc, verb, line)?,
-        extra: extra(line)?,
+        extra: usage_or(NO_EXTRA, Field::Extra, line)?,
     })
 }
 

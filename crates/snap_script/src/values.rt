@@ -1,7 +1,7 @@
 // The JSON values of answers.
-ghost use Rattle.std.specs.Prelude.{◌≡◌, codes, IfOk, map};
-ghost use Rattle.serde_json.specs.Data.{string, array};
-ghost use Rattle.serde_json.specs.View.{view, items_of};
+ghost use Rattle.std.specs.Prelude.{◌≡◌, codes, IfOk, OnOk, map};
+ghost use Rattle.serde_json.specs.Data.{string, array, put};
+ghost use Rattle.serde_json.specs.View.{view, items_of, members_view};
 ghost use Rattle.snap_script.specs.Answers.{changed_data, charged_data, committed_data, done_data, error_data, error_name, freed_data, head_data, ids_data, info_data, labels_data, names_data, path_data, prepared_data, refusal_data, refusal_name, report_data, seen_data, session_data, share_data, shown_data, stat_data, text_data, totals_data, usage_data};
 
 use crate::answer::Shown;
@@ -30,15 +30,40 @@ fn ids_value(alloc: Global, ids: &[u32]) -> Result<Value, AllocError>
     Ok(Value::Array(items))
 }
 
+/// Adds a member for a label.
+fn put_label(
+    alloc: Global,
+    members: &mut Map<String, Value>,
+    key: &Text,
+    value: &Text,
+) -> Result<(), AllocError>
+    ensures { OnOk result (members_view members.new.entries ≡ put key.now (string value.now) (members_view members.old.entries)) }
+{
+    let value = Value::try_from_str(alloc, value.as_str())?;
+    serde_json::put(members, alloc, key.as_str(), value)
+}
+
 fn labels_value(alloc: Global, labels: &Labels) -> Result<Value, AllocError>
     ensures { IfOk result (λ v. view v ≡ labels_data labels.now) }
 {
     let mut members = Map::new(alloc);
     for (key, value) in labels.iter() {
-        let value = Value::try_from_str(alloc, value.as_str())?;
-        serde_json::put(&mut members, alloc, key.as_str(), value)?;
+        put_label(alloc, &mut members, key, value)?;
     }
     Ok(Value::Object(members))
+}
+
+/// Adds a member for a namespace's total.
+fn put_total(
+    alloc: Global,
+    members: &mut Map<String, Value>,
+    name: &Text,
+    total: Usage,
+) -> Result<(), AllocError>
+    ensures { OnOk result (members_view members.new.entries ≡ put name.now (usage_data total) (members_view members.old.entries)) }
+{
+    let value = usage_value(alloc, total)?;
+    serde_json::put(members, alloc, name.as_str(), value)
 }
 
 fn totals_value(alloc: Global, totals: &[(Text, Usage)]) -> Result<Value, AllocError>
@@ -46,8 +71,7 @@ fn totals_value(alloc: Global, totals: &[(Text, Usage)]) -> Result<Value, AllocE
 {
     let mut members = Map::new(alloc);
     for (name, total) in totals {
-        let value = usage_value(alloc, *total)?;
-        serde_json::put(&mut members, alloc, name.as_str(), value)?;
+        put_total(alloc, &mut members, name, *total)?;
     }
     Ok(Value::Object(members))
 }

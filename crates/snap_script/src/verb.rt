@@ -6,7 +6,7 @@ ghost use Rattle.snap_script.specs.Commands.{verb_of};
 use crate::command::Lookup;
 
 /// The commands by their words.
-#[derive(Clone, Copy, Debug, PartialEq, Eq)]
+#[derive(Clone, Copy)]
 pub(crate) enum Verb {
     Open,
     Session,
@@ -23,7 +23,7 @@ pub(crate) enum Verb {
 }
 
 /// The file commands by their words.
-#[derive(Clone, Copy, Debug, PartialEq, Eq)]
+#[derive(Clone, Copy)]
 pub(crate) enum FileVerb {
     Mkdir,
     Create,
