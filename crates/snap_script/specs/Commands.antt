@@ -32,6 +32,13 @@ abbrev pub ◌>>=◌ : {A B : Type 0} → Result A Fault → (A → Result B Fau
 abbrev pub text : Field → Data → Result Bytes Fault
 text field line = required as_str field line
 
+-- the snapshot that a command names: its namespace and its key
+unfoldable pub named : Data → Result (Bytes × Bytes) Fault
+named line = do
+  namespace ← text fields.Namespace line
+  key ← text fields.Key line
+  Ok (namespace, key)
+
 -- open: the directory of the store, its namespaces, and the most entries of its journal. The first id is 1.
 unfoldable pub open_of : Data → Result Command Fault
 open_of line = do
@@ -43,36 +50,32 @@ open_of line = do
 -- prepare: containerd's Prepare
 unfoldable pub prepare_of : Data → Result Command Fault
 prepare_of line = do
-  namespace ← text fields.Namespace line
-  key ← text fields.Key line
+  snapshot ← named line
   parent ← text fields.Parent line
   labels ← defaulted [] labels_of fields.Labels line
-  Ok (commands.Prepare namespace key parent labels)
+  Ok (commands.Prepare snapshot.0 snapshot.1 parent labels)
 
 -- charge: where no amount is wanted, the needed one is
 unfoldable pub charge_of : Data → Result Command Fault
 charge_of line = do
-  namespace ← text fields.Namespace line
-  key ← text fields.Key line
+  snapshot ← named line
   need ← required usage_of fields.Need line
   want ← defaulted need usage_of fields.Want line
-  Ok (commands.Charge namespace key need want)
+  Ok (commands.Charge snapshot.0 snapshot.1 need want)
 
 -- the commands that have a namespace and a key alone
 unfoldable pub keyed_of : (Bytes → Bytes → Command) → Data → Result Command Fault
 keyed_of command line = do
-  namespace ← text fields.Namespace line
-  key ← text fields.Key line
-  Ok (command namespace key)
+  snapshot ← named line
+  Ok (command snapshot.0 snapshot.1)
 
 -- commit: containerd's Commit, under a lease where one is named
 unfoldable pub commit_of : Data → Result Command Fault
 commit_of line = do
-  namespace ← text fields.Namespace line
-  key ← text fields.Key line
+  snapshot ← named line
   name ← text fields.Name line
   lease ← defaulted None some_text_of fields.Lease line
-  Ok (commands.Commit namespace key name lease)
+  Ok (commands.Commit snapshot.0 snapshot.1 name lease)
 
 -- the room that a charge asks for beside what an operation needs
 abbrev pub extra_of : Data → Result Usage Fault
@@ -143,19 +146,17 @@ file_command_of file_verbs.Rename line = paired_of file_commands.Rename line
 -- a file command: the snapshot, the operation, and the room that a charge asks for beside what the operation needs
 unfoldable pub file_of : FileVerb → Data → Result Command Fault
 file_of verb line = do
-  namespace ← text fields.Namespace line
-  key ← text fields.Key line
+  snapshot ← named line
   operation ← file_command_of verb line
   extra ← extra_of line
-  Ok (commands.File namespace key operation extra)
+  Ok (commands.File snapshot.0 snapshot.1 operation extra)
 
 -- look, list, read, resolve: the snapshot, and a path's text
 unfoldable pub lookup_of : Lookup → Data → Result Command Fault
 lookup_of lookup line = do
-  namespace ← text fields.Namespace line
-  key ← text fields.Key line
+  snapshot ← named line
   path ← text fields.Path line
-  Ok (commands.Lookup namespace key lookup path)
+  Ok (commands.Lookup snapshot.0 snapshot.1 lookup path)
 
 -- the command of a line by its verb
 unfoldable pub command_of : Verb → Data → Result Command Fault

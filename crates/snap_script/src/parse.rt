@@ -2,7 +2,7 @@
 ghost use Rattle.serde_json.specs.View.{view};
 ghost use Rattle.snap_script.specs.declared.command.Command.TheVariants as variants;
 ghost use Rattle.snap_script.specs.declared.command.FileCommand.TheVariants as file_variants;
-ghost use Rattle.snap_script.specs.Commands.{open_of, prepare_of, charge_of, keyed_of, commit_of, made_of, write_of, truncate_of, set_mode_of, symlink_of, paired_of, taken_of, file_command_of, file_of, lookup_of, command_of};
+ghost use Rattle.snap_script.specs.Commands.{named, open_of, prepare_of, charge_of, keyed_of, commit_of, made_of, write_of, truncate_of, set_mode_of, symlink_of, paired_of, taken_of, file_command_of, file_of, lookup_of, command_of};
 ghost use Rattle.snap_script.specs.Gives.{Gives};
 
 use crate::command::{Command, FileCommand, Lookup};
@@ -15,6 +15,7 @@ use crate::verb::{FileVerb, Verb};
 use serde_json::Value;
 use snap_call::{Config, MAX_JOURNAL};
 use snap_layer::Bytes;
+use snap_record::Text;
 use snap_usage::Usage;
 use std::alloc::Global;
 
@@ -32,6 +33,16 @@ const DIRECTORY_MODE: u32 = 0o755;
 
 /// The mode of a new file, where the line has none.
 const FILE_MODE: u32 = 0o644;
+
+/// The namespace and the key of the snapshot that a command names.
+#[tactic(auto, unfolding(crate::specs::Commands::named))]
+fn named(alloc: Global, line: &Value) -> Result<(Text, Text), ReadError>
+    ensures { Gives (λ snapshot. snapshot) result (named (view line.now)) }
+{
+    let namespace = text(alloc, Field::Namespace, line)?;
+    let key = text(alloc, Field::Key, line)?;
+    Ok((namespace, key))
+}
 
 #[tactic(auto, unfolding(crate::specs::Commands::open_of))]
 fn open(alloc: Global, line: &Value) -> Result<Command, ReadError>
@@ -53,9 +64,10 @@ fn open(alloc: Global, line: &Value) -> Result<Command, ReadError>
 fn prepare(alloc: Global, line: &Value) -> Result<Command, ReadError>
     ensures { Gives (λ c. c) result (prepare_of (view line.now)) }
 {
+    let (namespace, key) = named(alloc, line)?;
     Ok(Command::Prepare {
-        namespace: text(alloc, Field::Namespace, line)?,
-        key: text(alloc, Field::Key, line)?,
+        namespace,
+        key,
         parent: text(alloc, Field::Parent, line)?,
         labels: labels(alloc, line)?,
     })
@@ -65,8 +77,7 @@ fn prepare(alloc: Global, line: &Value) -> Result<Command, ReadError>
 fn charge(alloc: Global, line: &Value) -> Result<Command, ReadError>
     ensures { Gives (λ c. c) result (charge_of (view line.now)) }
 {
-    let namespace = text(alloc, Field::Namespace, line)?;
-    let key = text(alloc, Field::Key, line)?;
+    let (namespace, key) = named(alloc, line)?;
     let need = required_usage(Field::Need, line)?;
     let want = usage_or(need, Field::Want, line)?;
     Ok(Command::Charge {
@@ -81,8 +92,7 @@ fn charge(alloc: Global, line: &Value) -> Result<Command, ReadError>
 fn trim(alloc: Global, line: &Value) -> Result<Command, ReadError>
     ensures { Gives (λ c. c) result (keyed_of variants.Trim (view line.now)) }
 {
-    let namespace = text(alloc, Field::Namespace, line)?;
-    let key = text(alloc, Field::Key, line)?;
+    let (namespace, key) = named(alloc, line)?;
     Ok(Command::Trim { namespace, key })
 }
 
@@ -90,8 +100,7 @@ fn trim(alloc: Global, line: &Value) -> Result<Command, ReadError>
 fn discard(alloc: Global, line: &Value) -> Result<Command, ReadError>
     ensures { Gives (λ c. c) result (keyed_of variants.Discard (view line.now)) }
 {
-    let namespace = text(alloc, Field::Namespace, line)?;
-    let key = text(alloc, Field::Key, line)?;
+    let (namespace, key) = named(alloc, line)?;
     Ok(Command::Discard { namespace, key })
 }
 
@@ -99,8 +108,7 @@ fn discard(alloc: Global, line: &Value) -> Result<Command, ReadError>
 fn stat(alloc: Global, line: &Value) -> Result<Command, ReadError>
     ensures { Gives (λ c. c) result (keyed_of variants.Stat (view line.now)) }
 {
-    let namespace = text(alloc, Field::Namespace, line)?;
-    let key = text(alloc, Field::Key, line)?;
+    let (namespace, key) = named(alloc, line)?;
     Ok(Command::Stat { namespace, key })
 }
 
@@ -108,8 +116,7 @@ fn stat(alloc: Global, line: &Value) -> Result<Command, ReadError>
 fn usage(alloc: Global, line: &Value) -> Result<Command, ReadError>
     ensures { Gives (λ c. c) result (keyed_of variants.Usage (view line.now)) }
 {
-    let namespace = text(alloc, Field::Namespace, line)?;
-    let key = text(alloc, Field::Key, line)?;
+    let (namespace, key) = named(alloc, line)?;
     Ok(Command::Usage { namespace, key })
 }
 
@@ -117,9 +124,10 @@ fn usage(alloc: Global, line: &Value) -> Result<Command, ReadError>
 fn commit(alloc: Global, line: &Value) -> Result<Command, ReadError>
     ensures { Gives (λ c. c) result (commit_of (view line.now)) }
 {
+    let (namespace, key) = named(alloc, line)?;
     Ok(Command::Commit {
-        namespace: text(alloc, Field::Namespace, line)?,
-        key: text(alloc, Field::Key, line)?,
+        namespace,
+        key,
         name: text(alloc, Field::Name, line)?,
         lease: optional_text(alloc, Field::Lease, line)?,
     })
@@ -239,9 +247,10 @@ fn file_command_of(alloc: Global, verb: FileVerb, line: &Value) -> Result<FileCo
 fn file(alloc: Global, verb: FileVerb, line: &Value) -> Result<Command, ReadError>
     ensures { Gives (λ c. c) result (file_of verb (view line.now)) }
 {
+    let (namespace, key) = named(alloc, line)?;
     Ok(Command::File {
-        namespace: text(alloc, Field::Namespace, line)?,
-        key: text(alloc, Field::Key, line)?,
+        namespace,
+        key,
         operation: file_command_of(alloc, verb, line)?,
         extra: usage_or(NO_EXTRA, Field::Extra, line)?,
     })
@@ -251,9 +260,10 @@ fn file(alloc: Global, verb: FileVerb, line: &Value) -> Result<Command, ReadErro
 fn lookup(alloc: Global, lookup: Lookup, line: &Value) -> Result<Command, ReadError>
     ensures { Gives (λ c. c) result (lookup_of lookup (view line.now)) }
 {
+    let (namespace, key) = named(alloc, line)?;
     Ok(Command::Lookup {
-        namespace: text(alloc, Field::Namespace, line)?,
-        key: text(alloc, Field::Key, line)?,
+        namespace,
+        key,
         lookup,
         path: text(alloc, Field::Path, line)?,
     })
