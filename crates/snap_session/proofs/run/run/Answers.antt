@@ -3,7 +3,7 @@ use Rattle.std.specs.Io.KnownBytes.{Consumes, IsAtEnd}
 use Rattle.std.proofs.lemmas.Result.{err_from_is_err_and}
 use Rattle.snap_session.proofs.ScriptLaws.{on_ok}
 use Rattle.snap_session.proofs.ReplayLaws.{reading_end, reading_more, reading_fault}
-use Rattle.snap_session.proofs.running.run.Goals as goal
+use Rattle.snap_session.proofs.run.run.Goals as goal
 
 pub returns-in-Ok-eq0-clause-done : goal.returns-in-Ok-eq0-clause-done
 returns-in-Ok-eq0-clause-done g c =

@@ -1,6 +1,6 @@
 use Rattle.std.proofs.lemmas.Result.{err_from_is_err_and}
 use Rattle.snap_session.proofs.ScriptLaws.{goes_kept}
-use Rattle.snap_session.proofs.running.take_read.Goals as goal
+use Rattle.snap_session.proofs.run.take_read.Goals as goal
 
 pub returns-in-Ok-clause-ok : goal.returns-in-Ok-clause-ok
 returns-in-Ok-clause-ok g c = goes_kept _ _ _ _ _ _ c.in_ok-feed.ensures.ok c.in-Ok.ensures.bytes

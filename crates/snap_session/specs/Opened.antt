@@ -1,4 +1,4 @@
--- The store that a script has opened.
+-- The store that a script has opened; the public clauses of `Script` see this value.
 use Rattle.std.specs.Prelude.{ℕ, List, [], Option, None, Some, replicate, map}
 use Rattle.std.specs.Option.{option_map}
 use Rattle.snap_usage.specs.declared.usage.Usage.{Usage}
@@ -12,7 +12,7 @@ use Rattle.snap_call.specs.State.{opening, place_of}
 use Rattle.snap_world.specs.World.{WorldValue, hand_at}
 
 -- a world, and the names of its namespaces as its configuration has them
-pub record StoreValue : Type 0 where
+pub record OpenedValue : Type 0 where
   pub world : WorldValue
   pub names : List Bytes
 

@@ -1,11 +1,12 @@
 // One step of the world, and what a script says of it.
 ghost use Rattle.std.specs.Prelude.{◌≡◌, IfOk};
+ghost use Rattle.snap_world.specs.declared.step.Step.TheVariants.{Locked};
 ghost use Rattle.snap_world.specs.Move.{move};
-ghost use Rattle.snap_session.specs.Store.{share_at, count_at};
+ghost use Rattle.snap_session.specs.Opened.{share_at, count_at};
 ghost use Rattle.snap_session.specs.Wanting.{is_want};
 ghost use Rattle.snap_session.specs.Commands.{told, told_reply, told_outcome, stepped};
 
-use snap_call::{Refusal, Reply};
+use snap_call::{Call, Refusal, Reply};
 use snap_ledger::StoreName;
 use snap_merge::FsError;
 use snap_script::Answer;
@@ -121,4 +122,16 @@ pub(crate) fn stepped<N: StoreName>(
 {
     let answer = take_step(world, step)?;
     Ok(told(session, slot, world, answer))
+}
+
+// A call on the store, and what a script says of it.
+pub(crate) fn called<N: StoreName>(
+    world: &mut World<N>,
+    session: u64,
+    slot: u64,
+    call: Call,
+) -> Result<Answer, NoMemory>
+    ensures { IfOk result (λ answer. stepped session slot (Locked session call) world.old ≡ (world.new, answer)) }
+{
+    stepped(world, session, slot, &Step::Locked(session, call))
 }

@@ -5,7 +5,8 @@ ghost use Rattle.snap_world.specs.Move.{move};
 ghost use Rattle.snap_script.specs.Operations.{operation_of};
 ghost use Rattle.snap_session.specs.Commands.{on_key, more, wanted, need_of, is_charged, recharged, worked, filed};
 
-use crate::stepping::{stepped, take_step, told};
+use crate::calls::found;
+use crate::step::{stepped, take_step, told};
 use snap_call::{Call, MAX_LIMIT, Reply};
 use snap_ledger::StoreName;
 use snap_merge::FsError;
@@ -139,7 +140,7 @@ pub(crate) fn file<N: StoreName>(
 ) -> Result<Answer, NoMemory>
     ensures { IfOk result (λ answer. on_key world.old namespace key (λ slot id. filed n slot id (operation_of operation) extra world.old) ≡ (world.new, answer)) }
 {
-    match world.hand(namespace.as_str(), key.as_str()) {
+    match found(world, namespace, key) {
         Ok((slot, id)) => filed(alloc, world, n, slot, id, operation, extra),
         Err(why) => Ok(Answer::Refused(why)),
     }

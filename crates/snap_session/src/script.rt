@@ -2,8 +2,8 @@ ghost use Rattle.std.specs.Prelude.{◌≡◌, IfOk, None, true, is_some};
 ghost use Rattle.snap_call.specs.Forms.{is_config};
 ghost use Rattle.snap_session.specs.Commands.{is_started, opened, done};
 
-use crate::stepping::{take_step, told};
-use crate::store::{Store, names_of};
+use crate::opened::{Opened, names_of};
+use crate::step::{take_step, told};
 use snap_call::{Call, Config, Refusal, Reply};
 use snap_ledger::{NewTable, StoreName};
 use snap_script::{Answer, Command};
@@ -11,21 +11,21 @@ use snap_world::{Answer as StepAnswer, NoMemory, Step, World};
 use std::alloc::Global;
 use std::marker::Model;
 
-/// The store of a script, once it has opened one. Contracts see the store.
+/// Runs the commands of a script, and keeps the store that it has opened. Contracts see that store, or none.
 ///
 /// The table names the store, and goes to the first one that is opened.
 #[derive(Drop)]
-pub struct Session<N: StoreName> {
+pub struct Script<N: StoreName> {
     alloc: Global,
     table: Option<NewTable>,
-    store: Option<Store<N>>,
+    store: Option<Opened<N>>,
 }
 
-impl<N: StoreName> Model for Session<N> {
+impl<N: StoreName> Model for Script<N> {
     ghost use Rattle.std.specs.Prelude.{◌≡◌, Option, IfSome};
-    ghost use Rattle.snap_session.specs.Store.{StoreValue};
+    ghost use Rattle.snap_session.specs.Opened.{OpenedValue};
 
-    ghost Value = { Option StoreValue };
+    ghost Value = { Option OpenedValue };
 
     ghost view = { λ s. s.store };
 
@@ -41,13 +41,13 @@ fn is_started(answer: &StepAnswer) -> bool
     }
 }
 
-impl<N: StoreName> Session<N> {
+impl<N: StoreName> Script<N> {
     /// A script that has opened no store. Takes no memory.
-    pub fn new(alloc: Global, table: NewTable) -> Session<N>
+    pub fn new(alloc: Global, table: NewTable) -> Script<N>
         requires { table ≡ N.table }
         ensures { result ≡ None }
     {
-        Session {
+        Script {
             alloc,
             table: Some(table),
             store: None,
@@ -74,7 +74,7 @@ impl<N: StoreName> Session<N> {
         };
         let answer = take_step(&mut world, &Step::Locked(0, Call::Session))?;
         if is_started(&answer) {
-            self.store = Some(Store { world, names });
+            self.store = Some(Opened { world, names });
             return Ok(Answer::Done);
         }
         Ok(told(0, 0, &world, answer))
