@@ -1,4 +1,6 @@
-use snap_script::{Fault, Field};
+use snap_merge::FsError;
+use snap_record::Text;
+use snap_script::{Fault, Field, path_of};
 use snap_session::{LineFault, Stop, replay, replay_within};
 use std::io;
 use std::io::BufWriter;
@@ -115,5 +117,19 @@ fn ends_are_printed(rt: HostRuntime) -> Result<(), Fail> {
         let said = stop.to_string(rt.alloc())?;
         assert_eq!(rt; said.as_str(), text);
     }
+    Ok(())
+}
+
+#[test]
+fn a_field_has_the_name_of_the_line() {
+    let name = Field::Namespace.name();
+    prove!(name == "ns");
+}
+
+#[test]
+fn a_closing_slash_is_no_path(rt: HostRuntime) -> Result<(), Fail> {
+    let text = Text::copy_of(rt.alloc(), "/etc/")?;
+    let path = path_of(rt.alloc(), &text).err();
+    prove!(path == Some(FsError::BadPath) || path == Some(FsError::OutOfMemory));
     Ok(())
 }
