@@ -143,7 +143,7 @@ fn on_store<N: StoreName>(
 }
 
 impl<N: StoreName> Opened<N> {
-    // The same with the names of the store.
+    // A command by a session of this number. The names stay.
     pub(crate) fn act(
         &mut self,
         alloc: Global,
