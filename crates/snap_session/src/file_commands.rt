@@ -3,7 +3,7 @@ ghost use Rattle.std.specs.Prelude.{◌≡◌, IfOk};
 ghost use Rattle.snap_world.specs.declared.step.Step.TheVariants.{Hand};
 ghost use Rattle.snap_world.specs.Move.{move};
 ghost use Rattle.snap_script.specs.Operations.{operation_of};
-ghost use Rattle.snap_session.specs.Commands.{on_key, more, wanted, need_of, is_charged, recharged, worked, filed};
+ghost use Rattle.snap_session.specs.Commands.{on_key, more, wanted, need_by, need_of, is_charged, recharged, worked, filed};
 
 use crate::calls::found;
 use crate::step::{stepped, take_step, told};
@@ -34,12 +34,21 @@ fn wanted(need: Usage, extra: Usage) -> Usage
     }
 }
 
+fn need_by(error: FsError) -> Option<Usage>
+    ensures { result ≡ need_by error }
+{
+    match error {
+        FsError::NeedsCharge(need) => Some(need),
+        _ => None,
+    }
+}
+
 // The charge that the operation needs.
 fn need_of(answer: &StepAnswer) -> Option<Usage>
     ensures { result ≡ need_of answer.now }
 {
     match answer {
-        StepAnswer::File(Err(FsError::NeedsCharge(need))) => Some(*need),
+        StepAnswer::File(Err(error)) => need_by(*error),
         _ => None,
     }
 }

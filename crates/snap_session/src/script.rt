@@ -1,6 +1,6 @@
 ghost use Rattle.std.specs.Prelude.{◌≡◌, IfOk, None, true, is_some};
 ghost use Rattle.snap_call.specs.Forms.{is_config};
-ghost use Rattle.snap_session.specs.Commands.{is_started, opened, done};
+ghost use Rattle.snap_session.specs.Commands.{is_start, is_started, opened, done};
 
 use crate::opened::{Opened, names_of};
 use crate::step::{take_step, told};
@@ -32,11 +32,20 @@ impl<N: StoreName> Model for Script<N> {
     ghost invariant = { λ s. IfSome s.table (λ t. t ≡ N.table) };
 }
 
+fn is_start(reply: &Reply) -> bool
+    ensures { result ≡ is_start reply.now }
+{
+    match reply {
+        Reply::Opened => true,
+        _ => false,
+    }
+}
+
 fn is_started(answer: &StepAnswer) -> bool
     ensures { result ≡ is_started answer.now }
 {
     match answer {
-        StepAnswer::Reply(Reply::Opened) => true,
+        StepAnswer::Reply(reply) => is_start(reply),
         _ => false,
     }
 }

@@ -3,7 +3,7 @@ ghost use Rattle.std.specs.Prelude.{◌≡◌, IfOk};
 ghost use Rattle.snap_world.specs.declared.step.Step.TheVariants.{Locked};
 ghost use Rattle.snap_world.specs.Move.{move};
 ghost use Rattle.snap_session.specs.Opened.{share_at, count_at};
-ghost use Rattle.snap_session.specs.Wanting.{is_want};
+ghost use Rattle.snap_session.specs.Wanting.{is_error_want, is_memory, is_want};
 ghost use Rattle.snap_session.specs.Commands.{told, told_reply, told_outcome, stepped};
 
 use snap_call::{Call, Refusal, Reply};
@@ -39,12 +39,30 @@ pub(crate) fn count_at<N: StoreName>(world: &World<N>, slot: u64) -> Usage
     }
 }
 
+fn is_memory(why: Refusal) -> bool
+    ensures { result ≡ is_memory why }
+{
+    match why {
+        Refusal::OutOfMemory => true,
+        _ => false,
+    }
+}
+
+fn is_error_want(error: FsError) -> bool
+    ensures { result ≡ is_error_want error }
+{
+    match error {
+        FsError::OutOfMemory => true,
+        _ => false,
+    }
+}
+
 fn is_want(answer: &StepAnswer) -> bool
     ensures { result ≡ is_want answer.now }
 {
     match answer {
-        StepAnswer::Reply(Reply::Refused(Refusal::OutOfMemory)) => true,
-        StepAnswer::File(Err(FsError::OutOfMemory)) => true,
+        StepAnswer::Reply(Reply::Refused(why)) => is_memory(*why),
+        StepAnswer::File(Err(error)) => is_error_want(*error),
         _ => false,
     }
 }
