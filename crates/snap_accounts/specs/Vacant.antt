@@ -6,7 +6,7 @@ use Rattle.snap_call.specs.declared.state.State.{State}
 use Rattle.snap_call.specs.Records.{charge_of, active_at, has_key}
 use Rattle.snap_call.specs.State.{covers, limit_at, is_base, is_too_deep}
 use Rattle.snap_call.specs.Step.{one}
-use Rattle.snap_accounts.specs.declared.preparing.Vacancy.{Vacancy}
+use Rattle.snap_accounts.specs.declared.prepare.Vacancy.{Vacancy}
 
 -- a snapshot of this key and parent can be added there: the namespace is one of the store's, has no snapshot of the key and the parent as a base that is not too deep, its limit covers 1/1 more, the slot is free, and an id is left
 pub record IsVacant (s : State) (v : Vacancy) (key parent : Bytes) : Type 0 where

@@ -8,12 +8,12 @@
 #![tactic(auto)]
 
 mod accounts;
-mod asking;
-mod charging;
-mod committing;
-mod preparing;
+mod charge;
+mod commit;
+mod info;
+mod prepare;
 mod slots;
 mod totals;
 
 pub use accounts::Accounts;
-pub use preparing::Vacancy;
+pub use prepare::Vacancy;

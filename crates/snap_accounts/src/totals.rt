@@ -28,13 +28,7 @@ impl Totals {
         ensures { IfOk result (λ t. t ≡ replicate count no_usage) }
     {
         let mut list = Vec::new(alloc);
-        list.resize(
-            count,
-            Usage {
-                blocks: 0,
-                inodes: 0,
-            },
-        )?;
+        list.resize(count, Usage::ZERO)?;
         Ok(Totals { list })
     }
 

@@ -1,15 +1,16 @@
 -- What a recorded call keeps.
-use Rattle.std.proofs.Common.{◌≡◌, ℕ, ◌+◌, ◌<◌, ◌≤◌, ◌^◌, List, [], ◌∷◌, ◌++◌, length, Some, sym, ap, ◌∙◌, subst, arith, length-append}
+use Rattle.std.proofs.Common.{◌≡◌, ℕ, ◌+◌, ◌<◌, ◌≤◌, ◌^◌, List, [], ◌∷◌, ◌++◌, length, Option, None, Some, refl, sym, ap, ◌∙◌, subst, arith, length-append}
 use Rattle.snap_call.specs.declared.entry.Entry.{Entry}
 use Rattle.snap_call.specs.declared.reply.Reply.{Reply}
 use Rattle.snap_call.specs.declared.state.State.{State}
+use Rattle.snap_call.specs.Good.{Good}
 use Rattle.snap_call.specs.Journal.{Replays}
 use Rattle.snap_call.specs.Records.{open_count}
 use Rattle.snap_call.specs.Step.{step, IsAllowed}
 use Rattle.snap_call.specs.declared.call.Call.{Call}
 use Rattle.snap_call.specs.declared.call.Given.{Given}
 use Rattle.snap_call.specs.declared.refusal.Refusal.{Refusal}
-use Rattle.snap_call.specs.declared.refusal.Refusal.TheVariants.{BadArgument, NoNamespace, NotFound, AlreadyExists, NotCommitted, NotActive, HasChildren, InUse, Leased, NoLease, LeaseExists, TooDeep, TooManyActives, OverLimit, BelowCharge, NumbersSpent, JournalFull, OutOfMemory}
+use Rattle.snap_call.specs.declared.refusal.Refusal.TheVariants.{NumbersSpent, JournalFull, OutOfMemory}
 use Rattle.snap_call.specs.declared.reply.Reply.TheVariants.{Opened, Refused}
 use Rattle.snap_call.specs.declared.call.Call.TheVariants as calls
 use Rattle.snap_call.specs.declared.call.Given.TheVariants.{Nothing}
@@ -17,7 +18,7 @@ use Rattle.std.proofs.Common.{Bool}
 use Rattle.std.proofs.lemmas.Bool.{lt-ltb}
 use Rattle.std.specs.Prelude.{if◌then◌else◌}
 use Rattle.snap_accounts.specs.Entries.{IsRecorded}
-use Rattle.snap_book.specs.Book.{JournalValue, BookValue, Kept, Recorded, RefusedBy}
+use Rattle.snap_book.specs.Book.{JournalValue, BookValue, IsLast, IsOpening, Kept, Recorded, RefusedBy}
 use Rattle.snap_call.proofs.Replaying.{replays_step, step-entries}
 
 -- a call that is recorded: j has room made as m, and then the entry as k
@@ -34,12 +35,18 @@ kept_push s t j m k e x kept made pushed is allowed moved below room =
     let began : k.opening.entries ≡ j.opening.entries = ap (λ (o : State). o.entries) opening in
     let replays : Replays j.opening (j.entries ++ e ∷ []) t = replays_step j.opening j.entries s t e kept.replays allowed moved in
     record {
+      began = subst IsOpening (sym opening) kept.began;
       replays = subst (λ (l : List Entry). Replays k.opening l t) (sym entries) (subst (λ (o : State). Replays o (j.entries ++ e ∷ []) t) (sym opening) replays);
+      last = subst (λ (v : JournalValue). IsLast v.copy v.entries) (sym pushed) (m.entries, refl);
       below = omega (arith, length-append m.entries (x ∷ []), longer, limit, below);
       room = room;
       numbered = omega (arith, length-append j.entries (e ∷ []), longer_made, counted, began, kept.numbered);
       numbers = omega (arith, began, limit, limit_made, kept.numbers);
     }
+
+-- the journal has room made as m
+pub kept_room : (s : State) (j m : JournalValue) → Kept s j → m ≡ record j { room = m.room } → j.room ≤ m.room → Kept s m
+kept_room s j m kept made more = subst (Kept s) (sym made) (record { began = kept.began; replays = kept.replays; last = kept.last; below = kept.below; room = omega (arith, kept.room, more); numbered = kept.numbered; numbers = kept.numbers })
 
 -- and the call is recorded so
 pub recorded_push : (old : BookValue) (s t : State) (j m k : JournalValue) (e x : Entry) → record { state = s; journal = j.entries; opening = j.opening; limit = j.limit; copy = j.copy } ≡ old → m ≡ record j { room = m.room }
@@ -58,12 +65,14 @@ recorded_push old s t j m k e x is_old made pushed is allowed moved =
     }
 
 -- a journal without entries, at a state without open snapshots
-pub kept_open : (s : State) (j : JournalValue) → j.entries ≡ [] → j.opening ≡ s → open_count s.records ≡ 0 → s.entries + j.limit ≤ 2 ^ 62 → Kept s j
-kept_open s j none began closed numbers =
+pub kept_open : (s : State) (j : JournalValue) → j.entries ≡ [] → j.copy ≡ None → j.opening ≡ s → Good s → s.sessions ≡ 0 → open_count s.records ≡ 0 → s.entries + j.limit ≤ 2 ^ 62 → Kept s j
+kept_open s j none no_copy began good sessions closed numbers =
     let empty : length j.entries ≡ 0 = ap (λ (l : List Entry). length l) none in
     let same : j.opening.entries ≡ s.entries = ap (λ (o : State). o.entries) began in
     record {
+      began = subst IsOpening (sym began) (record { good = good; idle = closed; sessions = sessions });
       replays = subst (λ (l : List Entry). Replays j.opening l s) (sym none) (sym began);
+      last = subst (λ (c : Option Entry). IsLast c j.entries) (sym no_copy) tt;
       below = omega (arith, empty, closed);
       room = omega (arith, closed);
       numbered = omega (arith, empty, same);
@@ -72,24 +81,9 @@ kept_open s j none began closed numbers =
 
 -- a refusal that is recorded, as the typed calls say it
 pub refused_by : (why : Refusal) (old new : BookValue) (n : ℕ) (call : Call) (given : Given) → IsRecorded why → Recorded old new n call given (Refused why) → RefusedBy old new n call given why
-refused_by BadArgument old new n call given h r = r
-refused_by NoNamespace old new n call given h r = r
-refused_by NotFound old new n call given h r = r
-refused_by AlreadyExists old new n call given h r = r
-refused_by NotCommitted old new n call given h r = r
-refused_by NotActive old new n call given h r = r
-refused_by HasChildren old new n call given h r = r
-refused_by InUse old new n call given h r = r
-refused_by Leased old new n call given h r = r
-refused_by NoLease old new n call given h r = r
-refused_by LeaseExists old new n call given h r = r
-refused_by TooDeep old new n call given h r = r
-refused_by TooManyActives old new n call given h r = r
-refused_by (OverLimit blocks inodes) old new n call given h r = r
-refused_by BelowCharge old new n call given h r = r
-refused_by NumbersSpent old new n call given h r = r
 refused_by JournalFull old new n call given h r = absurd (h tt)
 refused_by OutOfMemory old new n call given h r = absurd (h tt)
+refused_by why old new n call given h r = r
 
 -- one session more
 pub session_step : (s t : State) → s.sessions < 65536 → t ≡ record s { sessions = s.sessions + 1; entries = s.entries + 1 } → step s calls.Session Nothing ≡ (t, Opened)

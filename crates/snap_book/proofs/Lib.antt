@@ -2,4 +2,3 @@ pub mod Keeping
 pub mod Rooted
 pub mod Preparing
 pub mod Commits
-pub mod Needs

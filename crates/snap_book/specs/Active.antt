@@ -1,7 +1,7 @@
 -- What clauses see of a snapshot in its writer's hands.
-use Rattle.std.specs.Prelude.{ℕ, List, [], ◌∷◌, Option, None, Some}
+use Rattle.std.specs.Prelude.{ℕ, List, [], ◌∷◌, Option, Some}
 use Rattle.snap_layer.specs.declared.node.Node.{Node}
-use Rattle.snap_layer.specs.declared.node.Node.TheVariants.{Dir, File, Symlink, Whiteout}
+use Rattle.snap_layer.specs.declared.node.Node.TheVariants.{Dir}
 use Rattle.snap_layer.specs.Tree.{Tree, at}
 use Rattle.snap_ledger.specs.States.{ShareState}
 use Rattle.snap_record.specs.Labels.{Bytes}
@@ -16,11 +16,8 @@ pub record ActiveValue : Type 0 where
 
 -- the permission bits of a directory; those of nothing, and of all else, are 755 in octal
 abbrev pub mode_of : Option Node → ℕ
-mode_of None = 493
 mode_of (Some (Dir mode opaque)) = mode
-mode_of (Some (File number)) = 493
-mode_of (Some (Symlink number)) = 493
-mode_of (Some Whiteout) = 493
+mode_of other = 493
 
 -- the permission bits of the root of a new layer over these: those of the nearest one's root, and 755 in octal where there is none
 abbrev pub root_mode : List Tree → ℕ

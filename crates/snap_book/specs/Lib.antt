@@ -1,6 +1,6 @@
-pub mod Said
-pub mod Asking
+pub mod Opening
+pub mod Slot
 pub mod Book
 pub mod Active
 pub mod Held
-pub mod Working
+pub mod Files

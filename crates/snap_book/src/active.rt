@@ -110,7 +110,7 @@ impl<N: StoreName> Active<N> {
         ensures count { result ≡ count_of self.now.layer }
         ensures one { CoversOne result }
     {
-        let _ = self.layer.next_number();
+        self.layer.show_is_layer();
         count(&self.layer)
     }
 

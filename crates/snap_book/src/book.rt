@@ -1,23 +1,27 @@
-// The lock's value.
-ghost use Rattle.std.specs.Prelude.{◌≡◌, ◌≤◌, ◌<◌, ◌+◌, ◌↔◌, None, length, OnOk, IfErr, IsErrOf};
-ghost use Rattle.snap_usage.specs.Counted.{Covers, count_of};
+// A book: its state, its journal, and what is read of both.
+ghost use Rattle.std.specs.Prelude.{◌≡◌, ◌≤◌, ◌<◌, ◌+◌, ◌↔◌, None, length, OnOk, IfErr, IsErrOf, ◌⊎◌, [], IfOk, OnErr, false, IsTrue};
 ghost use Rattle.snap_call.specs.Good.{Good};
-ghost use Rattle.snap_call.specs.Journal.{Replays};
-ghost use Rattle.snap_call.specs.Records.{open_count};
+ghost use Rattle.snap_call.specs.Journal.{Replays, entry};
+ghost use Rattle.snap_call.specs.Records.{open_count, charge_of};
 ghost use Rattle.snap_call.specs.declared.call.Call.TheVariants as calls;
-ghost use Rattle.snap_call.specs.declared.call.Given.TheVariants.{Nothing, Count};
-ghost use Rattle.snap_call.specs.declared.reply.Reply.TheVariants.{Charged, Trimmed, Discarded};
-ghost use Rattle.snap_call.specs.declared.refusal.Refusal.TheVariants.{JournalFull};
-ghost use Rattle.snap_book.specs.Book.{Recorded, RefusedBy};
-ghost use Rattle.snap_book.specs.Held.{share_of};
+ghost use Rattle.snap_call.specs.declared.call.Given.TheVariants.{Nothing};
+ghost use Rattle.snap_call.specs.declared.reply.Reply.TheVariants.{Opened};
+ghost use Rattle.snap_call.specs.declared.refusal.Refusal.TheVariants.{JournalFull, BadArgument, NumbersSpent, OutOfMemory};
+ghost use Rattle.snap_book.specs.Book.{IsLast, IsOpening, Recorded, RefusedBy};
+ghost use Rattle.snap_call.specs.Forms.{is_config};
+ghost use Rattle.snap_call.specs.State.{opening, place_of};
+ghost use Rattle.snap_call.specs.Totals.{counts_and_shares};
+ghost use Rattle.snap_accounts.specs.Entries.{IsUnrecorded, IsRecorded};
+ghost use Rattle.snap_call.specs.Step.{counted, refused, step, IsAllowed};
+ghost use Rattle.std.specs.Option.{option_map};
+ghost use Rattle.snap_book.specs.Slot.{slot_of};
 
-use crate::active::{Active, Held};
-use crate::entries::{charge_entry, discard_entry, refused_charge_entry, trim_entry};
-use crate::journal::Journal;
+use crate::active::Active;
+use crate::journal::{Journal, Opening, session_entry, twice};
 use snap_accounts::Accounts;
-use snap_call::{Entry, Refusal};
-use snap_ledger::StoreName;
-use snap_record::Record;
+use snap_call::{Call, Config, Entry, Given, Refusal, Reply};
+use snap_ledger::{NewTable, StoreName};
+use snap_record::{Content, Record};
 use snap_usage::Usage;
 use std::alloc::Global;
 use std::marker::Model;
@@ -41,93 +45,55 @@ impl<N: StoreName> Model for Book<N> {
 }
 
 impl<N: StoreName> Book<N> {
-    /// Charges the snapshot for the wanted amount where its namespace's limit covers that, else for
-    /// the needed one; never for less than it is charged already.
+    /// A book with the namespaces of the configuration and no snapshots.
     ///
-    /// `JournalFull` where each further entry is kept for an open snapshot's end; then `OutOfMemory`
-    /// where memory for the entry is refused; then `OverLimit` with what is free. After any of them
-    /// the snapshot is as it was. The cost grows with the records.
-    pub fn charge(
-        &mut self,
-        session: u64,
-        active: &mut Active<N>,
-        need: Usage,
-        want: Usage,
-    ) -> Result<(), Refusal>
-        // Ok: one step of the store, with its entry, and the snapshot's share is what it is charged now.
-        ensures granted { OnOk result (Recorded self.old self.new session (calls.Charge active.old.share.slot active.old.share.id need want) Nothing (Charged active.new.share.usage)) }
-        ensures share { OnOk result (active.new ≡ record active.old { share = record active.old.share { usage = active.new.share.usage } }) }
-        // Err: the refusal is the step's, and the snapshot is as it was.
-        ensures refused { IfErr result (λ why. RefusedBy self.old self.new session (calls.Charge active.old.share.slot active.old.share.id need want) Nothing why) }
-        ensures same { IfErr result (λ why. active.new ≡ active.old) }
-        ensures full { IsErrOf result JournalFull ↔ (self.old.limit ≤ length self.old.journal + open_count self.old.state.records) }
+    /// `BadArgument` where a part of the configuration has not its form; `OutOfMemory` where memory is
+    /// refused.
+    pub fn open(alloc: Global, table: NewTable, config: Config) -> Result<Book<N>, Refusal>
+        requires { table ≡ N.table }
+        ensures opened { IfOk result (λ b. b ≡ record { state = opening config; journal = []; opening = opening config; limit = config.journal; copy = None }) }
+        ensures bad { IsErrOf result BadArgument ↔ (is_config config ≡ false) }
+        ensures err { IfErr result (λ why. (why ≡ BadArgument) ⊎ (why ≡ OutOfMemory)) }
     {
-        self.journal.admit(self.accounts.open_slots(), 1)?;
-        let slot = active.share.slot();
-        let id = active.share.id();
-        match self.accounts.charge(&mut active.share, need, want) {
-            Ok(now) => {
-                let copy = charge_entry(session, slot, id, need, want, now);
-                self.journal
-                    .push(charge_entry(session, slot, id, need, want, now), copy);
-                Ok(())
-            }
-            Err(free) => {
-                let why = Refusal::OverLimit {
-                    free_blocks: free.blocks,
-                    free_inodes: free.inodes,
-                };
-                let copy = refused_charge_entry(session, slot, id, need, want, why);
-                self.journal.push(
-                    refused_charge_entry(session, slot, id, need, want, why),
-                    copy,
-                );
-                Err(why)
-            }
+        if !config.is_valid() {
+            return Err(Refusal::BadArgument);
         }
+        let limit = config.journal;
+        let accounts = Accounts::opening(alloc, table, config)?;
+        let opening = Opening::of(alloc, accounts.state())?;
+        Ok(Book {
+            alloc,
+            accounts,
+            journal: Journal::new(alloc, opening, limit),
+        })
     }
 
-    /// Lowers the snapshot's charge to the count of its layer.
+    /// Opens a session and gives its number, counted from 0.
     ///
-    /// `JournalFull` and `OutOfMemory` as for [`Book::charge`]; the snapshot is then as it was.
-    pub fn trim(&mut self, session: u64, active: &mut Active<N>) -> Result<(), Refusal>
-        ensures granted { OnOk result (Recorded self.old self.new session (calls.Trim active.old.share.slot active.old.share.id) (Count (count_of active.old.layer)) Trimmed) }
-        ensures share { OnOk result (active.new ≡ record active.old { share = record active.old.share { usage = count_of active.old.layer } }) }
-        ensures refused { IfErr result (λ why. RefusedBy self.old self.new session (calls.Trim active.old.share.slot active.old.share.id) (Count (count_of active.old.layer)) why) }
-        ensures same { IfErr result (λ why. active.new ≡ active.old) }
+    /// `JournalFull` and `OutOfMemory` as for [`Book::charge`]; `NumbersSpent` after 65,536 sessions.
+    /// None of them is recorded, and the book is as it was.
+    pub fn open_session(&mut self) -> Result<u64, Refusal>
+        ensures number { IfOk result (λ n. n ≡ self.old.state.sessions) }
+        ensures granted { IfOk result (λ n. Recorded self.old self.new n calls.Session Nothing Opened) }
+        ensures same { OnErr result (self.new ≡ self.old) }
+        ensures err { IfErr result (λ why. IsUnrecorded why ⊎ ((why ≡ NumbersSpent) × (65536 ≤ self.old.state.sessions))) }
         ensures full { IsErrOf result JournalFull ↔ (self.old.limit ≤ length self.old.journal + open_count self.old.state.records) }
     {
         self.journal.admit(self.accounts.open_slots(), 1)?;
-        let slot = active.share.slot();
-        let id = active.share.id();
-        let count = active.count();
-        self.accounts.trim(&mut active.share, count);
-        let copy = trim_entry(session, slot, id, count);
+        let number = self.accounts.state().sessions;
+        if number >= 65_536 {
+            return Err(Refusal::NumbersSpent);
+        }
+        self.accounts.open_session();
         self.journal
-            .push(trim_entry(session, slot, id, count), copy);
-        Ok(())
-    }
-
-    /// Drops the snapshot and frees its slot; the answer is what it was charged.
-    ///
-    /// It has no refusal and takes no memory: the room for its entry was kept when it was prepared.
-    pub fn discard(&mut self, session: u64, held: Held<N>) -> Usage
-        ensures granted { Recorded self.old self.new session (calls.Discard (share_of held).slot (share_of held).id) Nothing (Discarded result) }
-        ensures held { result ≡ (share_of held).usage }
-    {
-        let share = held.into_share();
-        let slot = share.slot();
-        let id = share.id();
-        let held = self.accounts.discard(share);
-        let copy = discard_entry(session, slot, id, held);
-        self.journal
-            .push(discard_entry(session, slot, id, held), copy);
-        held
+            .push(session_entry(number), session_entry(number));
+        Ok(number)
     }
 
     /// Gives once a copy of the entry of the last recorded call.
     pub fn take_entry(&mut self) -> Option<Entry>
         ensures entry { result ≡ self.old.copy }
+        ensures last { IsLast result self.old.journal }
         ensures same { self.new ≡ record self.old { copy = None } }
     {
         self.journal.take_copy()
@@ -146,6 +112,7 @@ impl<N: StoreName> Book<N> {
         ensures records { result.now ≡ self.now.state.records }
         // What holds of every book.
         ensures good { Good self.now.state }
+        ensures began { IsOpening self.now.opening }
         ensures replays { Replays self.now.opening self.now.journal self.now.state }
         ensures below { length self.now.journal + open_count self.now.state.records ≤ self.now.limit }
     {
@@ -164,5 +131,82 @@ impl<N: StoreName> Book<N> {
         ensures { result ≡ self.now.state.sessions }
     {
         self.accounts.state().sessions
+    }
+
+    /// What the namespace is charged, in blocks of 4096 bytes and inodes: the stored usages of its
+    /// committed snapshots and the charges of its active ones. `None` where the store has no such
+    /// namespace. Takes no memory. The cost grows with the number of namespaces.
+    pub fn totals(&self, namespace: &str) -> Option<Usage>
+        ensures charge { result ≡ option_map (λ place. charge_of place self.now.state.records) (place_of namespace.now self.now.state.namespaces) }
+        // The counts over its committed layers, and its open shares.
+        ensures counts { result ≡ option_map (λ place. counts_and_shares place self.now.state.records) (place_of namespace.now self.now.state.namespaces) }
+    {
+        match self.accounts.state().place_of(namespace) {
+            Some(place) => Some(self.accounts.total(place)),
+            None => None,
+        }
+    }
+
+    /// The slot and the id of the active snapshot of this key. `NoNamespace` where the store has no
+    /// such namespace, then `NotFound`, then `NotActive` for a view or a committed snapshot. It leaves
+    /// no entry. Takes no memory. The cost grows with the records.
+    pub fn slot_of(&self, namespace: &str, key: &str) -> Result<(u64, u32), Refusal>
+        ensures { result ≡ slot_of self.now.state namespace.now key.now }
+    {
+        let state = self.accounts.state();
+        let Some(place) = state.place_of(namespace) else {
+            return Err(Refusal::NoNamespace);
+        };
+        let Some(found) = state.records.record_at(place, key) else {
+            return Err(Refusal::NotFound);
+        };
+        match &found.content {
+            Content::Active { slot, charged: _ } => Ok((*slot, found.id)),
+            _ => Err(Refusal::NotActive),
+        }
+    }
+
+    /// Whether the journal has no room for an entry more beside one for the end of each open snapshot:
+    /// then each call that can answer `JournalFull` does. Takes no memory. The cost is constant.
+    pub fn is_full(&self) -> bool
+        ensures { IsTrue result ↔ (self.now.limit ≤ length self.now.journal + open_count self.now.state.records) }
+    {
+        self.journal.is_full(self.accounts.open_slots(), 1)
+    }
+
+    // Records a call that leaves the state as it is, but for the number of entries.
+    pub(crate) fn note(
+        &mut self,
+        session: u64,
+        call: Call,
+        given: Given,
+        reply: Reply,
+    ) -> Result<(), Refusal>
+        requires allowed { IsAllowed self.old.state call given }
+        requires same { step self.old.state call given ≡ (counted self.old.state, reply) }
+        ensures noted { OnOk result (Recorded self.old self.new session call given reply) }
+        ensures unchanged { OnErr result (self.new ≡ self.old) }
+        ensures err { IfErr result IsUnrecorded }
+        ensures full { IsErrOf result JournalFull ↔ (self.old.limit ≤ length self.old.journal + open_count self.old.state.records) }
+    {
+        self.journal.admit(self.accounts.open_slots(), 1)?;
+        let (entry, copy) = twice(session, call, given, reply)?;
+        self.accounts.count_entry();
+        self.journal.push(entry, copy);
+        Ok(())
+    }
+
+    // Records a call that is refused. The answer is the refusal, or why there is no entry.
+    pub(crate) fn refuse(&mut self, session: u64, call: Call, given: Given, why: Refusal) -> Refusal
+        requires recorded { IsRecorded why }
+        requires allowed { IsAllowed self.old.state call given }
+        requires refused { step self.old.state call given ≡ refused self.old.state why }
+        ensures refused { RefusedBy self.old self.new session call given result }
+        ensures full { (result ≡ JournalFull) ↔ (self.old.limit ≤ length self.old.journal + open_count self.old.state.records) }
+    {
+        match self.note(session, call, given, Reply::Refused(why)) {
+            Ok(()) => why,
+            Err(unrecorded) => unrecorded,
+        }
     }
 }

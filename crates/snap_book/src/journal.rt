@@ -1,12 +1,73 @@
-// The journal of a round.
-ghost use Rattle.std.specs.Prelude.{◌≡◌, ◌↔◌, ◌<◌, ◌≤◌, ◌+◌, ◌++◌, ◌∷◌, [], length, None, Some, OnOk, IfErr, IsErrOf, IsTrue};
+// The journal of a round, and its entries.
+ghost use Rattle.std.specs.Prelude.{◌≡◌, ◌↔◌, ◌<◌, ◌≤◌, ◌+◌, ◌++◌, ◌∷◌, [], length, None, Some, OnOk, IfErr, IsErrOf, IsTrue, IfOk};
 ghost use Rattle.snap_call.specs.declared.refusal.Refusal.TheVariants.{JournalFull};
 ghost use Rattle.snap_accounts.specs.Entries.{IsUnrecorded};
+ghost use Rattle.snap_call.specs.Journal.{entry};
+ghost use Rattle.snap_call.specs.declared.call.Call.TheVariants as calls;
+ghost use Rattle.snap_call.specs.declared.call.Given.TheVariants.{Nothing, Count};
+ghost use Rattle.snap_call.specs.declared.reply.Reply.TheVariants.{Opened, Charged, Trimmed, Discarded, Refused};
 
-use crate::opening::Opening;
-use snap_call::{Entry, Refusal};
+use atomic_table::{Play, Seat, Table, TableRule};
+use snap_call::{Call, Entry, Given, Refusal, Reply, State};
+use snap_usage::Usage;
 use std::alloc::{AllocError, Global};
 use std::marker::Model;
+
+/// The rule of the table: it asks nothing.
+pub struct AnyState;
+
+impl TableRule<State, State, State> for AnyState {
+    ghost holds = { λ _ _. Unit {0} };
+
+    ghost first = { λ state. state };
+}
+
+/// A step after which the seat knows the state that is handed in.
+pub struct SetState;
+
+impl Play<State, State> for SetState {
+    ghost use Rattle.snap_book.specs.Opening.{IsSaid};
+
+    ghost then = { IsSaid };
+}
+
+// A state, of which no copy is kept. Contracts see it as that state.
+#[derive(Drop)]
+pub(crate) struct Opening {
+    table: Table<State, State, State, AnyState, Global>,
+    seat: Seat<State, State>,
+}
+
+impl Model for Opening {
+    ghost use Rattle.std.specs.Prelude.{◌≡◌, ◌<◌, []};
+    ghost use Rattle.snap_call.specs.declared.state.State.{State};
+
+    ghost Value = { State };
+
+    ghost view = { λ o. o.seat.me.0 };
+
+    ghost invariant = { λ o. (o.seat.table_id ≡ o.table.shared.table_id) × (0 < o.table.shared.table_id.words) × (o.seat.me.1 ≡ []) };
+}
+
+impl Opening {
+    // It takes memory for a table of one word.
+    pub(crate) fn of(alloc: Global, state: &State) -> Result<Opening, AllocError>
+        ensures { IfOk result (λ o. o ≡ state.now) }
+    {
+        let (table, seat) = Table::of_words(alloc, &[0], state)?;
+        Ok(Opening { table, seat })
+    }
+
+    // Another state. It takes no memory.
+    pub(crate) fn set(&mut self, state: &State)
+        ensures { self.new ≡ state.now }
+    {
+        let table = &self.table;
+        table
+            .shared
+            .compare_exchange_with::<SetState>(&mut self.seat, 0, 1, 1, state);
+    }
+}
 
 // The entries of a round, the state that it began at, the most entries, and a copy of the last entry
 // until it is taken.
@@ -45,7 +106,7 @@ impl Journal {
     }
 
     // The limit is below so many entries more beside one for each open snapshot.
-    fn is_full(&self, owed: u64, more: u64) -> bool
+    pub(crate) fn is_full(&self, owed: u64, more: u64) -> bool
         requires { length self.now.entries + owed ≤ self.now.limit }
         ensures { IsTrue result ↔ (self.now.limit < length self.now.entries + owed + more) }
     {
@@ -106,5 +167,103 @@ impl Journal {
         ensures { result.now ≡ self.now.entries }
     {
         self.entries.as_slice()
+    }
+}
+
+// An entry, and its copy.
+pub(crate) fn twice(
+    session: u64,
+    call: Call,
+    given: Given,
+    reply: Reply,
+) -> Result<(Entry, Entry), AllocError>
+    ensures { IfOk result (λ p. (p.0 ≡ entry session call given reply) × (p.1 ≡ entry session call given reply)) }
+{
+    let entry = Entry {
+        session,
+        call,
+        given,
+        reply,
+    };
+    let copy = entry.clone()?;
+    Ok((entry, copy))
+}
+
+pub(crate) fn session_entry(session: u64) -> Entry
+    ensures { result ≡ entry session calls.Session Nothing Opened }
+{
+    Entry {
+        session,
+        call: Call::Session,
+        given: Given::Nothing,
+        reply: Reply::Opened,
+    }
+}
+
+pub(crate) fn charge_entry(
+    session: u64,
+    slot: u64,
+    id: u32,
+    need: Usage,
+    want: Usage,
+    now: Usage,
+) -> Entry
+    ensures { result ≡ entry session (calls.Charge slot id need want) Nothing (Charged now) }
+{
+    Entry {
+        session,
+        call: Call::Charge {
+            slot,
+            id,
+            need,
+            want,
+        },
+        given: Given::Nothing,
+        reply: Reply::Charged { now },
+    }
+}
+
+pub(crate) fn refused_charge_entry(
+    session: u64,
+    slot: u64,
+    id: u32,
+    need: Usage,
+    want: Usage,
+    why: Refusal,
+) -> Entry
+    ensures { result ≡ entry session (calls.Charge slot id need want) Nothing (Refused why) }
+{
+    Entry {
+        session,
+        call: Call::Charge {
+            slot,
+            id,
+            need,
+            want,
+        },
+        given: Given::Nothing,
+        reply: Reply::Refused(why),
+    }
+}
+
+pub(crate) fn trim_entry(session: u64, slot: u64, id: u32, count: Usage) -> Entry
+    ensures { result ≡ entry session (calls.Trim slot id) (Count count) Trimmed }
+{
+    Entry {
+        session,
+        call: Call::Trim { slot, id },
+        given: Given::Count(count),
+        reply: Reply::Trimmed,
+    }
+}
+
+pub(crate) fn discard_entry(session: u64, slot: u64, id: u32, held: Usage) -> Entry
+    ensures { result ≡ entry session (calls.Discard slot id) Nothing (Discarded held) }
+{
+    Entry {
+        session,
+        call: Call::Discard { slot, id },
+        given: Given::Nothing,
+        reply: Reply::Discarded(held),
     }
 }

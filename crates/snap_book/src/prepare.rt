@@ -17,12 +17,13 @@ ghost use Rattle.snap_book.specs.Book.{Recorded, RefusedBy};
 
 use crate::active::Active;
 use crate::book::Book;
-use crate::recording::twice;
+use crate::journal::twice;
 use snap_accounts::Vacancy;
 use snap_call::{Call, Chain, Entry, Given, Refusal, Reply, State};
 use snap_layer::{Layer, Node, Shared};
 use snap_ledger::{Share, StoreName};
 use snap_path::Path;
+use snap_path::limits::DEFAULT_MODE;
 use snap_record::{Labels, Sequence, Text};
 use std::alloc::{AllocError, Global};
 
@@ -66,7 +67,7 @@ fn mode_of(node: Node) -> u32
 {
     match node {
         Node::Dir { mode, .. } => mode,
-        _ => 493,
+        _ => DEFAULT_MODE,
     }
 }
 
@@ -76,10 +77,10 @@ fn mode_at_root(layer: &Layer, root: &Path) -> u32
     ensures mode { result ≡ mode_of (at layer.now []) }
     ensures low { result ≤ 4095 }
 {
-    let _ = layer.next_number();
+    layer.show_is_layer();
     match layer.at(root) {
         Some(node) => mode_of(node),
-        None => 493,
+        None => DEFAULT_MODE,
     }
 }
 
@@ -90,7 +91,7 @@ pub(crate) fn root_mode(alloc: Global, lowers: &[Shared]) -> u32
 {
     match lowers.first() {
         Some(nearest) => mode_at_root(nearest.layer(), &Path::root(alloc)),
-        None => 493,
+        None => DEFAULT_MODE,
     }
 }
 
@@ -155,6 +156,7 @@ impl<N: StoreName> Active<N> {
 
 impl<N: StoreName> Book<N> {
     // Adds a snapshot where there is room for it, and its entry.
+    #[tactic(auto, using(crate::proofs::Keeping::kept_room))]
     fn add(
         &mut self,
         vacancy: Vacancy,

@@ -8,3 +8,4 @@ mod CodeLemmas
 pub mod Kept
 pub mod Counts
 pub mod Replaying
+pub mod Totals

@@ -6,7 +6,7 @@ use Rattle.snap_usage.specs.Counted.{count_of, Covers}
 use Rattle.snap_lease.specs.Lease.{Lease}
 use Rattle.snap_record.specs.Labels.{Bytes}
 use Rattle.snap_record.specs.declared.record.Content.{Content}
-use Rattle.snap_record.specs.declared.record.Content.TheVariants.{View, Active, Committed}
+use Rattle.snap_record.specs.declared.record.Content.TheVariants.{Active, Committed}
 use Rattle.snap_record.specs.declared.record.Record.{Record}
 use Rattle.snap_call.specs.declared.config.Namespace.{Namespace}
 use Rattle.snap_call.specs.declared.state.State.{State}
@@ -37,15 +37,13 @@ IsGuarding ns rs l = NamesStand rs (place_of l.namespace ns) l.names
 
 -- a committed snapshot's stored usage is the count over its layer
 abbrev pub IsCounted : Content → Type 0
-IsCounted View = Unit {0}
-IsCounted (Active slot charged) = Unit {0}
 IsCounted (Committed layer usage) = usage ≡ count_of layer
+IsCounted content = Unit {0}
 
 -- an active snapshot's slot is one of 0 to 63
 abbrev pub HasPlace : Content → Type 0
-HasPlace View = Unit {0}
 HasPlace (Active slot charged) = slot < 64
-HasPlace (Committed layer usage) = Unit {0}
+HasPlace content = Unit {0}
 
 -- the two are not active in the same slot
 abbrev pub AreApart : Record → Record → Type 0

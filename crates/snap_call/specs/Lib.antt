@@ -4,3 +4,4 @@ pub mod State
 pub mod Good
 pub mod Step
 pub mod Journal
+pub mod Totals

@@ -11,7 +11,7 @@ use Rattle.snap_ledger.specs.States.{ChargeState, free_charge, plus}
 use Rattle.snap_record.specs.Labels.{Bytes}
 use Rattle.snap_record.specs.Records.{no_usage, usage_of}
 use Rattle.snap_record.specs.declared.record.Content.{Content}
-use Rattle.snap_record.specs.declared.record.Content.TheVariants.{View, Active, Committed}
+use Rattle.snap_record.specs.declared.record.Content.TheVariants.{Active, Committed}
 use Rattle.snap_record.specs.declared.record.Record.{Record}
 
 -- the order of the records
@@ -35,9 +35,8 @@ has_key place key rs = list_any (is_named place key) rs
 
 -- a record that is active in this slot
 abbrev pub has_slot : ℕ → Content → Bool
-has_slot slot View = false
 has_slot slot (Active s charged) = s == slot
-has_slot slot (Committed layer usage) = false
+has_slot slot content = false
 
 abbrev pub is_slot : ℕ → Record → Bool
 is_slot slot r = has_slot slot r.content
@@ -48,9 +47,8 @@ active_at slot rs = find (is_slot slot) rs
 
 -- a committed record
 abbrev pub is_committed : Content → Bool
-is_committed View = false
-is_committed (Active slot charged) = false
 is_committed (Committed layer usage) = true
+is_committed content = false
 
 abbrev pub if_committed : Record → Option Record
 if_committed r = if is_committed r.content then Some r else None
@@ -78,9 +76,8 @@ charge_at slot rs = charge_if slot (active_at slot rs)
 
 -- one for an active record
 abbrev pub active_one : Content → ℕ
-active_one View = 0
 active_one (Active slot charged) = 1
-active_one (Committed layer usage) = 0
+active_one content = 0
 
 -- how many snapshots are active
 abbrev pub open_count : List Record → ℕ

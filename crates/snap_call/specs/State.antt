@@ -7,7 +7,7 @@ use Rattle.snap_ledger.specs.States.{plus, minus}
 use Rattle.snap_record.specs.Labels.{Bytes}
 use Rattle.snap_record.specs.Records.{no_usage, usage_of}
 use Rattle.snap_record.specs.declared.record.Content.{Content}
-use Rattle.snap_record.specs.declared.record.Content.TheVariants.{View, Active, Committed}
+use Rattle.snap_record.specs.declared.record.Content.TheVariants.{Committed}
 use Rattle.snap_record.specs.declared.record.Record.{Record}
 use Rattle.snap_call.specs.declared.config.Config.{Config}
 use Rattle.snap_call.specs.declared.config.Namespace.{Namespace}
@@ -90,9 +90,8 @@ abbrev pub ids_of : List Record → List ℕ
 ids_of rs = map (λ r. r.id) rs
 
 abbrev pub with_layer : Content → List Tree → List Tree
-with_layer View layers = layers
-with_layer (Active slot charged) layers = layers
 with_layer (Committed layer usage) layers = layer ∷ layers
+with_layer content layers = layers
 
 abbrev pub layers_of : List Record → List Tree
 layers_of [] = []

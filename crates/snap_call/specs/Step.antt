@@ -11,7 +11,7 @@ use Rattle.snap_record.specs.declared.record.Record.{Record}
 use Rattle.snap_call.specs.declared.call.Call.{Call}
 use Rattle.snap_call.specs.declared.call.Call.TheVariants as calls
 use Rattle.snap_call.specs.declared.call.Given.{Given}
-use Rattle.snap_call.specs.declared.call.Given.TheVariants.{Nothing, Count, Layer}
+use Rattle.snap_call.specs.declared.call.Given.TheVariants.{Count, Layer}
 use Rattle.snap_call.specs.declared.refusal.Refusal.{Refusal}
 use Rattle.snap_call.specs.declared.refusal.Refusal.TheVariants.{BadArgument, NoNamespace, NotFound, AlreadyExists, NotCommitted, NotActive, NoLease, TooDeep, TooManyActives, NumbersSpent}
 use Rattle.snap_call.specs.declared.reply.Reply.{Reply}
@@ -103,8 +103,7 @@ charge s slot need want None = refused s NotActive
 abbrev pub trim : State → ℕ → Given → Option Record → State × Reply
 trim s slot (Count now) (Some r) = (record s { records = recharged slot now s.records; entries = s.entries + 1 }, Trimmed)
 trim s slot (Count now) None = refused s NotActive
-trim s slot Nothing r = refused s BadArgument
-trim s slot (Layer layer) r = refused s BadArgument
+trim s slot given r = refused s BadArgument
 
 -- Commit: the active snapshot gives way to a committed one with the layer and its count. No lease stands yet, so none is found.
 abbrev pub committed : State → ℕ → Bytes → Tree → Record → State × Reply
@@ -127,8 +126,7 @@ commit_as s slot name lease layer None = refused s NotActive
 
 abbrev pub commit : State → ℕ → Bytes → Option Bytes → Given → State × Reply
 commit s slot name lease (Layer layer) = commit_as s slot name lease layer (active_at slot s.records)
-commit s slot name lease Nothing = refused s BadArgument
-commit s slot name lease (Count now) = refused s BadArgument
+commit s slot name lease given = refused s BadArgument
 
 -- Discard: the record goes, and what it was charged is answered
 abbrev pub discard : State → ℕ → Option Record → State × Reply
@@ -170,21 +168,17 @@ IsCovered id now (Some r) = (r.id ≡ id) × Covers (usage_of r.content) now
 
 abbrev pub TrimAllowed : ℕ → Given → Option Record → Type 0
 TrimAllowed id (Count now) r = IsCovered id now r
-TrimAllowed id Nothing r = ⊥
-TrimAllowed id (Layer layer) r = ⊥
+TrimAllowed id given r = ⊥
 
 abbrev pub CommitAllowed : ℕ → Given → Option Record → Type 0
 CommitAllowed id (Layer layer) r = IsCovered id (count_of layer) r
-CommitAllowed id Nothing r = ⊥
-CommitAllowed id (Count now) r = ⊥
+CommitAllowed id given r = ⊥
 
 -- the condition of a call: its slot is open under its id, and the charge covers what the value has; a session is opened only where one is left
 abbrev pub IsAllowed : State → Call → Given → Type 0
 IsAllowed s calls.Session given = s.sessions < 65536
-IsAllowed s (calls.Prepare namespace key parent labels) given = Unit {0}
 IsAllowed s (calls.Charge slot id need want) given = IsOpen id (active_at slot s.records)
 IsAllowed s (calls.Trim slot id) given = TrimAllowed id given (active_at slot s.records)
 IsAllowed s (calls.Commit slot id name lease) given = CommitAllowed id given (active_at slot s.records)
 IsAllowed s (calls.Discard slot id) given = IsOpen id (active_at slot s.records)
-IsAllowed s (calls.Stat namespace key) given = Unit {0}
-IsAllowed s (calls.Usage namespace key) given = Unit {0}
+IsAllowed s call given = Unit {0}

@@ -6,7 +6,7 @@ use snap_usage::Usage;
 use std::alloc::AllocError;
 
 /// A call on the store.
-#[derive(Debug, Drop, PartialEq, Eq)]
+#[derive(Debug, PartialEq, Eq)]
 pub enum Call {
     /// Opens a session.
     Session,
@@ -54,13 +54,59 @@ pub enum Call {
 }
 
 /// What the value handed in adds to a call.
-#[derive(Debug, Drop, PartialEq, Eq)]
+#[derive(Debug, PartialEq, Eq)]
 pub enum Given {
     Nothing,
     /// The count of the layer of an active snapshot that is trimmed.
     Count(Usage),
     /// The layer that is committed.
     Layer(Shared),
+}
+
+impl Drop for Call {
+    fn drop(self) {
+        match self {
+            Call::Session => {}
+            Call::Prepare {
+                namespace: _,
+                key: _,
+                parent: _,
+                labels: _,
+            } => {}
+            Call::Charge {
+                slot: _,
+                id: _,
+                need: _,
+                want: _,
+            } => {}
+            Call::Trim { slot: _, id: _ } => {}
+            Call::Commit {
+                slot: _,
+                id: _,
+                name: _,
+                lease: _,
+            } => {}
+            Call::Discard { slot: _, id: _ } => {}
+            Call::Stat {
+                namespace: _,
+                key: _,
+            } => {}
+            Call::Usage {
+                namespace: _,
+                key: _,
+            } => {}
+        }
+    }
+}
+
+impl Drop for Given {
+    fn drop(self) {
+        match self {
+            Given::Nothing => {}
+            Given::Count(_) => {}
+            Given::Layer(_) => {}
+        }
+    }
 }
 
 /// A copy of each text and each label.

@@ -6,7 +6,7 @@ use crate::same::{is_same_call, is_same_given, is_same_reply};
 use std::alloc::AllocError;
 
 /// An entry of the journal: a call of a session, what was handed in with it, and the reply.
-#[derive(Debug, Drop, PartialEq, Eq)]
+#[derive(Debug, PartialEq, Eq)]
 pub struct Entry {
     pub session: u64,
     pub call: Call,
@@ -14,7 +14,31 @@ pub struct Entry {
     pub reply: Reply,
 }
 
+impl Drop for Entry {
+    fn drop(self) {
+        let Entry {
+            session: _,
+            call: _,
+            given: _,
+            reply: _,
+        } = self;
+    }
+}
+
 impl Entry {
+    /// Its reply. The rest goes.
+    pub fn into_reply(self) -> Reply
+        ensures { result ≡ self.reply }
+    {
+        let Entry {
+            session: _,
+            call: _,
+            given: _,
+            reply,
+        } = self;
+        reply
+    }
+
     /// Whether the entries are equal in all parts. Its cost grows with what is compared.
     pub fn is_same(&self, other: &Entry) -> bool
         ensures { IsTrue result ↔ (self.now ≡ other.now) }

@@ -59,10 +59,7 @@ impl State {
     {
         match self.namespaces.as_slice().get(place) {
             Some(namespace) => namespace.limit,
-            None => Usage {
-                blocks: 0,
-                inodes: 0,
-            },
+            None => Usage::ZERO,
         }
     }
 }

@@ -24,7 +24,7 @@ use Rattle.snap_copyup.specs.Copying.{below, with_object, with_parents, copied_u
 use Rattle.snap_copyup.specs.Places.{with_last, Fits, last_of}
 use Rattle.snap_copyup.proofs.Alone.{below_seen, copied_there, copied_missing}
 use Rattle.snap_copyup.proofs.Elsewhere.{Puts, shown_same, shown_number, seen-put_hiding}
-use Rattle.snap_copyup.proofs.Parents.{AddsParents, adds_parents, one_dir}
+use Rattle.snap_copyup.proofs.ParentDirs.{AddsParents, adds_parents, one_dir}
 use Rattle.snap_copyup.proofs.Wholes.{IsWholeObject, whole_below, vacant}
 
 -- ---- a new file or symlink

@@ -24,12 +24,12 @@ use Rattle.snap_layer.proofs.Laws.{sorted-with_entry}
 use Rattle.snap_merge.specs.Objects.{Object, dir, file, symlink, seen, is_shown_dir}
 use Rattle.snap_merge.specs.Walk.{walk, walk_from}
 use Rattle.snap_merge.proofs.Views.{walk_same}
-use Rattle.snap_copyup.specs.declared.putting.Last.{Last}
-use Rattle.snap_copyup.specs.declared.putting.Last.TheVariants.{Nothing, Dir, File, Symlink, Whiteout}
+use Rattle.snap_copyup.specs.declared.parents.Last.{Last}
+use Rattle.snap_copyup.specs.declared.parents.Last.TheVariants.{Nothing, Dir, File, Symlink, Whiteout}
 use Rattle.snap_copyup.specs.Copying.{below, copied, with_object, with_parents_from, with_parents}
 use Rattle.snap_copyup.specs.Places.{with_last, TakesMore, missing_from}
 use Rattle.snap_copyup.proofs.Alone.{walk_passes, below_seen}
-use Rattle.snap_copyup.proofs.Parents.{AddsParents, dir_copied}
+use Rattle.snap_copyup.proofs.ParentDirs.{AddsParents, dir_copied}
 
 -- ---- directories
 

@@ -17,12 +17,12 @@ use Rattle.snap_layer.proofs.Filling.{dir_becomes, whiteout_becomes, file_become
 use Rattle.snap_merge.specs.Objects.{Object, dir, file, symlink, seen, is_shown_dir, AreLayers}
 use Rattle.snap_merge.specs.Walk.{walk, walk_from}
 use Rattle.snap_merge.proofs.Views.{walk_same}
-use Rattle.snap_copyup.specs.declared.putting.Last.{Last}
-use Rattle.snap_copyup.specs.declared.putting.Last.TheVariants.{Nothing, Dir, File, Symlink, Whiteout}
+use Rattle.snap_copyup.specs.declared.parents.Last.{Last}
+use Rattle.snap_copyup.specs.declared.parents.Last.TheVariants.{Nothing, Dir, File, Symlink, Whiteout}
 use Rattle.snap_copyup.specs.Copying.{below, copied, with_object, with_parents_from, with_parents, copied_up}
 use Rattle.snap_copyup.specs.Places.{with_last, Fits, ParentStands, last_of}
 use Rattle.snap_copyup.proofs.Alone.{walk_passes, below_seen, copied_there, copied_missing, some_dir}
-use Rattle.snap_copyup.proofs.Parents.{AddsParents, adds_parents, dir_copied, copied_stands, parents_stand}
+use Rattle.snap_copyup.proofs.ParentDirs.{AddsParents, adds_parents, dir_copied, copied_stands, parents_stand}
 use Rattle.snap_copyup.proofs.Growing.{grows_once, grows_from, last_inodes}
 use Rattle.snap_copyup.proofs.Wholes.{IsWholeObject, whole_below}
 use Rattle.snap_copyup.proofs.Steps.{room, place, fits_same}

@@ -1,6 +1,6 @@
 pub mod Alone
 pub mod Elsewhere
-pub mod Parents
+pub mod ParentDirs
 pub mod Growing
 pub mod Wholes
 pub mod Steps

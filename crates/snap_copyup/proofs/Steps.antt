@@ -16,12 +16,12 @@ use Rattle.snap_merge.specs.Objects.{Object, dir, file, symlink, seen, is_shown_
 use Rattle.snap_merge.specs.Walk.{walk_from}
 use Rattle.snap_merge.proofs.Views.{walk_same}
 use Rattle.snap_merge.proofs.Walking.{walk_more}
-use Rattle.snap_copyup.specs.declared.putting.Last.{Last}
-use Rattle.snap_copyup.specs.declared.putting.Last.TheVariants.{Nothing, Dir, File, Symlink, Whiteout}
+use Rattle.snap_copyup.specs.declared.parents.Last.{Last}
+use Rattle.snap_copyup.specs.declared.parents.Last.TheVariants.{Nothing, Dir, File, Symlink, Whiteout}
 use Rattle.snap_copyup.specs.Copying.{below, copied, with_object, with_parents_from}
 use Rattle.snap_copyup.specs.Places.{with_last, IsVacant, Fits, ParentStands}
 use Rattle.snap_copyup.proofs.Alone.{walk_passes, below_seen, copied_there, copied_missing, dir_there_over, some_dir}
-use Rattle.snap_copyup.proofs.Parents.{AddsParents, adds_from, dir_copied, copied_stands}
+use Rattle.snap_copyup.proofs.ParentDirs.{AddsParents, adds_from, dir_copied, copied_stands}
 use Rattle.snap_copyup.proofs.Growing.{grows_once, grows_from, last_inodes}
 
 -- ---- one name further

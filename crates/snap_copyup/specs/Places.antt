@@ -11,8 +11,8 @@ use Rattle.snap_layer.specs.Edits.{with_entry, with_new, with_node, IsFree}
 use Rattle.snap_merge.specs.Objects.{Object, dir, file, symlink}
 use Rattle.snap_merge.specs.declared.error.FsError.{FsError}
 use Rattle.snap_merge.specs.declared.error.FsError.TheVariants.{LayerFull, OutOfMemory}
-use Rattle.snap_copyup.specs.declared.putting.Last.{Last}
-use Rattle.snap_copyup.specs.declared.putting.Last.TheVariants.{Nothing, Dir, File, Symlink, Whiteout}
+use Rattle.snap_copyup.specs.declared.parents.Last.{Last}
+use Rattle.snap_copyup.specs.declared.parents.Last.TheVariants.{Nothing, Dir, File, Symlink, Whiteout}
 
 -- the layer with it: a directory, a file or a symlink with the next number, or a whiteout
 abbrev pub with_last : Last → Tree → Names → Tree

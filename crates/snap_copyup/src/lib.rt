@@ -6,14 +6,8 @@
 //! the nearest first.
 #![tactic(auto)]
 
-mod adding;
-mod copying;
-mod looking;
-mod missing;
-mod putting;
+mod lower;
+mod parents;
 
-pub use adding::{ensure_dirs, put};
-pub use copying::copy_up;
-pub use looking::{below, is_pure};
-pub use missing::{missing_dirs, missing_dirs_of_both};
-pub use putting::Last;
+pub use lower::{below, copy_up, is_pure};
+pub use parents::{Last, ensure_dirs, missing_dirs, missing_dirs_of_both, put};

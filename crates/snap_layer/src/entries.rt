@@ -4,18 +4,16 @@ ghost use Rattle.std.specs.Option.{option_copied};
 ghost use Rattle.std.specs.List.{list_all};
 ghost use Rattle.std.specs.Map.{lookup, values_of};
 ghost use Rattle.std.specs.BTreeMap.{is_at, insert_entry, IsOrdered};
-ghost use Rattle.snap_layer.specs.Tree.{path_cmp, begins, name_below, names_below, has_number, is_dir, is_whiteout};
+ghost use Rattle.snap_layer.specs.Tree.{path_cmp, begins, name_below, is_dir, is_whiteout};
 ghost use Rattle.snap_layer.specs.Counts.{name_count};
 ghost use Rattle.snap_layer.specs.Edits.{inside, outside, relocated, relocate, put_all, with_moved, IsFree};
 ghost use Rattle.snap_path.specs.Text.{Names, IsPath, text_of};
 
 use super::node::Node;
+use snap_path::limits::MAX_PATH_BYTES;
 use snap_path::{Name, Path};
 use std::alloc::AllocError;
 use std::collections::BTreeMap;
-
-/// The most bytes of a path.
-const MOST_BYTES: usize = 4095;
 
 /// Whether the names are those of the front, or go on below it.
 pub(crate) fn begins(front: &[Name], names: &[Name]) -> bool
@@ -192,6 +190,7 @@ pub(crate) fn are_short(entries: &BTreeMap<Path, Node>, from: &Path, to: &Path) 
     let front = from.as_str().len();
     let target = to.as_str().len();
     entries.iter().all(|(other, _)| {
-        !begins(from.names(), other.names()) || other.as_str().len() + target <= MOST_BYTES + front
+        !begins(from.names(), other.names())
+            || other.as_str().len() + target <= MAX_PATH_BYTES + front
     })
 }

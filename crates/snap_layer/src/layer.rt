@@ -1,10 +1,10 @@
-ghost use Rattle.std.specs.Prelude.{◌≡◌, ◌↔◌, ◌<◌, ◌≤◌, ◌+◌, ℕ, [], ◌++◌, Some, None, IfOk, IfSome, OnOk, OnErr, IsErrOf, IsSome, IsTrue, length, take, find, nat_lt, true, false};
+ghost use Rattle.std.specs.Prelude.{◌≡◌, ◌↔◌, ◌<◌, ◌≤◌, ◌+◌, ℕ, [], ◌++◌, Some, None, IfOk, OnOk, OnErr, IsErrOf, IsSome, IsTrue, length, take, find, nat_lt, true, false};
 ghost use Rattle.std.specs.Option.{option_copied};
 ghost use Rattle.std.specs.Map.{keys_of};
 ghost use Rattle.snap_path.specs.Text.{Names, IsPath, text_below};
 ghost use Rattle.snap_layer.specs.Tree.{Tree, at, body, number_at, names_below, number_of, has_number, IsDirAt};
 ghost use Rattle.snap_layer.specs.Counts.{dir_count, whiteout_count, name_count, inode_count, block_count, is_within};
-ghost use Rattle.snap_layer.specs.Layers.{IsLayer, IsFile, IsWhole, is_target};
+ghost use Rattle.snap_layer.specs.Layers.{IsLayer, IsFile, is_target};
 ghost use Rattle.snap_layer.specs.Equal.{tree_eq};
 ghost use Rattle.snap_layer.specs.Edits.{root_only, with_entry, with_node, with_new, with_name, name_of, with_bytes, with_mode, with_file_mode, with_opaque, with_moved, without, HasParent, HasRoom, HasPlace, IsTakeable, IsMovable, IsRegular, HasMode};
 
@@ -15,13 +15,11 @@ use super::entries::{
 };
 use super::error::LayerError;
 use super::node::{Body, Bytes, Node};
+use snap_path::limits::MAX_INODES;
 use snap_path::{Name, Path};
 use std::alloc::{AllocError, Global};
 use std::collections::BTreeMap;
 use std::marker::Model;
-
-/// The most inodes of a layer.
-const MOST_INODES: usize = 65_536;
 
 /// A layer of a file system in memory: what stands at its paths, the bodies of its files and symlinks,
 /// and the number of its next file.
@@ -182,7 +180,7 @@ impl Layer {
         ensures path { IsPath path.now }
     {
         let _ = path.names();
-        let _ = self.next_number();
+        self.show_is_layer();
         let Some(node) = self.at(path) else {
             return self.inodes;
         };
@@ -212,12 +210,19 @@ impl Layer {
 
     /// The number that the next file or symlink gets; at 4,294,967,295 the numbers are used up.
     ///
-    /// Each layer is one by `IsLayer`, and this call says so to a caller. The cost is constant.
+    /// The cost is constant.
     pub fn next_number(&self) -> u32
         ensures next { result ≡ self.now.next }
         ensures layer { IsLayer self.now }
     {
         self.next
+    }
+
+    /// Shows a proof that the layer is one by `IsLayer`. When it runs it does nothing.
+    pub fn show_is_layer(&self)
+        ensures layer { IsLayer self.now }
+    {
+        let _next = self.next;
     }
 
     /// The allocator that the layer keeps. The cost is constant.
@@ -313,7 +318,7 @@ impl Layer {
     pub fn can_move(&self, from: &Path, to: &Path) -> bool
         ensures { IsTrue result ↔ IsMovable self.now from.now to.now }
     {
-        let _ = self.next_number();
+        self.show_is_layer();
         if self.at(from).is_none() || !self.has_place(to) {
             return false;
         }
@@ -331,7 +336,7 @@ impl Layer {
         requires to { to.now ≡ [] → ⊥ }
         ensures { IsTrue result ↔ ((r : Names) → IsSome (at self.now (from.now ++ r)) → length (text_below (to.now ++ r)) ≤ 4095) }
     {
-        let _ = self.next_number();
+        self.show_is_layer();
         are_short(&self.entries, from, to)
     }
 
@@ -349,9 +354,9 @@ impl Layer {
         ensures sure { IsErrOf result LayerError.OutOfMemory → at self.old path.now ≡ None }
         ensures err { OnErr result (self.new ≡ self.old) }
     {
-        let _ = self.next_number();
+        self.show_is_layer();
         let inodes = self.inodes_without(path) + 1;
-        if inodes > MOST_INODES {
+        if inodes > MAX_INODES {
             return Err(LayerError::LayerFull);
         }
         Ok(self.replace(path, Node::Dir { mode, opaque }, inodes)?)
@@ -377,7 +382,7 @@ impl Layer {
         if number == u32::MAX {
             return Err(LayerError::LayerFull);
         }
-        if inodes > MOST_INODES {
+        if inodes > MAX_INODES {
             return Err(LayerError::LayerFull);
         }
         self.insert(
@@ -406,7 +411,7 @@ impl Layer {
         if number == u32::MAX {
             return Err(LayerError::LayerFull);
         }
-        if inodes > MOST_INODES {
+        if inodes > MAX_INODES {
             return Err(LayerError::LayerFull);
         }
         self.insert(
@@ -431,7 +436,7 @@ impl Layer {
         ensures sure { OnErr result (at self.old path.now ≡ None) }
         ensures err { OnErr result (self.new ≡ self.old) }
     {
-        let _ = self.next_number();
+        self.show_is_layer();
         let inodes = self.inodes_without(path);
         match self.bodies.get(&number) {
             Some(Body::File { .. }) => return self.replace(path, Node::File { number }, inodes),
@@ -457,9 +462,9 @@ impl Layer {
         ensures sure { IsErrOf result LayerError.OutOfMemory → at self.old path.now ≡ None }
         ensures err { OnErr result (self.new ≡ self.old) }
     {
-        let _ = self.next_number();
+        self.show_is_layer();
         let inodes = self.inodes_without(path) + 1;
-        if inodes > MOST_INODES {
+        if inodes > MAX_INODES {
             return Err(LayerError::LayerFull);
         }
         Ok(self.replace(path, Node::Whiteout, inodes)?)
@@ -473,7 +478,7 @@ impl Layer {
         requires { IsTakeable self.old path.now }
         ensures { self.new ≡ without self.old path.now }
     {
-        let _ = self.next_number();
+        self.show_is_layer();
         let inodes = self.inodes_without(path);
         let number = self.number_at(path);
         take_entries(&mut self.entries, path);
@@ -495,9 +500,9 @@ impl Layer {
         ensures full { IsErrOf result LayerError.LayerFull ↔ (is_within (with_moved self.old from.now to.now leaves) ≡ false) }
         ensures err { OnErr result (self.new ≡ self.old) }
     {
-        let _ = self.next_number();
+        self.show_is_layer();
         let inodes = self.inodes_without(to) + usize::from(leaves);
-        if inodes > MOST_INODES {
+        if inodes > MAX_INODES {
             return Err(LayerError::LayerFull);
         }
         Ok(self.relocate(from, to, leaves, inodes)?)
@@ -527,7 +532,7 @@ impl Layer {
         ensures { self.new ≡ with_opaque self.old path.now (at self.old path.now) opaque }
     {
         let inodes = self.inodes();
-        let _ = self.next_number();
+        self.show_is_layer();
         if let Some(Node::Dir { mode, .. }) = self.at(path) {
             let _ = self.put(path, Node::Dir { mode, opaque }, inodes);
         }
@@ -543,7 +548,7 @@ impl Layer {
         ensures { self.new ≡ with_mode self.old path.now (at self.old path.now) mode }
     {
         let inodes = self.inodes();
-        let _ = self.next_number();
+        self.show_is_layer();
         match self.at(path) {
             Some(Node::Dir { opaque, .. }) => {
                 let _ = self.put(path, Node::Dir { mode, opaque }, inodes);
@@ -561,7 +566,7 @@ impl Layer {
         requires mode { mode ≤ 4095 }
         ensures { self.new ≡ with_file_mode self.old number (body self.old number) mode }
     {
-        let _ = self.next_number();
+        self.show_is_layer();
         set_file_mode(&mut self.bodies, number, mode);
     }
 

@@ -48,7 +48,7 @@ impl Shared {
         ensures layer { IsLayer self.now }
     {
         let layer: &Layer = &self.layer;
-        let _ = layer.next_number();
+        layer.show_is_layer();
         layer
     }
 }

@@ -18,10 +18,7 @@ impl Holding {
     {
         Holding {
             id: 0,
-            usage: Usage {
-                blocks: 0,
-                inodes: 0,
-            },
+            usage: Usage::ZERO,
         }
     }
 }

@@ -7,8 +7,8 @@ use Rattle.snap_layer.specs.declared.node.Body.{Body}
 use Rattle.snap_layer.specs.declared.node.Body.TheVariants as body_kinds
 use Rattle.snap_layer.specs.Tree.{Tree, at, body, hides}
 use Rattle.snap_layer.specs.Layers.{IsLayer}
-use Rattle.snap_merge.specs.declared.seen.Seen.{Seen}
-use Rattle.snap_merge.specs.declared.seen.Seen.TheVariants as seen_kinds
+use Rattle.snap_merge.specs.declared.look.Seen.{Seen}
+use Rattle.snap_merge.specs.declared.look.Seen.TheVariants as seen_kinds
 
 -- a directory with its mode, a regular file with its mode and bytes, or a symlink with its target
 pub data Object : Type 0 where

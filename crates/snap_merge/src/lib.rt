@@ -6,14 +6,10 @@
 #![tactic(auto)]
 
 mod error;
-mod list;
 mod look;
 mod resolve;
-mod seen;
 mod stack;
-mod words;
 
 pub use error::FsError;
-pub use look::hides;
-pub use seen::Seen;
+pub use look::{Seen, hides, is_dir, show_are_layers};
 pub use stack::Stack;

@@ -1,14 +1,24 @@
-// What one layer says of a path, and the lower layers one after another.
+// What is seen at a path: what one layer says of it, and the lower layers one after another.
 ghost use Rattle.std.specs.Prelude.{◌≡◌, ◌≤◌, length, take};
 ghost use Rattle.std.specs.Option.{option_map};
 ghost use Rattle.snap_layer.specs.Tree.{body, hides, node_hides};
-ghost use Rattle.snap_merge.specs.Objects.{object, shown, shown_body, seen, AreLayers};
+ghost use Rattle.snap_merge.specs.Objects.{object, shown, shown_body, seen, is_shown_dir, AreLayers};
 ghost use Rattle.snap_merge.specs.Decision.{Decides};
 ghost use Rattle.snap_merge.specs.Rules.{LayerRules};
 
-use super::seen::Seen;
 use snap_layer::{Body, Layer, Node, Shared};
 use snap_path::Path;
+
+/// What is seen at a path. Bytes and targets are lent by the layer that has them.
+#[derive(Clone, Copy, Debug)]
+pub enum Seen<'a> {
+    /// A directory. Where several layers have it, the mode is the topmost one's.
+    Dir { mode: u32 },
+    /// A regular file.
+    File { mode: u32, bytes: &'a [u8] },
+    /// A symlink.
+    Symlink { target: &'a [u8] },
+}
 
 /// What one layer says of a path.
 #[derive(Clone, Copy)]
@@ -33,13 +43,21 @@ pub(crate) fn look_below<'a>(lowers: &'a [Shared], path: &Path, names: usize) ->
     None
 }
 
-/// Goes over the layers. Each is one by `IsLayer`, and its lender says so.
-pub(crate) fn visit(lowers: &[Shared])
+/// Shows a proof that each of the layers is one by `IsLayer`. It changes nothing, and its cost grows with
+/// their number.
+pub fn show_are_layers(lowers: &[Shared])
     ensures { AreLayers lowers.now }
 {
     for shared in lowers {
         let _ = shared.layer();
     }
+}
+
+/// Whether a directory is seen.
+pub fn is_dir(seen: Option<Seen<'_>>) -> bool
+    ensures { result ≡ is_shown_dir (option_map object seen.entry) }
+{
+    matches!(seen, Some(Seen::Dir { .. }))
 }
 
 /// What the layer says of the path of the first so many names.

@@ -1,5 +1,6 @@
 // Where a path leads when its symlinks are followed.
-ghost use Rattle.std.specs.Prelude.{◌≡◌, ◌≤◌, ◌∷◌, ◌++◌, [], false, length};
+ghost use Rattle.std.specs.Prelude.{◌≡◌, ◌≤◌, ◌∷◌, ◌++◌, [], ℕ, List, map, MatchOption, IfOk, OnOk, false, length};
+ghost use Rattle.std.specs.Borrow.{Bor};
 ghost use Rattle.snap_path.specs.Text.{Names, text_below};
 ghost use Rattle.snap_merge.specs.Objects.{seen};
 ghost use Rattle.snap_merge.specs.Walk.{Answers};
@@ -7,20 +8,12 @@ ghost use Rattle.snap_merge.specs.Resolving.{Answer, is_here, is_above, is_too_l
 ghost use Rattle.snap_merge.specs.Arrivals.{Leads, Ends};
 
 use super::error::FsError;
-use super::seen::Seen;
+use super::look::Seen;
 use super::stack::Stack;
-use super::words::Words;
 use snap_path::Path;
-use std::alloc::Global;
-
-/// The most symlinks that are followed (path_resolution(7)).
-const MOST_LINKS: u32 = 40;
-
-/// The most bytes of a name: `NAME_MAX` of limits.h.
-const MOST_NAME_BYTES: usize = 255;
-
-/// The most bytes of a path's text: `PATH_MAX` of limits.h without its closing NUL.
-const MOST_PATH_BYTES: usize = 4095;
+use snap_path::limits::{MAX_LINKS, MAX_NAME_BYTES, MAX_PATH_BYTES};
+use std::alloc::{AllocError, Global};
+use std::marker::Model;
 
 /// How far a way was gone.
 #[derive(Drop)]
@@ -37,7 +30,7 @@ pub(crate) fn resolve(stack: &Stack<'_>, alloc: Global, path: &Path) -> Result<P
 {
     let mut words = Words::of(alloc, path)?;
     let mut place = Path::root(alloc);
-    let mut links = MOST_LINKS;
+    let mut links = MAX_LINKS;
     loop {
         match advance(stack, alloc, place, &mut words)? {
             Arrival::Place(place) => return Ok(place),
@@ -125,7 +118,7 @@ fn is_above(word: &[u8]) -> bool
 fn is_too_long(place: &Path, word: &[u8]) -> bool
     ensures { result ≡ is_too_long place.now word.now }
 {
-    word.len() > MOST_NAME_BYTES || text_len(place) + 1 + word.len() > MOST_PATH_BYTES
+    word.len() > MAX_NAME_BYTES || text_len(place) + 1 + word.len() > MAX_PATH_BYTES
 }
 
 /// The length of the path's text without the `/` that stands for the root.
@@ -159,4 +152,61 @@ fn enter<'a>(
         Some(Seen::File { .. }) => Ok(Arrival::Place(path)),
         None => Err(FsError::NotFound),
     }
+}
+
+/// The words of a path that are still to be resolved, the next one first. Contracts see their list.
+#[derive(Drop)]
+pub(crate) struct Words<'w> {
+    parts: Vec<&'w [u8]>,
+    next: usize,
+}
+
+impl<'w> Model for Words<'w> {
+    ghost use Rattle.std.specs.Prelude.{List, ℕ, ◌≤◌, drop, map, length};
+    ghost use Rattle.std.specs.Borrow.{Bor};
+
+    ghost Value = { List (List ℕ) };
+
+    ghost view = { λ w. map (λ (part : Bor (List ℕ)). part.now) (drop w.next w.parts.items) };
+
+    ghost invariant = { λ w. w.next ≤ length w.parts.items };
+}
+
+impl<'w> Words<'w> {
+    /// The names of a path.
+    pub(crate) fn of(alloc: Global, path: &'w Path) -> Result<Words<'w>, AllocError>
+        ensures { IfOk result (λ words. words ≡ path.now) }
+    {
+        let mut parts = Vec::new(alloc);
+        for name in path.names() {
+            parts.push(name.as_str().as_bytes())?;
+        }
+        Ok(Words { parts, next: 0 })
+    }
+
+    /// Takes the next word.
+    pub(crate) fn take(&mut self) -> Option<&'w [u8]>
+        ensures { MatchOption result ((self.old ≡ []) × (self.new ≡ [])) (λ word. self.old ≡ word.now ∷ self.new) }
+    {
+        let word = *self.parts.get(self.next)?;
+        self.next += 1;
+        Some(word)
+    }
+
+    /// Puts the words of a symlink's target before the others.
+    pub(crate) fn put_target(&mut self, alloc: Global, target: &'w [u8]) -> Result<(), AllocError>
+        ensures { OnOk result (self.new ≡ words_of target.now ++ self.old) }
+    {
+        let mut parts = split_words(alloc, target)?;
+        parts.extend_from_slice(&self.parts[self.next..])?;
+        *self = Words { parts, next: 0 };
+        Ok(())
+    }
+}
+
+/// The words of a symlink's target.
+fn split_words<'w>(alloc: Global, target: &'w [u8]) -> Result<Vec<&'w [u8]>, AllocError>
+    ensures { IfOk result (λ parts. map (λ (part : Bor (List ℕ)). part.now) parts.items ≡ words_of target.now) }
+{
+    target.split(|byte| *byte == b'/').collect(alloc)
 }

@@ -3,16 +3,14 @@ ghost use Rattle.std.specs.Option.{option_map};
 ghost use Rattle.snap_merge.specs.Objects.{object, seen, is_shown_dir, AreLayers};
 ghost use Rattle.snap_merge.specs.Walk.{walk, Answers};
 ghost use Rattle.snap_merge.specs.Reading.{reading};
-ghost use Rattle.snap_merge.specs.Listing.{gathered, names, listing, IsListing};
+ghost use Rattle.snap_merge.specs.Listing.{gathered, names, listing, put_names, IsListing};
 ghost use Rattle.snap_merge.specs.Resolving.{is_too_long, resolution};
 ghost use Rattle.snap_merge.specs.Rules.{ResolvingRules};
 ghost use Rattle.snap_path.specs.Text.{IsPath};
 
 use super::error::FsError;
-use super::list::{gather, put_names};
-use super::look::{Decision, decide, look_below, visit};
+use super::look::{Decision, Seen, decide, is_dir, look_below, show_are_layers};
 use super::resolve::resolve;
-use super::seen::Seen;
 use snap_layer::{Layer, Shared};
 use snap_path::{Name, Path};
 use std::alloc::{AllocError, Global};
@@ -87,14 +85,14 @@ impl<'a> Stack<'a> {
         look_below(self.lowers, path, names)
     }
 
-    /// Goes over the layers. Each is one by `IsLayer`, and this says so.
-    fn visit(&self)
+    /// Shows a proof that each of the layers is one by `IsLayer`.
+    fn show_are_layers(&self)
         ensures { AreLayers self.now }
     {
         if let Some(top) = self.top {
-            let _ = top.next_number();
+            top.show_is_layer();
         }
-        visit(self.lowers);
+        show_are_layers(self.lowers);
     }
 
     /// Walks to the path: each directory above it, from the root on, has to be seen. No symlink is
@@ -112,7 +110,7 @@ impl<'a> Stack<'a> {
         // Each layer is one by `IsLayer`, and this call says so to a caller.
         ensures layers { AreLayers self.now }
     {
-        self.visit();
+        self.show_are_layers();
         for names in 0..path.names().len() {
             match self.look_front(path, names) {
                 Some(Seen::Dir { .. }) => {}
@@ -169,7 +167,7 @@ impl<'a> Stack<'a> {
         ensures ok { IfOk result (λ v. v.items ≡ names self.now path.now) }
         ensures err { IfErr result (λ e. e ≡ FsError.OutOfMemory) }
     {
-        self.visit();
+        self.show_are_layers();
         let mut names = Vec::new(alloc);
         for name in self.gathered(alloc, path)? {
             if self.is_seen_in(path, &name)? {
@@ -216,7 +214,7 @@ impl<'a> Stack<'a> {
         // A path without symlinks leads to itself, and each path to what is no symlink.
         ensures rules { ResolvingRules self.now path.now }
     {
-        self.visit();
+        self.show_are_layers();
         let _ = path.names();
         resolve(self, alloc, path)
     }
@@ -225,12 +223,7 @@ impl<'a> Stack<'a> {
     pub(crate) fn is_dir(&self, path: &Path) -> bool
         ensures { result ≡ is_shown_dir (seen self.now path.now) }
     {
-        match self.look(path) {
-            Some(Seen::Dir { .. }) => true,
-            Some(Seen::File { .. }) => false,
-            Some(Seen::Symlink { .. }) => false,
-            None => false,
-        }
+        is_dir(self.look(path))
     }
 
     /// The path of the directory's entry of this name, where a layer has one.
@@ -251,4 +244,28 @@ impl<'a> Stack<'a> {
         }
         Ok(None)
     }
+}
+
+/// Puts the names among the others, each once.
+pub(crate) fn put_names(all: &mut BTreeSet<Name>, names: Vec<Name>) -> Result<(), AllocError>
+    ensures { OnOk result (all.new.keys ≡ put_names names.items all.old.keys) }
+{
+    for name in names {
+        all.insert(name)?;
+    }
+    Ok(())
+}
+
+/// Puts the names that the layers have in the directory among the others, whiteouts too.
+pub(crate) fn gather(
+    all: &mut BTreeSet<Name>,
+    lowers: &[Shared],
+    path: &Path,
+) -> Result<(), AllocError>
+    ensures { OnOk result (all.new.keys ≡ gathered lowers.now path.now all.old.keys) }
+{
+    for shared in lowers {
+        put_names(all, shared.layer().children(path)?)?;
+    }
+    Ok(())
 }

@@ -10,6 +10,7 @@
 //! this project.
 #![tactic(auto)]
 
+pub mod limits;
 mod name;
 mod path;
 

@@ -4,14 +4,12 @@ ghost use Rattle.std.specs.String.{string_bytes};
 ghost use Rattle.std.specs.List.{list_all};
 ghost use Rattle.snap_path.specs.Text.{is_name, is_name_byte};
 
+use super::limits::MAX_NAME_BYTES;
 use std::alloc::{AllocError, AllocFailed, Global};
 use std::cmp::Ordering;
 use std::fmt;
 use std::marker::Model;
 use thiserror::Error;
-
-/// The most bytes of a name: `NAME_MAX` of limits.h.
-const MAX_NAME_BYTES: usize = 255;
 
 /// Why there is no path or name.
 #[derive(Clone, Copy, Debug, PartialEq, Eq, Error)]

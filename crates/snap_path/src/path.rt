@@ -5,14 +5,12 @@ ghost use Rattle.std.specs.Option.{option_copied};
 ghost use Rattle.std.specs.List.{list_all, slice_split};
 ghost use Rattle.snap_path.specs.Text.{is_name, is_path, path_names, text_of, text_below, parent_of, last_name, Begins, IsHeld, IsPath, IsJoined, IsSpelling};
 
+use super::limits::MAX_PATH_BYTES;
 use super::name::{Name, PathError, is_name_text};
 use std::alloc::{AllocError, Global};
 use std::cmp::Ordering;
 use std::fmt;
 use std::marker::Model;
-
-/// The most bytes of a path's text: `PATH_MAX` of limits.h without its closing NUL.
-const MAX_PATH_BYTES: usize = 4095;
 
 /// An absolute path: a list of names, from the root down. The root has none.
 ///

@@ -59,10 +59,7 @@ impl Content {
         ensures { result ≡ usage_of self.now }
     {
         match self {
-            Content::View => Usage {
-                blocks: 0,
-                inodes: 0,
-            },
+            Content::View => Usage::ZERO,
             Content::Active { charged, .. } => *charged,
             Content::Committed { usage, .. } => *usage,
         }

@@ -5,17 +5,16 @@
 //! line, the standard streams and the status.
 #![tactic(auto)]
 
-mod words;
-
 ghost use Rattle.snap_replay.specs.Exit.{exit_of};
 ghost use Rattle.std.specs.Prelude.{◌≡◌};
 
 use clap::error::ErrorKind as WordsErrorKind;
+use clap::{ArgMatches, Command, Error};
 use snap_session::{Stop, replay};
+use std::alloc::Global;
 use std::io::{BufWriter, ErrorKind};
 use std::process::ExitCode;
 use std::{env, io};
-use words::{Task, task_of};
 
 // The status of bad words.
 const BAD_WORDS: u8 = 2;
@@ -57,6 +56,40 @@ fn words_of(rt: &HostRuntime) -> Result<Vec<String>, u8> {
     match args.collect::<Vec<String>>(rt.alloc()) {
         Ok(words) => Ok(words),
         Err(_) => Err(status(rt, Err(Stop::OutOfMemory))),
+    }
+}
+
+// What the command line asks for.
+#[derive(Clone, Copy, Debug, PartialEq, Eq)]
+enum Task {
+    // Replay the script on standard input.
+    Run,
+}
+
+fn command<'a>(alloc: Global) -> Result<Command<'a>, Error> {
+    let run = Command::new(alloc, "run")
+        .about("Replays a script: reads a JSON object a line, writes an answer a line")
+        .after_help(
+            "Status: 0 done, 2 bad words or a bad line, 3 a read or a write failed, 4 want of memory.",
+        );
+    let program = Command::new(alloc, "snap_replay")
+        .about("A container snapshotter with an exact usage ledger")
+        .subcommand_required(true)
+        .subcommand(run)?;
+    Ok(program)
+}
+
+// What the words ask for, the program's name first, or clap's refusal of them. A call for help is a
+// refusal too. Takes memory.
+fn task_of(alloc: Global, words: &[String]) -> Result<Option<Task>, Error> {
+    let matches = command(alloc)?.try_get_matches_from(words)?;
+    Ok(chosen(&matches))
+}
+
+fn chosen(matches: &ArgMatches<'_>) -> Option<Task> {
+    match matches.subcommand() {
+        Some(("run", _)) => Some(Task::Run),
+        _ => None,
     }
 }
 

@@ -52,24 +52,8 @@ totals_have_none [] found h = h
 totals_have_none (total ∷ totals) found h = totals_have_none totals _ (put_has_none total.0 (usage_data total.1) found refl h)
 
 refusal_has_none : (refusal : Refusal) → has_float (refusal_data refusal) ≡ false
-refusal_has_none refusals.BadArgument = refl
-refusal_has_none refusals.NoNamespace = refl
-refusal_has_none refusals.NotFound = refl
-refusal_has_none refusals.AlreadyExists = refl
-refusal_has_none refusals.NotCommitted = refl
-refusal_has_none refusals.NotActive = refl
-refusal_has_none refusals.HasChildren = refl
-refusal_has_none refusals.InUse = refl
-refusal_has_none refusals.Leased = refl
-refusal_has_none refusals.NoLease = refl
-refusal_has_none refusals.LeaseExists = refl
-refusal_has_none refusals.TooDeep = refl
-refusal_has_none refusals.TooManyActives = refl
 refusal_has_none (refusals.OverLimit free_blocks free_inodes) = refl
-refusal_has_none refusals.BelowCharge = refl
-refusal_has_none refusals.NumbersSpent = refl
-refusal_has_none refusals.JournalFull = refl
-refusal_has_none refusals.OutOfMemory = refl
+refusal_has_none refusal = refl
 
 texts_have_none : (texts : List (List ℕ)) → items_have_float (items_of (map string texts)) ≡ false
 texts_have_none [] = refl
@@ -85,22 +69,12 @@ shown_has_none (Some (shown.Dir mode)) = refl
 shown_has_none (Some (shown.File mode size)) = refl
 shown_has_none (Some (shown.Symlink target)) = both_are _ _ (text_or_null (is_utf8 target) target) refl
 
+-- an answer that has a list, labels or totals by the facts above; any other computes
 pub no_float : (answer : Answer) → has_float (answer_data answer) ≡ false
-no_float answers.Done = refl
-no_float (answers.Session n) = refl
 no_float (answers.Prepared id slot chain) = both_are _ _ (ids_have_none chain) refl
-no_float (answers.Share share) = refl
-no_float (answers.Committed id usage) = refl
-no_float (answers.Freed freed) = refl
 no_float (answers.Info info) = both_are _ _ (both_are _ _ (labels_have_none info.labels no_members refl) refl) refl
-no_float (answers.Usage usage) = refl
-no_float (answers.Changed count share) = refl
 no_float (answers.Seen seen) = both_are _ _ (shown_has_none seen) refl
 no_float (answers.Names names) = both_are _ _ (texts_have_none names) refl
-no_float (answers.Head head size) = refl
-no_float (answers.Path path) = refl
 no_float (answers.Report entries actives records totals) = both_are _ _ (totals_have_none totals no_members refl) refl
 no_float (answers.Refused refusal) = refusal_has_none refusal
-no_float (answers.Failed error) = refl
-no_float answers.NoSession = refl
-no_float answers.NoHand = refl
+no_float answer = refl

@@ -1,5 +1,7 @@
--- The commands of a script. The fields of a command are tested in the order in which they stand.
-use Rattle.std.specs.Prelude.{ℕ, if◌then◌else◌, List, [], Option, Some, None, Result, Ok, Err, codes}
+-- The commands of a script; cited by the public clause of `read_line` through Lines.antt. The fields of a command are
+-- tested in the order in which they stand.
+use Rattle.std.specs.Prelude.{ℕ, List, [], ◌∷◌, Option, None, Result, Ok, Err, codes}
+use Rattle.std.specs.Map.{lookup}
 use Rattle.std.specs.Str.{bytes_eq}
 use Rattle.serde_json.specs.Data.{Data}
 use Rattle.serde_json.specs.Find.{as_str}
@@ -30,6 +32,13 @@ abbrev pub ◌>>=◌ : {A B : Type 0} → Result A Fault → (A → Result B Fau
 abbrev pub text : Field → Data → Result Bytes Fault
 text field line = required as_str field line
 
+-- the snapshot that a command names: its namespace and its key
+unfoldable pub named : Data → Result (Bytes × Bytes) Fault
+named line = do
+  namespace ← text fields.Namespace line
+  key ← text fields.Key line
+  Ok (namespace, key)
+
 -- open: the directory of the store, its namespaces, and the most entries of its journal. The first id is 1.
 unfoldable pub open_of : Data → Result Command Fault
 open_of line = do
@@ -41,36 +50,32 @@ open_of line = do
 -- prepare: containerd's Prepare
 unfoldable pub prepare_of : Data → Result Command Fault
 prepare_of line = do
-  namespace ← text fields.Namespace line
-  key ← text fields.Key line
+  snapshot ← named line
   parent ← text fields.Parent line
   labels ← defaulted [] labels_of fields.Labels line
-  Ok (commands.Prepare namespace key parent labels)
+  Ok (commands.Prepare snapshot.0 snapshot.1 parent labels)
 
 -- charge: where no amount is wanted, the needed one is
 unfoldable pub charge_of : Data → Result Command Fault
 charge_of line = do
-  namespace ← text fields.Namespace line
-  key ← text fields.Key line
+  snapshot ← named line
   need ← required usage_of fields.Need line
   want ← defaulted need usage_of fields.Want line
-  Ok (commands.Charge namespace key need want)
+  Ok (commands.Charge snapshot.0 snapshot.1 need want)
 
 -- the commands that have a namespace and a key alone
 unfoldable pub keyed_of : (Bytes → Bytes → Command) → Data → Result Command Fault
 keyed_of command line = do
-  namespace ← text fields.Namespace line
-  key ← text fields.Key line
-  Ok (command namespace key)
+  snapshot ← named line
+  Ok (command snapshot.0 snapshot.1)
 
 -- commit: containerd's Commit, under a lease where one is named
 unfoldable pub commit_of : Data → Result Command Fault
 commit_of line = do
-  namespace ← text fields.Namespace line
-  key ← text fields.Key line
+  snapshot ← named line
   name ← text fields.Name line
   lease ← defaulted None some_text_of fields.Lease line
-  Ok (commands.Commit namespace key name lease)
+  Ok (commands.Commit snapshot.0 snapshot.1 name lease)
 
 -- the room that a charge asks for beside what an operation needs
 abbrev pub extra_of : Data → Result Usage Fault
@@ -141,19 +146,17 @@ file_command_of file_verbs.Rename line = paired_of file_commands.Rename line
 -- a file command: the snapshot, the operation, and the room that a charge asks for beside what the operation needs
 unfoldable pub file_of : FileVerb → Data → Result Command Fault
 file_of verb line = do
-  namespace ← text fields.Namespace line
-  key ← text fields.Key line
+  snapshot ← named line
   operation ← file_command_of verb line
   extra ← extra_of line
-  Ok (commands.File namespace key operation extra)
+  Ok (commands.File snapshot.0 snapshot.1 operation extra)
 
 -- look, list, read, resolve: the snapshot, and a path's text
 unfoldable pub lookup_of : Lookup → Data → Result Command Fault
 lookup_of lookup line = do
-  namespace ← text fields.Namespace line
-  key ← text fields.Key line
+  snapshot ← named line
   path ← text fields.Path line
-  Ok (commands.Lookup namespace key lookup path)
+  Ok (commands.Lookup snapshot.0 snapshot.1 lookup path)
 
 -- the command of a line by its verb
 unfoldable pub command_of : Verb → Data → Result Command Fault
@@ -170,30 +173,35 @@ command_of (verbs.File verb) line = file_of verb line
 command_of (verbs.Lookup lookup) line = lookup_of lookup line
 command_of verbs.Report line = Ok commands.Report
 
+-- the words of the commands
+abbrev pub words : List (List ℕ × Verb)
+words =
+    (codes "open", verbs.Open)
+    ∷ (codes "session", verbs.Session)
+    ∷ (codes "prepare", verbs.Prepare)
+    ∷ (codes "charge", verbs.Charge)
+    ∷ (codes "trim", verbs.Trim)
+    ∷ (codes "commit", verbs.Commit)
+    ∷ (codes "discard", verbs.Discard)
+    ∷ (codes "stat", verbs.Stat)
+    ∷ (codes "usage", verbs.Usage)
+    ∷ (codes "mkdir", verbs.File file_verbs.Mkdir)
+    ∷ (codes "create", verbs.File file_verbs.Create)
+    ∷ (codes "write", verbs.File file_verbs.Write)
+    ∷ (codes "truncate", verbs.File file_verbs.Truncate)
+    ∷ (codes "setmode", verbs.File file_verbs.SetMode)
+    ∷ (codes "symlink", verbs.File file_verbs.Symlink)
+    ∷ (codes "link", verbs.File file_verbs.Link)
+    ∷ (codes "unlink", verbs.File file_verbs.Unlink)
+    ∷ (codes "rmdir", verbs.File file_verbs.Rmdir)
+    ∷ (codes "rename", verbs.File file_verbs.Rename)
+    ∷ (codes "look", verbs.Lookup lookups.Look)
+    ∷ (codes "list", verbs.Lookup lookups.List)
+    ∷ (codes "read", verbs.Lookup lookups.Read)
+    ∷ (codes "resolve", verbs.Lookup lookups.Resolve)
+    ∷ (codes "report", verbs.Report)
+    ∷ []
+
 -- the verb of a word
 unfoldable pub verb_of : List ℕ → Option Verb
-verb_of word =
-    if bytes_eq word (codes "open") then Some verbs.Open else
-    (if bytes_eq word (codes "session") then Some verbs.Session else
-    (if bytes_eq word (codes "prepare") then Some verbs.Prepare else
-    (if bytes_eq word (codes "charge") then Some verbs.Charge else
-    (if bytes_eq word (codes "trim") then Some verbs.Trim else
-    (if bytes_eq word (codes "commit") then Some verbs.Commit else
-    (if bytes_eq word (codes "discard") then Some verbs.Discard else
-    (if bytes_eq word (codes "stat") then Some verbs.Stat else
-    (if bytes_eq word (codes "usage") then Some verbs.Usage else
-    (if bytes_eq word (codes "mkdir") then Some (verbs.File file_verbs.Mkdir) else
-    (if bytes_eq word (codes "create") then Some (verbs.File file_verbs.Create) else
-    (if bytes_eq word (codes "write") then Some (verbs.File file_verbs.Write) else
-    (if bytes_eq word (codes "truncate") then Some (verbs.File file_verbs.Truncate) else
-    (if bytes_eq word (codes "setmode") then Some (verbs.File file_verbs.SetMode) else
-    (if bytes_eq word (codes "symlink") then Some (verbs.File file_verbs.Symlink) else
-    (if bytes_eq word (codes "link") then Some (verbs.File file_verbs.Link) else
-    (if bytes_eq word (codes "unlink") then Some (verbs.File file_verbs.Unlink) else
-    (if bytes_eq word (codes "rmdir") then Some (verbs.File file_verbs.Rmdir) else
-    (if bytes_eq word (codes "rename") then Some (verbs.File file_verbs.Rename) else
-    (if bytes_eq word (codes "look") then Some (verbs.Lookup lookups.Look) else
-    (if bytes_eq word (codes "list") then Some (verbs.Lookup lookups.List) else
-    (if bytes_eq word (codes "read") then Some (verbs.Lookup lookups.Read) else
-    (if bytes_eq word (codes "resolve") then Some (verbs.Lookup lookups.Resolve) else
-    (if bytes_eq word (codes "report") then Some verbs.Report else None)))))))))))))))))))))))
+verb_of word = lookup (bytes_eq word) words

@@ -1,4 +1,4 @@
--- What a line's faults are called.
+-- What a line's faults are called; cited by the public clauses of `Field` and `Fault`.
 use Rattle.std.specs.Prelude.{ℕ, List, ◌++◌, codes}
 use Rattle.snap_script.specs.declared.fault.Field.{Field}
 use Rattle.snap_script.specs.declared.fault.Field.TheVariants as fields

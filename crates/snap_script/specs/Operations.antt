@@ -1,4 +1,4 @@
--- The operation that a file command asks for.
+-- The operation that a file command asks for; cited by the public clauses of `path_of` and `into_operation`.
 use Rattle.std.specs.Prelude.{List, ℕ, if◌then◌else◌, Result, Ok, Err}
 use Rattle.snap_path.specs.Text.{Names, is_path, path_names}
 use Rattle.snap_merge.specs.declared.error.FsError.{FsError}

@@ -2,10 +2,9 @@ ghost use Rattle.std.specs.Prelude.{◌≡◌, IfOk, string_bytes};
 ghost use Rattle.serde_json.specs.View.{view};
 ghost use Rattle.snap_script.specs.Answers.{answer_data, answer_line};
 
-use crate::lookups::{head, names, path, seen};
-use crate::names::error_name;
 use crate::values::{
-    changed, committed, done, error, freed, info, prepared, refused, report, session, share, usage,
+    changed, committed, done, error, error_name, freed, head, info, names, path, prepared, refused,
+    report, seen, session, share, usage,
 };
 use serde_json::Value;
 use snap_call::Refusal;

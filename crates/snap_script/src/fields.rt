@@ -1,20 +1,25 @@
-ghost use Rattle.std.specs.Prelude.{◌≡◌, option_map, option_copied, string_bytes};
+// The fields of a line, each of its kind.
+ghost use Rattle.std.specs.Prelude.{◌≡◌, [], option_map, option_copied, replicate, string_bytes, IfOk};
 ghost use Rattle.serde_json.specs.Find.{get, as_str};
-ghost use Rattle.serde_json.specs.View.{view, items_view};
+ghost use Rattle.serde_json.specs.View.{view, items_view, members_view};
 ghost use Rattle.snap_script.specs.declared.fault.Field.TheVariants as fields;
 ghost use Rattle.snap_script.specs.Faults.{field_name};
-ghost use Rattle.snap_script.specs.Fields.{required, defaulted, number_of, mode_of, some_text_of, pair_in, pair_of, usage_of, usage_with};
-ghost use Rattle.snap_script.specs.Commands.{text, extra_of};
+ghost use Rattle.snap_script.specs.Fields.{required, defaulted, number_of, mode_of, some_text_of, pair_in, pair_of, usage_of, usage_with, labels_with, labels_of, namespace_in, namespace_of, namespaces_in, namespaces_of, repeated, fill_of, content_of};
+ghost use Rattle.snap_script.specs.Commands.{text};
 ghost use Rattle.snap_script.specs.Gives.{Gives, GivesAll};
 
 use crate::fault::{Fault, Field, ReadError};
-use serde_json::Value;
-use snap_record::Text;
+use serde_json::{Map, Value};
+use snap_call::Namespace;
+use snap_layer::Bytes;
+use snap_record::{Labels, Sequence, Text};
 use snap_usage::Usage;
-use std::alloc::Global;
+use std::alloc::{AllocError, Global};
+
+const MAX_FILL: u64 = 1_048_576;
 
 /// The value of a field, if the line has it.
-pub(crate) fn find(field: Field, line: &Value) -> Option<&Value>
+fn find(field: Field, line: &Value) -> Option<&Value>
     ensures { option_map (λ v. view v.now) result ≡ get (field_name field) (view line.now) }
 {
     line.get(field.name())
@@ -107,7 +112,7 @@ pub(crate) fn optional_text(
 
 /// Two numbers, where these values are two.
 #[tactic(auto, using(crate::proofs::Items::no_pair))]
-pub(crate) fn pair_in(values: &[Value]) -> Option<(u64, u64)>
+fn pair_in(values: &[Value]) -> Option<(u64, u64)>
     ensures { result ≡ pair_in (items_view values.now) }
 {
     match values {
@@ -117,7 +122,7 @@ pub(crate) fn pair_in(values: &[Value]) -> Option<(u64, u64)>
 }
 
 /// Two numbers in an array.
-pub(crate) fn pair(value: &Value) -> Option<(u64, u64)>
+fn pair(value: &Value) -> Option<(u64, u64)>
     ensures { result ≡ pair_of (view value.now) }
 {
     pair_in(value.as_array()?.as_slice())
@@ -150,13 +155,110 @@ pub(crate) fn usage_or(default: Usage, field: Field, line: &Value) -> Result<Usa
     }
 }
 
-/// The extra amount of a file command, nothing where the line has none.
-pub(crate) fn extra(line: &Value) -> Result<Usage, Fault>
-    ensures { result ≡ extra_of (view line.now) }
+/// The labels of an object's members, where each is a text.
+fn labels_in(alloc: Global, members: &Map<String, Value>) -> Result<Option<Labels>, AllocError>
+    ensures { IfOk result (λ labels. labels ≡ labels_with [] (members_view members.now.entries)) }
 {
-    let nothing = Usage {
-        blocks: 0,
-        inodes: 0,
+    let mut labels = Labels::new(alloc);
+    for (key, member) in members.iter() {
+        let Some(value) = member.as_str() else {
+            return Ok(None);
+        };
+        let key = Text::copy_of(alloc, key.as_str())?;
+        let value = Text::copy_of(alloc, value)?;
+        labels.insert(key, value)?;
+    }
+    Ok(Some(labels))
+}
+
+/// Labels, none where the line has no such field.
+pub(crate) fn labels(alloc: Global, line: &Value) -> Result<Labels, ReadError>
+    ensures { Gives (λ labels. labels) result (defaulted [] labels_of fields.Labels (view line.now)) }
+{
+    let Some(value) = find(Field::Labels, line) else {
+        return Ok(Labels::new(alloc));
     };
-    usage_or(nothing, Field::Extra, line)
+    let members = value.as_object().ok_or(Fault::BadField(Field::Labels))?;
+    let labels = labels_in(alloc, members)?;
+    Ok(labels.ok_or(Fault::BadField(Field::Labels))?)
+}
+
+/// A namespace: a name, blocks and inodes.
+fn namespace_in(alloc: Global, values: &[Value]) -> Result<Option<Namespace>, AllocError>
+    ensures { IfOk result (λ namespace. namespace ≡ namespace_in (items_view values.now)) }
+{
+    let [name, limit @ ..] = values else {
+        return Ok(None);
+    };
+    let (Some(name), Some((blocks, inodes))) = (name.as_str(), pair_in(limit)) else {
+        return Ok(None);
+    };
+    Ok(Some(Namespace {
+        name: Text::copy_of(alloc, name)?,
+        limit: Usage { blocks, inodes },
+    }))
+}
+
+fn namespace(alloc: Global, value: &Value) -> Result<Option<Namespace>, AllocError>
+    ensures { IfOk result (λ namespace. namespace ≡ namespace_of (view value.now)) }
+{
+    match value.as_array() {
+        Some(values) => namespace_in(alloc, values.as_slice()),
+        None => Ok(None),
+    }
+}
+
+/// The namespaces of an array, where each item is one.
+fn namespaces_in(alloc: Global, values: &[Value]) -> Result<Option<Sequence<Namespace>>, AllocError>
+    ensures { IfOk result (λ namespaces. namespaces ≡ namespaces_in (items_view values.now)) }
+{
+    let mut namespaces = Sequence::new(alloc);
+    for value in values {
+        let Some(namespace) = namespace(alloc, value)? else {
+            return Ok(None);
+        };
+        namespaces.push(namespace)?;
+    }
+    Ok(Some(namespaces))
+}
+
+/// The namespaces of a line.
+pub(crate) fn namespaces(alloc: Global, line: &Value) -> Result<Sequence<Namespace>, ReadError>
+    ensures { Gives (λ namespaces. namespaces) result (required namespaces_of fields.Namespaces (view line.now)) }
+{
+    let found = find(Field::Namespaces, line).ok_or(Fault::BadField(Field::Namespaces))?;
+    let values = found.as_array().ok_or(Fault::BadField(Field::Namespaces))?;
+    let namespaces = namespaces_in(alloc, values.as_slice())?;
+    Ok(namespaces.ok_or(Fault::BadField(Field::Namespaces))?)
+}
+
+/// So many times the byte.
+fn repeated(alloc: Global, byte: u8, number: usize) -> Result<Bytes, AllocError>
+    ensures { IfOk result (λ bytes. bytes ≡ replicate number byte) }
+{
+    Ok(Bytes::new(vec![in alloc; byte; number]?))
+}
+
+/// The bytes of a fill.
+fn fill(alloc: Global, line: &Value) -> Result<Bytes, ReadError>
+    ensures { Gives (λ bytes. bytes) result (required fill_of fields.Fill (view line.now)) }
+{
+    let fault = Fault::BadField(Field::Fill);
+    let value = find(Field::Fill, line).ok_or(fault)?;
+    let (byte, number) = pair(value).ok_or(fault)?;
+    if byte > 255 || number > MAX_FILL {
+        return Err(ReadError::Fault(fault));
+    }
+    Ok(repeated(alloc, byte as u8, number as usize)?)
+}
+
+/// The bytes that are written.
+pub(crate) fn content(alloc: Global, line: &Value) -> Result<Bytes, ReadError>
+    ensures { Gives (λ bytes. bytes) result (content_of (view line.now)) }
+{
+    let Some(value) = find(Field::Text, line) else {
+        return fill(alloc, line);
+    };
+    let text = value.as_str().ok_or(Fault::BadField(Field::Text))?;
+    Ok(Bytes::copy_of(alloc, text.as_bytes())?)
 }

@@ -7,13 +7,10 @@
 
 mod answer;
 mod command;
-mod commands;
 mod fault;
 mod fields;
 mod line;
-mod lists;
-mod lookups;
-mod names;
+mod parse;
 mod values;
 mod verb;
 

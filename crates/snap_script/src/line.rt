@@ -4,9 +4,9 @@ ghost use Rattle.snap_script.specs.Lines.{is_empty, value_of, object_of, allowed
 ghost use Rattle.snap_script.specs.Gives.{Gives, GivesAll};
 
 use crate::command::Command;
-use crate::commands::command_of;
 use crate::fault::{Fault, Field, ReadError};
 use crate::fields::{lent_text, number_or};
+use crate::parse::command_of;
 use crate::verb::{Verb, verb_of};
 use serde_json::Value;
 use std::alloc::Global;

@@ -1,10 +1,14 @@
-ghost use Rattle.std.specs.Prelude.{◌≡◌, codes, IfOk};
-ghost use Rattle.serde_json.specs.View.{view};
-ghost use Rattle.snap_script.specs.Answers.{changed_data, charged_data, committed_data, done_data, error_data, freed_data, ids_data, info_data, labels_data, prepared_data, refusal_data, report_data, session_data, share_data, stat_data, totals_data, usage_data};
+// The JSON values of answers.
+ghost use Rattle.std.specs.Prelude.{◌≡◌, codes, IfOk, OnOk, map};
+ghost use Rattle.serde_json.specs.Data.{string, array, put};
+ghost use Rattle.serde_json.specs.View.{view, items_of, members_view};
+ghost use Rattle.snap_script.specs.Answers.{changed_data, charged_data, committed_data, done_data, error_data, error_name, freed_data, head_data, ids_data, info_data, labels_data, names_data, path_data, prepared_data, refusal_data, refusal_name, report_data, seen_data, session_data, share_data, shown_data, stat_data, text_data, totals_data, usage_data};
 
-use crate::names::refusal_name;
+use crate::answer::Shown;
 use serde_json::{Map, Value, json};
 use snap_call::Refusal;
+use snap_merge::FsError;
+use snap_path::{Name, Path};
 use snap_record::{Info, Labels, Text};
 use snap_usage::Usage;
 use std::alloc::{AllocError, Global};
@@ -26,15 +30,40 @@ fn ids_value(alloc: Global, ids: &[u32]) -> Result<Value, AllocError>
     Ok(Value::Array(items))
 }
 
+/// Adds a member for a label.
+fn put_label(
+    alloc: Global,
+    members: &mut Map<String, Value>,
+    key: &Text,
+    value: &Text,
+) -> Result<(), AllocError>
+    ensures { OnOk result (members_view members.new.entries ≡ put key.now (string value.now) (members_view members.old.entries)) }
+{
+    let value = Value::try_from_str(alloc, value.as_str())?;
+    serde_json::put(members, alloc, key.as_str(), value)
+}
+
 fn labels_value(alloc: Global, labels: &Labels) -> Result<Value, AllocError>
     ensures { IfOk result (λ v. view v ≡ labels_data labels.now) }
 {
     let mut members = Map::new(alloc);
     for (key, value) in labels.iter() {
-        let value = Value::try_from_str(alloc, value.as_str())?;
-        serde_json::put(&mut members, alloc, key.as_str(), value)?;
+        put_label(alloc, &mut members, key, value)?;
     }
     Ok(Value::Object(members))
+}
+
+/// Adds a member for a namespace's total.
+fn put_total(
+    alloc: Global,
+    members: &mut Map<String, Value>,
+    name: &Text,
+    total: Usage,
+) -> Result<(), AllocError>
+    ensures { OnOk result (members_view members.new.entries ≡ put name.now (usage_data total) (members_view members.old.entries)) }
+{
+    let value = usage_value(alloc, total)?;
+    serde_json::put(members, alloc, name.as_str(), value)
 }
 
 fn totals_value(alloc: Global, totals: &[(Text, Usage)]) -> Result<Value, AllocError>
@@ -42,8 +71,7 @@ fn totals_value(alloc: Global, totals: &[(Text, Usage)]) -> Result<Value, AllocE
 {
     let mut members = Map::new(alloc);
     for (name, total) in totals {
-        let value = usage_value(alloc, *total)?;
-        serde_json::put(&mut members, alloc, name.as_str(), value)?;
+        put_total(alloc, &mut members, name, *total)?;
     }
     Ok(Value::Object(members))
 }
@@ -141,6 +169,120 @@ pub(crate) fn report(
 {
     let totals = totals_value(alloc, totals)?;
     json!(in alloc; {"entries": entries, "open": actives, "records": records, "totals": totals})
+}
+
+/// The text, or null where the bytes are none.
+#[tactic(auto, using(crate::proofs::Texts::is_text))]
+fn text_value(alloc: Global, bytes: &[u8]) -> Result<Value, AllocError>
+    ensures { IfOk result (λ v. view v ≡ text_data bytes.now) }
+{
+    match str::from_utf8(bytes) {
+        Ok(text) => Value::try_from_str(alloc, text),
+        Err(_) => Ok(Value::Null),
+    }
+}
+
+fn shown_value(alloc: Global, shown: &Shown) -> Result<Value, AllocError>
+    ensures { IfOk result (λ v. view v ≡ shown_data shown.now) }
+{
+    match shown {
+        Shown::Dir { mode } => json!(in alloc; {"dir": *mode}),
+        Shown::File { mode, size } => json!(in alloc; {"file": *mode, "size": *size}),
+        Shown::Symlink { target } => {
+            let target = text_value(alloc, target.as_slice())?;
+            json!(in alloc; {"symlink": target})
+        }
+    }
+}
+
+/// What is seen, or null.
+pub(crate) fn seen(alloc: Global, shown: &Option<Shown>) -> Result<Value, AllocError>
+    ensures { IfOk result (λ v. view v ≡ seen_data shown.now) }
+{
+    let shown = match shown {
+        Some(shown) => shown_value(alloc, shown)?,
+        None => Value::Null,
+    };
+    json!(in alloc; {"seen": shown})
+}
+
+fn names_value(alloc: Global, names: &[Name]) -> Result<Value, AllocError>
+    ensures { IfOk result (λ v. view v ≡ array (items_of (map string names.now))) }
+{
+    let mut items = Vec::new(alloc);
+    for name in names {
+        items.push(Value::try_from_str(alloc, name.as_str())?)?;
+    }
+    Ok(Value::Array(items))
+}
+
+pub(crate) fn names(alloc: Global, names: &[Name]) -> Result<Value, AllocError>
+    ensures { IfOk result (λ v. view v ≡ names_data names.now) }
+{
+    let names = names_value(alloc, names)?;
+    json!(in alloc; {"names": names})
+}
+
+/// A file's first bytes in lower hexadecimal, and how many it has.
+pub(crate) fn head(alloc: Global, head: &[u8], size: u64) -> Result<Value, AllocError>
+    ensures { IfOk result (λ v. view v ≡ head_data head.now size) }
+{
+    let head = hex::encode(alloc, head)?;
+    json!(in alloc; {"head": head.as_str(), "size": size})
+}
+
+pub(crate) fn path(alloc: Global, path: &Path) -> Result<Value, AllocError>
+    ensures { IfOk result (λ v. view v ≡ path_data path.now) }
+{
+    json!(in alloc; {"path": path.as_str()})
+}
+
+/// The name of a refusal in answers.
+fn refusal_name(refusal: Refusal) -> &'static str
+    ensures { result.now ≡ refusal_name refusal }
+{
+    match refusal {
+        Refusal::BadArgument => "BadArgument",
+        Refusal::NoNamespace => "NoNamespace",
+        Refusal::NotFound => "NotFound",
+        Refusal::AlreadyExists => "AlreadyExists",
+        Refusal::NotCommitted => "NotCommitted",
+        Refusal::NotActive => "NotActive",
+        Refusal::HasChildren => "HasChildren",
+        Refusal::InUse => "InUse",
+        Refusal::Leased => "Leased",
+        Refusal::NoLease => "NoLease",
+        Refusal::LeaseExists => "LeaseExists",
+        Refusal::TooDeep => "TooDeep",
+        Refusal::TooManyActives => "TooManyActives",
+        Refusal::OverLimit { .. } => "OverLimit",
+        Refusal::BelowCharge => "BelowCharge",
+        Refusal::NumbersSpent => "NumbersSpent",
+        Refusal::JournalFull => "JournalFull",
+        Refusal::OutOfMemory => "OutOfMemory",
+    }
+}
+
+/// The name of a file operation's error in answers.
+pub(crate) fn error_name(error: FsError) -> &'static str
+    ensures { result.now ≡ error_name error }
+{
+    match error {
+        FsError::BadPath => "BadPath",
+        FsError::NotFound => "NotFound",
+        FsError::NotDir => "NotDir",
+        FsError::IsDir => "IsDir",
+        FsError::Exists => "Exists",
+        FsError::NotEmpty => "NotEmpty",
+        FsError::CrossDevice => "CrossDevice",
+        FsError::Invalid => "Invalid",
+        FsError::NotPermitted => "NotPermitted",
+        FsError::TooBig => "TooBig",
+        FsError::LayerFull => "LayerFull",
+        FsError::NeedsCharge(_) => "NeedsCharge",
+        FsError::TooManyLinks => "TooManyLinks",
+        FsError::OutOfMemory => "OutOfMemory",
+    }
 }
 
 /// An error's name, and where it comes from.

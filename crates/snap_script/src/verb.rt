@@ -1,10 +1,12 @@
-ghost use Rattle.std.specs.Prelude.{◌≡◌};
+ghost use Rattle.std.specs.Prelude.{◌≡◌, map};
+ghost use Rattle.std.specs.Map.{lookup};
+ghost use Rattle.std.specs.Str.{bytes_eq};
 ghost use Rattle.snap_script.specs.Commands.{verb_of};
 
 use crate::command::Lookup;
 
 /// The commands by their words.
-#[derive(Clone, Copy, Debug, PartialEq, Eq)]
+#[derive(Clone, Copy)]
 pub(crate) enum Verb {
     Open,
     Session,
@@ -21,7 +23,7 @@ pub(crate) enum Verb {
 }
 
 /// The file commands by their words.
-#[derive(Clone, Copy, Debug, PartialEq, Eq)]
+#[derive(Clone, Copy)]
 pub(crate) enum FileVerb {
     Mkdir,
     Create,
@@ -35,36 +37,51 @@ pub(crate) enum FileVerb {
     Rename,
 }
 
+/// The words of the commands.
+const WORDS: [(&str, Verb); 24] = [
+    ("open", Verb::Open),
+    ("session", Verb::Session),
+    ("prepare", Verb::Prepare),
+    ("charge", Verb::Charge),
+    ("trim", Verb::Trim),
+    ("commit", Verb::Commit),
+    ("discard", Verb::Discard),
+    ("stat", Verb::Stat),
+    ("usage", Verb::Usage),
+    ("mkdir", Verb::File(FileVerb::Mkdir)),
+    ("create", Verb::File(FileVerb::Create)),
+    ("write", Verb::File(FileVerb::Write)),
+    ("truncate", Verb::File(FileVerb::Truncate)),
+    ("setmode", Verb::File(FileVerb::SetMode)),
+    ("symlink", Verb::File(FileVerb::Symlink)),
+    ("link", Verb::File(FileVerb::Link)),
+    ("unlink", Verb::File(FileVerb::Unlink)),
+    ("rmdir", Verb::File(FileVerb::Rmdir)),
+    ("rename", Verb::File(FileVerb::Rename)),
+    ("look", Verb::Lookup(Lookup::Look)),
+    ("list", Verb::Lookup(Lookup::List)),
+    ("read", Verb::Lookup(Lookup::Read)),
+    ("resolve", Verb::Lookup(Lookup::Resolve)),
+    ("report", Verb::Report),
+];
+
+/// The verb that a table has for the word.
+fn verb_in(mut table: &[(&str, Verb)], word: &str) -> Option<Verb>
+    ensures { result ≡ lookup (bytes_eq word.now) (map (λ p. (p.0.now, p.1)) table.entry.now) }
+{
+    while let [entry, rest @ ..] = table {
+        if word == entry.0 {
+            return Some(entry.1);
+        }
+        table = rest;
+    }
+    None
+}
+
 /// The verb of a word.
 #[tactic(auto, unfolding(crate::specs::Commands::verb_of))]
 pub(crate) fn verb_of(word: &str) -> Option<Verb>
     ensures { result ≡ verb_of word.now }
 {
-    match word {
-        "open" => Some(Verb::Open),
-        "session" => Some(Verb::Session),
-        "prepare" => Some(Verb::Prepare),
-        "charge" => Some(Verb::Charge),
-        "trim" => Some(Verb::Trim),
-        "commit" => Some(Verb::Commit),
-        "discard" => Some(Verb::Discard),
-        "stat" => Some(Verb::Stat),
-        "usage" => Some(Verb::Usage),
-        "mkdir" => Some(Verb::File(FileVerb::Mkdir)),
-        "create" => Some(Verb::File(FileVerb::Create)),
-        "write" => Some(Verb::File(FileVerb::Write)),
-        "truncate" => Some(Verb::File(FileVerb::Truncate)),
-        "setmode" => Some(Verb::File(FileVerb::SetMode)),
-        "symlink" => Some(Verb::File(FileVerb::Symlink)),
-        "link" => Some(Verb::File(FileVerb::Link)),
-        "unlink" => Some(Verb::File(FileVerb::Unlink)),
-        "rmdir" => Some(Verb::File(FileVerb::Rmdir)),
-        "rename" => Some(Verb::File(FileVerb::Rename)),
-        "look" => Some(Verb::Lookup(Lookup::Look)),
-        "list" => Some(Verb::Lookup(Lookup::List)),
-        "read" => Some(Verb::Lookup(Lookup::Read)),
-        "resolve" => Some(Verb::Lookup(Lookup::Resolve)),
-        "report" => Some(Verb::Report),
-        _ => None,
-    }
+    verb_in(&WORDS, word)
 }

@@ -6,7 +6,7 @@ use Rattle.std.proofs.lemmas.Bool.{lt-ltb, le-ltb, eqb-true}
 use Rattle.std.proofs.lemmas.List.{take_more, take-append-drop}
 use Rattle.std.specs.Io.KnownBytes.{Appends, Keeps}
 use mir.Val.{bool_byte}
-use Rattle.snap_session.specs.Store.{StoreValue}
+use Rattle.snap_session.specs.Opened.{OpenedValue}
 use Rattle.snap_script.specs.declared.fault.Fault.TheVariants.{TooLong}
 use Rattle.snap_session.proofs.KnownLaws.{Appends-trans, Appends-kept, Appends-nil}
 use Rattle.snap_session.proofs.LineLaws.{line_split, line_last, line_begins, Begins, body_ended, body_open, body_long, open_more}
@@ -72,11 +72,11 @@ effect_fits r ended o h k =
     ap (λ t. cond t (Err TooLong) (effect_of r.place.store (body (line_in r ended)))) e ∙ ap (effect_of r.place.store) b
 
 -- a run by its parts
-abbrev pub run_of : ℕ → ℕ → Option StoreValue → List ℕ → Run
+abbrev pub run_of : ℕ → ℕ → Option OpenedValue → List ℕ → Run
 run_of n b s p = record { place = record { lines = n; bytes = b; store = s }; pending = p }
 
 -- the run after a line
-pub run_after : (n b k : ℕ) (s t : Option StoreValue) (p q : List ℕ) (r : Run) (ended : Bool) → run_of n b s p ≡ r
+pub run_after : (n b k : ℕ) (s t : Option OpenedValue) (p q : List ℕ) (r : Run) (ended : Bool) → run_of n b s p ≡ r
     → k ≡ length (line_in r ended) → q ≡ [] → run_of (n + 1) (b + k) t q ≡ record { place = place_after r.place (line_in r ended) t; pending = [] }
 run_after n b k s t p q r ended e h none =
     ap (λ (z : Run). run_of (z.place.lines + 1) (z.place.bytes + k) t q) e
@@ -116,7 +116,7 @@ pub byte_goes : (r : Run) (b : ℕ) (x : Option (List ℕ)) → Goes r (b ∷ []
 unfolding transcript_on
 byte_goes r b x = ([], Appends-nil x, λ rest. ap (λ l. transcript_from r.place (lines_of l)) (sym (append_assoc r.pending (b ∷ []) rest)))
 
-pub byte_run : (n k : ℕ) (s : Option StoreValue) (p q : List ℕ) (r : Run) → run_of n k s p ≡ r → (b : ℕ) (x : Option (List ℕ)) → q ≡ p ++ b ∷ [] → Goes r (b ∷ []) (run_of n k s q) x x
+pub byte_run : (n k : ℕ) (s : Option OpenedValue) (p q : List ℕ) (r : Run) → run_of n k s p ≡ r → (b : ℕ) (x : Option (List ℕ)) → q ≡ p ++ b ∷ [] → Goes r (b ∷ []) (run_of n k s q) x x
 byte_run n k s p q r e b x h =
     let is : record r { pending = r.pending ++ b ∷ [] } ≡ run_of n k s q =
     ap (λ (z : Run). record z { pending = z.pending ++ b ∷ [] }) (sym e) ∙ ap (run_of n k s) (sym h) in

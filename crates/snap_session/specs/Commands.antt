@@ -1,4 +1,4 @@
--- What a command of a script answers, and the store after it.
+-- What a command of a script answers, and the store after it; cited by the public clauses of `act` and, through Script.antt, of `replay`.
 use Rattle.std.specs.Prelude.{ℕ, ◌+◌, min, Bool, true, false, List, length, take, Option, None, Some, Result, Ok, Err, if◌then◌else◌}
 use Rattle.std.specs.Option.{option_map}
 use Rattle.snap_path.specs.Text.{Names}
@@ -20,7 +20,7 @@ use Rattle.snap_call.specs.declared.reply.Reply.{Reply}
 use Rattle.snap_call.specs.declared.reply.Reply.TheVariants as replies
 use Rattle.snap_call.specs.Forms.{is_config}
 use Rattle.snap_call.specs.Records.{open_count}
-use Rattle.snap_book.specs.Asking.{slot_of}
+use Rattle.snap_book.specs.Slot.{slot_of}
 use Rattle.snap_world.specs.declared.step.Step.{Step}
 use Rattle.snap_world.specs.declared.step.Step.TheVariants.{Locked, Hand}
 use Rattle.snap_world.specs.declared.step.Answer.{Answer as StepAnswer}
@@ -37,7 +37,7 @@ use Rattle.snap_script.specs.declared.command.Command.TheVariants as commands
 use Rattle.snap_script.specs.declared.command.Lookup.{Lookup}
 use Rattle.snap_script.specs.declared.command.Lookup.TheVariants as lookups
 use Rattle.snap_script.specs.Operations.{path_of, operation_of}
-use Rattle.snap_session.specs.Store.{StoreValue, fresh, names_of, share_at, count_at, totals_of}
+use Rattle.snap_session.specs.Opened.{OpenedValue, fresh, names_of, share_at, count_at, totals_of}
 
 -- ---- one step, and its answer
 
@@ -102,10 +102,8 @@ need_in (Ok done) = None
 need_in (Err e) = need_by e
 
 abbrev pub need_of : StepAnswer → Option Usage
-need_of (step_answers.Reply reply) = None
 need_of (step_answers.File outcome) = need_in outcome
-need_of step_answers.NoSession = None
-need_of step_answers.NoHand = None
+need_of answer = None
 
 -- the reply grants a charge
 abbrev pub is_charge : Reply → Bool
@@ -114,9 +112,7 @@ is_charge reply = false
 
 abbrev pub is_charged : StepAnswer → Bool
 is_charged (step_answers.Reply reply) = is_charge reply
-is_charged (step_answers.File outcome) = false
-is_charged step_answers.NoSession = false
-is_charged step_answers.NoHand = false
+is_charged answer = false
 
 -- after the charge: the operation again, where it was granted
 abbrev pub recharged : ℕ → ℕ → Step → WorldValue × StepAnswer → WorldValue × Answer
@@ -167,11 +163,11 @@ lookup asked path (Err why) = answers.Refused why
 -- ---- commands on a store
 
 -- entries of the round, open snapshots, records, totals
-abbrev pub report : StoreValue → Answer
+abbrev pub report : OpenedValue → Answer
 report s = answers.Report (length s.world.journal) (open_count s.world.state.records) (length s.world.state.records) (totals_of s.world s.names)
 
 -- a command by a session. A store that stands isn't opened again: no line of a script asks for that
-abbrev pub on_store : StoreValue → ℕ → Command → WorldValue × Answer
+abbrev pub on_store : OpenedValue → ℕ → Command → WorldValue × Answer
 on_store s n (commands.Open config) = (s.world, answers.Refused BadArgument)
 on_store s n commands.Session = stepped s.world.state.sessions 0 (Locked s.world.state.sessions calls.Session) s.world
 on_store s n (commands.Prepare namespace key parent labels) = stepped n 0 (Locked n (calls.Prepare namespace key parent labels)) s.world
@@ -194,29 +190,27 @@ is_start reply = false
 
 abbrev pub is_started : StepAnswer → Bool
 is_started (step_answers.Reply reply) = is_start reply
-is_started (step_answers.File outcome) = false
-is_started step_answers.NoSession = false
-is_started step_answers.NoHand = false
+is_started answer = false
 
 -- the store stands where its first session was opened
-abbrev pub started : List Bytes → WorldValue × StepAnswer → Option StoreValue × Answer
+abbrev pub started : List Bytes → WorldValue × StepAnswer → Option OpenedValue × Answer
 started names after = if is_started after.1 then (Some (record { world = after.0; names = names }), answers.Done) else (None, told 0 0 after.0 after.1)
 
 -- a world of the configuration, and its session 0
-abbrev pub opened : Config → Option StoreValue × Answer
+abbrev pub opened : Config → Option OpenedValue × Answer
 opened c = if is_config c then started (names_of c.namespaces) (move (fresh c) (Locked 0 calls.Session)) else (None, answers.Refused BadArgument)
 
 -- ---- a command
 
-abbrev pub kept : StoreValue → WorldValue × Answer → Option StoreValue × Answer
+abbrev pub kept : OpenedValue → WorldValue × Answer → Option OpenedValue × Answer
 kept s after = (Some (record { world = after.0; names = s.names }), after.1)
 
 -- without a store no session is open
-abbrev pub on_none : Command → Option StoreValue × Answer
+abbrev pub on_none : Command → Option OpenedValue × Answer
 on_none (commands.Open config) = opened config
 on_none command = (None, answers.NoSession)
 
 -- a command in the session n: the store after it, and the answer
-abbrev pub done : Option StoreValue → ℕ → Command → Option StoreValue × Answer
+abbrev pub done : Option OpenedValue → ℕ → Command → Option OpenedValue × Answer
 done None n command = on_none command
 done (Some s) n command = kept s (on_store s n command)

@@ -1,4 +1,4 @@
-pub mod Store
+pub mod Opened
 pub mod Commands
 pub mod Wanting
 pub mod Lines

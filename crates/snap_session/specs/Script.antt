@@ -1,4 +1,4 @@
--- What a script answers, line for line, and its first fault.
+-- What a script answers, line for line, and its first fault; cited by the public clauses of `replay`, and from "on the way" on by private clauses alone.
 use Rattle.std.specs.Prelude.{◌≡◌, ℕ, ◌+◌, ◌||◌, List, [], ◌∷◌, ◌++◌, length, Bool, Option, Some, None, is_some, Result, Ok, Err, nat_lt, String, string_bytes, if◌then◌else◌}
 use Rattle.std.specs.Io.KnownBytes.{Appends}
 use Rattle.std.specs.declared.alloc.Global.{Global}
@@ -9,7 +9,7 @@ use Rattle.snap_script.specs.declared.line.Line.{Line}
 use Rattle.snap_script.specs.declared.line.Line.TheVariants.{Empty, Command}
 use Rattle.snap_script.specs.Answers.{answer_line}
 use Rattle.snap_script.specs.Lines.{line_of}
-use Rattle.snap_session.specs.Store.{StoreValue}
+use Rattle.snap_session.specs.Opened.{OpenedValue}
 use Rattle.snap_session.specs.Commands.{done}
 use Rattle.snap_session.specs.Lines.{lines_of, body}
 use Rattle.snap_session.specs.declared.stop.LineFault.{LineFault}
@@ -25,7 +25,7 @@ max_bytes = 1073741824
 pub record Place : Type 0 where
   pub lines : ℕ
   pub bytes : ℕ
-  pub store : Option StoreValue
+  pub store : Option OpenedValue
 
 abbrev pub start : Place
 start = record { lines = 0; bytes = 0; store = None }
@@ -40,19 +40,19 @@ after text s = record { text = text ++ s.text; fault = s.fault }
 
 -- the store after a line, and the text of the line's answer
 pub record Effect : Type 0 where
-  pub store : Option StoreValue
+  pub store : Option OpenedValue
   pub text : List ℕ
 
-abbrev pub effect_done : Option StoreValue × Answer → Effect
+abbrev pub effect_done : Option OpenedValue × Answer → Effect
 effect_done after = record { store = after.0; text = answer_line after.1 }
 
-abbrev pub effect_line : Option StoreValue → Result Line Fault → Result Effect Fault
+abbrev pub effect_line : Option OpenedValue → Result Line Fault → Result Effect Fault
 effect_line store (Ok Empty) = Ok (record { store = store; text = [] })
 effect_line store (Ok (Command session command)) = Ok (effect_done (done store session command))
 effect_line store (Err fault) = Err fault
 
 -- what the bytes of a line do: an empty line nothing, any other its command
-unfoldable pub effect_of : Option StoreValue → List ℕ → Result Effect Fault
+unfoldable pub effect_of : Option OpenedValue → List ℕ → Result Effect Fault
 effect_of store bytes = effect_line store (line_of (is_some store) bytes)
 
 abbrev pub is_too_long : Place → List ℕ → Bool
@@ -66,7 +66,7 @@ abbrev pub bytes_of : Option (String Global) → List ℕ
 bytes_of None = []
 bytes_of (Some s) = string_bytes s
 
-abbrev pub place_after : Place → List ℕ → Option StoreValue → Place
+abbrev pub place_after : Place → List ℕ → Option OpenedValue → Place
 place_after p line store = record { lines = p.lines + 1; bytes = p.bytes + length line; store = store }
 
 abbrev pub failed : Place → Fault → Transcript
@@ -84,6 +84,10 @@ transcript_from p (line ∷ lines) = goes_on p line (effect_at p line) (λ q. tr
 -- the transcript of a script
 unfoldable pub script : List ℕ → Transcript
 script bytes = transcript_from start (lines_of bytes)
+
+-- the output takes the text of a transcript that has this fault
+abbrev pub Tells : Transcript → Option LineFault → Option (List ℕ) → Option (List ℕ) → Type 0
+Tells s fault before behind = (s.fault ≡ fault) × Appends before behind s.text
 
 -- ---- on the way
 
@@ -110,10 +114,6 @@ Goes r bytes q before behind = (written : List ℕ) × Appends before behind wri
 -- bytes lead to a fault, and what is written before it goes to the output
 abbrev pub Ends : Run → List ℕ → LineFault → Option (List ℕ) → Option (List ℕ) → Type 0
 Ends r bytes f before behind = (written : List ℕ) × Appends before behind written × Faults r bytes f written
-
--- the output takes the text of a transcript that has this fault
-abbrev pub Tells : Transcript → Option LineFault → Option (List ℕ) → Option (List ℕ) → Type 0
-Tells s fault before behind = (s.fault ≡ fault) × Appends before behind s.text
 
 -- the line that has come
 abbrev pub line_in : Run → Bool → List ℕ

@@ -1,4 +1,4 @@
--- Want of memory.
+-- Which answers of a step are want of memory; cited by private clauses alone.
 use Rattle.std.specs.Prelude.{Bool, true, false, Result, Ok, Err}
 use Rattle.snap_merge.specs.declared.error.FsError.{FsError}
 use Rattle.snap_merge.specs.declared.error.FsError.TheVariants as errors
@@ -29,5 +29,4 @@ is_outcome_want (Err e) = is_error_want e
 abbrev pub is_want : Answer → Bool
 is_want (answers.Reply reply) = is_reply_want reply
 is_want (answers.File outcome) = is_outcome_want outcome
-is_want answers.NoSession = false
-is_want answers.NoHand = false
+is_want answer = false

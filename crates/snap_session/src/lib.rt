@@ -5,17 +5,17 @@
 //! What a command does is `done` in `specs/Commands.antt`, over the steps of a world.
 #![tactic(auto)]
 
-mod commands;
-mod filing;
-mod looking;
+mod calls;
+mod file_commands;
+mod lookups;
+mod opened;
 mod reader;
-mod running;
-mod session;
-mod stepping;
+mod run;
+mod script;
+mod step;
 mod stop;
-mod store;
 
-pub use running::{replay, replay_within};
-pub use session::Session;
+pub use run::{replay, replay_within};
+pub use script::Script;
 pub use snap_world::NoMemory;
 pub use stop::{LineFault, Stop};

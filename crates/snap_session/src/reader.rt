@@ -4,7 +4,7 @@ ghost use Rattle.std.specs.Io.KnownBytes.{Appends};
 ghost use Rattle.snap_session.specs.Script.{Run, start, Takes, Goes, Ends, Tells, line_in, transcript_on, effect_of, effect_at, bytes_of, max_bytes};
 ghost use Rattle.snap_session.specs.declared.stop.LineFault.{LineFault};
 
-use crate::session::Session;
+use crate::script::Script;
 use crate::stop::{LineFault, Stop};
 use snap_ledger::{NewTable, StoreName};
 use snap_script::{Fault, Line, MAX_LINE_BYTES, ReadError, read_line};
@@ -22,20 +22,20 @@ fn fault(lines: usize, cause: Fault) -> Stop
     Stop::Line(LineFault { line, cause })
 }
 
-// The text of a line's answer, and what the line makes of the session.
+// The text of a line's answer, and what the line makes of the script's store.
 #[tactic(auto, unfolding(crate::specs::Script::effect_of))]
 fn effect_of<N: StoreName>(
     alloc: Global,
     lines: usize,
-    session: &mut Session<N>,
+    script: &mut Script<N>,
     bytes: &[u8],
 ) -> Result<Option<String>, Stop>
     requires { lines ≤ max_bytes }
-    ensures ok { IfOk result (λ said. effect_of session.old bytes.now ≡ Ok (record { store = session.new; text = bytes_of said })) }
+    ensures ok { IfOk result (λ said. effect_of script.old bytes.now ≡ Ok (record { store = script.new; text = bytes_of said })) }
     ensures fault { (f : LineFault) → result ≡ Err (Stop.Line f)
-        → (effect_of session.old bytes.now ≡ Err f.cause) × (f.line ≡ lines + 1) }
+        → (effect_of script.old bytes.now ≡ Err f.cause) × (f.line ≡ lines + 1) }
 {
-    let line = match read_line(alloc, bytes, session.is_open()) {
+    let line = match read_line(alloc, bytes, script.is_open()) {
         Ok(line) => line,
         Err(ReadError::Fault(cause)) => return Err(fault(lines, cause)),
         Err(ReadError::OutOfMemory) => return Err(Stop::OutOfMemory),
@@ -47,7 +47,7 @@ fn effect_of<N: StoreName>(
     else {
         return Ok(None);
     };
-    let Ok(answer) = session.act(n, command) else {
+    let Ok(answer) = script.act(n, command) else {
         return Err(Stop::OutOfMemory);
     };
     match answer.line(alloc) {
@@ -74,7 +74,7 @@ pub(crate) struct Reader<N: StoreName> {
     alloc: Global,
     lines: usize,
     bytes: usize,
-    session: Session<N>,
+    script: Script<N>,
     pending: Vec<u8>,
 }
 
@@ -86,7 +86,7 @@ impl<N: StoreName> Model for Reader<N> {
     ghost Value = { Run };
 
     ghost view = { λ s. record {
-      place = record { lines = s.lines; bytes = s.bytes; store = s.session };
+      place = record { lines = s.lines; bytes = s.bytes; store = s.script };
       pending = s.pending.items;
     } };
 
@@ -104,7 +104,7 @@ impl<N: StoreName> Reader<N> {
             alloc,
             lines: 0,
             bytes: 0,
-            session: Session::new(alloc, table),
+            script: Script::new(alloc, table),
             pending: Vec::new(alloc),
         }
     }
@@ -122,7 +122,7 @@ impl<N: StoreName> Reader<N> {
         if MAX_BYTES - self.bytes < len {
             return Err(fault(self.lines, Fault::TooLong));
         }
-        let answer = effect_of(self.alloc, self.lines, &mut self.session, line)?;
+        let answer = effect_of(self.alloc, self.lines, &mut self.script, line)?;
         write_answer(output, answer)?;
         self.lines += 1;
         self.bytes += len;

@@ -38,7 +38,7 @@ use Rattle.snap_upper.proofs.Modes.{IsSettable-passed, has_mode, own_mode, dir_c
 use Rattle.snap_upper.proofs.Renames.{rename_changes}
 use Rattle.snap_upper.proofs.Writing.{IsWritable-passed, IsSizable-passed, seen_file, own_or_lower, own_layer, copy_layer}
 use Rattle.snap_copyup.proofs.Elsewhere.{Puts, shown_same, shown_number, seen-put_alike, seen-put_hiding}
-use Rattle.snap_copyup.proofs.Parents.{AddsParents, adds_parents}
+use Rattle.snap_copyup.proofs.ParentDirs.{AddsParents, adds_parents}
 use Rattle.snap_copyup.proofs.Copies.{not_next, Puts-with_new, new_shown, new_elsewhere}
 
 none_from : (o : Option Object) → is_some o ≡ false → o ≡ None

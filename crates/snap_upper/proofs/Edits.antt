@@ -8,7 +8,7 @@ use Rattle.snap_layer.specs.Layers.{IsLayer}
 use Rattle.snap_layer.specs.Edits.{with_bytes}
 use Rattle.snap_merge.specs.Objects.{file, seen, AreLayers}
 use Rattle.snap_merge.specs.Walk.{walk}
-use Rattle.snap_copyup.specs.declared.putting.Last.TheVariants as last
+use Rattle.snap_copyup.specs.declared.parents.Last.TheVariants as last
 use Rattle.snap_copyup.specs.Copying.{below, copied_up, with_parents}
 use Rattle.snap_copyup.specs.Places.{with_last, Fits}
 use Rattle.snap_copyup.proofs.Alone.{below_seen}

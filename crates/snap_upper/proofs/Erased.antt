@@ -17,7 +17,7 @@ use Rattle.snap_layer.specs.Edits.{HasPlace, IsTakeable, outside, with_node, wit
 use Rattle.snap_layer.proofs.Paths.{split_front}
 use Rattle.snap_layer.proofs.Looks.{at-without_outside, body-bodies_without, kept_by_name}
 use Rattle.snap_layer.proofs.Laws.{Takes, Takes-without, Replaces, Replaces-with_node}
-use Rattle.snap_merge.specs.declared.seen.Seen.{Seen}
+use Rattle.snap_merge.specs.declared.look.Seen.{Seen}
 use Rattle.snap_merge.specs.Objects.{Object, dir, file, symlink, object, seen, is_shown_dir, AreLayers}
 use Rattle.snap_merge.specs.Walk.{walk}
 use Rattle.snap_merge.specs.Listing.{names}
@@ -25,12 +25,12 @@ use Rattle.snap_merge.proofs.Listings.{listing_is}
 use Rattle.snap_merge.proofs.Views.{seen_node, seen_through, seen_alike}
 use Rattle.snap_merge.proofs.Hiding.{hidden_by, hides_from_above, hides_alike}
 use Rattle.snap_merge.proofs.Above.{nothing_seen}
-use Rattle.snap_copyup.specs.declared.putting.Last.TheVariants as last
+use Rattle.snap_copyup.specs.declared.parents.Last.TheVariants as last
 use Rattle.snap_copyup.specs.Copying.{below, with_parents}
 use Rattle.snap_copyup.specs.Places.{with_last}
 use Rattle.snap_copyup.proofs.Alone.{below_seen, free_unseen}
 use Rattle.snap_copyup.proofs.Elsewhere.{shown_same}
-use Rattle.snap_copyup.proofs.Parents.{AddsParents, adds_parents}
+use Rattle.snap_copyup.proofs.ParentDirs.{AddsParents, adds_parents}
 use Rattle.snap_copyup.proofs.Layers.{no_missing}
 use Rattle.snap_upper.specs.declared.op.Op.TheVariants as op
 use Rattle.snap_merge.specs.declared.error.FsError.TheVariants.{Invalid, NotEmpty}
@@ -271,9 +271,6 @@ no_node u ls p there number = by (at u p) refl
     by (Some (File k)) e = let other = sym (ap (option_and_then number_of) e) ∙ number in absurd (cc)
     by (Some (Symlink k)) e = let other = sym (ap (option_and_then number_of) e) ∙ number in absurd (cc)
     by (Some Whiteout) e = let other = sym (ap name_error (seen_node u ls p Whiteout e)) ∙ there in absurd (cc)
-
-pub name_seen : (s : List Tree) (p : Names) → first_error (tests (op.Unlink p) s) ≡ None → name_error (seen s p) ≡ None
-name_seen s p passes = (test_passes (name_error (seen s p)) [] (test_passes (walk s p) (name_error (seen s p) ∷ []) passes).1).0
 
 pub erased_own : (u : Tree) (ls : List Tree) (p : Names) (covers : Bool) → IsLayer u → is_some (at u p) ≡ true → covers ≡ is_some (below u ls p) → erased u ls p ≡ (if covers then with_node u p Whiteout else without u p)
 erased_own u ls p covers ok some is =

@@ -24,11 +24,11 @@ use Rattle.snap_layer.proofs.Replacing.{with_node-free}
 use Rattle.snap_usage.specs.declared.usage.Usage.{Usage}
 use Rattle.snap_merge.specs.Objects.{AreLayers}
 use Rattle.snap_merge.specs.Walk.{walk}
-use Rattle.snap_copyup.specs.declared.putting.Last.{Last}
-use Rattle.snap_copyup.specs.declared.putting.Last.TheVariants.{Nothing, Dir, File, Symlink, Whiteout}
+use Rattle.snap_copyup.specs.declared.parents.Last.{Last}
+use Rattle.snap_copyup.specs.declared.parents.Last.TheVariants.{Nothing, Dir, File, Symlink, Whiteout}
 use Rattle.snap_copyup.specs.Copying.{with_parents}
 use Rattle.snap_copyup.specs.Places.{with_last, Fits, TakesMore}
-use Rattle.snap_copyup.proofs.Parents.{AddsParents, adds_parents}
+use Rattle.snap_copyup.proofs.ParentDirs.{AddsParents, adds_parents}
 use Rattle.snap_copyup.proofs.Growing.{grows_from}
 use Rattle.snap_copyup.proofs.Layers.{no_missing, IsLayer-put}
 use Rattle.snap_upper.specs.After.{is_whiteout_at}

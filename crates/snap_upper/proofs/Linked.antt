@@ -34,7 +34,7 @@ use Rattle.snap_copyup.specs.Copying.{copied, with_object, with_parents, copied_
 use Rattle.snap_copyup.specs.Places.{IsRefusal}
 use Rattle.snap_copyup.proofs.Alone.{below_seen, copied_there, copied_missing, free_unseen, some_dir}
 use Rattle.snap_copyup.proofs.Elsewhere.{shown_same}
-use Rattle.snap_copyup.proofs.Parents.{AddsParents, adds_parents, parents_stand}
+use Rattle.snap_copyup.proofs.ParentDirs.{AddsParents, adds_parents, parents_stand}
 use Rattle.snap_copyup.proofs.Growing.{grows_from}
 use Rattle.snap_copyup.proofs.Layers.{no_missing}
 use Rattle.snap_copyup.proofs.Copies.{Puts-with_new, copied_view}

@@ -9,7 +9,7 @@ use Rattle.snap_layer.specs.declared.node.Node.TheVariants.{Dir}
 use Rattle.snap_layer.specs.Tree.{Tree, at}
 use Rattle.snap_layer.specs.Layers.{IsLayer}
 use Rattle.snap_layer.specs.Edits.{with_entry}
-use Rattle.snap_copyup.specs.declared.putting.Last.TheVariants as last
+use Rattle.snap_copyup.specs.declared.parents.Last.TheVariants as last
 use Rattle.snap_copyup.specs.Copying.{with_parents}
 use Rattle.snap_copyup.specs.Places.{with_last, IsVacant}
 use Rattle.snap_merge.specs.Objects.{Object, seen, is_shown_dir}

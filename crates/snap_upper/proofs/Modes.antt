@@ -19,16 +19,16 @@ use Rattle.snap_merge.specs.Objects.{Object, dir, file, symlink, seen, shown_bod
 use Rattle.snap_merge.specs.Walk.{walk}
 use Rattle.snap_merge.specs.declared.error.FsError.{FsError}
 use Rattle.snap_merge.specs.declared.error.FsError.TheVariants.{Invalid}
-use Rattle.snap_upper.specs.declared.planning.Planned.{Planned}
+use Rattle.snap_upper.specs.declared.usage.Planned.{Planned}
 use Rattle.snap_merge.proofs.Views.{seen_node}
 use Rattle.snap_copyup.specs.Copying.{copied, copied_up, with_object, with_parents}
 use Rattle.snap_copyup.specs.Places.{with_last, Fits}
 use Rattle.snap_copyup.proofs.Alone.{copied_there, copied_missing, below_seen}
-use Rattle.snap_copyup.proofs.Parents.{adds_parents}
+use Rattle.snap_copyup.proofs.ParentDirs.{adds_parents}
 use Rattle.snap_copyup.proofs.Wholes.{IsWholeObject, whole_seen, vacant}
 use Rattle.snap_copyup.proofs.Layers.{no_missing}
 use Rattle.snap_upper.specs.declared.op.Op.TheVariants as op
-use Rattle.snap_copyup.specs.declared.putting.Last.TheVariants as last
+use Rattle.snap_copyup.specs.declared.parents.Last.TheVariants as last
 use Rattle.snap_upper.specs.declared.change.Edit.{Edit}
 use Rattle.snap_upper.specs.declared.change.New.{New}
 use Rattle.snap_upper.specs.declared.change.New.TheVariants as new

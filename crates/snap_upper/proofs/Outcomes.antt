@@ -14,7 +14,7 @@ use Rattle.snap_usage.proofs.Joined.{count_of-IsLayer}
 use Rattle.snap_merge.specs.declared.error.FsError.{FsError}
 use Rattle.snap_merge.specs.declared.error.FsError.TheVariants.{LayerFull, OutOfMemory}
 use Rattle.snap_copyup.specs.Places.{IsRefusal}
-use Rattle.snap_upper.specs.declared.planning.Planned.{Planned}
+use Rattle.snap_upper.specs.declared.usage.Planned.{Planned}
 use Rattle.snap_upper.specs.declared.op.Op.{Op}
 use Rattle.snap_upper.specs.Adding.{IsNext}
 use Rattle.snap_upper.specs.After.{Outcome, after, tests, first_error, error_if, unless, limited, next_layer, planned}

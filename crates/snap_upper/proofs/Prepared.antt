@@ -23,7 +23,7 @@ use Rattle.snap_merge.proofs.Views.{walk_same}
 use Rattle.snap_copyup.specs.Copying.{below, copied, copied_up, with_parents, with_parents_from, is_pure_over}
 use Rattle.snap_copyup.specs.Places.{with_last, last_of}
 use Rattle.snap_copyup.proofs.Alone.{below_seen, copied_there, some_dir, free_unseen}
-use Rattle.snap_copyup.proofs.Parents.{AddsParents, Extends, adds_parents, parents_extend, parents_stand}
+use Rattle.snap_copyup.proofs.ParentDirs.{AddsParents, Extends, adds_parents, parents_extend, parents_stand}
 use Rattle.snap_copyup.proofs.Growing.{grows_from}
 use Rattle.snap_copyup.proofs.Layers.{no_missing}
 use Rattle.snap_copyup.proofs.Copies.{Puts-with_new, not_next, last_copied, copied_view}

@@ -17,14 +17,14 @@ use Rattle.snap_layer.proofs.Replacing.{is_within_yes}
 use Rattle.snap_merge.specs.Objects.{Object, dir, file, symlink, seen, is_shown_dir, AreLayers}
 use Rattle.snap_merge.specs.Walk.{walk}
 use Rattle.snap_merge.proofs.Views.{walk_same}
-use Rattle.snap_copyup.specs.declared.putting.Last.{Last}
+use Rattle.snap_copyup.specs.declared.parents.Last.{Last}
 use Rattle.snap_copyup.specs.Copying.{with_object, with_parents, copied_up}
 use Rattle.snap_copyup.specs.Places.{TakesMore, last_of, with_last, missing_from}
 use Rattle.snap_copyup.proofs.Alone.{below_seen, copied_missing}
 use Rattle.snap_copyup.proofs.Copies.{copied_view, same_object}
 use Rattle.snap_copyup.proofs.Growing.{Grows, grows_from, missing_same, takes_missing}
 use Rattle.snap_copyup.proofs.Layers.{IsLayer-with_parents, IsLayer-copied_up}
-use Rattle.snap_copyup.proofs.Parents.{AddsParents, adds_parents}
+use Rattle.snap_copyup.proofs.ParentDirs.{AddsParents, adds_parents}
 use Rattle.snap_copyup.proofs.Wholes.{IsWholeObject, whole_seen}
 use Rattle.snap_upper.specs.After.{is_whiteout_at, prepared}
 use Rattle.snap_upper.specs.Adding.{IsPlaceable, Takes, object_blocks}

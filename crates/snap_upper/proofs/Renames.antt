@@ -24,7 +24,7 @@ use Rattle.snap_merge.proofs.Above.{nothing_seen}
 use Rattle.snap_copyup.specs.Copying.{below, copied, with_object, with_parents_from, with_parents, copied_up, is_pure_over}
 use Rattle.snap_copyup.specs.Places.{with_last, last_of}
 use Rattle.snap_copyup.proofs.Alone.{walk_passes, below_seen, copied_there, copied_missing}
-use Rattle.snap_copyup.proofs.Parents.{AddsParents, adds_parents, dir_copied}
+use Rattle.snap_copyup.proofs.ParentDirs.{AddsParents, adds_parents, dir_copied}
 use Rattle.snap_copyup.proofs.Copies.{last_copied, copied_view, Puts-with_new}
 use Rattle.snap_copyup.proofs.Layers.{no_missing}
 use Rattle.snap_upper.specs.declared.op.Op.TheVariants as op

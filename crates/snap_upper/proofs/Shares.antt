@@ -7,7 +7,7 @@ use Rattle.snap_usage.specs.declared.usage.Usage.{Usage}
 use Rattle.snap_usage.specs.Counted.{count_of, Covers}
 use Rattle.snap_merge.specs.declared.error.FsError.{FsError}
 use Rattle.snap_merge.specs.declared.error.FsError.TheVariants.{NeedsCharge, OutOfMemory}
-use Rattle.snap_upper.specs.declared.planning.Planned.{Planned}
+use Rattle.snap_upper.specs.declared.usage.Planned.{Planned}
 use Rattle.snap_upper.specs.After.{Outcome, planned, within_share}
 
 -- the count of an answer, or another one

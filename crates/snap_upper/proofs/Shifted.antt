@@ -32,7 +32,7 @@ use Rattle.snap_merge.specs.Objects.{Object, dir, file, symlink, seen, is_shown_
 use Rattle.snap_copyup.specs.Copying.{below, copied_up, with_parents}
 use Rattle.snap_copyup.specs.Places.{IsRefusal, missing_from}
 use Rattle.snap_copyup.proofs.Alone.{below_seen, dir_seen}
-use Rattle.snap_copyup.proofs.Parents.{AddsParents}
+use Rattle.snap_copyup.proofs.ParentDirs.{AddsParents}
 use Rattle.snap_copyup.proofs.Growing.{Grows, grows_from}
 use Rattle.snap_copyup.proofs.Layers.{no_missing}
 use Rattle.snap_upper.specs.After.{tests, first_error, after, error_if, kind_error, is_same_name, limited, renamed, prepared, shifted}

@@ -23,7 +23,7 @@ use Rattle.snap_merge.proofs.Hiding.{hides_alike}
 use Rattle.snap_copyup.specs.Copying.{below, copied, with_object, with_parents_from}
 use Rattle.snap_copyup.proofs.Alone.{walk_passes, below_seen, copied_there, copied_missing}
 use Rattle.snap_copyup.proofs.Elsewhere.{shown_same}
-use Rattle.snap_copyup.proofs.Parents.{dir_copied}
+use Rattle.snap_copyup.proofs.ParentDirs.{dir_copied}
 use Rattle.snap_copyup.proofs.Growing.{grows_once}
 use Rattle.snap_upper.proofs.Growth.{without_bare}
 

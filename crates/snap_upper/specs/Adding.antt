@@ -9,8 +9,8 @@ use Rattle.snap_layer.specs.Edits.{IsFree}
 use Rattle.snap_usage.specs.declared.usage.Usage.{Usage}
 use Rattle.snap_merge.specs.Objects.{Object, dir, file, symlink, seen, is_shown_dir}
 use Rattle.snap_merge.specs.Walk.{walk}
-use Rattle.snap_copyup.specs.declared.putting.Last.{Last}
-use Rattle.snap_copyup.specs.declared.putting.Last.TheVariants.{Nothing, Dir, File, Symlink, Whiteout}
+use Rattle.snap_copyup.specs.declared.parents.Last.{Last}
+use Rattle.snap_copyup.specs.declared.parents.Last.TheVariants.{Nothing, Dir, File, Symlink, Whiteout}
 
 -- it takes an inode, so many blocks, and the next file number or none
 abbrev pub Takes : Last → ℕ → Bool → Type 0

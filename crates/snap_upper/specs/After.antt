@@ -18,7 +18,7 @@ use Rattle.snap_merge.specs.Listing.{names}
 use Rattle.snap_path.specs.Text.{Names, text_below}
 use Rattle.snap_upper.specs.declared.op.Op.{Op}
 use Rattle.snap_upper.specs.declared.op.Op.TheVariants.{Mkdir, Create, Write, Truncate, SetMode, Symlink, Link, Unlink, Rmdir, Rename}
-use Rattle.snap_upper.specs.declared.planning.Planned.{Planned}
+use Rattle.snap_upper.specs.declared.usage.Planned.{Planned}
 use Rattle.snap_copyup.specs.Copying.{below, is_pure, with_parents, copied_up}
 
 -- ---- tests

@@ -5,9 +5,9 @@ use Rattle.snap_layer.specs.Edits.{HasMode, with_mode}
 use Rattle.snap_merge.specs.Objects.{Object, file, seen, is_shown_dir, AreLayers}
 use Rattle.snap_layer.specs.declared.node.Body.TheVariants as body_kinds
 use Rattle.snap_merge.specs.Walk.{walk}
-use Rattle.snap_copyup.specs.declared.putting.Last.{Last}
-use Rattle.snap_copyup.specs.declared.putting.Last.TheVariants as last
-use Rattle.snap_copyup.specs.Copying.{with_parents}
+use Rattle.snap_copyup.specs.declared.parents.Last.{Last}
+use Rattle.snap_copyup.specs.declared.parents.Last.TheVariants as last
+use Rattle.snap_copyup.specs.Copying.{below, with_parents}
 use Rattle.snap_copyup.specs.Places.{with_last, Fits}
 use Rattle.snap_upper.specs.declared.op.Op.{Op}
 use Rattle.snap_upper.specs.declared.op.Op.TheVariants as op
@@ -55,9 +55,9 @@ outcome Nothing u lowers = Ok u
 outcome (Put path new) u lowers = limited (with_last (as_last new) (with_parents u lowers path.now) path.now)
 outcome (Fill number edit) u lowers = limited (with_content u (Some number) (edited edit))
 outcome (SetMode path mode) u lowers = limited (with_mode u path.now (at u path.now) mode)
-outcome (Erase path) u lowers = limited (erased u lowers path.now)
+outcome (Erase path covers) u lowers = limited (erased u lowers path.now)
 outcome (Link from to) u lowers = limited (next_layer (op.Link from.now to.now) u lowers)
-outcome (Move from to) u lowers = limited (renamed u lowers from.now to.now)
+outcome (Move from to leaves covers) u lowers = limited (renamed u lowers from.now to.now)
 
 -- the change can be made: what the steps ask for is there
 abbrev pub IsReady : Change → Tree → List Tree → Type 0
@@ -65,9 +65,9 @@ IsReady Nothing u lowers = Unit {0}
 IsReady (Put path new) u lowers = (walk (u ∷ lowers) path.now ≡ None) × Fits (as_last new) u path.now × IsSound new
 IsReady (Fill number edit) u lowers = (m : ℕ) × (old : List ℕ) × (body u number ≡ Some (body_kinds.File m old)) × IsShort edit × (length (edited edit old) ≤ 1048576)
 IsReady (SetMode path mode) u lowers = HasMode (at u path.now) × (mode ≤ 4095)
-IsReady (Erase path) u lowers = (walk (u ∷ lowers) path.now ≡ None) × (is_some (seen (u ∷ lowers) path.now) ≡ true) × (path.now ≡ [] → ⊥) × ((n : List ℕ) → is_some (seen (u ∷ lowers) (path.now ++ n ∷ [])) ≡ false)
+IsReady (Erase path covers) u lowers = (walk (u ∷ lowers) path.now ≡ None) × (is_some (seen (u ∷ lowers) path.now) ≡ true) × (path.now ≡ [] → ⊥) × ((n : List ℕ) → is_some (seen (u ∷ lowers) (path.now ++ n ∷ [])) ≡ false) × (covers ≡ is_some (below u lowers path.now))
 IsReady (Link from to) u lowers = first_error (tests (op.Link from.now to.now) (u ∷ lowers)) ≡ None
-IsReady (Move from to) u lowers = (first_error (tests (op.Rename from.now to.now) (u ∷ lowers)) ≡ None) × (is_same_name u from.now to.now ≡ false)
+IsReady (Move from to leaves covers) u lowers = (first_error (tests (op.Rename from.now to.now) (u ∷ lowers)) ≡ None) × (is_same_name u from.now to.now ≡ false) × (leaves ≡ is_some (below u lowers from.now)) × (covers ≡ is_some (below u lowers to.now))
 
 -- it is the directory or file that is seen, with the mode
 abbrev pub IsWithMode : New → Option Object → ℕ → Type 0

@@ -1,11 +1,12 @@
 // What an operation does to the layer, once its tests have passed.
-ghost use Rattle.std.specs.Prelude.{◌≡◌, ◌≤◌, ℕ, Bool, List, IfOk, length};
+ghost use Rattle.std.specs.Prelude.{◌≡◌, ◌≤◌, ℕ, Bool, List, IfOk, length, ◌+◌};
+ghost use Rattle.snap_layer.specs.Tree.{number_at};
 ghost use Rattle.snap_upper.specs.Adding.{Takes};
 ghost use Rattle.snap_upper.specs.Changes.{edited, as_last, is_numbered, IsShort, IsSound};
+ghost use Rattle.snap_upper.specs.After.{is_whiteout_at, written, resized};
 
-use super::content::{resized, written};
 use snap_copyup::Last;
-use snap_layer::Bytes;
+use snap_layer::{Bytes, Layer, Node};
 use snap_path::Path;
 use snap_usage::blocks_of;
 use std::alloc::{AllocError, Global};
@@ -45,17 +46,38 @@ pub(crate) enum Change<'a> {
     /// Nothing.
     Nothing,
     /// It is put at the path, with the directories that are missing above it.
-    Put { path: &'a Path, new: New<'a> },
+    Put {
+        path: &'a Path,
+        new: New<'a>,
+    },
     /// The bytes of the layer's own file with the number change.
-    Fill { number: u32, edit: Edit<'a> },
+    Fill {
+        number: u32,
+        edit: Edit<'a>,
+    },
     /// The mode of the layer's own directory or file changes.
-    SetMode { path: &'a Path, mode: u32 },
-    /// What is seen goes.
-    Erase { path: &'a Path },
+    SetMode {
+        path: &'a Path,
+        mode: u32,
+    },
+    /// What is seen goes. A whiteout is put where `covers` says that a lower layer shows something.
+    Erase {
+        path: &'a Path,
+        covers: bool,
+    },
     /// What is seen at `from` gets the name `to`.
-    Link { from: &'a Path, to: &'a Path },
-    /// What is seen at `from` moves to `to`.
-    Move { from: &'a Path, to: &'a Path },
+    Link {
+        from: &'a Path,
+        to: &'a Path,
+    },
+    /// What is seen at `from` moves to `to`. A lower layer shows something at `from` where `leaves` says so,
+    /// and at `to` where `covers` does.
+    Move {
+        from: &'a Path,
+        to: &'a Path,
+        leaves: bool,
+        covers: bool,
+    },
 }
 
 impl<'a> Edit<'a> {
@@ -130,4 +152,55 @@ impl<'a> New<'a> {
             }),
         }
     }
+}
+
+/// Whether a whiteout stands there.
+pub(crate) fn is_whiteout(node: Option<Node>) -> bool
+    ensures { result ≡ is_whiteout_at node }
+{
+    match node {
+        Some(node) => node.is_whiteout(),
+        None => false,
+    }
+}
+
+/// The number of the file or symlink that the layer has at the path.
+pub(crate) fn own_number(layer: &Layer, path: &Path) -> Option<u32>
+    ensures { result ≡ number_at layer.now path.now }
+{
+    layer.at(path)?.number()
+}
+
+/// The old bytes with the new ones put at the offset, over a gap of zero bytes.
+pub(crate) fn written(
+    alloc: Global,
+    old: &[u8],
+    offset: usize,
+    bytes: &[u8],
+) -> Result<Bytes, AllocError>
+    requires { offset + length bytes.now ≤ 1048576 }
+    ensures { IfOk result (λ b. b ≡ written old.now offset bytes.now) }
+{
+    if bytes.is_empty() {
+        return Bytes::copy_of(alloc, old);
+    }
+    let mut items = Vec::new(alloc);
+    items.extend_from_slice(&old[..offset.min(old.len())])?;
+    items.resize(offset, 0)?;
+    items.extend_from_slice(bytes)?;
+    let end = offset + bytes.len();
+    if end < old.len() {
+        items.extend_from_slice(&old[end..])?;
+    }
+    Ok(Bytes::new(items))
+}
+
+/// The old bytes cut to so many, or with zero bytes after them.
+pub(crate) fn resized(alloc: Global, old: &[u8], size: usize) -> Result<Bytes, AllocError>
+    ensures { IfOk result (λ b. b ≡ resized old.now size) }
+{
+    let mut items = Vec::new(alloc);
+    items.extend_from_slice(&old[..size.min(old.len())])?;
+    items.resize(size, 0)?;
+    Ok(Bytes::new(items))
 }

@@ -4,18 +4,14 @@
 //! what an operation does by `after`: its first error, or the next upper layer.
 #![tactic(auto)]
 
-mod applying;
 mod change;
-mod checking;
-mod content;
-mod erasing;
-mod growing;
-mod linking;
+mod checks;
+mod names;
 mod op;
-mod planning;
-mod renaming;
 mod rules;
+mod upper;
+mod usage;
 
-pub use applying::{apply, apply_within};
 pub use op::Op;
-pub use planning::{Planned, plan};
+pub use upper::{apply, apply_within};
+pub use usage::{Planned, plan};

@@ -1,22 +1,20 @@
 // The rule of each operation: its tests, and the change that it makes where they pass.
-ghost use Rattle.std.specs.Prelude.{◌≡◌, ◌⊎◌, ◌≤◌, ◌∷◌, ℕ, List, Some, None, IfOk, IfErr, Err, false};
+ghost use Rattle.std.specs.Prelude.{◌≡◌, ◌⊎◌, ◌∷◌, ℕ, List, Some, None, IfOk, IfErr, Err, false, is_some};
 ghost use Rattle.snap_layer.specs.Tree.{at, number_at};
 ghost use Rattle.snap_merge.specs.declared.error.FsError.{FsError};
 ghost use Rattle.snap_merge.specs.Objects.{file, seen, AreLayers};
 ghost use Rattle.snap_merge.specs.Walk.{walk};
-ghost use Rattle.snap_copyup.specs.Copying.{copied_up};
-ghost use Rattle.snap_upper.specs.declared.op.Op.TheVariants as op;
+ghost use Rattle.snap_copyup.specs.Copying.{below, copied_up};
 ghost use Rattle.snap_upper.specs.After.{after, limited, with_content, lists_names, mode_error};
 ghost use Rattle.snap_upper.specs.Changes.{edited, outcome, IsChange, IsReady, IsShort, IsWithMode};
+ghost use Rattle.snap_upper.specs.declared.op.Op.TheVariants as op;
 
-use super::change::{Change, Edit, New};
-use super::checking::{
-    check_link, check_mode, check_new, check_rmdir, check_symlink, check_truncate, check_unlink,
-    check_write,
+use super::change::{Change, Edit, New, is_whiteout, own_number};
+use super::checks::{
+    check_link, check_mode, check_new, check_rename, check_rmdir, check_symlink, check_truncate,
+    check_unlink, check_write,
 };
-use super::content::{is_whiteout, own_number};
 use super::op::Op;
-use super::renaming::check_rename;
 use snap_copyup::below;
 use snap_layer::{Bytes, Layer, Shared};
 use snap_merge::{FsError, Seen, Stack};
@@ -60,7 +58,7 @@ fn mkdir<'a>(
     ensures error { IfErr result (λ e. after (op.Mkdir path.now mode) layer.now lowers.now ≡ Err e) }
 {
     check_new(&Stack::over(layer, lowers), path, mode)?;
-    let _ = layer.next_number();
+    layer.show_is_layer();
     let opaque = is_whiteout(layer.at(path));
     let new = New::Dir { mode, opaque };
     Ok(Change::Put { path, new })
@@ -76,7 +74,7 @@ fn create<'a>(
     ensures error { IfErr result (λ e. after (op.Create path.now mode) layer.now lowers.now ≡ Err e) }
 {
     check_new(&Stack::over(layer, lowers), path, mode)?;
-    let _ = layer.next_number();
+    layer.show_is_layer();
     let old: &[u8] = &[];
     let edit = Edit::Keep;
     let new = New::File { mode, old, edit };
@@ -93,7 +91,7 @@ fn symlink<'a>(
     ensures error { IfErr result (λ e. after (op.Symlink path.now target.now) layer.now lowers.now ≡ Err e) }
 {
     check_symlink(&Stack::over(layer, lowers), path, target)?;
-    let _ = layer.next_number();
+    layer.show_is_layer();
     let target = target.as_slice();
     let new = New::Symlink { target };
     Ok(Change::Put { path, new })
@@ -110,7 +108,7 @@ fn write<'a>(
     ensures error { IfErr result (λ e. after (op.Write path.now offset bytes.now) layer.now lowers.now ≡ Err e) }
 {
     check_write(&Stack::over(layer, lowers), path, offset, bytes)?;
-    let _ = layer.next_number();
+    layer.show_is_layer();
     let edit = Edit::Write {
         offset: offset as usize,
         bytes: bytes.as_slice(),
@@ -128,7 +126,7 @@ fn truncate<'a>(
     ensures error { IfErr result (λ e. after (op.Truncate path.now size) layer.now lowers.now ≡ Err e) }
 {
     check_truncate(&Stack::over(layer, lowers), path, size)?;
-    let _ = layer.next_number();
+    layer.show_is_layer();
     let edit = Edit::Resize {
         size: size as usize,
     };
@@ -150,7 +148,7 @@ fn editing<'a>(
     ensures ok { IfOk result (λ c. IsReady c layer.now lowers.now × (outcome c layer.now lowers.now ≡ limited (with_content (copied_up layer.now lowers.now path.now) (number_at (copied_up layer.now lowers.now path.now) path.now) (edited edit.entry)))) }
     ensures sure { IfErr result (λ e. ⊥) }
 {
-    let _ = layer.next_number();
+    layer.show_is_layer();
     if let Some(number) = own_number(layer, path) {
         return Ok(Change::Fill { number, edit });
     }
@@ -172,7 +170,7 @@ fn set_mode<'a>(
     ensures error { IfErr result (λ e. after (op.SetMode path.now mode) layer.now lowers.now ≡ Err e) }
 {
     check_mode(&Stack::over(layer, lowers), path, mode)?;
-    let _ = layer.next_number();
+    layer.show_is_layer();
     if layer.at(path).is_some() {
         return Ok(Change::SetMode { path, mode });
     }
@@ -224,8 +222,9 @@ fn unlink<'a>(layer: &Layer, lowers: &'a [Shared], path: &'a Path) -> Result<Cha
     ensures error { IfErr result (λ e. after (op.Unlink path.now) layer.now lowers.now ≡ Err e) }
 {
     check_unlink(&Stack::over(layer, lowers), path)?;
-    let _ = layer.next_number();
-    Ok(Change::Erase { path })
+    layer.show_is_layer();
+    let covers = is_below(layer, lowers, path);
+    Ok(Change::Erase { path, covers })
 }
 
 fn rmdir<'a>(layer: &Layer, lowers: &'a [Shared], path: &'a Path) -> Result<Change<'a>, FsError>
@@ -234,8 +233,9 @@ fn rmdir<'a>(layer: &Layer, lowers: &'a [Shared], path: &'a Path) -> Result<Chan
     ensures sure { lists_names (op.Rmdir path.now) (layer.now ∷ lowers.now) ≡ false → IfErr result (λ e. after (op.Rmdir path.now) layer.now lowers.now ≡ Err e) }
 {
     check_rmdir(&Stack::over(layer, lowers), layer.alloc(), path)?;
-    let _ = layer.next_number();
-    Ok(Change::Erase { path })
+    layer.show_is_layer();
+    let covers = is_below(layer, lowers, path);
+    Ok(Change::Erase { path, covers })
 }
 
 fn rename<'a>(
@@ -248,9 +248,23 @@ fn rename<'a>(
     ensures error { IfErr result (λ e. (e ≡ FsError.OutOfMemory) ⊎ (after (op.Rename from.now to.now) layer.now lowers.now ≡ Err e)) }
     ensures sure { lists_names (op.Rename from.now to.now) (layer.now ∷ lowers.now) ≡ false → IfErr result (λ e. after (op.Rename from.now to.now) layer.now lowers.now ≡ Err e) }
 {
-    let _ = layer.next_number();
+    layer.show_is_layer();
     if !check_rename(layer, lowers, from, to)? {
         return Ok(Change::Nothing);
     }
-    Ok(Change::Move { from, to })
+    let leaves = is_below(layer, lowers, from);
+    let covers = is_below(layer, lowers, to);
+    Ok(Change::Move {
+        from,
+        to,
+        leaves,
+        covers,
+    })
+}
+
+/// Whether the lower layers show something at the path, and the layer doesn't hide it there.
+fn is_below(layer: &Layer, lowers: &[Shared], path: &Path) -> bool
+    ensures { result ≡ is_some (below layer.now lowers.now path.now) }
+{
+    below(layer, lowers, path).is_some()
 }

@@ -6,8 +6,6 @@
 //! whiteout counts, though the kernel links those of one mount to one inode.
 #![tactic(auto)]
 
-mod counting;
 mod usage;
 
-pub use counting::{count, recount};
-pub use usage::{Usage, blocks_of, difference};
+pub use usage::{Usage, blocks_of, count, difference, recount};

@@ -1,7 +1,10 @@
 ghost use Rattle.std.specs.Prelude.{◌≡◌, ◌↔◌, ◌+◌, ◌-◌, ◌<◌, ◌^◌, Some, IsTrue};
+ghost use Rattle.snap_layer.specs.Tree.{body};
 ghost use Rattle.snap_layer.specs.Counts as layer_counts;
-ghost use Rattle.snap_usage.specs.Counted.{Covers, usage_text};
+ghost use Rattle.snap_layer.specs.Counts.{block_count, inode_count};
+ghost use Rattle.snap_usage.specs.Counted.{Covers, blocks_if, count_of, usage_text};
 
+use snap_layer::Layer;
 use std::fmt;
 
 /// So many blocks of 4096 bytes, and so many inodes: the two quantities of containerd's
@@ -15,6 +18,12 @@ pub struct Usage {
 }
 
 impl Usage {
+    /// No blocks and no inodes.
+    pub const ZERO: Usage = Usage {
+        blocks: 0,
+        inodes: 0,
+    };
+
     /// Whether each of the two quantities is at least that of the other usage.
     pub fn covers(&self, other: Usage) -> bool
         ensures { IsTrue result ↔ Covers self.now other }
@@ -52,6 +61,56 @@ pub fn blocks_of(size: u64) -> u64
     ensures { result ≡ layer_counts.blocks_of size }
 {
     size.div_ceil(4096)
+}
+
+/// What the layer takes, without the layers below it (containerd's `Snapshotter.Usage`). A file
+/// counts once for all its names, as du(1) counts it.
+///
+/// The layer keeps the number of its inodes, and its blocks are found by one pass over its paths
+/// and its bodies. Takes no memory.
+pub fn count(layer: &Layer) -> Usage
+    ensures count { result ≡ count_of layer.now }
+    // The distinct file numbers of the paths are the numbers of the layer's bodies.
+    ensures bodies { result ≡ record { blocks = block_count layer.now; inodes = inode_count layer.now } }
+{
+    layer.show_is_layer();
+    Usage {
+        blocks: layer.blocks(),
+        inodes: layer.inodes() as u64,
+    }
+}
+
+/// The same as [`count`], from scratch: it goes over the paths, and then asks for the bodies one by
+/// one, and uses no number that the layer keeps.
+///
+/// The cost is that of one pass over the paths, and of `Layer::next_body` for each body. Takes no
+/// memory.
+pub fn recount(layer: &Layer) -> Usage
+    ensures { result ≡ count_of layer.now }
+{
+    layer.show_is_layer();
+    let (directories, whiteouts) = layer.tally();
+    let mut usage = Usage {
+        blocks: directories as u64,
+        inodes: (directories + whiteouts) as u64,
+    };
+    let mut after = 0;
+    while let Some(number) = layer.next_body(after) {
+        usage.inodes += 1;
+        usage.blocks += blocks_at(layer, number);
+        after = number;
+    }
+    usage
+}
+
+/// The blocks of the body that the number has, if it has one.
+fn blocks_at(layer: &Layer, number: u32) -> u64
+    ensures { result ≡ blocks_if (body layer.now number) }
+{
+    match layer.body(number) {
+        Some(body) => body.blocks(),
+        None => 0,
+    }
 }
 
 /// The blocks, a slash and the inodes, as `4/3`; a width or a precision has no effect.

@@ -1,7 +1,8 @@
 -- The calls on hands and those that ask, one by one.
-use Rattle.std.proofs.Common.{◌≡◌, ◌⊎◌, inl, inr, ℕ, ◌+◌, ◌≤◌, ◌<◌, List, length, true, false, Bool, Option, None, Some, refl, sym, ap, ◌∙◌, subst, ⊎_elim, arith}
+use Rattle.std.proofs.Common.{◌≡◌, ◌⊎◌, inl, inr, ℕ, ◌+◌, ◌≤◌, ◌<◌, List, ◌∷◌, length, true, false, Bool, Option, None, Some, refl, sym, ap, ◌∙◌, subst, ⊎_elim, arith}
 use Rattle.std.specs.Prelude.{◌↔◌, if◌then◌else◌, Result, Ok, Err, OnOk, OnErr, IfErr}
 use Rattle.std.specs.Option.{option_map}
+use Rattle.std.proofs.lemmas.Bool.{lt-ltb}
 use Rattle.snap_usage.specs.declared.usage.Usage.{Usage}
 use Rattle.snap_usage.specs.Counted.{count_of}
 use Rattle.snap_record.specs.Labels.{Bytes, Label}
@@ -26,7 +27,8 @@ use Rattle.snap_layer.specs.Edits.{root_only}
 use Rattle.snap_merge.specs.declared.error.FsError.{FsError}
 use Rattle.snap_merge.specs.declared.error.FsError.TheVariants as errors
 use Rattle.snap_upper.specs.declared.op.Op.{Op}
-use Rattle.snap_book.specs.Working.{worked}
+use Rattle.snap_upper.specs.After.{Outcome, lists_names}
+use Rattle.snap_book.specs.Files.{worked}
 use Rattle.snap_book.specs.Active.{ActiveValue, root_mode}
 use Rattle.snap_accounts.specs.Entries.{Asks}
 use Rattle.snap_book.specs.Book.{BookValue, AnsweredBy, Recorded}
@@ -34,12 +36,12 @@ use Rattle.snap_world.specs.declared.step.Answer.{Answer}
 use Rattle.snap_world.specs.declared.step.Answer.TheVariants as answers
 use Rattle.snap_world.specs.declared.step.Step.TheVariants as steps
 use Rattle.snap_world.specs.World.{HandValue, WorldValue, Fits, hand_at, with_hand, world_of}
-use Rattle.snap_world.specs.Move.{called, charged, committed, filed, fresh, is_its_session, is_under, is_unsealed, meets, prepared, sealed_hand}
-use Rattle.snap_world.specs.Runs.{DoesCall, Moves}
+use Rattle.snap_world.specs.Move.{called, charged, committed, filed, fresh, is_full, is_its_session, is_under, is_unsealed, meets, prepared, recorded, sealed_hand}
+use Rattle.snap_world.specs.Runs.{CanWant, DoesCall, IsLeft, Moves}
 use Rattle.snap_world.proofs.Ends.{ends}
 use Rattle.snap_world.proofs.Hold.{placed, under-id}
 use Rattle.snap_world.proofs.Places.{with_hand-twice, with_hand-again}
-use Rattle.snap_world.proofs.Steps.{admits, charges, found, in_session, missed}
+use Rattle.snap_world.proofs.Steps.{admits, charges, found, in_session, missed, not_lt}
 
 pub charge_does : (old new : BookValue) (hands out after : List (Option HandValue)) (slot n id : ℕ) (need want : Usage) (a b : ActiveValue) (reply : Reply) → Fits (world_of old hands)
     → hand_at slot hands ≡ Some (record { snapshot = a; sealed = false }) → is_under id (record { snapshot = a; sealed = false }) ≡ true → slot < 64
@@ -83,7 +85,7 @@ commit_does old new hands out after slot n id name lease h a reply at under is a
     let here : AnsweredBy old new n call (Layer h.snapshot.layer) reply = subst (λ (v : ActiveValue). AnsweredBy old new n call (Layer v.layer) reply) is answered in
     ⊎_elim
     (λ e. inl (found (world_of old hands) slot (is_under id) _ h at under ∙ e))
-    (λ e. inr (ap answers.Reply e.0, (ap (meets (is_under id)) at ∙ under, inr (λ i. world_of (e.1 i) ((left ∙ (ap f e.0 ∙ ap (λ (o : Option HandValue). with_hand slot (option_map (λ g. sealed_hand g.snapshot) o) hands) (sym at))) i)))))
+    (λ e. inr (ap answers.Reply e.0, inr (ap (meets (is_under id)) at ∙ under, e.1, λ i. world_of (e.2 i) ((left ∙ (ap f e.0 ∙ ap (λ (o : Option HandValue). with_hand slot (option_map (λ g. sealed_hand g.snapshot) o) hands) (sym at))) i))))
     (admits old new hands after (f (Refused JournalFull)) 1 n call (Layer h.snapshot.layer) f reply (ends old new n call (Layer h.snapshot.layer) reply here) full_here left refl)
 
 -- a hand that comes back into its place
@@ -99,25 +101,44 @@ asks_does old new hands n call reply asks answered full = at call asks answered
     full_here = (λ e. (let p = full.0 e in omega arith), λ lt. full.1 (omega (arith, lt)))
 
     at : (call : Call) → Asks call → AnsweredBy old new n call Nothing reply → DoesCall (world_of old hands) n call (answers.Reply reply) (world_of new hands)
-    at calls.Session a h = absurd a
-    at (calls.Prepare namespace key parent labels) a h = absurd a
-    at (calls.Charge slot id need want) a h = absurd a
-    at (calls.Trim slot id) a h = absurd a
-    at (calls.Commit slot id name lease) a h = absurd a
-    at (calls.Discard slot id) a h = absurd a
     at (calls.Stat namespace key) a h =
-        ⊎_elim (λ e. inl e) (λ e. inr (ap answers.Reply e.0, ap (λ (b : BookValue). world_of b hands) e.1))
+        ⊎_elim (λ e. inl e) (λ e. inr (ap answers.Reply e.0, (e.1, ap (λ (b : BookValue). world_of b hands) e.2)))
         (admits old new hands hands hands 1 n (calls.Stat namespace key) Nothing (λ r. hands) reply (ends old new n (calls.Stat namespace key) Nothing reply h) full_here refl refl)
     at (calls.Usage namespace key) a h =
-        ⊎_elim (λ e. inl e) (λ e. inr (ap answers.Reply e.0, ap (λ (b : BookValue). world_of b hands) e.1))
+        ⊎_elim (λ e. inl e) (λ e. inr (ap answers.Reply e.0, (e.1, ap (λ (b : BookValue). world_of b hands) e.2)))
         (admits old new hands hands hands 1 n (calls.Usage namespace key) Nothing (λ r. hands) reply (ends old new n (calls.Usage namespace key) Nothing reply h) full_here refl refl)
+    at call a h = absurd a
+
+-- a call that asks, where the journal is full
+pub asks_in_vain : (w : WorldValue) (n : ℕ) (call : Call) → Asks call → w.limit ≤ length w.journal + open_count w.state.records → DoesCall w n call (answers.Reply (Refused JournalFull)) w
+asks_in_vain w n call asks full = at call asks
+  where
+    no_room : is_full w 1 ≡ true
+    no_room = lt-ltb w.limit (length w.journal + open_count w.state.records + 1) (omega (arith, full))
+
+    at : (call : Call) → Asks call → DoesCall w n call (answers.Reply (Refused JournalFull)) w
+    at (calls.Stat namespace key) a = inl (ap (λ (b : Bool). if b then (w, answers.Reply (Refused JournalFull)) else recorded w n (calls.Stat namespace key) Nothing (λ reply. w.hands)) no_room)
+    at (calls.Usage namespace key) a = inl (ap (λ (b : Bool). if b then (w, answers.Reply (Refused JournalFull)) else recorded w n (calls.Usage namespace key) Nothing (λ reply. w.hands)) no_room)
+    at call a = absurd a
+
+-- a call that asks wants memory only where the journal has room
+pub asks_left : (w : WorldValue) (call : Call) → Asks call → ((w.limit ≤ length w.journal + open_count w.state.records) → ⊥) → IsLeft w call w
+asks_left w call asks room = at call asks
+  where
+    free : is_full w 1 ≡ false
+    free = not_lt w.limit (length w.journal + open_count w.state.records + 1) (λ lt. room (omega (arith, lt)))
+
+    at : (call : Call) → Asks call → IsLeft w call w
+    at (calls.Stat namespace key) a = (free, refl)
+    at (calls.Usage namespace key) a = (free, refl)
+    at call a = absurd a
 
 pub prepare_does : (old new : BookValue) (hands after : List (Option HandValue)) (n : ℕ) (namespace key parent : Bytes) (labels : List Label) (reply : Reply) → AnsweredBy old new n (calls.Prepare namespace key parent labels) Nothing reply
     → after ≡ prepared (place_of namespace old.state.namespaces) key parent old.state.records hands reply → (reply ≡ Refused JournalFull) ↔ (old.limit < length old.journal + open_count old.state.records + 2)
     → DoesCall (world_of old hands) n (calls.Prepare namespace key parent labels) (answers.Reply reply) (world_of new after)
 prepare_does old new hands after n namespace key parent labels reply answered left full =
     let f : Reply → List (Option HandValue) = prepared (place_of namespace old.state.namespaces) key parent old.state.records hands in
-    ⊎_elim (λ e. inl e) (λ e. inr (ap answers.Reply e.0, λ i. world_of (e.1 i) ((left ∙ ap f e.0) i)))
+    ⊎_elim (λ e. inl e) (λ e. inr (ap answers.Reply e.0, (e.1, λ i. world_of (e.2 i) ((left ∙ ap f e.0) i))))
     (admits old new hands after hands 2 n (calls.Prepare namespace key parent labels) Nothing f reply (ends old new n (calls.Prepare namespace key parent labels) Nothing reply answered) full left refl)
 
 -- a call in its session is a step
@@ -132,29 +153,51 @@ no_session w n call not_own = inl (ap (λ (b : Bool). if b then called w n call 
 pub session_does : (w v : WorldValue) (m n : ℕ) (answer : Answer) → n ≡ m → DoesCall w m calls.Session answer v → DoesCall w n calls.Session answer v
 session_does w v m n answer e does = subst (λ (k : ℕ). DoesCall w k calls.Session answer v) (sym e) does
 
+same_error : (e x : FsError) → ◌≡◌ {A = Result (Unit {0}) FsError} (Err e) (Err x) → e ≡ x
+same_error e x is = cc
+
+-- an error that is certain, or one that stands for want of memory
+certain : (op : Op) (layers : List Tree) (o : Outcome) (e : FsError) (b : Bool) → lists_names op layers ≡ b → (lists_names op layers ≡ false → IfErr o (λ x. ◌≡◌ {A = Result (Unit {0}) FsError} (Err e) (Err x)))
+    → IfErr o (λ x. lists_names op layers ≡ true) ⊎ (o ≡ Err e)
+certain op layers (Ok next) e b lists first = inl tt
+certain op layers (Err x) e true lists first = inl lists
+certain op layers (Err x) e false lists first = inr (ap (λ (y : FsError). Err y) (sym (same_error e x (first lists))))
+
+file_errs : (b : BookValue) (hands after : List (Option HandValue)) (slot : ℕ) (op : Op) (a : ActiveValue) (e : FsError) → hand_at slot hands ≡ Some (record { snapshot = a; sealed = false }) → worked op a.share.usage a.layer a.lowers ≡ Err e
+    → after ≡ hands → Moves (world_of b hands) (steps.Hand slot op) (answers.File (Err e)) (world_of b after)
+file_errs b hands after slot op a e at err left =
+    let h : HandValue = record { snapshot = a; sealed = false } in
+    let w = world_of b hands in
+    inl (found w slot is_unsealed (λ g. filed w slot g (worked op g.snapshot.share.usage g.snapshot.layer g.snapshot.lowers)) h at refl
+    ∙ (ap (filed w slot h) err ∙ (λ i. (world_of b (sym left i), answers.File (Err e)))))
+
+file_wants : (b : BookValue) (hands after : List (Option HandValue)) (slot : ℕ) (op : Op) (a : ActiveValue) (e : FsError) → hand_at slot hands ≡ Some (record { snapshot = a; sealed = false }) → e ≡ errors.OutOfMemory
+    → (lists_names op (a.layer ∷ a.lowers) ≡ false → IfErr (worked op a.share.usage a.layer a.lowers) (λ x. ◌≡◌ {A = Result (Unit {0}) FsError} (Err e) (Err x)))
+    → after ≡ hands → Moves (world_of b hands) (steps.Hand slot op) (answers.File (Err e)) (world_of b after)
+file_wants b hands after slot op a e at want first left =
+    ⊎_elim
+    (λ can. inr (ap (λ (x : FsError). answers.File (Err x)) want, ap (meets is_unsealed) at, subst (CanWant op) (sym at) can, ap (λ (l : List (Option HandValue)). world_of b l) left))
+    (λ err. file_errs b hands after slot op a e at err left)
+    (certain op (a.layer ∷ a.lowers) (worked op a.share.usage a.layer a.lowers) e (lists_names op (a.layer ∷ a.lowers)) refl first)
+
 -- an operation on the hand that was taken out
 pub file_moves : (b : BookValue) (hands out after : List (Option HandValue)) (slot : ℕ) (op : Op) (a v : ActiveValue) (outcome : Result (Unit {0}) FsError)
     → hand_at slot hands ≡ Some (record { snapshot = a; sealed = false }) → OnOk outcome (worked op a.share.usage a.layer a.lowers ≡ Ok v.layer) → OnOk outcome (v ≡ record a { layer = v.layer })
     → IfErr outcome (λ e. (e ≡ errors.OutOfMemory) ⊎ (worked op a.share.usage a.layer a.lowers ≡ Err e)) → OnErr outcome (v ≡ a)
+    → (lists_names op (a.layer ∷ a.lowers) ≡ false → IfErr (worked op a.share.usage a.layer a.lowers) (λ x. outcome ≡ Err x))
     → out ≡ with_hand slot None hands → after ≡ with_hand slot (Some (record { snapshot = v; sealed = false })) out
     → Moves (world_of b hands) (steps.Hand slot op) (answers.File outcome) (world_of b after)
-file_moves b hands out after slot op a v (Ok tt) at ok same error unchanged gone back =
+file_moves b hands out after slot op a v (Ok tt) at ok same error unchanged first gone back =
     let h : HandValue = record { snapshot = a; sealed = false } in
     let w = world_of b hands in
     let to : HandValue = record { snapshot = v; sealed = false } in
     let left : after ≡ with_hand slot (Some to) hands = back ∙ (ap (λ (l : List (Option HandValue)). with_hand slot (Some to) l) gone ∙ with_hand-twice slot None (Some to) hands) in
     inl (found w slot is_unsealed (λ g. filed w slot g (worked op g.snapshot.share.usage g.snapshot.layer g.snapshot.lowers)) h at refl
     ∙ (ap (filed w slot h) ok ∙ (λ i. (world_of b ((ap (λ (x : ActiveValue). with_hand slot (Some (record { snapshot = x; sealed = false })) hands) (sym same) ∙ sym left) i), answers.File (Ok tt)))))
-file_moves b hands out after slot op a v (Err e) at ok same (inl want) unchanged gone back =
+file_moves b hands out after slot op a v (Err e) at ok same error unchanged first gone back =
     let h : HandValue = record { snapshot = a; sealed = false } in
     let left = back_again hands out after slot h at gone (back ∙ ap (λ (x : ActiveValue). with_hand slot (Some (record { snapshot = x; sealed = false })) out) unchanged) in
-    inr (ap (λ (x : FsError). answers.File (Err x)) want, ap (meets is_unsealed) at, ap (λ (l : List (Option HandValue)). world_of b l) left)
-file_moves b hands out after slot op a v (Err e) at ok same (inr err) unchanged gone back =
-    let h : HandValue = record { snapshot = a; sealed = false } in
-    let w = world_of b hands in
-    let left = back_again hands out after slot h at gone (back ∙ ap (λ (x : ActiveValue). with_hand slot (Some (record { snapshot = x; sealed = false })) out) unchanged) in
-    inl (found w slot is_unsealed (λ g. filed w slot g (worked op g.snapshot.share.usage g.snapshot.layer g.snapshot.lowers)) h at refl
-    ∙ (ap (filed w slot h) err ∙ (λ i. (world_of b (sym left i), answers.File (Err e)))))
+    ⊎_elim (λ want. file_wants b hands after slot op a e at want first left) (λ err. file_errs b hands after slot op a e at err left) error
 
 pub no_file : (b : BookValue) (hands : List (Option HandValue)) (slot : ℕ) (op : Op) → meets is_unsealed (hand_at slot hands) ≡ false → Moves (world_of b hands) (steps.Hand slot op) answers.NoHand (world_of b hands)
 no_file b hands slot op e =

@@ -34,8 +34,8 @@ use Rattle.snap_call.proofs.Slots.{Active-is_slot, is_slot-other, active_at-with
 use Rattle.std.specs.Option.{option_map}
 use Rattle.snap_merge.specs.declared.error.FsError.TheVariants.{NeedsCharge}
 use Rattle.snap_upper.specs.declared.op.Op.{Op}
-use Rattle.snap_upper.specs.After.{Outcome, after}
-use Rattle.snap_book.specs.Working.{within_share, worked}
+use Rattle.snap_upper.specs.After.{Outcome, after, within_share}
+use Rattle.snap_book.specs.Files.{worked}
 use Rattle.snap_book.specs.Active.{ActiveValue}
 use Rattle.snap_world.specs.declared.step.Answer.{Answer}
 use Rattle.snap_world.specs.declared.step.Step.{Step}
@@ -363,19 +363,16 @@ fits_sealed w slot fit = at (hand_at slot w.hands) refl
         record { good = fit.good; places = set_places w slot _ fit; hands = seals slot w.hands w.state.records h r.0 fit.good.chains fit.hands (hand_at-low slot h w.hands e) r.1 r.2 }
 
 fits_left : (w v : WorldValue) (call : Call) → Fits w → IsLeft w call v → Fits v
-fits_left w v calls.Session fit e = subst Fits (sym e) fit
-fits_left w v (calls.Prepare namespace key parent labels) fit e = subst Fits (sym e) fit
-fits_left w v (calls.Charge slot id need want) fit h = subst Fits (sym h.1) fit
-fits_left w v (calls.Trim slot id) fit h = subst Fits (sym h.1) fit
-fits_left w v (calls.Commit slot id name lease) fit h = ⊎_elim (λ e. subst Fits (sym e) fit) (λ e. subst Fits (sym e) (fits_sealed w slot fit)) h.1
+fits_left w v (calls.Charge slot id need want) fit h = subst Fits (sym h.2) fit
+fits_left w v (calls.Trim slot id) fit h = subst Fits (sym h.2) fit
+fits_left w v (calls.Commit slot id name lease) fit h = ⊎_elim (λ e. subst Fits (sym e.1) fit) (λ e. subst Fits (sym e.2) (fits_sealed w slot fit)) h
 fits_left w v (calls.Discard slot id) fit h = absurd h
-fits_left w v (calls.Stat namespace key) fit e = subst Fits (sym e) fit
-fits_left w v (calls.Usage namespace key) fit e = subst Fits (sym e) fit
+fits_left w v call fit h = subst Fits (sym h.1) fit
 
 pub fits_moves : (w v : WorldValue) (s : Step) (answer : Answer) → Fits w → Moves w s answer v → Fits v
 fits_moves w v s answer fit (inl e) = subst Fits (ap (λ (p : WorldValue × Answer). p.0) e) (fits_move w s fit)
 fits_moves w v (steps.Locked n call) answer fit (inr e) = fits_left w v call fit e.2
-fits_moves w v (steps.Hand slot op) answer fit (inr e) = subst Fits (sym e.2) fit
+fits_moves w v (steps.Hand slot op) answer fit (inr e) = subst Fits (sym e.3) fit
 
 pub fits_locked : (w v : WorldValue) (n : ℕ) (call : Call) (answer : Answer) → Fits w → Moves w (steps.Locked n call) answer v → Fits v
 fits_locked w v n call answer fit moves = fits_moves w v (steps.Locked n call) answer fit moves

@@ -12,7 +12,7 @@ use Rattle.snap_call.specs.Good.{AllPairwise, AreApart, HasPlace}
 use Rattle.snap_call.specs.Records.{active_at, has_slot, is_named, is_slot, record_at}
 use Rattle.snap_call.specs.State.{place_of}
 use Rattle.snap_call.proofs.Lists.{record_at-all, some_same}
-use Rattle.snap_book.specs.Asking.{slot_at, slot_if, slot_in, slot_of}
+use Rattle.snap_book.specs.Slot.{slot_at, slot_if, slot_in, slot_of}
 use Rattle.snap_world.specs.World.{AgreesAt, Fits, HandValue, IsHandOf, WorldValue, hand_at}
 use Rattle.snap_world.specs.Stacks.{IsOver, layers_in, record_in, record_of}
 

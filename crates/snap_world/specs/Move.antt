@@ -19,7 +19,7 @@ use Rattle.snap_call.specs.State.{place_of, ancestors, layers_of}
 use Rattle.snap_call.specs.Step.{step, one}
 use Rattle.snap_upper.specs.After.{Outcome}
 use Rattle.snap_book.specs.Active.{ActiveValue, root_mode}
-use Rattle.snap_book.specs.Working.{worked}
+use Rattle.snap_book.specs.Files.{worked}
 use Rattle.snap_world.specs.declared.step.Step.{Step}
 use Rattle.snap_world.specs.declared.step.Step.TheVariants as steps
 use Rattle.snap_world.specs.declared.step.Answer.{Answer}
@@ -30,15 +30,9 @@ use Rattle.snap_world.specs.World.{HandValue, WorldValue, hand_at, with_hand}
 
 -- the usage of the share after a charge or a trim
 abbrev pub usage_after : ActiveValue → Reply → Usage
-usage_after a replies.Opened = a.share.usage
-usage_after a (replies.Prepared id slot chain) = a.share.usage
 usage_after a (replies.Charged now) = now
 usage_after a replies.Trimmed = count_of a.layer
-usage_after a (replies.Committed id usage) = a.share.usage
-usage_after a (replies.Discarded usage) = a.share.usage
-usage_after a (replies.Info info) = a.share.usage
-usage_after a (replies.Usage usage) = a.share.usage
-usage_after a (replies.Refused why) = a.share.usage
+usage_after a reply = a.share.usage
 
 -- the snapshot after a charge or a trim
 abbrev pub charged : ActiveValue → Reply → ActiveValue
@@ -54,15 +48,8 @@ sealed_hand a = record { snapshot = a; sealed = true }
 
 -- a commit takes the hand; where it is refused, the hand stays, sealed
 abbrev pub committed : ActiveValue → Reply → Option HandValue
-committed a replies.Opened = Some (sealed_hand a)
-committed a (replies.Prepared id slot chain) = Some (sealed_hand a)
-committed a (replies.Charged now) = Some (sealed_hand a)
-committed a replies.Trimmed = Some (sealed_hand a)
 committed a (replies.Committed id usage) = None
-committed a (replies.Discarded usage) = Some (sealed_hand a)
-committed a (replies.Info info) = Some (sealed_hand a)
-committed a (replies.Usage usage) = Some (sealed_hand a)
-committed a (replies.Refused why) = Some (sealed_hand a)
+committed a reply = Some (sealed_hand a)
 
 -- the hand of a new snapshot in the namespace at a place: the layers of its committed ancestors, a layer of a root alone over them, and a share of 1/1
 abbrev pub fresh : Bytes → Bytes → List Record → ℕ → ℕ → ℕ → HandValue
@@ -72,28 +59,15 @@ fresh key parent rs id slot place =
 
 -- the hands after a prepare of the key, on the parent, in the namespace at a place; the records are those before it
 abbrev pub prepared : Option ℕ → Bytes → Bytes → List Record → List (Option HandValue) → Reply → List (Option HandValue)
-prepared place key parent rs hands replies.Opened = hands
 prepared place key parent rs hands (replies.Prepared id slot chain) = with_hand slot (option_map (fresh key parent rs id slot) place) hands
-prepared place key parent rs hands (replies.Charged now) = hands
-prepared place key parent rs hands replies.Trimmed = hands
-prepared place key parent rs hands (replies.Committed id usage) = hands
-prepared place key parent rs hands (replies.Discarded usage) = hands
-prepared place key parent rs hands (replies.Info info) = hands
-prepared place key parent rs hands (replies.Usage usage) = hands
-prepared place key parent rs hands (replies.Refused why) = hands
+prepared place key parent rs hands reply = hands
 
 -- ---- calls
 
 -- Session: its number is that of the sessions so far; any other call: its session is open
 abbrev pub is_its_session : ℕ → ℕ → Call → Bool
 is_its_session sessions n calls.Session = n == sessions
-is_its_session sessions n (calls.Prepare namespace key parent labels) = nat_lt n sessions
-is_its_session sessions n (calls.Charge slot id need want) = nat_lt n sessions
-is_its_session sessions n (calls.Trim slot id) = nat_lt n sessions
-is_its_session sessions n (calls.Commit slot id name lease) = nat_lt n sessions
-is_its_session sessions n (calls.Discard slot id) = nat_lt n sessions
-is_its_session sessions n (calls.Stat namespace key) = nat_lt n sessions
-is_its_session sessions n (calls.Usage namespace key) = nat_lt n sessions
+is_its_session sessions n call = nat_lt n sessions
 
 -- the call on the hand of the slot, where one stands there that meets the test
 abbrev pub on_found : WorldValue → (HandValue → Bool) → (HandValue → WorldValue × Answer) → Option HandValue → WorldValue × Answer

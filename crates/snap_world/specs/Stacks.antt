@@ -8,7 +8,7 @@ use Rattle.snap_call.specs.declared.refusal.Refusal.TheVariants.{NotActive}
 use Rattle.snap_call.specs.declared.state.State.{State}
 use Rattle.snap_call.specs.Records.{record_at}
 use Rattle.snap_call.specs.State.{ancestors, layers_of, place_of}
-use Rattle.snap_book.specs.Asking.{slot_of}
+use Rattle.snap_book.specs.Slot.{slot_of}
 use Rattle.snap_world.specs.World.{HandValue, WorldValue, hand_at}
 
 -- the layers of the hand: its own, and those below it, nearest first (overlayfs.rst, "Upper and Lower", "Multiple lower layers")

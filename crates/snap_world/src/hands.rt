@@ -1,5 +1,5 @@
 // The open snapshots of a world, each in the place of its slot. They have to be spent.
-ghost use Rattle.std.specs.Prelude.{◌≡◌, ◌<◌, false, true, replicate, Some, None, IfOk, IfErr, IfSome, IsSome, MatchOption, option_copied};
+ghost use Rattle.std.specs.Prelude.{◌≡◌, ◌<◌, false, true, replicate, Some, None, IfOk, IfErr, OnErr, IfSome, IsSome, MatchOption, option_copied};
 ghost use Rattle.snap_usage.specs.Counted.{count_of};
 ghost use Rattle.snap_book.specs.Held.{share_of};
 ghost use Rattle.snap_world.specs.World.{hand_at, with_hand};
@@ -125,6 +125,7 @@ impl<N: StoreName> Hand<N> {
     pub(crate) fn seal(self) -> Result<Sealed<N>, Hand<N>>
         ensures ok { IfOk result (λ s. s ≡ self.snapshot) }
         ensures err { IfErr result (λ h. h ≡ self) }
+        ensures unsealed { OnErr result (self.sealed ≡ false) }
     {
         let Hand { id, held } = self;
         match held {

@@ -4,10 +4,7 @@
 //! in `specs/Move.antt`.
 #![tactic(auto)]
 
-mod calls;
-mod filing;
 mod hands;
-mod locked;
 mod step;
 mod world;
 

@@ -4,8 +4,9 @@ ghost use Rattle.snap_usage.specs.Counted.{count_of};
 ghost use Rattle.snap_call.specs.Forms.{is_config};
 ghost use Rattle.snap_call.specs.Records.{charge_of, open_count};
 ghost use Rattle.snap_call.specs.State.{opening, place_of};
+ghost use Rattle.snap_call.specs.Totals.{counts_and_shares};
 ghost use Rattle.snap_call.specs.declared.refusal.Refusal.TheVariants.{BadArgument, OutOfMemory};
-ghost use Rattle.snap_book.specs.Asking.{slot_of};
+ghost use Rattle.snap_book.specs.Slot.{slot_of};
 ghost use Rattle.snap_world.specs.World.{Fits, hand_at};
 ghost use Rattle.snap_world.specs.Runs.{Moves, Runs};
 ghost use Rattle.snap_world.specs.Stacks.{IsOver, record_of, stack_of};
@@ -85,8 +86,8 @@ impl<N: StoreName> World<N> {
         Ok(World { book, hands })
     }
 
-    // One step.
-    fn take_step(&mut self, step: &Step) -> Answer
+    /// Takes one step: its answer, as [`World::run`] says of each of its steps. The cost is the step's.
+    pub fn take_step(&mut self, step: &Step) -> Answer
         ensures moves { Moves self.old step.now result self.new }
         ensures fits { Fits self.new }
     {
@@ -167,7 +168,9 @@ impl<N: StoreName> World<N> {
     /// What the namespace is charged, in blocks of 4096 bytes and inodes. `None` where the store has no
     /// such namespace. Takes no memory. The cost grows with the number of namespaces.
     pub fn totals(&self, namespace: &str) -> Option<Usage>
-        ensures { result ≡ option_map (λ place. charge_of place self.now.state.records) (place_of namespace.now self.now.state.namespaces) }
+        ensures charge { result ≡ option_map (λ place. charge_of place self.now.state.records) (place_of namespace.now self.now.state.namespaces) }
+        // The counts over its committed layers, and its open shares.
+        ensures counts { result ≡ option_map (λ place. counts_and_shares place self.now.state.records) (place_of namespace.now self.now.state.namespaces) }
     {
         self.book.totals(namespace)
     }

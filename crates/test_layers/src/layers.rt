@@ -1,12 +1,13 @@
 // Edits of a layer, and what they make of its nodes and of its usage.
 use snap_layer::{Bytes, Layer, LayerError, Node};
 use snap_path::Path;
+use snap_path::limits::DEFAULT_MODE;
 use snap_usage::{count, recount};
 use std::test::Fail;
 
 #[test]
 fn an_empty_layer(rt: HostRuntime) -> Result<(), Fail> {
-    let layer = Layer::empty(rt.alloc(), 493)?;
+    let layer = Layer::empty(rt.alloc(), DEFAULT_MODE)?;
     let usage = count(&layer);
     prove!(usage.blocks == 1);
     prove!(usage.inodes == 1);
@@ -19,7 +20,7 @@ fn an_empty_layer(rt: HostRuntime) -> Result<(), Fail> {
 
 #[test]
 fn a_whiteout(rt: HostRuntime) -> Result<(), Fail> {
-    let mut layer = Layer::empty(rt.alloc(), 493)?;
+    let mut layer = Layer::empty(rt.alloc(), DEFAULT_MODE)?;
     let path = Path::parse(rt.alloc(), "/a")?;
     assert!(rt; layer.has_place(&path));
     layer.add_whiteout(&path)?;
@@ -33,7 +34,7 @@ fn a_whiteout(rt: HostRuntime) -> Result<(), Fail> {
 
 #[test]
 fn a_file(rt: HostRuntime) -> Result<(), Fail> {
-    let mut layer = Layer::empty(rt.alloc(), 493)?;
+    let mut layer = Layer::empty(rt.alloc(), DEFAULT_MODE)?;
     let path = Path::parse(rt.alloc(), "/f")?;
     let bytes = Bytes::copy_of(rt.alloc(), b"hi")?;
     assert!(rt; layer.has_place(&path));
@@ -47,7 +48,7 @@ fn a_file(rt: HostRuntime) -> Result<(), Fail> {
 
 #[test]
 fn file_numbers_end(rt: HostRuntime) -> Result<(), Fail> {
-    let mut layer = Layer::empty_from(rt.alloc(), 493, 4_294_967_295)?;
+    let mut layer = Layer::empty_from(rt.alloc(), DEFAULT_MODE, 4_294_967_295)?;
     let path = Path::parse(rt.alloc(), "/f")?;
     assert!(rt; layer.has_place(&path));
     let refused = layer.add_file(&path, 420, Bytes::new(Vec::new(rt.alloc())));
@@ -57,7 +58,7 @@ fn file_numbers_end(rt: HostRuntime) -> Result<(), Fail> {
 
 #[test]
 fn marks_and_modes(rt: HostRuntime) -> Result<(), Fail> {
-    let mut layer = Layer::empty(rt.alloc(), 493)?;
+    let mut layer = Layer::empty(rt.alloc(), DEFAULT_MODE)?;
     let root = Path::root(rt.alloc());
     layer.set_opaque(&root, true);
     layer.set_mode(&root, 448);
@@ -74,11 +75,11 @@ fn marks_and_modes(rt: HostRuntime) -> Result<(), Fail> {
 
 #[test]
 fn equal_layers(rt: HostRuntime) -> Result<(), Fail> {
-    let layer = Layer::empty(rt.alloc(), 493)?;
+    let layer = Layer::empty(rt.alloc(), DEFAULT_MODE)?;
     let copy = layer.copy()?;
     let same = copy == layer;
     prove!(same);
-    let other = Layer::empty_from(rt.alloc(), 493, 7)?;
+    let other = Layer::empty_from(rt.alloc(), DEFAULT_MODE, 7)?;
     let same = other == layer;
     prove!(!same);
     Ok(())

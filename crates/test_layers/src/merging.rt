@@ -6,14 +6,15 @@ use snap_copyup::{below, is_pure};
 use snap_layer::{Layer, Shared};
 use snap_merge::{FsError, Seen, Stack, hides};
 use snap_path::Path;
+use snap_path::limits::DEFAULT_MODE;
 use std::alloc::Global;
 use std::test::Fail;
 
-/// A lower layer with a root of mode 493.
+/// A lower layer with a root of mode octal 755.
 fn lower(alloc: Global) -> Result<Shared, Fail>
     ensures { IfOk result (λ s. s ≡ root_only 493 1) }
 {
-    match Shared::new(alloc, Layer::empty(alloc, 493)?) {
+    match Shared::new(alloc, Layer::empty(alloc, DEFAULT_MODE)?) {
         Ok(shared) => Ok(shared),
         Err(_) => Err("no memory").map_err(Fail::from),
     }
@@ -27,13 +28,13 @@ fn the_topmost_mode_is_seen(rt: HostRuntime) -> Result<(), Fail> {
     let seen = Stack::over(&top, &lowers).look(&root);
     prove!(matches!(&seen, Some(Seen::Dir { mode: 448 })));
     let under = Stack::of(&lowers).look(&root);
-    prove!(matches!(&under, Some(Seen::Dir { mode: 493 })));
+    prove!(matches!(&under, Some(Seen::Dir { mode: DEFAULT_MODE })));
     Ok(())
 }
 
 #[test]
 fn nothing_is_there(rt: HostRuntime) -> Result<(), Fail> {
-    let layer = Layer::empty(rt.alloc(), 493)?;
+    let layer = Layer::empty(rt.alloc(), DEFAULT_MODE)?;
     let stack = Stack::over(&layer, &[]);
     let path = Path::parse(rt.alloc(), "/no/x")?;
     let walked = stack.walk(&path);
@@ -45,7 +46,7 @@ fn nothing_is_there(rt: HostRuntime) -> Result<(), Fail> {
 
 #[test]
 fn the_root_is_empty(rt: HostRuntime) -> Result<(), Fail> {
-    let layer = Layer::empty(rt.alloc(), 493)?;
+    let layer = Layer::empty(rt.alloc(), DEFAULT_MODE)?;
     let stack = Stack::over(&layer, &[]);
     let root = Path::root(rt.alloc());
     let names = stack.list(rt.alloc(), &root)?.len();
@@ -70,6 +71,6 @@ fn an_opaque_root_is_pure(rt: HostRuntime) -> Result<(), Fail> {
     let hidden = hides(&layer, &path);
     prove!(hidden);
     let under = below(&layer, &lowers, &root);
-    prove!(matches!(&under, Some(Seen::Dir { mode: 493 })));
+    prove!(matches!(&under, Some(Seen::Dir { mode: DEFAULT_MODE })));
     Ok(())
 }

@@ -5,6 +5,4 @@
 #![tactic(auto)]
 
 #[cfg(test)]
-mod script;
-#[cfg(test)]
-mod session;
+mod scripts;

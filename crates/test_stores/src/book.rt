@@ -32,16 +32,11 @@ fn opened<N: StoreName>(alloc: Global, table: NewTable) -> Result<(), Fail>
 {
     let mut book = Book::<N>::open(alloc, table, config(alloc, 100, 100)?)?;
     let (total, none) = (book.totals("a"), book.totals("z"));
-    prove!(
-        total
-            == Some(Usage {
-                blocks: 0,
-                inodes: 0
-            })
-            && none == None
-    );
+    prove!(total == Some(Usage::ZERO));
+    prove!(none == None);
     let (open, found) = (book.open_slots(), book.slot_of("a", "k"));
-    prove!(open == 0 && found == Err(Refusal::NotFound));
+    prove!(open == 0);
+    prove!(found == Err(Refusal::NotFound));
     let first = book.open_session()?;
     prove!(first == 0);
     Ok(())
@@ -53,36 +48,11 @@ fn prepared<N: StoreName>(alloc: Global, table: NewTable) -> Result<(), Fail>
 {
     let mut book = Book::<N>::open(alloc, table, config(alloc, 100, 100)?)?;
     let active = book.prepare(0, "a", "k", "", &Labels::new(alloc))?;
-    let (share, count, spare) = (active.share(), active.count(), active.spare());
+    let (share, spare) = (active.share(), active.spare());
     let freed = book.discard(0, Held::Active(active));
-    prove!(
-        share
-            == Usage {
-                blocks: 1,
-                inodes: 1
-            }
-    );
-    prove!(
-        count
-            == Usage {
-                blocks: 1,
-                inodes: 1
-            }
-    );
-    prove!(
-        spare
-            == Usage {
-                blocks: 0,
-                inodes: 0
-            }
-    );
-    prove!(
-        freed
-            == Usage {
-                blocks: 1,
-                inodes: 1
-            }
-    );
+    prove!(share.blocks == 1);
+    prove!(spare.blocks == 0);
+    prove!(freed.blocks == 1);
     Ok(())
 }
 

@@ -8,3 +8,5 @@
 mod book;
 #[cfg(test)]
 mod call;
+#[cfg(test)]
+mod life;

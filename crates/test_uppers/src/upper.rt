@@ -1,15 +1,23 @@
 use snap_layer::{Layer, Node};
 use snap_merge::FsError;
 use snap_path::Path;
+use snap_path::limits::DEFAULT_MODE;
 use snap_upper::{Op, Planned, apply, plan};
 use snap_usage::Usage;
 use std::test::Fail;
 
 #[test]
 fn a_directory_takes_a_block_and_an_inode(rt: HostRuntime) -> Result<(), Fail> {
-    let layer = Layer::empty(rt.alloc(), 493)?;
+    let layer = Layer::empty(rt.alloc(), DEFAULT_MODE)?;
     let path = Path::parse(rt.alloc(), "/d")?;
-    let answer = plan(&layer, &[], &Op::Mkdir { path, mode: 493 });
+    let answer = plan(
+        &layer,
+        &[],
+        &Op::Mkdir {
+            path,
+            mode: DEFAULT_MODE,
+        },
+    );
     let after = Usage {
         blocks: 2,
         inodes: 2,
@@ -20,7 +28,7 @@ fn a_directory_takes_a_block_and_an_inode(rt: HostRuntime) -> Result<(), Fail> {
 
 #[test]
 fn the_root_is_there_and_no_file(rt: HostRuntime) -> Result<(), Fail> {
-    let layer = Layer::empty(rt.alloc(), 493)?;
+    let layer = Layer::empty(rt.alloc(), DEFAULT_MODE)?;
     let root = Op::Create {
         path: Path::root(rt.alloc()),
         mode: 420,
@@ -32,7 +40,7 @@ fn the_root_is_there_and_no_file(rt: HostRuntime) -> Result<(), Fail> {
 
 #[test]
 fn file_numbers_end(rt: HostRuntime) -> Result<(), Fail> {
-    let layer = Layer::empty_from(rt.alloc(), 493, 4_294_967_295)?;
+    let layer = Layer::empty_from(rt.alloc(), DEFAULT_MODE, 4_294_967_295)?;
     let path = Path::parse(rt.alloc(), "/f")?;
     let answer = plan(&layer, &[], &Op::Create { path, mode: 420 });
     prove!(answer == Err(FsError::LayerFull));
@@ -49,13 +57,13 @@ fn is_opaque(node: Option<Node>) -> bool {
 // No view shows the mark, so no script can.
 #[test]
 fn a_directory_in_place_of_a_whiteout_is_opaque(rt: HostRuntime) -> Result<(), Fail> {
-    let mut layer = Layer::empty(rt.alloc(), 493)?;
+    let mut layer = Layer::empty(rt.alloc(), DEFAULT_MODE)?;
     let path = Path::parse(rt.alloc(), "/d")?;
     assert!(rt; layer.has_place(&path));
     layer.add_whiteout(&path)?;
     let op = Op::Mkdir {
         path: path.clone()?,
-        mode: 493,
+        mode: DEFAULT_MODE,
     };
     apply(&mut layer, &[], &op)?;
     assert!(rt; is_opaque(layer.at(&path)));

@@ -10,7 +10,7 @@ returns-clause-ok c =
     let u = c.args.layer.now in
     let ls = c.args.lowers.now in
     let p = c.args.path.now in
-    let ok = c.next_number.ensures.layer in
+    let ok = c.show_is_layer.ensures.layer in
     let passes = stack_passes (op.Create p c.args.mode) _ (u ∷ ls) c.over.ensures c.in_ok-check_new.ensures.error in
     let made = new u ls p c.args.mode passes in
     record {

@@ -7,36 +7,36 @@ use Rattle.snap_layer.proofs.Replacing.{with_node-free}
 use Rattle.snap_layer.proofs.Filling.{dir_becomes, full_said, memory_said, ok_said}
 use Rattle.snap_layer.proofs.layer.Layer.add_dir.Goals as goal
 
-pub returns-then-inodes-gt-MOST_INODES-clause-full : goal.returns-then-inodes-gt-MOST_INODES-clause-full
-returns-then-inodes-gt-MOST_INODES-clause-full c =
-    let b = dir_becomes c.args.self.now c.next_number.ensures.layer c.args.path.now c.inodes_without-inodes.ensures.path _ c.inodes_without-inodes.ensures.count c.args.mode c.args.opaque c.requires.room c.requires.mode in
-    let same = with_node-free c.args.self.now c.next_number.ensures.layer c.args.path.now (Dir c.args.mode c.args.opaque) c.requires.room.free in
-    full_said (with_entry c.args.self.now c.args.path.now (Dir c.args.mode c.args.opaque)) (ap is_within (sym same) ∙ b.full c.if-inodes-gt-MOST_INODES.true)
+pub returns-then-inodes-gt-MAX_INODES-clause-full : goal.returns-then-inodes-gt-MAX_INODES-clause-full
+returns-then-inodes-gt-MAX_INODES-clause-full c =
+    let b = dir_becomes c.args.self.now c.show_is_layer.ensures.layer c.args.path.now c.inodes_without-inodes.ensures.path _ c.inodes_without-inodes.ensures.count c.args.mode c.args.opaque c.requires.room c.requires.mode in
+    let same = with_node-free c.args.self.now c.show_is_layer.ensures.layer c.args.path.now (Dir c.args.mode c.args.opaque) c.requires.room.free in
+    full_said (with_entry c.args.self.now c.args.path.now (Dir c.args.mode c.args.opaque)) (ap is_within (sym same) ∙ b.full c.if-inodes-gt-MAX_INODES.true)
 
 pub replace-requires-clause-layer : goal.replace-requires-clause-layer
 replace-requires-clause-layer c =
-    let b = dir_becomes c.args.self.now c.next_number.ensures.layer c.args.path.now c.inodes_without-inodes.ensures.path _ c.inodes_without-inodes.ensures.count c.args.mode c.args.opaque c.requires.room c.requires.mode in
-    b.layer c.if-inodes-gt-MOST_INODES.false
+    let b = dir_becomes c.args.self.now c.show_is_layer.ensures.layer c.args.path.now c.inodes_without-inodes.ensures.path _ c.inodes_without-inodes.ensures.count c.args.mode c.args.opaque c.requires.room c.requires.mode in
+    b.layer c.if-inodes-gt-MAX_INODES.false
 
 pub replace-requires-clause-count : goal.replace-requires-clause-count
 replace-requires-clause-count c =
-    let b = dir_becomes c.args.self.now c.next_number.ensures.layer c.args.path.now c.inodes_without-inodes.ensures.path _ c.inodes_without-inodes.ensures.count c.args.mode c.args.opaque c.requires.room c.requires.mode in
+    let b = dir_becomes c.args.self.now c.show_is_layer.ensures.layer c.args.path.now c.inodes_without-inodes.ensures.path _ c.inodes_without-inodes.ensures.count c.args.mode c.args.opaque c.requires.room c.requires.mode in
     b.count
 
 pub returns-in_err-replace-clause-full : goal.returns-in_err-replace-clause-full
 returns-in_err-replace-clause-full c =
-    let b = dir_becomes c.args.self.now c.next_number.ensures.layer c.args.path.now c.inodes_without-inodes.ensures.path _ c.inodes_without-inodes.ensures.count c.args.mode c.args.opaque c.requires.room c.requires.mode in
-    let same = with_node-free c.args.self.now c.next_number.ensures.layer c.args.path.now (Dir c.args.mode c.args.opaque) c.requires.room.free in
+    let b = dir_becomes c.args.self.now c.show_is_layer.ensures.layer c.args.path.now c.inodes_without-inodes.ensures.path _ c.inodes_without-inodes.ensures.count c.args.mode c.args.opaque c.requires.room c.requires.mode in
+    let same = with_node-free c.args.self.now c.show_is_layer.ensures.layer c.args.path.now (Dir c.args.mode c.args.opaque) c.requires.room.free in
     let p = err_from_is_err_and c.from_residual.result c.from_residual.ensures.1 in
-    memory_said c.from_residual.result _ (with_entry c.args.self.now c.args.path.now (Dir c.args.mode c.args.opaque)) p.1 p.2 (ap is_within (sym same) ∙ b.fits c.if-inodes-gt-MOST_INODES.false)
+    memory_said c.from_residual.result _ (with_entry c.args.self.now c.args.path.now (Dir c.args.mode c.args.opaque)) p.1 p.2 (ap is_within (sym same) ∙ b.fits c.if-inodes-gt-MAX_INODES.false)
 
 pub returns-clause-ok : goal.returns-clause-ok
 returns-clause-ok c =
-    let same = with_node-free c.args.self.now c.next_number.ensures.layer c.args.path.now (Dir c.args.mode c.args.opaque) c.requires.room.free in
+    let same = with_node-free c.args.self.now c.show_is_layer.ensures.layer c.args.path.now (Dir c.args.mode c.args.opaque) c.requires.room.free in
     c.in_ok-replace.ensures.ok ∙ same
 
 pub returns-clause-full : goal.returns-clause-full
 returns-clause-full c =
-    let b = dir_becomes c.args.self.now c.next_number.ensures.layer c.args.path.now c.inodes_without-inodes.ensures.path _ c.inodes_without-inodes.ensures.count c.args.mode c.args.opaque c.requires.room c.requires.mode in
-    let same = with_node-free c.args.self.now c.next_number.ensures.layer c.args.path.now (Dir c.args.mode c.args.opaque) c.requires.room.free in
-    ok_said _ (with_entry c.args.self.now c.args.path.now (Dir c.args.mode c.args.opaque)) (ap is_within (sym same) ∙ b.fits c.if-inodes-gt-MOST_INODES.false)
+    let b = dir_becomes c.args.self.now c.show_is_layer.ensures.layer c.args.path.now c.inodes_without-inodes.ensures.path _ c.inodes_without-inodes.ensures.count c.args.mode c.args.opaque c.requires.room c.requires.mode in
+    let same = with_node-free c.args.self.now c.show_is_layer.ensures.layer c.args.path.now (Dir c.args.mode c.args.opaque) c.requires.room.free in
+    ok_said _ (with_entry c.args.self.now c.args.path.now (Dir c.args.mode c.args.opaque)) (ap is_within (sym same) ∙ b.fits c.if-inodes-gt-MAX_INODES.false)

@@ -11,17 +11,17 @@ use Rattle.snap_layer.proofs.layer.Layer.add_file.Goals as goal
 pub returns-then-number-clause-full : goal.returns-then-number-clause-full
 returns-then-number-clause-full c = full_said (with_new c.args.self.now c.args.path.now (File c.args.self.now.next) (body_kinds.File c.args.mode c.args.bytes)) (new_full c.args.self.now c.args.path.now (File c.args.self.now.next) (body_kinds.File c.args.mode c.args.bytes) (omega (arith, c.next_number-number.ensures.next)))
 
-pub returns-then-inodes-gt-MOST_INODES-clause-full : goal.returns-then-inodes-gt-MOST_INODES-clause-full
-returns-then-inodes-gt-MOST_INODES-clause-full c =
+pub returns-then-inodes-gt-MAX_INODES-clause-full : goal.returns-then-inodes-gt-MAX_INODES-clause-full
+returns-then-inodes-gt-MAX_INODES-clause-full c =
     let last : c.args.self.now.next < 4294967295 = omega (arith, c.next_number-number.ensures.next) in
     let b = file_becomes c.args.self.now c.next_number-number.ensures.layer c.args.path.now c.inodes_without-inodes.ensures.path _ c.inodes_without-inodes.ensures.count c.requires.place last c.args.mode c.args.bytes c.requires.mode c.requires.size in
-    full_said (with_new c.args.self.now c.args.path.now (File c.args.self.now.next) (body_kinds.File c.args.mode c.args.bytes)) (b.full c.if-inodes-gt-MOST_INODES.true)
+    full_said (with_new c.args.self.now c.args.path.now (File c.args.self.now.next) (body_kinds.File c.args.mode c.args.bytes)) (b.full c.if-inodes-gt-MAX_INODES.true)
 
 pub insert-requires-clause-layer : goal.insert-requires-clause-layer
 insert-requires-clause-layer c =
     let last : c.args.self.now.next < 4294967295 = omega (arith, c.next_number-number.ensures.next) in
     let b = file_becomes c.args.self.now c.next_number-number.ensures.layer c.args.path.now c.inodes_without-inodes.ensures.path _ c.inodes_without-inodes.ensures.count c.requires.place last c.args.mode c.args.bytes c.requires.mode c.requires.size in
-    subst (λ (k : ℕ). IsLayer (with_new c.args.self.now c.args.path.now (File k) (body_kinds.File c.args.mode c.args.bytes))) (sym c.next_number-number.ensures.next) (b.layer c.if-inodes-gt-MOST_INODES.false)
+    subst (λ (k : ℕ). IsLayer (with_new c.args.self.now c.args.path.now (File k) (body_kinds.File c.args.mode c.args.bytes))) (sym c.next_number-number.ensures.next) (b.layer c.if-inodes-gt-MAX_INODES.false)
 
 pub insert-requires-clause-count : goal.insert-requires-clause-count
 insert-requires-clause-count c =
@@ -34,10 +34,10 @@ returns-in_err-insert-clause-full c =
     let last : c.args.self.now.next < 4294967295 = omega (arith, c.next_number-number.ensures.next) in
     let b = file_becomes c.args.self.now c.next_number-number.ensures.layer c.args.path.now c.inodes_without-inodes.ensures.path _ c.inodes_without-inodes.ensures.count c.requires.place last c.args.mode c.args.bytes c.requires.mode c.requires.size in
     let p = err_from_is_err_and c.from_residual.result c.from_residual.ensures.1 in
-    memory_said c.from_residual.result _ (with_new c.args.self.now c.args.path.now (File c.args.self.now.next) (body_kinds.File c.args.mode c.args.bytes)) p.1 p.2 (b.fits c.if-inodes-gt-MOST_INODES.false)
+    memory_said c.from_residual.result _ (with_new c.args.self.now c.args.path.now (File c.args.self.now.next) (body_kinds.File c.args.mode c.args.bytes)) p.1 p.2 (b.fits c.if-inodes-gt-MAX_INODES.false)
 
 pub returns-clause-full : goal.returns-clause-full
 returns-clause-full c =
     let last : c.args.self.now.next < 4294967295 = omega (arith, c.next_number-number.ensures.next) in
     let b = file_becomes c.args.self.now c.next_number-number.ensures.layer c.args.path.now c.inodes_without-inodes.ensures.path _ c.inodes_without-inodes.ensures.count c.requires.place last c.args.mode c.args.bytes c.requires.mode c.requires.size in
-    ok_said _ (with_new c.args.self.now c.args.path.now (File c.args.self.now.next) (body_kinds.File c.args.mode c.args.bytes)) (b.fits c.if-inodes-gt-MOST_INODES.false)
+    ok_said _ (with_new c.args.self.now c.args.path.now (File c.args.self.now.next) (body_kinds.File c.args.mode c.args.bytes)) (b.fits c.if-inodes-gt-MAX_INODES.false)

@@ -20,7 +20,7 @@ returns c =
     let place = c.has_place.ensures.0 c.if-not-has_place.false in
     let not_inside : begins from to ≡ false = (λ i. begins (sym c.names.ensures.names i) (sym c.names-2.ensures.names i)) ∙ sym c.begins.ensures ∙ c.if-begins.false in
     let not_around : begins to from ≡ false = (λ i. begins (sym c.names-else-begins.ensures.names i) (sym c.names-else-begins-2.ensures.names i)) ∙ sym c.begins-else-begins.ensures ∙ c.if-begins-2.false in
-    let ok = c.next_number.ensures.layer in (
+    let ok = c.show_is_layer.ensures.layer in (
       (λ t. record {
         there = ap is_some (sym c.at.ensures) ∙ c.if-is_none.ensures;
         place = place;

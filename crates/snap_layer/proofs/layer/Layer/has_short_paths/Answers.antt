@@ -11,5 +11,5 @@ returns c =
     let t = c.args.self.now in
     let short : c.are_short.result ≡ list_all (is_short from to) t.entries = c.are_short.ensures.short ∙ ap (λ (u : Tree). list_all (is_short from to) u.entries) c.self.view_is in (
       (λ e r some. short_from from to c.requires.from c.requires.to t.entries (sym short ∙ e) r some),
-      λ fits. short ∙ all_short from to c.requires.from c.requires.to t.entries c.next_number.ensures.layer.sorted_paths fits,
+      λ fits. short ∙ all_short from to c.requires.from c.requires.to t.entries c.show_is_layer.ensures.layer.sorted_paths fits,
     )

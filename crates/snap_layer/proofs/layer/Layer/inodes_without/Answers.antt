@@ -9,7 +9,7 @@ use Rattle.snap_layer.proofs.layer.Layer.inodes_without.Goals as goal
 
 pub returns-in_default-clause-count : goal.returns-in_default-clause-count
 returns-in_default-clause-count c =
-    c.self.invariant.1 ∙ ap inode_count c.self.view_is ∙ ap inode_count (sym (without_nothing c.args.self.now c.next_number.ensures.layer c.args.path.now (sym c.at.ensures ∙ c.in_default.is)))
+    c.self.invariant.1 ∙ ap inode_count c.self.view_is ∙ ap inode_count (sym (without_nothing c.args.self.now c.show_is_layer.ensures.layer c.args.path.now (sym c.at.ensures ∙ c.in_default.is)))
 
 pub overflow_sub-left : goal.overflow_sub-left
 overflow_sub-left c =

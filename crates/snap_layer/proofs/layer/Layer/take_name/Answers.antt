@@ -12,4 +12,4 @@ invariant_of-self c =
     let t : Tree = record { entries = c.self.inside.entries.entries; bodies = c.self.inside.bodies.entries; next = c.self.inside.next } in
     let number = c.number_at-number.ensures ∙ ap (λ (u : Tree). number_at u c.args.path.now) (sym c.self.view_is) in
     let left = taken_tree t c.args.path.now _ _ _ number c.take_entries.ensures.taken c.drop_unnamed.ensures.bodies ∙ ap (λ (u : Tree). without u c.args.path.now) c.self.view_is in
-    (subst IsLayer (sym left) (IsLayer-without c.args.self.now c.args.path.now c.next_number.ensures.layer c.requires.clear c.requires.below_root), c.inodes_without-inodes.ensures.count ∙ ap inode_count (sym left))
+    (subst IsLayer (sym left) (IsLayer-without c.args.self.now c.args.path.now c.show_is_layer.ensures.layer c.requires.clear c.requires.below_root), c.inodes_without-inodes.ensures.count ∙ ap inode_count (sym left))

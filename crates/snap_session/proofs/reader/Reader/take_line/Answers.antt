@@ -28,8 +28,8 @@ returns-in_err-answer-clause-fault g c = λ f e.
     let bytes = ap (λ (z : Run). z.place.bytes) c.self.view_is in
     let no_feed = subst (λ (z : Run). is_open z.pending ≡ true) c.self.view_is c.self.invariant.3 in
     let short = subst (λ (z : Run). length z.pending ≤ max_line) c.self.view_is c.self.invariant.2 in
-    let effect : effect_of c.args.self.now.place.store c.args.self.now.pending ≡ effect_of c.self.inside.session c.as_slice-line.result.now =
-    sym (ap (λ (z : Run). effect_of z.place.store z.pending) c.self.view_is) ∙ ap (effect_of c.self.inside.session) (sym c.as_slice-line.ensures.value) in (
+    let effect : effect_of c.args.self.now.place.store c.args.self.now.pending ≡ effect_of c.self.inside.script c.as_slice-line.result.now =
+    sym (ap (λ (z : Run). effect_of z.place.store z.pending) c.self.view_is) ∙ ap (effect_of c.self.inside.script) (sym c.as_slice-line.ensures.value) in (
       effect_fits c.args.self.now c.args.ended no_feed short (omega arith) ∙ effect ∙ known.0,
       known.1 ∙ ap (λ (z : Run). z.place.lines + 1) c.self.view_is,
       refl,
@@ -42,8 +42,8 @@ returns-clause-ok g c =
     let bytes = ap (λ (z : Run). z.place.bytes) c.self.view_is in
     let no_feed = subst (λ (z : Run). is_open z.pending ≡ true) c.self.view_is c.self.invariant.3 in
     let short = subst (λ (z : Run). length z.pending ≤ max_line) c.self.view_is c.self.invariant.2 in
-    let effect : effect_of c.args.self.now.place.store c.args.self.now.pending ≡ effect_of c.self.inside.session c.as_slice-line.result.now =
-    sym (ap (λ (z : Run). effect_of z.place.store z.pending) c.self.view_is) ∙ ap (effect_of c.self.inside.session) (sym c.as_slice-line.ensures.value) in (
+    let effect : effect_of c.args.self.now.place.store c.args.self.now.pending ≡ effect_of c.self.inside.script c.as_slice-line.result.now =
+    sym (ap (λ (z : Run). effect_of z.place.store z.pending) c.self.view_is) ∙ ap (effect_of c.self.inside.script) (sym c.as_slice-line.ensures.value) in (
       bytes_of c.in_ok-answer.answer,
       effect_fits c.args.self.now c.args.ended no_feed short (omega arith) ∙ effect ∙ c.in_ok-answer.ensures.ok,
       run_after _ _ _ _ _ _ _ _ _ c.self.view_is len c.clear.ensures.items,

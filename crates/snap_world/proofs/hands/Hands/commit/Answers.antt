@@ -1,6 +1,7 @@
 use Rattle.std.proofs.Common.{Some, List, Option, inl, inr, refl, ap, ◌∙◌}
+use Rattle.std.specs.Prelude.{not, ◌&&◌}
 use Rattle.snap_world.specs.World.{HandValue, with_hand, world_of}
-use Rattle.snap_world.specs.Move.{is_under, meets}
+use Rattle.snap_world.specs.Move.{is_working, meets}
 use Rattle.snap_world.proofs.Does.{commit_does, back_again}
 use Rattle.snap_world.proofs.hands.Hands.commit.Goals as goal
 
@@ -14,9 +15,9 @@ returns-in-Err g c =
     let found = c.in-Some.ensures in
     inr (
       refl,
-      (
-        ap (meets (is_under c.args.id)) found.0 ∙ found.1,
-        inl (ap (λ (hands : List (Option HandValue)). world_of c.args.book.now hands)
-            (back_again _ _ _ c.args.slot c.in-Some.hand found.0 found.3 (c.put.ensures ∙ ap (λ (h : HandValue). with_hand c.args.slot (Some h) c.take_under.new.self) c.in-Err.ensures.err))),
+      inl (
+        ap (meets (is_working c.args.id)) found.0 ∙ (λ i. found.1 i && not (c.in-Err.ensures.unsealed i)),
+        ap (λ (hands : List (Option HandValue)). world_of c.args.book.now hands)
+            (back_again _ _ _ c.args.slot c.in-Some.hand found.0 found.3 (c.put.ensures ∙ ap (λ (h : HandValue). with_hand c.args.slot (Some h) c.take_under.new.self) c.in-Err.ensures.err)),
       ),
     )

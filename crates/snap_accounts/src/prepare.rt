@@ -1,0 +1,198 @@
+// A new snapshot.
+ghost use Rattle.std.specs.Prelude.{◌≡◌, ◌<◌, ◌≤◌, ◌+◌, ◌^◌, length, true, false, None, Some, IfOk, OnOk, OnErr, IfErr};
+ghost use Rattle.snap_ledger.specs.States.{plus};
+ghost use Rattle.snap_call.specs.Records.{charge_of, active_at, lowest_free, has_key, open_count};
+ghost use Rattle.snap_call.specs.State.{covers as covers_of, limit_at, place_of, is_base, is_too_deep};
+ghost use Rattle.snap_call.specs.Step.{prepare, prepare_at, prepare_slot, prepared, new_active, no_more, one, refused};
+ghost use Rattle.snap_accounts.specs.Entries.{IsRecorded};
+ghost use Rattle.snap_accounts.specs.Vacant.{IsVacant};
+
+use crate::accounts::Accounts;
+use crate::charge::{has_room, sum};
+use snap_call::{Refusal, is_key, is_parent};
+use snap_ledger::{Share, StoreName};
+use snap_record::{Content, Labels, Record, Text};
+use snap_usage::Usage;
+use std::alloc::{AllocError, Global};
+
+/// Where a new snapshot goes.
+#[derive(Clone, Copy)]
+pub struct Vacancy {
+    /// The place of its namespace among those of the configuration, from 0.
+    pub place: usize,
+    /// A free slot, one of 0 to 63.
+    pub slot: u64,
+}
+
+// A root directory takes a block and an inode.
+fn one() -> Usage
+    ensures { result ≡ one }
+{
+    Usage {
+        blocks: 1,
+        inodes: 1,
+    }
+}
+
+fn has_none(labels: &Labels) -> bool
+    ensures { result ≡ no_more labels.now }
+{
+    labels.is_empty()
+}
+
+impl<N: StoreName> Accounts<N> {
+    // The slot of a new snapshot in the namespace at a place, or the first refusal.
+    fn slot_in(&self, place: usize, key: &str, parent: &str) -> Result<u64, Refusal>
+        requires { place < length self.now.namespaces }
+        ensures ok { IfOk result (λ slot. prepare_slot self.now place key.now parent.now (lowest_free 64 self.now.records) ≡ prepared self.now place key.now parent.now slot) }
+        ensures low { IfOk result (λ slot. slot < 64) }
+        ensures free { IfOk result (λ slot. active_at slot self.now.records ≡ None) }
+        ensures fits { IfOk result (λ slot. covers_of (limit_at place self.now.namespaces) (plus (charge_of place self.now.records) one) ≡ true) }
+        ensures numbers { IfOk result (λ slot. self.now.next_id ≤ 4294967295) }
+        ensures recorded { IfErr result IsRecorded }
+        ensures refused { IfErr result (λ why. prepare_slot self.now place key.now parent.now (lowest_free 64 self.now.records) ≡ refused self.now why) }
+    {
+        let Some(slot) = self.state.records.lowest_free() else {
+            return Err(Refusal::TooManyActives);
+        };
+        if !has_room(self.state.limit_at(place), self.total(place), one()) {
+            return Err(self.over_limit(place));
+        }
+        if self.state.next_id > 4_294_967_295 {
+            return Err(Refusal::NumbersSpent);
+        }
+        Ok(slot)
+    }
+
+    // Why there can be no snapshot of this key on the parent.
+    fn check_parent(&self, place: usize, key: &str, parent: &str) -> Result<(), Refusal>
+        ensures ok { OnOk result (prepare_at self.now key.now parent.now place ≡ prepare_slot self.now place key.now parent.now (lowest_free 64 self.now.records)) }
+        ensures new { OnOk result (has_key place key.now self.now.records ≡ false) }
+        ensures base { OnOk result (is_base place parent.now self.now.records ≡ true) }
+        ensures deep { OnOk result (is_too_deep place parent.now self.now.records ≡ false) }
+        ensures recorded { IfErr result IsRecorded }
+        ensures refused { IfErr result (λ why. prepare_at self.now key.now parent.now place ≡ refused self.now why) }
+    {
+        let records = &self.state.records;
+        if !records.is_present(place, parent) {
+            return Err(Refusal::NotFound);
+        }
+        if records.has_key(place, key) {
+            return Err(Refusal::AlreadyExists);
+        }
+        if !records.is_base(place, parent) {
+            return Err(Refusal::NotCommitted);
+        }
+        if records.is_too_deep(place, parent) {
+            return Err(Refusal::TooDeep);
+        }
+        Ok(())
+    }
+
+    /// Where a new snapshot of this key and parent goes: the place of its namespace and the lowest free
+    /// slot.
+    ///
+    /// The refusals, in this order: `BadArgument` for a key or a parent that has not its form, or for
+    /// labels; `NoNamespace`; `NotFound` where the namespace has no snapshot of the parent's name;
+    /// `AlreadyExists` where it has one of the key; `NotCommitted` where the parent is not committed;
+    /// `TooDeep` where the snapshot would have more than 64 committed ancestors; `TooManyActives` where
+    /// all 64 slots are open; `OverLimit` with what is free, where 1/1 does not fit; `NumbersSpent` after
+    /// the id 4,294,967,295. Takes no memory. The cost grows with the records times the ancestors.
+    pub fn vacancy(
+        &self,
+        namespace: &str,
+        key: &str,
+        parent: &str,
+        labels: &Labels,
+    ) -> Result<Vacancy, Refusal>
+        ensures ok { IfOk result (λ v. prepare self.now namespace.now key.now parent.now labels.now ≡ prepared self.now v.place key.now parent.now v.slot) }
+        ensures named { IfOk result (λ v. place_of namespace.now self.now.namespaces ≡ Some v.place) }
+        ensures vacant { IfOk result (λ v. IsVacant self.now v key.now parent.now) }
+        ensures recorded { IfErr result IsRecorded }
+        ensures refused { IfErr result (λ why. prepare self.now namespace.now key.now parent.now labels.now ≡ refused self.now why) }
+    {
+        if !(is_key(key) && is_parent(parent) && has_none(labels)) {
+            return Err(Refusal::BadArgument);
+        }
+        let Some(place) = self.state.place_of(namespace) else {
+            return Err(Refusal::NoNamespace);
+        };
+        self.check_parent(place, key, parent)?;
+        let slot = self.slot_in(place, key, parent)?;
+        Ok(Vacancy { place, slot })
+    }
+
+    // The record of a new snapshot.
+    fn new_record(
+        &self,
+        alloc: Global,
+        vacancy: Vacancy,
+        key: &str,
+        parent: &str,
+    ) -> Result<Record, AllocError>
+        requires numbers { self.now.next_id ≤ 4294967295 }
+        requires entries { self.now.entries < 2 ^ 63 }
+        ensures { IfOk result (λ r. r ≡ new_active self.now vacancy.place key.now parent.now vacancy.slot) }
+    {
+        let number = self.state.entries + 1;
+        Ok(Record {
+            namespace: vacancy.place,
+            key: Text::copy_of(alloc, key)?,
+            parent: Text::copy_of(alloc, parent)?,
+            id: self.state.next_id as u32,
+            labels: Labels::new(alloc),
+            created: number,
+            updated: number,
+            content: Content::Active {
+                slot: vacancy.slot,
+                charged: one(),
+            },
+        })
+    }
+
+    // The record is one more, in a slot that is free.
+    fn insert(&mut self, vacancy: Vacancy, added: Record) -> Result<Share<N>, AllocError>
+        requires vacant { IsVacant self.old vacancy added.key added.parent }
+        requires entries { self.old.entries < 2 ^ 63 }
+        requires added { added ≡ new_active self.old vacancy.place added.key added.parent vacancy.slot }
+        ensures added { OnOk result (self.new ≡ (prepared self.old vacancy.place added.key added.parent vacancy.slot).0) }
+        ensures share { IfOk result (λ s. s ≡ record { slot = vacancy.slot; id = self.old.next_id; usage = one }) }
+        ensures open { OnOk result (open_count self.new.records ≡ open_count self.old.records + 1) }
+        ensures err { OnErr result (self.new ≡ self.old) }
+    {
+        let Vacancy { place, slot } = vacancy;
+        let id = added.id;
+        let after = sum(self.total(place), one(), self.state.limit_at(place));
+        let Ok(()) = self.state.records.insert(added) else {
+            return Err(AllocError);
+        };
+        self.state.next_id += 1;
+        self.state.entries += 1;
+        self.totals.set(place, after);
+        self.opened += 1;
+        Ok(self.slots.issue(slot, id, one()))
+    }
+
+    /// Adds an active snapshot, charged 1/1 for its root, and counts an entry. The answer is the share of
+    /// its slot. [`Accounts::vacancy`] is the test of the condition.
+    ///
+    /// Takes memory for the record; where that is refused, nothing changes. The cost grows with the
+    /// records and the texts.
+    pub fn add(
+        &mut self,
+        alloc: Global,
+        vacancy: Vacancy,
+        key: &str,
+        parent: &str,
+    ) -> Result<Share<N>, AllocError>
+        requires vacant { IsVacant self.old vacancy key.now parent.now }
+        requires entries { self.old.entries < 2 ^ 63 }
+        ensures added { OnOk result (self.new ≡ (prepared self.old vacancy.place key.now parent.now vacancy.slot).0) }
+        ensures share { IfOk result (λ s. s ≡ record { slot = vacancy.slot; id = self.old.next_id; usage = one }) }
+        ensures open { OnOk result (open_count self.new.records ≡ open_count self.old.records + 1) }
+        ensures err { OnErr result (self.new ≡ self.old) }
+    {
+        let added = self.new_record(alloc, vacancy, key, parent)?;
+        self.insert(vacancy, added)
+    }
+}

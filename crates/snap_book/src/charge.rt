@@ -1,0 +1,109 @@
+// What a snapshot's slot is charged, and its end without a commit.
+ghost use Rattle.std.specs.Prelude.{◌≡◌, ◌≤◌, ◌<◌, ◌+◌, ◌↔◌, length, OnOk, IfErr, IsErrOf};
+ghost use Rattle.snap_usage.specs.Counted.{count_of};
+ghost use Rattle.snap_ledger.specs.States.{Meets};
+ghost use Rattle.snap_call.specs.Records.{charge_at, open_count};
+ghost use Rattle.snap_call.specs.declared.call.Call.TheVariants as calls;
+ghost use Rattle.snap_call.specs.declared.call.Given.TheVariants.{Nothing, Count};
+ghost use Rattle.snap_call.specs.declared.reply.Reply.TheVariants.{Charged, Trimmed, Discarded};
+ghost use Rattle.snap_call.specs.declared.refusal.Refusal.TheVariants.{JournalFull};
+ghost use Rattle.snap_book.specs.Book.{Recorded, RefusedBy};
+ghost use Rattle.snap_book.specs.Held.{share_of};
+
+use crate::active::{Active, Held};
+use crate::book::Book;
+use crate::journal::{charge_entry, discard_entry, refused_charge_entry, trim_entry};
+use snap_call::Refusal;
+use snap_ledger::StoreName;
+use snap_usage::Usage;
+
+impl<N: StoreName> Book<N> {
+    /// Charges the snapshot for the wanted amount where its namespace's limit covers that, else for
+    /// the needed one; never for less than it is charged already.
+    ///
+    /// `JournalFull` where each further entry is kept for an open snapshot's end; then `OutOfMemory`
+    /// where memory for the entry is refused; then `OverLimit` with what is free. After any of them
+    /// the snapshot is as it was. The cost grows with the records.
+    pub fn charge(
+        &mut self,
+        session: u64,
+        active: &mut Active<N>,
+        need: Usage,
+        want: Usage,
+    ) -> Result<(), Refusal>
+        // The share is what the snapshot's slot is charged: `met` says so of any share that meets a book.
+        ensures met { Meets (charge_at active.old.share.slot self.old.state.records) active.old.share }
+        // Ok: one step of the store, with its entry, and the snapshot's share is what it is charged now.
+        ensures granted { OnOk result (Recorded self.old self.new session (calls.Charge active.old.share.slot active.old.share.id need want) Nothing (Charged active.new.share.usage)) }
+        ensures share { OnOk result (active.new ≡ record active.old { share = record active.old.share { usage = active.new.share.usage } }) }
+        // Err: the refusal is the step's, and the snapshot is as it was.
+        ensures refused { IfErr result (λ why. RefusedBy self.old self.new session (calls.Charge active.old.share.slot active.old.share.id need want) Nothing why) }
+        ensures same { IfErr result (λ why. active.new ≡ active.old) }
+        ensures full { IsErrOf result JournalFull ↔ (self.old.limit ≤ length self.old.journal + open_count self.old.state.records) }
+    {
+        self.accounts.meet(&mut active.share);
+        self.journal.admit(self.accounts.open_slots(), 1)?;
+        let slot = active.share.slot();
+        let id = active.share.id();
+        match self.accounts.charge(&mut active.share, need, want) {
+            Ok(now) => {
+                let copy = charge_entry(session, slot, id, need, want, now);
+                self.journal
+                    .push(charge_entry(session, slot, id, need, want, now), copy);
+                Ok(())
+            }
+            Err(free) => {
+                let why = Refusal::OverLimit {
+                    free_blocks: free.blocks,
+                    free_inodes: free.inodes,
+                };
+                let copy = refused_charge_entry(session, slot, id, need, want, why);
+                self.journal.push(
+                    refused_charge_entry(session, slot, id, need, want, why),
+                    copy,
+                );
+                Err(why)
+            }
+        }
+    }
+
+    /// Lowers the snapshot's charge to the count of its layer.
+    ///
+    /// `JournalFull` and `OutOfMemory` as for [`Book::charge`]; the snapshot is then as it was.
+    pub fn trim(&mut self, session: u64, active: &mut Active<N>) -> Result<(), Refusal>
+        ensures met { Meets (charge_at active.old.share.slot self.old.state.records) active.old.share }
+        ensures granted { OnOk result (Recorded self.old self.new session (calls.Trim active.old.share.slot active.old.share.id) (Count (count_of active.old.layer)) Trimmed) }
+        ensures share { OnOk result (active.new ≡ record active.old { share = record active.old.share { usage = count_of active.old.layer } }) }
+        ensures refused { IfErr result (λ why. RefusedBy self.old self.new session (calls.Trim active.old.share.slot active.old.share.id) (Count (count_of active.old.layer)) why) }
+        ensures same { IfErr result (λ why. active.new ≡ active.old) }
+        ensures full { IsErrOf result JournalFull ↔ (self.old.limit ≤ length self.old.journal + open_count self.old.state.records) }
+    {
+        self.accounts.meet(&mut active.share);
+        self.journal.admit(self.accounts.open_slots(), 1)?;
+        let slot = active.share.slot();
+        let id = active.share.id();
+        let count = active.count();
+        self.accounts.trim(&mut active.share, count);
+        let copy = trim_entry(session, slot, id, count);
+        self.journal
+            .push(trim_entry(session, slot, id, count), copy);
+        Ok(())
+    }
+
+    /// Drops the snapshot and frees its slot; the answer is what it was charged.
+    ///
+    /// It has no refusal and takes no memory: the room for its entry was kept when it was prepared.
+    pub fn discard(&mut self, session: u64, held: Held<N>) -> Usage
+        ensures granted { Recorded self.old self.new session (calls.Discard (share_of held).slot (share_of held).id) Nothing (Discarded result) }
+        ensures held { result ≡ (share_of held).usage }
+    {
+        let share = held.into_share();
+        let slot = share.slot();
+        let id = share.id();
+        let held = self.accounts.discard(share);
+        let copy = discard_entry(session, slot, id, held);
+        self.journal
+            .push(discard_entry(session, slot, id, held), copy);
+        held
+    }
+}

@@ -1,0 +1,94 @@
+// What is below the upper layer at a path, and its copy in that layer.
+ghost use Rattle.std.specs.Prelude.{◌≡◌, ◌∷◌, OnOk, OnErr, IfOk, IfErr, None};
+ghost use Rattle.std.specs.Option.{option_map};
+ghost use Rattle.snap_path.specs.Text.{Names};
+ghost use Rattle.snap_layer.specs.Tree.{at};
+ghost use Rattle.snap_merge.specs.Objects.{object, seen};
+ghost use Rattle.snap_merge.specs.Walk.{walk};
+ghost use Rattle.snap_copyup.specs.Copying.{below, copied_up, is_pure};
+ghost use Rattle.snap_copyup.specs.Places.{last_of, IsRefusal};
+
+use super::parents::{Last, put};
+use snap_layer::{Bytes, Layer, Node, Shared};
+use snap_merge::{FsError, Seen, Stack, hides, is_dir, show_are_layers};
+use snap_path::Path;
+use std::alloc::AllocError;
+
+/// What the lower layers, the nearest first, show at the path, unless the layer over them hides it there
+/// by what stands above the path (overlayfs.rst, "whiteouts and opaque directories"). What the layer has
+/// at the path itself doesn't count.
+///
+/// Bytes and targets are lent by the layer that has them. Takes no memory. Cost: for each layer down to
+/// the one that decides, its number of paths times the path's number of names.
+pub fn below<'a>(layer: &Layer, lowers: &'a [Shared], path: &Path) -> Option<Seen<'a>>
+    ensures { option_map object result ≡ below layer.now lowers.now path.now }
+{
+    if hides(layer, path) {
+        return None;
+    }
+    Stack::of(lowers).look(path)
+}
+
+/// Whether the layer alone has the directory at the path: a directory stands there in the layer, and it
+/// is opaque or has no directory of the lower layers below it. Only such a directory can be renamed
+/// (overlayfs.rst, "renaming directories").
+///
+/// Takes no memory. Cost: as `below`.
+pub fn is_pure(layer: &Layer, lowers: &[Shared], path: &Path) -> bool
+    ensures { result ≡ is_pure layer.now lowers.now path.now }
+{
+    match layer.at(path) {
+        Some(Node::Dir { opaque, .. }) => opaque || !is_dir(below(layer, lowers, path)),
+        Some(Node::File { .. }) => false,
+        Some(Node::Symlink { .. }) => false,
+        Some(Node::Whiteout) => false,
+        None => false,
+    }
+}
+
+/// Copies up what is seen at the path: the layer gets the directories above it, as by `ensure_dirs`, and,
+/// where it has no node at the path, what is below there: a directory with its mode, not opaque, or a file
+/// or a symlink under the layer's next number, with its own copy of the bytes. Other names of a lower file
+/// stay names of the lower file: a hard link is broken (overlayfs.rst, "Non-standard behavior").
+///
+/// The condition is that of `ensure_dirs`. Where nothing is seen at the path, only the directories are
+/// added. `LayerFull` where the layer would have more than 65,536 inodes, or where a number is needed and
+/// the file numbers are used up. `OutOfMemory` where memory for the bytes, a path or an entry is refused.
+/// After either the layer is as it was. Cost: that of `ensure_dirs` and of `below`, and the file's bytes.
+pub fn copy_up(layer: &mut Layer, lowers: &[Shared], path: &Path) -> Result<(), FsError>
+    requires { walk (layer.old ∷ lowers.now) path.now ≡ None }
+    ensures ok { OnOk result (layer.new ≡ copied_up layer.old lowers.now path.now) }
+    ensures error { IfErr result (λ e. IsRefusal (copied_up layer.old lowers.now path.now) e) }
+    ensures unchanged { OnErr result (layer.new ≡ layer.old) }
+    // Nothing that is seen changes.
+    ensures view { OnOk result ((q : Names) → seen (layer.new ∷ lowers.now) q ≡ seen (layer.old ∷ lowers.now) q) }
+{
+    show_are_layers(lowers);
+    layer.show_is_layer();
+    let last = copy_below(layer, lowers, path)?;
+    put(layer, lowers, path, last)
+}
+
+/// What is below at the path, where the layer has no node there, with a copy of its bytes.
+fn copy_below(layer: &Layer, lowers: &[Shared], path: &Path) -> Result<Last, AllocError>
+    ensures { IfOk result (λ last. last ≡ last_of (at layer.now path.now) (below layer.now lowers.now path.now)) }
+{
+    if layer.at(path).is_some() {
+        return Ok(Last::Nothing);
+    }
+    let alloc = layer.alloc();
+    match below(layer, lowers, path) {
+        None => Ok(Last::Nothing),
+        Some(Seen::Dir { mode }) => Ok(Last::Dir {
+            mode,
+            opaque: false,
+        }),
+        Some(Seen::File { mode, bytes }) => Ok(Last::File {
+            mode,
+            bytes: Bytes::copy_of(alloc, bytes)?,
+        }),
+        Some(Seen::Symlink { target }) => Ok(Last::Symlink {
+            target: Bytes::copy_of(alloc, target)?,
+        }),
+    }
+}

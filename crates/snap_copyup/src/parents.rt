@@ -1,0 +1,203 @@
+// The directories above a path that a layer doesn't have, and what is put at the path once they stand.
+ghost use Rattle.std.specs.Prelude.{◌≡◌, ◌∷◌, ◌+◌, ◌<◌, ◌≤◌, List, OnOk, OnErr, IfErr, None, length, take, drop, true};
+ghost use Rattle.snap_path.specs.Text.{Names};
+ghost use Rattle.snap_layer.specs.Tree.{Tree, at};
+ghost use Rattle.snap_merge.specs.Objects.{seen, is_shown_dir, AreLayers};
+ghost use Rattle.snap_merge.specs.Walk.{walk, walk_from};
+ghost use Rattle.snap_copyup.specs.Copying.{copied, with_parents, with_parents_from};
+ghost use Rattle.snap_copyup.specs.Places.{with_last, missing_from, Fits, IsRefusal, ParentStands, TakesMore};
+
+use super::lower::below;
+use snap_layer::{Bytes, Layer, Shared};
+use snap_merge::{FsError, Seen, show_are_layers};
+use snap_path::{Name, Path};
+
+/// What is put at a path, once the directories above it stand.
+#[derive(Debug, Drop)]
+pub enum Last {
+    /// Nothing: only the directories above the path are wanted.
+    Nothing,
+    /// A directory.
+    Dir { mode: u32, opaque: bool },
+    /// A regular file, which gets the layer's next number.
+    File { mode: u32, bytes: Bytes },
+    /// A symlink, which gets the layer's next number.
+    Symlink { target: Bytes },
+    /// A whiteout.
+    Whiteout,
+}
+
+/// Adds to the layer the directories above the path that it doesn't have, with the modes that are seen,
+/// and none of them opaque (overlayfs.rst, "Non-directories").
+///
+/// The condition is that each directory above the path is seen as one over the lower layers, the nearest
+/// first, so that `Stack::walk` finds no error. `LayerFull` where the layer would have more than 65,536
+/// inodes. `OutOfMemory` where memory for a path or an entry is refused. After either the layer is as it
+/// was: what had been added is taken back, which takes no memory. Cost: for each name of the path the
+/// layer's number of paths, and for each directory that is missing also that of `below`. The calls nest
+/// as deep as the path has names.
+pub fn ensure_dirs(layer: &mut Layer, lowers: &[Shared], path: &Path) -> Result<(), FsError>
+    requires { walk (layer.old ∷ lowers.now) path.now ≡ None }
+    ensures ok { OnOk result (layer.new ≡ with_parents layer.old lowers.now path.now) }
+    ensures error { IfErr result (λ e. IsRefusal (with_parents layer.old lowers.now path.now) e) }
+    ensures unchanged { OnErr result (layer.new ≡ layer.old) }
+    // Nothing that is seen changes.
+    ensures view { OnOk result ((q : Names) → seen (layer.new ∷ lowers.now) q ≡ seen (layer.old ∷ lowers.now) q) }
+{
+    put(layer, lowers, path, Last::Nothing)
+}
+
+/// Adds to the layer the directories above the path that it doesn't have, as `ensure_dirs` does, and then
+/// what is to stand at the path itself. Either all of it is added or nothing.
+///
+/// The conditions: each directory above the path is seen as one, as in `ensure_dirs`; and what is put is
+/// nothing, or nothing but a whiteout stands at the path, which isn't the root, and the mode, the size or
+/// the target is one that `add_dir`, `add_file` or `add_symlink` takes. `LayerFull` where the layer would
+/// have more than 65,536 inodes, or where the file numbers are used up. `OutOfMemory` where memory is
+/// refused. After either the layer is as it was, and the bytes are gone. Cost: as `ensure_dirs`.
+pub fn put(layer: &mut Layer, lowers: &[Shared], path: &Path, last: Last) -> Result<(), FsError>
+    requires way { walk (layer.old ∷ lowers.now) path.now ≡ None }
+    requires fit { Fits last layer.old path.now }
+    ensures ok { OnOk result (layer.new ≡ with_last last (with_parents layer.old lowers.now path.now) path.now) }
+    ensures error { IfErr result (λ e. IsRefusal (with_last last (with_parents layer.old lowers.now path.now) path.now) e) }
+    ensures unchanged { OnErr result (layer.new ≡ layer.old) }
+{
+    show_are_layers(lowers);
+    put_from(layer, lowers, path, 0, last)
+}
+
+/// Does what `put` does, where the directories of fewer names stand. Where it fails later, it takes back
+/// what it has added.
+fn put_from(
+    layer: &mut Layer,
+    lowers: &[Shared],
+    path: &Path,
+    names: usize,
+    last: Last,
+) -> Result<(), FsError>
+    requires within { names ≤ length path.now }
+    requires layers { AreLayers lowers.now }
+    requires way { walk_from (layer.old ∷ lowers.now) (take names path.now) (drop names path.now) ≡ None }
+    requires parent { ParentStands layer.old (take names path.now) }
+    requires fit { Fits last layer.old path.now }
+    ensures ok { OnOk result (layer.new ≡ with_last last (with_parents_from layer.old lowers.now (take names path.now) (drop names path.now)) path.now) }
+    ensures error { IfErr result (λ e. IsRefusal (with_last last (with_parents_from layer.old lowers.now (take names path.now) (drop names path.now)) path.now) e) }
+    ensures unchanged { OnErr result (layer.new ≡ layer.old) }
+{
+    if names == path.names().len() {
+        return put_last(layer, path, last);
+    }
+    if layer.at_front(path, names).is_some() {
+        return put_from(layer, lowers, path, names + 1, last);
+    }
+    let front = path.front(names)?;
+    layer.show_is_layer();
+    put_parent(layer, lowers, &front)?;
+    match put_from(layer, lowers, path, names + 1, last) {
+        Ok(()) => return Ok(()),
+        Err(error) => {
+            layer.take_name(&front);
+            return Err(error);
+        }
+    }
+}
+
+/// Puts it at the path, in one edit.
+pub(crate) fn put_last(layer: &mut Layer, path: &Path, last: Last) -> Result<(), FsError>
+    requires fit { Fits last layer.old path.now }
+    requires parent { ParentStands layer.old path.now }
+    ensures ok { OnOk result (layer.new ≡ with_last last layer.old path.now) }
+    ensures error { IfErr result (λ e. IsRefusal (with_last last layer.old path.now) e) }
+    ensures unchanged { OnErr result (layer.new ≡ layer.old) }
+{
+    layer.show_is_layer();
+    match last {
+        Last::Nothing => {}
+        Last::Dir { mode, opaque } => layer.add_dir(path, mode, opaque)?,
+        Last::File { mode, bytes } => {
+            layer.add_file(path, mode, bytes)?;
+        }
+        Last::Symlink { target } => {
+            layer.add_symlink(path, target)?;
+        }
+        Last::Whiteout => layer.add_whiteout(path)?,
+    }
+    Ok(())
+}
+
+/// Adds the directory that is seen at the path, where the layer has no node, with its mode.
+pub(crate) fn put_parent(layer: &mut Layer, lowers: &[Shared], path: &Path) -> Result<(), FsError>
+    requires layers { AreLayers lowers.now }
+    requires nothing { at layer.old path.now ≡ None }
+    requires parent { ParentStands layer.old path.now }
+    requires seen { is_shown_dir (seen (layer.old ∷ lowers.now) path.now) ≡ true }
+    ensures ok { OnOk result (layer.new ≡ copied layer.old lowers.now path.now) }
+    ensures error { IfErr result (λ e. IsRefusal (copied layer.old lowers.now path.now) e) }
+    ensures unchanged { OnErr result (layer.new ≡ layer.old) }
+{
+    layer.show_is_layer();
+    match below(layer, lowers, path) {
+        Some(Seen::Dir { mode }) => {
+            let opaque = false;
+            put_last(layer, path, Last::Dir { mode, opaque })
+        }
+        Some(Seen::File { .. }) => Ok(()),
+        Some(Seen::Symlink { .. }) => Ok(()),
+        None => Ok(()),
+    }
+}
+
+/// How many directories above the path the layer doesn't have. So many inodes, and as many blocks, it takes
+/// more once `ensure_dirs` has added them, whatever the lower layers are.
+///
+/// Takes no memory. Cost: for each name of the path the layer's number of paths.
+pub fn missing_dirs(layer: &Layer, path: &Path) -> usize
+    ensures count { (lowers : List Tree) → walk (layer.now ∷ lowers) path.now ≡ None → TakesMore result layer.now (with_parents layer.now lowers path.now) }
+    ensures few { result ≤ length path.now }
+{
+    layer.show_is_layer();
+    missing_after(layer, path, 0)
+}
+
+/// How many directories above the one path or the other the layer doesn't have; what is above both counts
+/// once. So many inodes, and as many blocks, it takes more once `ensure_dirs` has added them for both.
+///
+/// Takes no memory. Cost: for each name of both paths the layer's number of paths.
+pub fn missing_dirs_of_both(layer: &Layer, one: &Path, other: &Path) -> usize
+    ensures count { (lowers : List Tree) → walk (layer.now ∷ lowers) one.now ≡ None → walk (layer.now ∷ lowers) other.now ≡ None → TakesMore result layer.now (with_parents (with_parents layer.now lowers one.now) lowers other.now) }
+    ensures few { result ≤ length one.now + length other.now }
+{
+    layer.show_is_layer();
+    let shared = shared_names(one.names(), other.names());
+    let first = one.names().len().min(shared + 1);
+    missing_after(layer, one, 0) + missing_after(layer, other, first)
+}
+
+/// How many directories above the path that have at least so many names the layer doesn't have.
+fn missing_after(layer: &Layer, path: &Path, first: usize) -> usize
+    ensures count { result ≡ missing_from layer.now (take first path.now) (drop first path.now) }
+    ensures few { result ≤ length path.now }
+{
+    let mut missing = 0;
+    for names in first..path.names().len() {
+        if layer.at_front(path, names).is_none() {
+            missing += 1;
+        }
+    }
+    missing
+}
+
+/// How many names the lists have in common at their front.
+fn shared_names(one: &[Name], other: &[Name]) -> usize
+    ensures few { result ≤ length one.now }
+    ensures same { take result one.now ≡ take result other.now }
+    ensures most { result < length one.now → result < length other.now → take (result + 1) one.now ≡ take (result + 1) other.now → ⊥ }
+{
+    let most = one.len().min(other.len());
+    for names in 0..most {
+        if one[names] != other[names] {
+            return names;
+        }
+    }
+    most
+}

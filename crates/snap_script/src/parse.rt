@@ -1,0 +1,285 @@
+// The commands of lines, read from their values.
+ghost use Rattle.serde_json.specs.View.{view};
+ghost use Rattle.snap_script.specs.declared.command.Command.TheVariants as variants;
+ghost use Rattle.snap_script.specs.declared.command.FileCommand.TheVariants as file_variants;
+ghost use Rattle.snap_script.specs.Commands.{named, open_of, prepare_of, charge_of, keyed_of, commit_of, made_of, write_of, truncate_of, set_mode_of, symlink_of, paired_of, taken_of, file_command_of, file_of, lookup_of, command_of};
+ghost use Rattle.snap_script.specs.Gives.{Gives};
+
+use crate::command::{Command, FileCommand, Lookup};
+use crate::fault::{Field, ReadError};
+use crate::fields::{
+    content, labels, lent_text, mode_or, namespaces, number_or, optional_text, required_mode,
+    required_number, required_usage, text, usage_or,
+};
+use crate::verb::{FileVerb, Verb};
+use serde_json::Value;
+use snap_call::{Config, MAX_JOURNAL};
+use snap_layer::Bytes;
+use snap_record::Text;
+use snap_usage::Usage;
+use std::alloc::Global;
+
+/// The id of a store's first snapshot.
+const FIRST_ID: u32 = 1;
+
+/// The mode of a new directory, where the line has none.
+const DIRECTORY_MODE: u32 = 0o755;
+
+/// The mode of a new file, where the line has none.
+const FILE_MODE: u32 = 0o644;
+
+/// The namespace and the key of the snapshot that a command names.
+#[tactic(auto, unfolding(crate::specs::Commands::named))]
+fn named(alloc: Global, line: &Value) -> Result<(Text, Text), ReadError>
+    ensures { Gives (λ snapshot. snapshot) result (named (view line.now)) }
+{
+    let namespace = text(alloc, Field::Namespace, line)?;
+    let key = text(alloc, Field::Key, line)?;
+    Ok((namespace, key))
+}
+
+#[tactic(auto, unfolding(crate::specs::Commands::open_of))]
+fn open(alloc: Global, line: &Value) -> Result<Command, ReadError>
+    ensures { Gives (λ c. c) result (open_of (view line.now)) }
+{
+    let root = text(alloc, Field::Root, line)?;
+    let namespaces = namespaces(alloc, line)?;
+    let journal = number_or(MAX_JOURNAL, Field::Journal, line)?;
+    let config = Config {
+        root,
+        namespaces,
+        journal,
+        first_id: FIRST_ID,
+    };
+    Ok(Command::Open { config })
+}
+
+#[tactic(auto, unfolding(crate::specs::Commands::prepare_of))]
+fn prepare(alloc: Global, line: &Value) -> Result<Command, ReadError>
+    ensures { Gives (λ c. c) result (prepare_of (view line.now)) }
+{
+    let (namespace, key) = named(alloc, line)?;
+    Ok(Command::Prepare {
+        namespace,
+        key,
+        parent: text(alloc, Field::Parent, line)?,
+        labels: labels(alloc, line)?,
+    })
+}
+
+#[tactic(auto, unfolding(crate::specs::Commands::charge_of))]
+fn charge(alloc: Global, line: &Value) -> Result<Command, ReadError>
+    ensures { Gives (λ c. c) result (charge_of (view line.now)) }
+{
+    let (namespace, key) = named(alloc, line)?;
+    let need = required_usage(Field::Need, line)?;
+    let want = usage_or(need, Field::Want, line)?;
+    Ok(Command::Charge {
+        namespace,
+        key,
+        need,
+        want,
+    })
+}
+
+#[tactic(auto, unfolding(crate::specs::Commands::keyed_of))]
+fn trim(alloc: Global, line: &Value) -> Result<Command, ReadError>
+    ensures { Gives (λ c. c) result (keyed_of variants.Trim (view line.now)) }
+{
+    let (namespace, key) = named(alloc, line)?;
+    Ok(Command::Trim { namespace, key })
+}
+
+#[tactic(auto, unfolding(crate::specs::Commands::keyed_of))]
+fn discard(alloc: Global, line: &Value) -> Result<Command, ReadError>
+    ensures { Gives (λ c. c) result (keyed_of variants.Discard (view line.now)) }
+{
+    let (namespace, key) = named(alloc, line)?;
+    Ok(Command::Discard { namespace, key })
+}
+
+#[tactic(auto, unfolding(crate::specs::Commands::keyed_of))]
+fn stat(alloc: Global, line: &Value) -> Result<Command, ReadError>
+    ensures { Gives (λ c. c) result (keyed_of variants.Stat (view line.now)) }
+{
+    let (namespace, key) = named(alloc, line)?;
+    Ok(Command::Stat { namespace, key })
+}
+
+#[tactic(auto, unfolding(crate::specs::Commands::keyed_of))]
+fn usage(alloc: Global, line: &Value) -> Result<Command, ReadError>
+    ensures { Gives (λ c. c) result (keyed_of variants.Usage (view line.now)) }
+{
+    let (namespace, key) = named(alloc, line)?;
+    Ok(Command::Usage { namespace, key })
+}
+
+#[tactic(auto, unfolding(crate::specs::Commands::commit_of))]
+fn commit(alloc: Global, line: &Value) -> Result<Command, ReadError>
+    ensures { Gives (λ c. c) result (commit_of (view line.now)) }
+{
+    let (namespace, key) = named(alloc, line)?;
+    Ok(Command::Commit {
+        namespace,
+        key,
+        name: text(alloc, Field::Name, line)?,
+        lease: optional_text(alloc, Field::Lease, line)?,
+    })
+}
+
+#[tactic(auto, unfolding(crate::specs::Commands::made_of))]
+fn mkdir(alloc: Global, line: &Value) -> Result<FileCommand, ReadError>
+    ensures { Gives (λ c. c) result (made_of file_variants.Mkdir 493 (view line.now)) }
+{
+    let path = text(alloc, Field::Path, line)?;
+    let mode = mode_or(DIRECTORY_MODE, line)?;
+    Ok(FileCommand::Mkdir { path, mode })
+}
+
+#[tactic(auto, unfolding(crate::specs::Commands::made_of))]
+fn create(alloc: Global, line: &Value) -> Result<FileCommand, ReadError>
+    ensures { Gives (λ c. c) result (made_of file_variants.Create 420 (view line.now)) }
+{
+    let path = text(alloc, Field::Path, line)?;
+    let mode = mode_or(FILE_MODE, line)?;
+    Ok(FileCommand::Create { path, mode })
+}
+
+#[tactic(auto, unfolding(crate::specs::Commands::write_of))]
+fn write(alloc: Global, line: &Value) -> Result<FileCommand, ReadError>
+    ensures { Gives (λ c. c) result (write_of (view line.now)) }
+{
+    Ok(FileCommand::Write {
+        path: text(alloc, Field::Path, line)?,
+        offset: number_or(0, Field::Offset, line)?,
+        bytes: content(alloc, line)?,
+    })
+}
+
+#[tactic(auto, unfolding(crate::specs::Commands::truncate_of))]
+fn truncate(alloc: Global, line: &Value) -> Result<FileCommand, ReadError>
+    ensures { Gives (λ c. c) result (truncate_of (view line.now)) }
+{
+    let path = text(alloc, Field::Path, line)?;
+    let size = required_number(Field::Size, line)?;
+    Ok(FileCommand::Truncate { path, size })
+}
+
+#[tactic(auto, unfolding(crate::specs::Commands::set_mode_of))]
+fn set_mode(alloc: Global, line: &Value) -> Result<FileCommand, ReadError>
+    ensures { Gives (λ c. c) result (set_mode_of (view line.now)) }
+{
+    let path = text(alloc, Field::Path, line)?;
+    let mode = required_mode(line)?;
+    Ok(FileCommand::SetMode { path, mode })
+}
+
+#[tactic(auto, unfolding(crate::specs::Commands::symlink_of))]
+fn symlink(alloc: Global, line: &Value) -> Result<FileCommand, ReadError>
+    ensures { Gives (λ c. c) result (symlink_of (view line.now)) }
+{
+    let path = text(alloc, Field::Path, line)?;
+    let target = lent_text(Field::Target, line)?;
+    let target = Bytes::copy_of(alloc, target.as_bytes())?;
+    Ok(FileCommand::Symlink { path, target })
+}
+
+#[tactic(auto, unfolding(crate::specs::Commands::paired_of))]
+fn link(alloc: Global, line: &Value) -> Result<FileCommand, ReadError>
+    ensures { Gives (λ c. c) result (paired_of file_variants.Link (view line.now)) }
+{
+    let from = text(alloc, Field::From, line)?;
+    let to = text(alloc, Field::To, line)?;
+    Ok(FileCommand::Link { from, to })
+}
+
+#[tactic(auto, unfolding(crate::specs::Commands::taken_of))]
+fn unlink(alloc: Global, line: &Value) -> Result<FileCommand, ReadError>
+    ensures { Gives (λ c. c) result (taken_of file_variants.Unlink (view line.now)) }
+{
+    let path = text(alloc, Field::Path, line)?;
+    Ok(FileCommand::Unlink { path })
+}
+
+#[tactic(auto, unfolding(crate::specs::Commands::taken_of))]
+fn rmdir(alloc: Global, line: &Value) -> Result<FileCommand, ReadError>
+    ensures { Gives (λ c. c) result (taken_of file_variants.Rmdir (view line.now)) }
+{
+    let path = text(alloc, Field::Path, line)?;
+    Ok(FileCommand::Rmdir { path })
+}
+
+#[tactic(auto, unfolding(crate::specs::Commands::paired_of))]
+fn rename(alloc: Global, line: &Value) -> Result<FileCommand, ReadError>
+    ensures { Gives (λ c. c) result (paired_of file_variants.Rename (view line.now)) }
+{
+    let from = text(alloc, Field::From, line)?;
+    let to = text(alloc, Field::To, line)?;
+    Ok(FileCommand::Rename { from, to })
+}
+
+/// The operation of a file command by its verb.
+#[tactic(auto, unfolding(crate::specs::Commands::file_command_of))]
+fn file_command_of(alloc: Global, verb: FileVerb, line: &Value) -> Result<FileCommand, ReadError>
+    ensures { Gives (λ c. c) result (file_command_of verb (view line.now)) }
+{
+    match verb {
+        FileVerb::Mkdir => mkdir(alloc, line),
+        FileVerb::Create => create(alloc, line),
+        FileVerb::Write => write(alloc, line),
+        FileVerb::Truncate => truncate(alloc, line),
+        FileVerb::SetMode => set_mode(alloc, line),
+        FileVerb::Symlink => symlink(alloc, line),
+        FileVerb::Link => link(alloc, line),
+        FileVerb::Unlink => unlink(alloc, line),
+        FileVerb::Rmdir => rmdir(alloc, line),
+        FileVerb::Rename => rename(alloc, line),
+    }
+}
+
+#[tactic(auto, unfolding(crate::specs::Commands::file_of))]
+fn file(alloc: Global, verb: FileVerb, line: &Value) -> Result<Command, ReadError>
+    ensures { Gives (λ c. c) result (file_of verb (view line.now)) }
+{
+    let (namespace, key) = named(alloc, line)?;
+    Ok(Command::File {
+        namespace,
+        key,
+        operation: file_command_of(alloc, verb, line)?,
+        extra: usage_or(Usage::ZERO, Field::Extra, line)?,
+    })
+}
+
+#[tactic(auto, unfolding(crate::specs::Commands::lookup_of))]
+fn lookup(alloc: Global, lookup: Lookup, line: &Value) -> Result<Command, ReadError>
+    ensures { Gives (λ c. c) result (lookup_of lookup (view line.now)) }
+{
+    let (namespace, key) = named(alloc, line)?;
+    Ok(Command::Lookup {
+        namespace,
+        key,
+        lookup,
+        path: text(alloc, Field::Path, line)?,
+    })
+}
+
+/// The command of a line by its verb.
+#[tactic(auto, unfolding(crate::specs::Commands::command_of))]
+pub(crate) fn command_of(alloc: Global, verb: Verb, line: &Value) -> Result<Command, ReadError>
+    ensures { Gives (λ c. c) result (command_of verb (view line.now)) }
+{
+    match verb {
+        Verb::Open => open(alloc, line),
+        Verb::Session => Ok(Command::Session),
+        Verb::Prepare => prepare(alloc, line),
+        Verb::Charge => charge(alloc, line),
+        Verb::Trim => trim(alloc, line),
+        Verb::Commit => commit(alloc, line),
+        Verb::Discard => discard(alloc, line),
+        Verb::Stat => stat(alloc, line),
+        Verb::Usage => usage(alloc, line),
+        Verb::File(verb) => file(alloc, verb, line),
+        Verb::Lookup(own) => lookup(alloc, own, line),
+        Verb::Report => Ok(Command::Report),
+    }
+}

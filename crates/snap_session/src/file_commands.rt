@@ -1,0 +1,156 @@
+// File commands, with the charge that they need.
+ghost use Rattle.std.specs.Prelude.{◌≡◌, IfOk};
+ghost use Rattle.snap_world.specs.declared.step.Step.TheVariants.{Hand};
+ghost use Rattle.snap_world.specs.Move.{move};
+ghost use Rattle.snap_script.specs.Operations.{operation_of};
+ghost use Rattle.snap_session.specs.Commands.{on_key, more, wanted, need_by, need_of, is_charged, recharged, worked, filed};
+
+use crate::calls::found;
+use crate::step::{stepped, take_step, told};
+use snap_call::{Call, MAX_LIMIT, Reply};
+use snap_ledger::StoreName;
+use snap_merge::FsError;
+use snap_record::Text;
+use snap_script::{Answer, FileCommand};
+use snap_upper::Op;
+use snap_usage::Usage;
+use snap_world::{Answer as StepAnswer, NoMemory, Step, World};
+use std::alloc::Global;
+
+// What is needed and the extra, which is cut to the greatest limit first.
+fn more(need: u64, extra: u64) -> u64
+    ensures { result ≡ more need extra }
+{
+    need.saturating_add(extra.min(MAX_LIMIT))
+}
+
+// The need and the extra amount.
+fn wanted(need: Usage, extra: Usage) -> Usage
+    ensures { result ≡ wanted need extra }
+{
+    Usage {
+        blocks: more(need.blocks, extra.blocks),
+        inodes: more(need.inodes, extra.inodes),
+    }
+}
+
+fn need_by(error: FsError) -> Option<Usage>
+    ensures { result ≡ need_by error }
+{
+    match error {
+        FsError::NeedsCharge(need) => Some(need),
+        _ => None,
+    }
+}
+
+// The charge that the operation needs.
+fn need_of(answer: &StepAnswer) -> Option<Usage>
+    ensures { result ≡ need_of answer.now }
+{
+    match answer {
+        StepAnswer::File(Err(error)) => need_by(*error),
+        _ => None,
+    }
+}
+
+fn is_charged(answer: &StepAnswer) -> bool
+    ensures { result ≡ is_charged answer.now }
+{
+    match answer {
+        StepAnswer::Reply(Reply::Charged { now: _ }) => true,
+        _ => false,
+    }
+}
+
+// The charge, and the operation again where it was granted.
+fn recharged<N: StoreName>(
+    world: &mut World<N>,
+    n: u64,
+    slot: u64,
+    charge: &Step,
+    operation: &Step,
+) -> Result<Answer, NoMemory>
+    ensures { IfOk result (λ answer. recharged n slot operation.now (move world.old charge.now) ≡ (world.new, answer)) }
+{
+    let answer = take_step(world, charge)?;
+    if is_charged(&answer) {
+        return stepped(world, n, slot, operation);
+    }
+    Ok(told(n, slot, world, answer))
+}
+
+// The operation, with a charge where one is needed.
+fn worked<N: StoreName>(
+    world: &mut World<N>,
+    n: u64,
+    slot: u64,
+    id: u32,
+    operation: &Step,
+    extra: Usage,
+) -> Result<Answer, NoMemory>
+    ensures { IfOk result (λ answer. worked n slot id operation.now extra (move world.old operation.now) ≡ (world.new, answer)) }
+{
+    let answer = take_step(world, operation)?;
+    let Some(need) = need_of(&answer) else {
+        return Ok(told(n, slot, world, answer));
+    };
+    let call = Call::Charge {
+        slot,
+        id,
+        need,
+        want: wanted(need, extra),
+    };
+    recharged(world, n, slot, &Step::Locked(n, call), operation)
+}
+
+// The same of an operation without its step. The step is made and dropped here alone, which keeps the proof
+// of `worked` small.
+fn operated<N: StoreName>(
+    world: &mut World<N>,
+    n: u64,
+    slot: u64,
+    id: u32,
+    op: Op,
+    extra: Usage,
+) -> Result<Answer, NoMemory>
+    ensures { IfOk result (λ answer. worked n slot id (Hand slot op) extra (move world.old (Hand slot op)) ≡ (world.new, answer)) }
+{
+    let operation = Step::Hand(slot, op);
+    worked(world, n, slot, id, &operation, extra)
+}
+
+#[tactic(auto, unfolding(crate::specs::Commands::filed))]
+fn filed<N: StoreName>(
+    alloc: Global,
+    world: &mut World<N>,
+    n: u64,
+    slot: u64,
+    id: u32,
+    operation: FileCommand,
+    extra: Usage,
+) -> Result<Answer, NoMemory>
+    ensures { IfOk result (λ answer. filed n slot id (operation_of operation) extra world.old ≡ (world.new, answer)) }
+{
+    match operation.into_operation(alloc) {
+        Ok(op) => operated(world, n, slot, id, op, extra),
+        Err(FsError::OutOfMemory) => Err(NoMemory),
+        Err(error) => Ok(Answer::Failed(error)),
+    }
+}
+
+pub(crate) fn file<N: StoreName>(
+    alloc: Global,
+    world: &mut World<N>,
+    n: u64,
+    namespace: Text,
+    key: Text,
+    operation: FileCommand,
+    extra: Usage,
+) -> Result<Answer, NoMemory>
+    ensures { IfOk result (λ answer. on_key world.old namespace key (λ slot id. filed n slot id (operation_of operation) extra world.old) ≡ (world.new, answer)) }
+{
+    match found(world, namespace, key) {
+        Ok((slot, id)) => filed(alloc, world, n, slot, id, operation, extra),
+        Err(why) => Ok(Answer::Refused(why)),
+    }
+}

@@ -1,0 +1,154 @@
+// The store that a script has opened.
+ghost use Rattle.std.specs.Prelude.{◌≡◌, IfOk, Some};
+ghost use Rattle.snap_session.specs.Opened.{names_of, total_of, totals_of};
+ghost use Rattle.snap_session.specs.Commands.{kept, on_store, report};
+
+use crate::calls::{charge, commit, discard, session, trim};
+use crate::file_commands::file;
+use crate::lookups::lookup;
+use crate::step::called;
+use snap_call::{Call, Namespace, Refusal};
+use snap_ledger::StoreName;
+use snap_record::{Sequence, Text};
+use snap_script::{Answer, Command};
+use snap_usage::Usage;
+use snap_world::{NoMemory, World};
+use std::alloc::Global;
+use std::marker::Model;
+
+// A world, and the names of its namespaces.
+#[derive(Drop)]
+pub(crate) struct Opened<N: StoreName> {
+    pub(crate) world: World<N>,
+    pub(crate) names: Sequence<Text>,
+}
+
+impl<N: StoreName> Model for Opened<N> {
+    ghost use Rattle.snap_session.specs.Opened.{OpenedValue};
+
+    ghost Value = { OpenedValue };
+
+    ghost view = { λ s. record { world = s.world; names = s.names } };
+}
+
+// The names of the namespaces, in their order.
+pub(crate) fn names_of(alloc: Global, namespaces: &[Namespace]) -> Result<Sequence<Text>, NoMemory>
+    ensures { IfOk result (λ names. names ≡ names_of namespaces.now) }
+{
+    let mut names = Sequence::new(alloc);
+    for namespace in namespaces {
+        names.push(namespace.name.clone()?)?;
+    }
+    Ok(names)
+}
+
+// What the namespace of this name is charged.
+fn total_of<N: StoreName>(world: &World<N>, name: &str) -> Usage
+    ensures { result ≡ total_of world.now name.now }
+{
+    match world.totals(name) {
+        Some(total) => total,
+        None => Usage::ZERO,
+    }
+}
+
+fn totals_of<N: StoreName>(
+    alloc: Global,
+    world: &World<N>,
+    names: &[Text],
+) -> Result<Sequence<(Text, Usage)>, NoMemory>
+    ensures { IfOk result (λ totals. totals ≡ totals_of world.now names.now) }
+{
+    let mut totals = Sequence::new(alloc);
+    for name in names {
+        let total = total_of(world, name.as_str());
+        totals.push((name.clone()?, total))?;
+    }
+    Ok(totals)
+}
+
+fn report<N: StoreName>(alloc: Global, world: &World<N>, names: &[Text]) -> Result<Answer, NoMemory>
+    ensures { IfOk result (λ answer. answer ≡ report (record { world = world.now; names = names.now })) }
+{
+    Ok(Answer::Report {
+        entries: world.journal().len() as u64,
+        actives: world.open_slots(),
+        records: world.records().len() as u64,
+        totals: totals_of(alloc, world, names)?,
+    })
+}
+
+// A command by a session of this number.
+fn on_store<N: StoreName>(
+    alloc: Global,
+    world: &mut World<N>,
+    names: &[Text],
+    n: u64,
+    command: Command,
+) -> Result<Answer, NoMemory>
+    ensures { IfOk result (λ answer. on_store (record { world = world.old; names = names.now }) n command ≡ (world.new, answer)) }
+{
+    match command {
+        Command::Open { config: _ } => Ok(Answer::Refused(Refusal::BadArgument)),
+        Command::Session => session(world),
+        Command::Prepare {
+            namespace,
+            key,
+            parent,
+            labels,
+        } => called(
+            world,
+            n,
+            0,
+            Call::Prepare {
+                namespace,
+                key,
+                parent,
+                labels,
+            },
+        ),
+        Command::Charge {
+            namespace,
+            key,
+            need,
+            want,
+        } => charge(world, n, namespace, key, need, want),
+        Command::Trim { namespace, key } => trim(world, n, namespace, key),
+        Command::Commit {
+            namespace,
+            key,
+            name,
+            lease,
+        } => commit(world, n, namespace, key, name, lease),
+        Command::Discard { namespace, key } => discard(world, n, namespace, key),
+        Command::Stat { namespace, key } => called(world, n, 0, Call::Stat { namespace, key }),
+        Command::Usage { namespace, key } => called(world, n, 0, Call::Usage { namespace, key }),
+        Command::File {
+            namespace,
+            key,
+            operation,
+            extra,
+        } => file(alloc, world, n, namespace, key, operation, extra),
+        Command::Lookup {
+            namespace,
+            key,
+            lookup: asked,
+            path,
+        } => lookup(alloc, world, namespace, key, asked, path),
+        Command::Report => report(alloc, world, names),
+    }
+}
+
+impl<N: StoreName> Opened<N> {
+    // A command by a session of this number. The names stay.
+    pub(crate) fn act(
+        &mut self,
+        alloc: Global,
+        n: u64,
+        command: Command,
+    ) -> Result<Answer, NoMemory>
+        ensures { IfOk result (λ answer. kept self.old (on_store self.old n command) ≡ (Some self.new, answer)) }
+    {
+        on_store(alloc, &mut self.world, self.names.as_slice(), n, command)
+    }
+}

@@ -1,0 +1,124 @@
+ghost use Rattle.std.specs.Prelude.{◌≡◌, IfOk, None, true, is_some};
+ghost use Rattle.snap_call.specs.Forms.{is_config};
+ghost use Rattle.snap_session.specs.Commands.{is_start, is_started, opened, done};
+
+use crate::opened::{Opened, names_of};
+use crate::step::{take_step, told};
+use snap_call::{Call, Config, Refusal, Reply};
+use snap_ledger::{NewTable, StoreName};
+use snap_script::{Answer, Command};
+use snap_world::{Answer as StepAnswer, NoMemory, Step, World};
+use std::alloc::Global;
+use std::marker::Model;
+
+/// Runs the commands of a script, and keeps the store that it has opened. Contracts see that store, or none.
+///
+/// The table names the store, and goes to the first one that is opened.
+#[derive(Drop)]
+pub struct Script<N: StoreName> {
+    alloc: Global,
+    table: Option<NewTable>,
+    store: Option<Opened<N>>,
+}
+
+impl<N: StoreName> Model for Script<N> {
+    ghost use Rattle.std.specs.Prelude.{◌≡◌, Option, IfSome};
+    ghost use Rattle.snap_session.specs.Opened.{OpenedValue};
+
+    ghost Value = { Option OpenedValue };
+
+    ghost view = { λ s. s.store };
+
+    ghost invariant = { λ s. IfSome s.table (λ t. t ≡ N.table) };
+}
+
+fn is_start(reply: &Reply) -> bool
+    ensures { result ≡ is_start reply.now }
+{
+    match reply {
+        Reply::Opened => true,
+        _ => false,
+    }
+}
+
+fn is_started(answer: &StepAnswer) -> bool
+    ensures { result ≡ is_started answer.now }
+{
+    match answer {
+        StepAnswer::Reply(reply) => is_start(reply),
+        _ => false,
+    }
+}
+
+impl<N: StoreName> Script<N> {
+    /// A script that has opened no store. Takes no memory.
+    pub fn new(alloc: Global, table: NewTable) -> Script<N>
+        requires { table ≡ N.table }
+        ensures { result ≡ None }
+    {
+        Script {
+            alloc,
+            table: Some(table),
+            store: None,
+        }
+    }
+
+    /// Whether a store stands. Takes no memory.
+    pub fn is_open(&self) -> bool
+        ensures { result ≡ is_some self.now }
+    {
+        self.store.is_some()
+    }
+
+    // A world of the configuration, which has its form, and its session 0.
+    fn start(&mut self, config: Config) -> Result<Answer, NoMemory>
+        requires valid { is_config config ≡ true }
+        requires none { self.old ≡ None }
+        ensures { IfOk result (λ answer. opened config ≡ (self.new, answer)) }
+    {
+        let names = names_of(self.alloc, config.namespaces.as_slice())?;
+        let table = self.table.take().ok_or(NoMemory)?;
+        let Ok(mut world) = World::open(self.alloc, table, config) else {
+            return Err(NoMemory);
+        };
+        let answer = take_step(&mut world, &Step::Locked(0, Call::Session))?;
+        if is_started(&answer) {
+            self.store = Some(Opened { world, names });
+            return Ok(Answer::Done);
+        }
+        Ok(told(0, 0, &world, answer))
+    }
+
+    // The first command.
+    fn open(&mut self, config: Config) -> Result<Answer, NoMemory>
+        requires { self.old ≡ None }
+        ensures { IfOk result (λ answer. opened config ≡ (self.new, answer)) }
+    {
+        if !config.is_valid() {
+            return Ok(Answer::Refused(Refusal::BadArgument));
+        }
+        if config.journal == 0 {
+            return Ok(Answer::Refused(Refusal::JournalFull));
+        }
+        self.start(config)
+    }
+
+    /// A command by a session of this number: its answer, and what it makes of the store.
+    ///
+    /// Without a store every command but `Open` is answered `NoSession`; with one, `Open` is refused as
+    /// a bad argument and the store stays. No line of a script asks for either. `NoMemory` where memory was
+    /// refused; the run of a script ends with it, and nothing is said of the store. An `Open` that it
+    /// ends has spent the store's name, so a later one answers `NoMemory` too. The cost is that of the
+    /// command's steps, at most three.
+    pub fn act(&mut self, n: u64, command: Command) -> Result<Answer, NoMemory>
+        ensures { IfOk result (λ answer. done self.old n command ≡ (self.new, answer)) }
+    {
+        match &mut self.store {
+            Some(store) => store.act(self.alloc, n, command),
+            None => match command {
+                Command::Open { config } => self.open(config),
+                _ => Ok(Answer::NoSession),
+            },
+        }
+    }
+}

@@ -1,0 +1,146 @@
+// One step of the world, and what a script says of it.
+ghost use Rattle.std.specs.Prelude.{◌≡◌, IfOk};
+ghost use Rattle.snap_world.specs.declared.step.Step.TheVariants.{Locked};
+ghost use Rattle.snap_world.specs.Move.{move};
+ghost use Rattle.snap_session.specs.Opened.{share_at, count_at};
+ghost use Rattle.snap_session.specs.Wanting.{is_error_want, is_memory, is_want};
+ghost use Rattle.snap_session.specs.Commands.{told, told_reply, told_outcome, stepped};
+
+use snap_call::{Call, Refusal, Reply};
+use snap_ledger::StoreName;
+use snap_merge::FsError;
+use snap_script::Answer;
+use snap_usage::Usage;
+use snap_world::{Answer as StepAnswer, NoMemory, Step, World};
+
+// What the snapshot in the slot is charged.
+pub(crate) fn share_at<N: StoreName>(world: &World<N>, slot: u64) -> Usage
+    ensures { result ≡ share_at slot world.now }
+{
+    match world.share(slot) {
+        Some(share) => share,
+        None => Usage::ZERO,
+    }
+}
+
+// What the layer of the snapshot in the slot takes.
+pub(crate) fn count_at<N: StoreName>(world: &World<N>, slot: u64) -> Usage
+    ensures { result ≡ count_at slot world.now }
+{
+    match world.count(slot) {
+        Some(count) => count,
+        None => Usage::ZERO,
+    }
+}
+
+fn is_memory(why: Refusal) -> bool
+    ensures { result ≡ is_memory why }
+{
+    match why {
+        Refusal::OutOfMemory => true,
+        _ => false,
+    }
+}
+
+fn is_error_want(error: FsError) -> bool
+    ensures { result ≡ is_error_want error }
+{
+    match error {
+        FsError::OutOfMemory => true,
+        _ => false,
+    }
+}
+
+fn is_want(answer: &StepAnswer) -> bool
+    ensures { result ≡ is_want answer.now }
+{
+    match answer {
+        StepAnswer::Reply(Reply::Refused(why)) => is_memory(*why),
+        StepAnswer::File(Err(error)) => is_error_want(*error),
+        _ => false,
+    }
+}
+
+// One step.
+pub(crate) fn take_step<N: StoreName>(
+    world: &mut World<N>,
+    step: &Step,
+) -> Result<StepAnswer, NoMemory>
+    ensures { IfOk result (λ answer. move world.old step.now ≡ (world.new, answer)) }
+{
+    let answer = world.take_step(step);
+    if is_want(&answer) {
+        return Err(NoMemory);
+    }
+    Ok(answer)
+}
+
+fn told_reply<N: StoreName>(session: u64, slot: u64, world: &World<N>, reply: Reply) -> Answer
+    ensures { result ≡ told_reply session slot world.now reply }
+{
+    match reply {
+        Reply::Opened => Answer::Session(session),
+        Reply::Prepared { id, slot, chain } => Answer::Prepared { id, slot, chain },
+        Reply::Charged { now } => Answer::Share(now),
+        Reply::Trimmed => Answer::Share(share_at(world, slot)),
+        Reply::Committed { id, usage } => Answer::Committed { id, usage },
+        Reply::Discarded(usage) => Answer::Freed(usage),
+        Reply::Info(info) => Answer::Info(info),
+        Reply::Usage(usage) => Answer::Usage(usage),
+        Reply::Refused(why) => Answer::Refused(why),
+    }
+}
+
+fn told_outcome<N: StoreName>(slot: u64, world: &World<N>, outcome: Result<(), FsError>) -> Answer
+    ensures { result ≡ told_outcome slot world.now outcome }
+{
+    match outcome {
+        Ok(()) => Answer::Changed {
+            count: count_at(world, slot),
+            share: share_at(world, slot),
+        },
+        Err(error) => Answer::Failed(error),
+    }
+}
+
+// What a script says of the answer of a step on the slot.
+pub(crate) fn told<N: StoreName>(
+    session: u64,
+    slot: u64,
+    world: &World<N>,
+    answer: StepAnswer,
+) -> Answer
+    ensures { result ≡ told session slot world.now answer }
+{
+    match answer {
+        StepAnswer::Reply(reply) => told_reply(session, slot, world, reply),
+        StepAnswer::File(outcome) => told_outcome(slot, world, outcome),
+        StepAnswer::NoSession => Answer::NoSession,
+        StepAnswer::NoHand => Answer::NoHand,
+    }
+}
+
+// One step, and what a script says of it.
+pub(crate) fn stepped<N: StoreName>(
+    world: &mut World<N>,
+    session: u64,
+    slot: u64,
+    step: &Step,
+) -> Result<Answer, NoMemory>
+    ensures { IfOk result (λ answer. stepped session slot step.now world.old ≡ (world.new, answer)) }
+{
+    let answer = take_step(world, step)?;
+    Ok(told(session, slot, world, answer))
+}
+
+// A call on the store, and what a script says of it.
+pub(crate) fn called<N: StoreName>(
+    world: &mut World<N>,
+    session: u64,
+    slot: u64,
+    call: Call,
+) -> Result<Answer, NoMemory>
+    ensures { IfOk result (λ answer. stepped session slot (Locked session call) world.old ≡ (world.new, answer)) }
+{
+    stepped(world, session, slot, &Step::Locked(session, call))
+}

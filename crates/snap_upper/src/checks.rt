@@ -1,0 +1,346 @@
+// The tests that an operation has to pass.
+ghost use Rattle.std.specs.Prelude.{◌≡◌, ◌⊎◌, ◌==◌, [], ◌∷◌, is_some, true, false, None, Some, OnOk, IfErr, ◌||◌, not, IfOk, Ok, Err};
+ghost use Rattle.std.specs.Option.{option_map};
+ghost use Rattle.std.specs.Result.{result_err};
+ghost use Rattle.std.specs.List.{list_any};
+ghost use Rattle.snap_layer.specs.Tree.{begins};
+ghost use Rattle.snap_merge.specs.declared.error.FsError.{FsError};
+ghost use Rattle.snap_merge.specs.Objects.{object, seen, is_shown_dir, AreLayers};
+ghost use Rattle.snap_merge.specs.Walk.{walk};
+ghost use Rattle.snap_upper.specs.After.{tests, first_error, error_if, file_error, mode_error, link_error, dir_error, has_names, is_no_target, move_tests, kind_error, is_root, is_same_name, is_same_path, is_same_number, is_too_long};
+ghost use Rattle.snap_upper.specs.declared.op.Op.TheVariants as op;
+
+use super::change::own_number;
+use snap_copyup::is_pure;
+use snap_layer::{Bytes, Layer, Shared};
+use snap_merge::{FsError, Seen, Stack, is_dir};
+use snap_path::Path;
+use snap_path::limits::{MAX_FILE_BYTES, MAX_MODE, MAX_TARGET_BYTES};
+use std::alloc::Global;
+
+/// Walks to the path, at which nothing may be seen.
+fn check_unseen(stack: &Stack<'_>, path: &Path) -> Result<(), FsError>
+    ensures error { result_err result ≡ first_error (walk stack.now path.now ∷ error_if (is_some (seen stack.now path.now)) FsError.Exists ∷ []) }
+    ensures layers { AreLayers stack.now }
+{
+    stack.walk(path)?;
+    if stack.look(path).is_some() {
+        return Err(FsError::Exists);
+    }
+    Ok(())
+}
+
+/// Tests whether an object with the mode can be made at the path.
+pub(crate) fn check_new(stack: &Stack<'_>, path: &Path, mode: u32) -> Result<(), FsError>
+    ensures error { result_err result ≡ first_error (tests (op.Mkdir path.now mode) stack.now) }
+    ensures layers { AreLayers stack.now }
+{
+    check_unseen(stack, path)?;
+    if mode > MAX_MODE {
+        return Err(FsError::Invalid);
+    }
+    Ok(())
+}
+
+/// Tests whether the bytes can be put at the offset of the file at the path.
+pub(crate) fn check_write(
+    stack: &Stack<'_>,
+    path: &Path,
+    offset: u64,
+    bytes: &Bytes,
+) -> Result<(), FsError>
+    ensures error { result_err result ≡ first_error (tests (op.Write path.now offset bytes.now) stack.now) }
+    ensures layers { AreLayers stack.now }
+{
+    stack.walk(path)?;
+    check_file(stack, path)?;
+    let end = offset.saturating_add(bytes.as_slice().len() as u64);
+    if end > MAX_FILE_BYTES {
+        return Err(FsError::TooBig);
+    }
+    Ok(())
+}
+
+/// Tests whether the file at the path can be given so many bytes.
+pub(crate) fn check_truncate(stack: &Stack<'_>, path: &Path, size: u64) -> Result<(), FsError>
+    ensures error { result_err result ≡ first_error (tests (op.Truncate path.now size) stack.now) }
+    ensures layers { AreLayers stack.now }
+{
+    stack.walk(path)?;
+    check_file(stack, path)?;
+    if size > MAX_FILE_BYTES {
+        return Err(FsError::TooBig);
+    }
+    Ok(())
+}
+
+/// Tests whether the directory or file at the path can be given the mode.
+pub(crate) fn check_mode(stack: &Stack<'_>, path: &Path, mode: u32) -> Result<(), FsError>
+    ensures error { result_err result ≡ first_error (tests (op.SetMode path.now mode) stack.now) }
+    ensures layers { AreLayers stack.now }
+{
+    stack.walk(path)?;
+    check_has_mode(stack, path)?;
+    if mode > MAX_MODE {
+        return Err(FsError::Invalid);
+    }
+    Ok(())
+}
+
+/// Tests whether a symlink with the target can be made at the path.
+pub(crate) fn check_symlink(stack: &Stack<'_>, path: &Path, target: &Bytes) -> Result<(), FsError>
+    ensures error { result_err result ≡ first_error (tests (op.Symlink path.now target.now) stack.now) }
+    ensures layers { AreLayers stack.now }
+{
+    check_unseen(stack, path)?;
+    let bytes = target.as_slice();
+    if is_no_target(bytes) {
+        return Err(FsError::Invalid);
+    }
+    if bytes.len() > MAX_TARGET_BYTES {
+        return Err(FsError::TooBig);
+    }
+    Ok(())
+}
+
+/// Whether the bytes are empty or have a NUL.
+fn is_no_target(bytes: &[u8]) -> bool
+    ensures { result ≡ is_no_target bytes.now }
+{
+    bytes.len() == 0 || has_nul(bytes)
+}
+
+fn has_nul(bytes: &[u8]) -> bool
+    ensures { result ≡ list_any (λ b. b == 0) bytes.now }
+{
+    bytes.iter().any(|byte| *byte == 0)
+}
+
+/// Tests whether a regular file is seen at the path.
+fn check_file(stack: &Stack<'_>, path: &Path) -> Result<(), FsError>
+    ensures { result_err result ≡ file_error (seen stack.now path.now) }
+{
+    match stack.look(path) {
+        Some(Seen::File { .. }) => Ok(()),
+        Some(Seen::Dir { .. }) => Err(FsError::IsDir),
+        Some(Seen::Symlink { .. }) => Err(FsError::Invalid),
+        None => Err(FsError::NotFound),
+    }
+}
+
+/// Tests whether a directory or a regular file, which have a mode, is seen at the path.
+fn check_has_mode(stack: &Stack<'_>, path: &Path) -> Result<(), FsError>
+    ensures { result_err result ≡ mode_error (seen stack.now path.now) }
+{
+    match stack.look(path) {
+        Some(Seen::File { .. }) => Ok(()),
+        Some(Seen::Dir { .. }) => Ok(()),
+        Some(Seen::Symlink { .. }) => Err(FsError::Invalid),
+        None => Err(FsError::NotFound),
+    }
+}
+
+/// Tests whether what is seen at `from` can get the name `to`.
+pub(crate) fn check_link(stack: &Stack<'_>, from: &Path, to: &Path) -> Result<(), FsError>
+    ensures error { result_err result ≡ first_error (tests (op.Link from.now to.now) stack.now) }
+    ensures layers { AreLayers stack.now }
+{
+    stack.walk(from)?;
+    stack.walk(to)?;
+    check_linked(stack, from)?;
+    if stack.look(to).is_some() {
+        return Err(FsError::Exists);
+    }
+    Ok(())
+}
+
+/// Tests whether a file or a symlink is seen at the path.
+fn check_linked(stack: &Stack<'_>, path: &Path) -> Result<(), FsError>
+    ensures { result_err result ≡ link_error (seen stack.now path.now) }
+{
+    match stack.look(path) {
+        Some(Seen::File { .. }) => Ok(()),
+        Some(Seen::Symlink { .. }) => Ok(()),
+        Some(Seen::Dir { .. }) => Err(FsError::NotPermitted),
+        None => Err(FsError::NotFound),
+    }
+}
+
+/// Tests whether the name at the path can be taken.
+pub(crate) fn check_unlink(stack: &Stack<'_>, path: &Path) -> Result<(), FsError>
+    ensures error { result_err result ≡ first_error (tests (op.Unlink path.now) stack.now) }
+    ensures layers { AreLayers stack.now }
+{
+    stack.walk(path)?;
+    match stack.look(path) {
+        Some(Seen::File { .. }) => Ok(()),
+        Some(Seen::Symlink { .. }) => Ok(()),
+        Some(Seen::Dir { .. }) => Err(FsError::IsDir),
+        None => Err(FsError::NotFound),
+    }
+}
+
+/// Tests whether the directory at the path can be taken. The list of its names takes memory.
+pub(crate) fn check_rmdir(stack: &Stack<'_>, alloc: Global, path: &Path) -> Result<(), FsError>
+    ensures ok { OnOk result (first_error (tests (op.Rmdir path.now) stack.now) ≡ None) }
+    ensures error { IfErr result (λ e. (e ≡ FsError.OutOfMemory) ⊎ (first_error (tests (op.Rmdir path.now) stack.now) ≡ Some e)) }
+    ensures sure { is_shown_dir (seen stack.now path.now) ≡ false → IfErr result (λ e. first_error (tests (op.Rmdir path.now) stack.now) ≡ Some e) }
+    ensures layers { AreLayers stack.now }
+{
+    stack.walk(path)?;
+    if path.names().is_empty() {
+        return Err(FsError::Invalid);
+    }
+    check_dir(stack, path)?;
+    check_empty(stack, alloc, path)
+}
+
+/// Tests that nothing is seen in the path's directory, if there is one.
+pub(crate) fn check_empty(stack: &Stack<'_>, alloc: Global, path: &Path) -> Result<(), FsError>
+    requires way { walk stack.now path.now ≡ None }
+    requires layers { AreLayers stack.now }
+    ensures ok { OnOk result (has_names stack.now path.now ≡ false) }
+    ensures error { IfErr result (λ e. (e ≡ FsError.OutOfMemory) ⊎ ((e ≡ FsError.NotEmpty) × (has_names stack.now path.now ≡ true))) }
+    ensures sure { is_shown_dir (seen stack.now path.now) ≡ false → result_err result ≡ None }
+{
+    if !is_dir(stack.look(path)) {
+        return Ok(());
+    }
+    let names = stack.list(alloc, path)?;
+    if !names.is_empty() {
+        return Err(FsError::NotEmpty);
+    }
+    Ok(())
+}
+
+/// Tests whether a directory is seen at the path.
+fn check_dir(stack: &Stack<'_>, path: &Path) -> Result<(), FsError>
+    ensures { result_err result ≡ dir_error (seen stack.now path.now) }
+{
+    match stack.look(path) {
+        Some(Seen::Dir { .. }) => Ok(()),
+        Some(Seen::File { .. }) => Err(FsError::NotDir),
+        Some(Seen::Symlink { .. }) => Err(FsError::NotDir),
+        None => Err(FsError::NotFound),
+    }
+}
+
+/// Tests whether a rename can be done. The answer is whether it has something to do: one path, or two
+/// names of one file in the layer, stay as they are.
+pub(crate) fn check_rename(
+    layer: &Layer,
+    lowers: &[Shared],
+    from: &Path,
+    to: &Path,
+) -> Result<bool, FsError>
+    ensures ok { OnOk result (first_error (tests (op.Rename from.now to.now) (layer.now ∷ lowers.now)) ≡ None) }
+    ensures moves { IfOk result (λ moves. moves ≡ not (is_same_name layer.now from.now to.now)) }
+    ensures error { IfErr result (λ e. (e ≡ FsError.OutOfMemory) ⊎ (first_error (tests (op.Rename from.now to.now) (layer.now ∷ lowers.now)) ≡ Some e)) }
+    // Memory is taken for the names of a directory that is seen at `to`.
+    ensures sure { is_shown_dir (seen (layer.now ∷ lowers.now) to.now) ≡ false → IfErr result (λ e. first_error (tests (op.Rename from.now to.now) (layer.now ∷ lowers.now)) ≡ Some e) }
+    ensures layers { AreLayers (layer.now ∷ lowers.now) }
+{
+    check_ends(&Stack::over(layer, lowers), from, to)?;
+    if is_same_name(layer, from, to) {
+        return Ok(false);
+    }
+    check_move(layer, lowers, from, to)?;
+    Ok(true)
+}
+
+/// Tests the ways to both paths, that neither is the root, and that something is seen at `from`.
+fn check_ends(stack: &Stack<'_>, from: &Path, to: &Path) -> Result<(), FsError>
+    ensures error { result_err result ≡ first_error (walk stack.now from.now ∷ walk stack.now to.now ∷ error_if (is_root from.now || is_root to.now) FsError.Invalid ∷ error_if (not (is_some (seen stack.now from.now))) FsError.NotFound ∷ []) }
+    ensures layers { AreLayers stack.now }
+{
+    stack.walk(from)?;
+    stack.walk(to)?;
+    if from.names().is_empty() || to.names().is_empty() {
+        return Err(FsError::Invalid);
+    }
+    if stack.look(from).is_none() {
+        return Err(FsError::NotFound);
+    }
+    Ok(())
+}
+
+/// Whether both are one path, or two names of one file in the layer.
+fn is_same_name(layer: &Layer, from: &Path, to: &Path) -> bool
+    ensures { result ≡ is_same_name layer.now from.now to.now }
+{
+    is_same_path(from, to) || is_same_number(own_number(layer, from), own_number(layer, to))
+}
+
+/// Whether the paths are one.
+fn is_same_path(from: &Path, to: &Path) -> bool
+    ensures { result ≡ is_same_path from.now to.now }
+{
+    begins(from, to) && begins(to, from)
+}
+
+/// Whether the path is the front, or goes on below it.
+fn begins(front: &Path, path: &Path) -> bool
+    ensures { result ≡ begins front.now path.now }
+{
+    path.names().starts_with(front.names())
+}
+
+/// Whether both numbers are there, and they are one.
+fn is_same_number(one: Option<u32>, other: Option<u32>) -> bool
+    ensures { result ≡ is_same_number one other }
+{
+    match (one, other) {
+        (Some(one), Some(other)) => one == other,
+        (Some(_), None) => false,
+        (None, _) => false,
+    }
+}
+
+/// Tests whether what is seen at `from` can move to `to`. The list of the names at `to` takes memory.
+fn check_move(layer: &Layer, lowers: &[Shared], from: &Path, to: &Path) -> Result<(), FsError>
+    requires way { walk (layer.now ∷ lowers.now) to.now ≡ None }
+    requires roots { (is_root from.now || is_root to.now) ≡ false }
+    requires layers { AreLayers (layer.now ∷ lowers.now) }
+    ensures ok { OnOk result (first_error (move_tests layer.now lowers.now from.now to.now) ≡ None) }
+    ensures error { IfErr result (λ e. (e ≡ FsError.OutOfMemory) ⊎ (first_error (move_tests layer.now lowers.now from.now to.now) ≡ Some e)) }
+    ensures sure { is_shown_dir (seen (layer.now ∷ lowers.now) to.now) ≡ false → IfErr result (λ e. first_error (move_tests layer.now lowers.now from.now to.now) ≡ Some e) }
+{
+    let stack = Stack::over(layer, lowers);
+    let moved = stack.look(from);
+    if is_dir(moved) && begins(from, to) {
+        return Err(FsError::Invalid);
+    }
+    check_kinds(moved, stack.look(to))?;
+    if is_dir(moved) && !is_pure(layer, lowers, from) {
+        return Err(FsError::CrossDevice);
+    }
+    check_empty(&stack, layer.alloc(), to)?;
+    if is_too_long(layer, from, to) {
+        return Err(FsError::BadPath);
+    }
+    Ok(())
+}
+
+/// Whether a path of the layer at or below `from` would be too long at `to`.
+fn is_too_long(layer: &Layer, from: &Path, to: &Path) -> bool
+    requires { (is_root from.now || is_root to.now) ≡ false }
+    ensures { result ≡ is_too_long layer.now from.now to.now }
+{
+    layer.show_is_layer();
+    !layer.has_short_paths(from, to)
+}
+
+/// Tests that a directory takes the place of no other object, and that no other object takes the place of
+/// a directory.
+fn check_kinds(moved: Option<Seen<'_>>, target: Option<Seen<'_>>) -> Result<(), FsError>
+    ensures { result_err result ≡ kind_error (option_map object moved.entry) (option_map object target.entry) }
+{
+    match target {
+        None => Ok(()),
+        Some(Seen::Dir { .. }) if is_dir(moved) => Ok(()),
+        Some(Seen::Dir { .. }) => Err(FsError::IsDir),
+        Some(Seen::File { .. }) if is_dir(moved) => Err(FsError::NotDir),
+        Some(Seen::Symlink { .. }) if is_dir(moved) => Err(FsError::NotDir),
+        Some(_) => Ok(()),
+    }
+}

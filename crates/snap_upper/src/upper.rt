@@ -1,0 +1,210 @@
+// The upper layer, on which an operation is done.
+ghost use Rattle.std.specs.Prelude.{◌≡◌, ◌⊎◌, ◌∷◌, OnOk, OnErr, IfErr, Ok, Err, false, ◌≤◌, ℕ, List, IfOk, Some, None, length, [], ◌++◌, is_some, true};
+ghost use Rattle.snap_layer.specs.Tree.{body};
+ghost use Rattle.snap_layer.specs.declared.node.Body.TheVariants as body_kinds;
+ghost use Rattle.snap_usage.specs.Counted.{count_of, Covers};
+ghost use Rattle.snap_merge.specs.declared.error.FsError.{FsError};
+ghost use Rattle.snap_merge.specs.Objects.{seen};
+ghost use Rattle.snap_merge.specs.Walk.{walk};
+ghost use Rattle.snap_copyup.specs.Copying.{below, with_parents};
+ghost use Rattle.snap_copyup.specs.Places.{with_last, Fits};
+ghost use Rattle.snap_upper.specs.After.{after, lists_names, within_share, limited, with_content, erased};
+ghost use Rattle.snap_upper.specs.Changed.{changed, Changes};
+ghost use Rattle.snap_upper.specs.Changes.{outcome, IsReady, as_last, edited, IsShort, IsSound};
+
+use super::change::{Change, Edit, New};
+use super::names::{link, shift};
+use super::op::Op;
+use super::rules::rule;
+use super::usage::weigh;
+use snap_copyup::{Last, put};
+use snap_layer::{Body, Bytes, Layer, Shared};
+use snap_merge::{FsError, show_are_layers};
+use snap_path::Path;
+use snap_usage::Usage;
+use std::alloc::AllocError;
+
+/// Does the operation on the layer, over the lower layers, which stand nearest first and stay as they
+/// are. What is changed in a lower layer is copied up first, and missing directories above it are added
+/// (overlayfs.rst, "Non-directories").
+///
+/// Errors, in this order, of the first that applies:
+/// - `NotFound`, `NotDir`: above the path, from the root on, nothing is seen, or no directory; of two
+///   paths `from` comes first.
+/// - `Exists`: something is seen where a directory, a file or a symlink is to be made; `NotFound`,
+///   `IsDir`, `Invalid`: nothing, a directory or a symlink is seen where a file's bytes are to be
+///   changed; `NotFound`, `Invalid`: nothing or a symlink is seen where a mode is to be set; `NotFound`,
+///   `IsDir`: nothing or a directory is seen where a name is to be taken; `Invalid`, `NotFound`, `NotDir`,
+///   `NotEmpty`: the root, nothing, no directory or a directory with names where one is to be taken;
+///   `NotFound`, `NotPermitted`, `Exists`: nothing or a directory is seen that is to get one more name,
+///   or something where that name is to be.
+/// - Of a rename, after the errors above `from` and then above `to`: `Invalid`: one is the root;
+///   `NotFound`: nothing is seen at `from`; `Invalid`: `from` is a directory, and `to` lies below it;
+///   `NotDir`, `IsDir`: a directory would take the place of another object, or another object that of a
+///   directory; `CrossDevice`: `from` is a directory that is seen, whole or in part, from a lower layer;
+///   `NotEmpty`: `to` is a directory with names; `BadPath`: a moved path would have more than 4095 bytes.
+///   Where it has nothing to do, none of the last six comes.
+/// - `Invalid`: the mode is above octal 7777, or the target is empty or has a NUL; `TooBig`: the file
+///   would have more than 1,048,576 bytes, or the target has more than 4095.
+/// - `LayerFull`: the layer would have more than 65,536 inodes, or a new file's number would pass
+///   4,294,967,294.
+/// - `OutOfMemory`: a growth was refused, which may be found before `LayerFull` is.
+///
+/// After any of them the layer is as it was. Cost: for each name of the path a look through the layers,
+/// and the bytes of a file that is written, cut or copied up; for a rename also the texts of the layer's
+/// paths, and for a directory that is removed or replaced the list of its names. A link to a directory
+/// that the layer lacks is done on a copy of the layer, which takes as much memory, and the time to copy
+/// all its bytes. So is a link of a lower file to a layer that is full, or nearly; and a rename of a lower
+/// object, or to a directory that the layer lacks.
+pub fn apply(layer: &mut Layer, lowers: &[Shared], op: &Op) -> Result<(), FsError>
+    ensures ok { OnOk result (after op.now layer.old lowers.now ≡ Ok layer.new) }
+    ensures error { IfErr result (λ e. (e ≡ FsError.OutOfMemory) ⊎ (after op.now layer.old lowers.now ≡ Err e)) }
+    ensures unchanged { OnErr result (layer.new ≡ layer.old) }
+
+    // What `after` means for what is seen: here, and for the operation over any lower layers.
+    ensures view { OnOk result (changed op.now layer.old (seen (layer.old ∷ lowers.now)) (seen (layer.new ∷ lowers.now))) }
+    ensures law { Changes op.now layer.old }
+{
+    layer.show_is_layer();
+    show_are_layers(lowers);
+    let change = rule(layer, lowers, op)?;
+    perform(layer, lowers, change)
+}
+
+/// Does the operation as [`apply`] does it, where the share covers what the layer takes afterwards: the
+/// count of the whole next layer, which is what [`plan`](super::plan) answers.
+///
+/// The errors are those of `apply` in the same order, `LayerFull` last; then `NeedsCharge`, with that count,
+/// where the share doesn't cover it in both quantities; then `OutOfMemory`, as `plan` may answer it, or for a
+/// growth that was refused. After any of them the layer is as it was. The cost is that of `apply`, and the
+/// number of the layer's paths and files.
+pub fn apply_within(
+    layer: &mut Layer,
+    lowers: &[Shared],
+    op: &Op,
+    share: Usage,
+) -> Result<(), FsError>
+    ensures ok { OnOk result (within_share share (after op.now layer.old lowers.now) ≡ Ok layer.new) }
+    ensures covers { OnOk result (Covers share (count_of layer.new)) }
+    ensures error { IfErr result (λ e. (e ≡ FsError.OutOfMemory) ⊎ (within_share share (after op.now layer.old lowers.now) ≡ Err e)) }
+    ensures unchanged { OnErr result (layer.new ≡ layer.old) }
+    // An error comes before any memory is taken, but for a list of names.
+    ensures first { lists_names op.now (layer.old ∷ lowers.now) ≡ false → IfErr (within_share share (after op.now layer.old lowers.now)) (λ e. result ≡ Err e) }
+{
+    let change = rule(layer, lowers, op)?;
+    let need = weigh(layer, lowers, change)?.after;
+    if !share.covers(need) {
+        return Err(FsError::NeedsCharge(need));
+    }
+    perform(layer, lowers, change)
+}
+
+/// Does the change to the layer.
+fn perform(layer: &mut Layer, lowers: &[Shared], change: Change<'_>) -> Result<(), FsError>
+    requires ready { IsReady change layer.old lowers.now }
+    ensures ok { OnOk result (outcome change.entry layer.old lowers.now ≡ Ok layer.new) }
+    ensures error { IfErr result (λ e. (e ≡ FsError.OutOfMemory) ⊎ (outcome change.entry layer.old lowers.now ≡ Err e)) }
+    ensures unchanged { OnErr result (layer.new ≡ layer.old) }
+{
+    layer.show_is_layer();
+    match change {
+        Change::Nothing => Ok(()),
+        Change::Put { path, new } => put_new(layer, lowers, path, new),
+        Change::Fill { number, edit } => fill(layer, number, edit),
+        Change::SetMode { path, mode } => {
+            layer.set_mode(path, mode);
+            layer.show_is_layer();
+            Ok(())
+        }
+        Change::Erase { path, covers } => erase(layer, lowers, path, covers),
+        Change::Link { from, to } => link(layer, lowers, from, to),
+        Change::Move {
+            from,
+            to,
+            leaves,
+            covers,
+        } => shift(layer, lowers, from, to, leaves, covers),
+    }
+}
+
+/// Puts it at the path, with the directories that are missing above it.
+fn grow(layer: &mut Layer, lowers: &[Shared], path: &Path, last: Last) -> Result<(), FsError>
+    requires way { walk (layer.old ∷ lowers.now) path.now ≡ None }
+    requires fit { Fits last layer.old path.now }
+    ensures ok { OnOk result (limited (with_last last (with_parents layer.old lowers.now path.now) path.now) ≡ Ok layer.new) }
+    ensures error { IfErr result (λ e. (e ≡ FsError.OutOfMemory) ⊎ (limited (with_last last (with_parents layer.old lowers.now path.now) path.now) ≡ Err e)) }
+    ensures unchanged { OnErr result (layer.new ≡ layer.old) }
+{
+    if let Err(error) = put(layer, lowers, path, last) {
+        return Err(error);
+    }
+    layer.show_is_layer();
+    Ok(())
+}
+
+/// Makes it with its own bytes, and puts it at the path, with the directories that are missing above it.
+fn put_new(layer: &mut Layer, lowers: &[Shared], path: &Path, new: New<'_>) -> Result<(), FsError>
+    requires way { walk (layer.old ∷ lowers.now) path.now ≡ None }
+    requires fit { Fits (as_last new) layer.old path.now }
+    requires sound { IsSound new }
+    ensures ok { OnOk result (limited (with_last (as_last new.entry) (with_parents layer.old lowers.now path.now) path.now) ≡ Ok layer.new) }
+    ensures error { IfErr result (λ e. (e ≡ FsError.OutOfMemory) ⊎ (limited (with_last (as_last new.entry) (with_parents layer.old lowers.now path.now) path.now) ≡ Err e)) }
+    ensures unchanged { OnErr result (layer.new ≡ layer.old) }
+{
+    let last = new.last(layer.alloc())?;
+    grow(layer, lowers, path, last)
+}
+
+/// Edits the bytes of the layer's file with the number.
+fn fill(layer: &mut Layer, number: u32, edit: Edit<'_>) -> Result<(), FsError>
+    requires there { (m : ℕ) × (old : List ℕ) × (body layer.old number ≡ Some (body_kinds.File m old)) × IsShort edit × (length (edited edit old) ≤ 1048576) }
+    ensures ok { OnOk result (limited (with_content layer.old (Some number) (edited edit.entry)) ≡ Ok layer.new) }
+    ensures error { IfErr result (λ e. e ≡ FsError.OutOfMemory) }
+    ensures unchanged { OnErr result (layer.new ≡ layer.old) }
+{
+    let content = edited_bytes(layer, number, edit)?;
+    layer.set_bytes(number, content);
+    layer.show_is_layer();
+    Ok(())
+}
+
+/// The bytes of the layer's file with the number after the edit.
+fn edited_bytes(layer: &Layer, number: u32, edit: Edit<'_>) -> Result<Bytes, AllocError>
+    requires { IsShort edit }
+    ensures { (m : ℕ) (old : List ℕ) → body layer.now number ≡ Some (body_kinds.File m old) → IfOk result (λ b. b ≡ edited edit.entry old) }
+{
+    let alloc = layer.alloc();
+    match layer.body(number) {
+        Some(Body::File { bytes, .. }) => edit.content(alloc, bytes.as_slice()),
+        Some(Body::Symlink { .. }) => Ok(Bytes::new(Vec::new(alloc))),
+        None => Ok(Bytes::new(Vec::new(alloc))),
+    }
+}
+
+/// Takes what the layer has at the path, a name or a directory with whiteouts alone, and puts a whiteout
+/// there where `covers` says that a lower layer shows something.
+fn erase(layer: &mut Layer, lowers: &[Shared], path: &Path, covers: bool) -> Result<(), FsError>
+    requires way { walk (layer.old ∷ lowers.now) path.now ≡ None }
+    requires there { is_some (seen (layer.old ∷ lowers.now) path.now) ≡ true }
+    requires below_root { path.now ≡ [] → ⊥ }
+    requires clear { (n : List ℕ) → is_some (seen (layer.old ∷ lowers.now) (path.now ++ n ∷ [])) ≡ false }
+    requires covers { covers ≡ is_some (below layer.old lowers.now path.now) }
+    ensures ok { OnOk result (limited (erased layer.old lowers.now path.now) ≡ Ok layer.new) }
+    ensures error { IfErr result (λ e. (e ≡ FsError.OutOfMemory) ⊎ (limited (erased layer.old lowers.now path.now) ≡ Err e)) }
+    ensures unchanged { OnErr result (layer.new ≡ layer.old) }
+{
+    layer.show_is_layer();
+    if layer.at(path).is_none() {
+        return grow(layer, lowers, path, Last::Whiteout);
+    }
+    if covers {
+        if let Err(error) = layer.add_whiteout(path) {
+            return Err(FsError::from(error));
+        }
+        layer.show_is_layer();
+        return Ok(());
+    }
+    layer.take_name(path);
+    layer.show_is_layer();
+    Ok(())
+}

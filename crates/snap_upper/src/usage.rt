@@ -1,0 +1,302 @@
+// How much the upper layer takes after an operation.
+ghost use Rattle.std.specs.Prelude.{◌≡◌, [], ◌∷◌, ◌++◌, ◌+◌, ◌≤◌, ℕ, List, None, Some, Ok, is_some, true, false, length};
+ghost use Rattle.std.specs.Option.{option_map};
+ghost use Rattle.snap_layer.specs.Tree.{Tree, at, body};
+ghost use Rattle.snap_layer.specs.Counts.{block_count, inode_count};
+ghost use Rattle.snap_layer.specs.Edits.{IsFree, HasMode, with_mode, without};
+ghost use Rattle.snap_layer.specs.declared.node.Body.TheVariants as body_kinds;
+ghost use Rattle.snap_merge.specs.Objects.{object, seen, AreLayers};
+ghost use Rattle.snap_merge.specs.Walk.{walk, Answers};
+ghost use Rattle.snap_copyup.specs.declared.parents.Last.{Last};
+ghost use Rattle.snap_copyup.specs.Copying.{below, with_parents};
+ghost use Rattle.snap_copyup.specs.Places.{with_last, Fits};
+ghost use Rattle.snap_upper.specs.After.{after, first_error, tests, planned, limited, next_layer, erased, prepared, renamed, is_same_name, with_content, lists_names};
+ghost use Rattle.snap_upper.specs.Changes.{edited, outcome, IsReady, IsShort};
+ghost use Rattle.snap_upper.specs.Adding.{Takes, weight_of, last_blocks, object_blocks, IsPlaceable, IsNext};
+ghost use Rattle.snap_upper.specs.declared.op.Op.TheVariants as op;
+
+use super::change::{Change, Edit, is_whiteout};
+use super::op::Op;
+use super::rules::rule;
+use snap_copyup::{missing_dirs, missing_dirs_of_both};
+use snap_layer::{Body, Layer, Node, Shared};
+use snap_merge::{FsError, Seen, Stack};
+use snap_path::Path;
+use snap_path::limits::MAX_INODES;
+use snap_usage::{Usage, blocks_of, count};
+
+/// What a plan of an operation answers.
+#[derive(Clone, Copy, Debug, PartialEq, Eq)]
+pub struct Planned {
+    /// How much the upper layer takes after the operation.
+    pub after: Usage,
+}
+
+/// How much the layer would take after the operation over the lower layers, which stand nearest first.
+///
+/// The errors are those of `apply`, in the same order. It changes nothing, and the next layer isn't built.
+/// Cost: for each name of a path a look through the layers, and the number of the layer's paths and files.
+///
+/// It takes no memory but for the names of a directory that is seen at the path of an `Rmdir`, or where a
+/// `Rename` goes to. These plans may answer `OutOfMemory`, and their cost is also that of the list.
+pub fn plan(layer: &Layer, lowers: &[Shared], op: &Op) -> Result<Planned, FsError>
+    ensures answer { Answers (planned (after op.now layer.now lowers.now)) result }
+    ensures sure { lists_names op.now (layer.now ∷ lowers.now) ≡ false → result ≡ planned (after op.now layer.now lowers.now) }
+{
+    let change = rule(layer, lowers, op)?;
+    weigh(layer, lowers, change)
+}
+
+/// How much the layer takes after the change.
+pub(crate) fn weigh(
+    layer: &Layer,
+    lowers: &[Shared],
+    change: Change<'_>,
+) -> Result<Planned, FsError>
+    requires layers { AreLayers lowers.now }
+    requires ready { IsReady change layer.now lowers.now }
+    ensures { result ≡ planned (outcome change.entry layer.now lowers.now) }
+{
+    layer.show_is_layer();
+    match change {
+        Change::Nothing => Ok(counted(layer)),
+        Change::Put { path, new } => plan_growth(layer, path, new.blocks(), new.is_numbered()),
+        Change::Fill { number, edit } => plan_filling(layer, number, edit),
+        Change::SetMode { path, mode } => Ok(counted_with_mode(layer, path, mode)),
+        Change::Erase { path, covers } => plan_erasing(layer, path, covers),
+        Change::Link { from, to } => plan_link(layer, lowers, from, to),
+        Change::Move {
+            from,
+            to,
+            leaves,
+            ..
+        } => plan_move(layer, lowers, from, to, leaves),
+    }
+}
+
+/// What the layer takes.
+fn counted(layer: &Layer) -> Planned
+    ensures { Ok result ≡ planned (Ok layer.now) }
+{
+    layer.show_is_layer();
+    let after = count(layer);
+    Planned { after }
+}
+
+/// What the layer takes, which a mode doesn't change.
+fn counted_with_mode(layer: &Layer, path: &Path, mode: u32) -> Planned
+    requires there { HasMode (at layer.now path.now) }
+    requires low { mode ≤ 4095 }
+    ensures { Ok result ≡ planned (limited (with_mode layer.now path.now (at layer.now path.now) mode)) }
+{
+    layer.show_is_layer();
+    let after = count(layer);
+    Planned { after }
+}
+
+/// How much the layer takes where what is seen at `from` gets the name `to`.
+fn plan_link(layer: &Layer, lowers: &[Shared], from: &Path, to: &Path) -> Result<Planned, FsError>
+    requires layers { AreLayers lowers.now }
+    requires passes { first_error (tests (op.Link from.now to.now) (layer.now ∷ lowers.now)) ≡ None }
+    ensures { result ≡ planned (limited (next_layer (op.Link from.now to.now) layer.now lowers.now)) }
+{
+    let _ = from.names();
+    let _ = to.names();
+    layer.show_is_layer();
+    let after = count_placed(layer, lowers, from, to);
+    fitting(layer, after, layer.at(from).is_none())
+}
+
+/// How much the layer takes once what is seen at `from` is copied up, where the layer doesn't have it, and
+/// the directories above `to` are added, without what stands at `to`.
+fn count_placed(layer: &Layer, lowers: &[Shared], from: &Path, to: &Path) -> Usage
+    requires layers { AreLayers lowers.now }
+    requires placeable { IsPlaceable layer.now lowers.now from.now to.now }
+    ensures count { result ≡ record { blocks = block_count (without (prepared layer.now lowers.now from.now to.now) to.now); inodes = inode_count (without (prepared layer.now lowers.now from.now to.now) to.now) } }
+    ensures few { result.inodes ≤ 100000 }
+{
+    let _ = from.names();
+    let _ = to.names();
+    layer.show_is_layer();
+    let left = count_without(layer, to);
+    if layer.at(from).is_some() {
+        let missing = missing_dirs(layer, to) as u64;
+        return Usage {
+            blocks: left.blocks + missing,
+            inodes: left.inodes + missing,
+        };
+    }
+    let missing = missing_dirs_of_both(layer, from, to) as u64;
+    Usage {
+        blocks: left.blocks + missing + seen_blocks(Stack::over(layer, lowers).look(from)),
+        inodes: left.inodes + missing + 1,
+    }
+}
+
+/// The blocks that what is seen takes once it is copied up.
+fn seen_blocks(seen: Option<Seen<'_>>) -> u64
+    ensures { result ≡ object_blocks (option_map object seen.entry) }
+{
+    match seen {
+        Some(Seen::File { bytes, .. }) => blocks_of(bytes.len() as u64),
+        Some(Seen::Dir { .. }) => 1,
+        Some(Seen::Symlink { .. }) => 0,
+        None => 0,
+    }
+}
+
+/// How much the layer takes where what is seen at the path is taken: a name, or a directory in which
+/// nothing is seen. A whiteout is put there where `covers` says that a lower layer shows something.
+fn plan_erasing(layer: &Layer, path: &Path, covers: bool) -> Result<Planned, FsError>
+    requires below_root { path.now ≡ [] → ⊥ }
+    requires clear { (n : List ℕ) → IsFree (at layer.now (path.now ++ n ∷ [])) }
+    ensures { (lowers : List Tree) → AreLayers lowers → walk (layer.now ∷ lowers) path.now ≡ None → is_some (seen (layer.now ∷ lowers) path.now) ≡ true → covers ≡ is_some (below layer.now lowers path.now) → result ≡ planned (limited (erased layer.now lowers path.now)) }
+{
+    let _ = path.names();
+    layer.show_is_layer();
+    if layer.at(path).is_none() {
+        return plan_growth(layer, path, 0, false);
+    }
+    let left = count_without(layer, path);
+    let after = Usage {
+        blocks: left.blocks,
+        inodes: left.inodes + u64::from(covers),
+    };
+    fitting(layer, after, false)
+}
+
+/// How much the layer takes where what is seen at `from` moves to `to`. What stands there goes, and a
+/// whiteout is left at `from` where `leaves` says that a lower layer shows something.
+fn plan_move(
+    layer: &Layer,
+    lowers: &[Shared],
+    from: &Path,
+    to: &Path,
+    leaves: bool,
+) -> Result<Planned, FsError>
+    requires layers { AreLayers lowers.now }
+    requires passes { first_error (tests (op.Rename from.now to.now) (layer.now ∷ lowers.now)) ≡ None }
+    requires moves { is_same_name layer.now from.now to.now ≡ false }
+    requires leaves { leaves ≡ is_some (below layer.now lowers.now from.now) }
+    ensures { result ≡ planned (limited (renamed layer.now lowers.now from.now to.now)) }
+{
+    let _ = from.names();
+    let _ = to.names();
+    layer.show_is_layer();
+    let left = count_placed(layer, lowers, from, to);
+    let after = Usage {
+        blocks: left.blocks,
+        inodes: left.inodes + u64::from(leaves),
+    };
+    fitting(layer, after, layer.at(from).is_none())
+}
+
+/// How much the layer takes without what stands at the path, in which there are whiteouts alone.
+fn count_without(layer: &Layer, path: &Path) -> Usage
+    requires { (n : List ℕ) → IsFree (at layer.now (path.now ++ n ∷ [])) }
+    ensures count { result ≡ record { blocks = block_count (without layer.now path.now); inodes = inode_count (without layer.now path.now) } }
+    ensures few { result.inodes ≤ 65536 }
+    ensures fewer { result.blocks ≤ block_count layer.now }
+{
+    Usage {
+        blocks: layer.blocks() - freed_blocks(layer, path),
+        inodes: layer.inodes_without(path) as u64,
+    }
+}
+
+/// The blocks that go with what stands at the path: that of a directory, or those of a file that has no
+/// other name.
+fn freed_blocks(layer: &Layer, path: &Path) -> u64
+    requires { (n : List ℕ) → IsFree (at layer.now (path.now ++ n ∷ [])) }
+    ensures { block_count layer.now ≡ block_count (without layer.now path.now) + result }
+{
+    layer.show_is_layer();
+    match layer.at(path) {
+        Some(Node::Dir { .. }) => 1,
+        Some(Node::File { number }) => last_blocks(layer, number),
+        Some(Node::Symlink { number }) => last_blocks(layer, number),
+        Some(Node::Whiteout) => 0,
+        None => 0,
+    }
+}
+
+/// The blocks that go with one name of the number: those of its file, where it has no other name.
+fn last_blocks(layer: &Layer, number: u32) -> u64
+    ensures { result ≡ last_blocks layer.now number }
+{
+    if layer.link_count(number) == 1 {
+        return file_blocks(layer, number);
+    }
+    0
+}
+
+/// The blocks of the file or symlink with the number.
+fn file_blocks(layer: &Layer, number: u32) -> u64
+    ensures { result ≡ weight_of (body layer.now number) }
+{
+    match layer.body(number) {
+        Some(body) => body.blocks(),
+        None => 0,
+    }
+}
+
+/// How much the layer takes where what takes so many blocks, and a file number where `numbered` says so,
+/// is put at the path, and the directories that are missing above it.
+fn plan_growth(layer: &Layer, path: &Path, blocks: u64, numbered: bool) -> Result<Planned, FsError>
+    requires few { blocks ≤ 256 }
+    requires free { IsFree (at layer.now path.now) }
+    ensures { (last : Last) (lowers : List Tree) → Takes last blocks numbered → AreLayers lowers → walk (layer.now ∷ lowers) path.now ≡ None → Fits last layer.now path.now → result ≡ planned (limited (with_last last (with_parents layer.now lowers path.now) path.now)) }
+{
+    let _ = path.names();
+    layer.show_is_layer();
+    let now = count(layer);
+    let missing = missing_dirs(layer, path) as u64;
+    let whiteouts = u64::from(is_whiteout(layer.at(path)));
+    let after = Usage {
+        blocks: now.blocks + missing + blocks,
+        inodes: now.inodes + missing + 1 - whiteouts,
+    };
+    fitting(layer, after, numbered)
+}
+
+/// The plan of a next layer that takes so much, with one file number more where `numbered` says so.
+fn fitting(layer: &Layer, after: Usage, numbered: bool) -> Result<Planned, FsError>
+    ensures { (next : Tree) → IsNext layer.now next after numbered → result ≡ planned (limited next) }
+{
+    let number = layer.next_number();
+    if numbered && number == u32::MAX {
+        return Err(FsError::LayerFull);
+    }
+    if after.inodes > MAX_INODES as u64 {
+        return Err(FsError::LayerFull);
+    }
+    Ok(Planned { after })
+}
+
+/// How much the layer takes where its file with the number is edited.
+fn plan_filling(layer: &Layer, number: u32, edit: Edit<'_>) -> Result<Planned, FsError>
+    requires there { (m : ℕ) × (old : List ℕ) × (body layer.now number ≡ Some (body_kinds.File m old)) × IsShort edit × (length (edited edit old) ≤ 1048576) }
+    ensures { result ≡ planned (limited (with_content layer.now (Some number) (edited edit.entry))) }
+{
+    layer.show_is_layer();
+    let now = count(layer);
+    let size = file_size(layer, number);
+    let new = blocks_of(edit.size(size) as u64);
+    let old = blocks_of(size as u64);
+    let after = Usage {
+        blocks: now.blocks - old + new,
+        inodes: now.inodes,
+    };
+    Ok(Planned { after })
+}
+
+/// The size of the layer's file with the number.
+fn file_size(layer: &Layer, number: u32) -> usize
+    ensures { (m : ℕ) (old : List ℕ) → body layer.now number ≡ Some (body_kinds.File m old) → result ≡ length old }
+{
+    match layer.body(number) {
+        Some(Body::File { bytes, .. }) => bytes.as_slice().len(),
+        Some(Body::Symlink { .. }) => 0,
+        None => 0,
+    }
+}

@@ -1,8 +1,0 @@
-use Rattle.std.proofs.Common.{sym}
-use Rattle.snap_usage.proofs.Joined.{count_of-IsLayer}
-use Rattle.snap_usage.proofs.counting.count.Goals as goal
-
-pub returns-clause-count : goal.returns-clause-count
-returns-clause-count c =
-    let joined = sym (count_of-IsLayer c.args.layer.now c.next_number.ensures.layer) in
-    cc
