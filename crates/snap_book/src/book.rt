@@ -1,7 +1,7 @@
 // A book: its state, its journal, and what is read of both.
 ghost use Rattle.std.specs.Prelude.{◌≡◌, ◌≤◌, ◌<◌, ◌+◌, ◌↔◌, None, length, OnOk, IfErr, IsErrOf, ◌⊎◌, [], IfOk, OnErr, false, IsTrue};
 ghost use Rattle.snap_call.specs.Good.{Good};
-ghost use Rattle.snap_call.specs.Journal.{Replays, entry};
+ghost use Rattle.snap_call.specs.Journal.{Replays};
 ghost use Rattle.snap_call.specs.Records.{open_count, charge_of};
 ghost use Rattle.snap_call.specs.declared.call.Call.TheVariants as calls;
 ghost use Rattle.snap_call.specs.declared.call.Given.TheVariants.{Nothing};
@@ -16,7 +16,6 @@ ghost use Rattle.snap_call.specs.Step.{counted, refused, step, IsAllowed};
 ghost use Rattle.std.specs.Option.{option_map};
 ghost use Rattle.snap_book.specs.Slot.{slot_of};
 
-use crate::active::Active;
 use crate::journal::{Journal, Opening, session_entry, twice};
 use snap_accounts::Accounts;
 use snap_call::{Call, Config, Entry, Given, Refusal, Reply};
