@@ -12,8 +12,8 @@ ghost use Rattle.snap_book.specs.Held.{share_of};
 
 use crate::active::{Active, Held};
 use crate::book::Book;
-use crate::journal::{charge_entry, discard_entry, refused_charge_entry, trim_entry};
-use snap_call::Refusal;
+use crate::journal::{charge_entry, discard_entry, trim_entry};
+use snap_call::{Refusal, Reply};
 use snap_ledger::StoreName;
 use snap_usage::Usage;
 
@@ -31,7 +31,7 @@ impl<N: StoreName> Book<N> {
         need: Usage,
         want: Usage,
     ) -> Result<(), Refusal>
-        // The share is what the snapshot's slot is charged: `met` says so of any share that meets a book.
+        // Whatever the answer, the share is what the snapshot's slot is charged.
         ensures met { Meets (charge_at active.old.share.slot self.old.state.records) active.old.share }
         // Ok: one step of the store, with its entry, and the snapshot's share is what it is charged now.
         ensures granted { OnOk result (Recorded self.old self.new session (calls.Charge active.old.share.slot active.old.share.id need want) Nothing (Charged active.new.share.usage)) }
@@ -47,9 +47,9 @@ impl<N: StoreName> Book<N> {
         let id = active.share.id();
         match self.accounts.charge(&mut active.share, need, want) {
             Ok(now) => {
-                let copy = charge_entry(session, slot, id, need, want, now);
-                self.journal
-                    .push(charge_entry(session, slot, id, need, want, now), copy);
+                let copy = charge_entry(session, slot, id, need, want, Reply::Charged { now });
+                let entry = charge_entry(session, slot, id, need, want, Reply::Charged { now });
+                self.journal.push(entry, copy);
                 Ok(())
             }
             Err(free) => {
@@ -57,11 +57,9 @@ impl<N: StoreName> Book<N> {
                     free_blocks: free.blocks,
                     free_inodes: free.inodes,
                 };
-                let copy = refused_charge_entry(session, slot, id, need, want, why);
-                self.journal.push(
-                    refused_charge_entry(session, slot, id, need, want, why),
-                    copy,
-                );
+                let copy = charge_entry(session, slot, id, need, want, Reply::Refused(why));
+                let entry = charge_entry(session, slot, id, need, want, Reply::Refused(why));
+                self.journal.push(entry, copy);
                 Err(why)
             }
         }

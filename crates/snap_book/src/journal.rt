@@ -5,7 +5,7 @@ ghost use Rattle.snap_accounts.specs.Entries.{IsUnrecorded};
 ghost use Rattle.snap_call.specs.Journal.{entry};
 ghost use Rattle.snap_call.specs.declared.call.Call.TheVariants as calls;
 ghost use Rattle.snap_call.specs.declared.call.Given.TheVariants.{Nothing, Count};
-ghost use Rattle.snap_call.specs.declared.reply.Reply.TheVariants.{Opened, Charged, Trimmed, Discarded, Refused};
+ghost use Rattle.snap_call.specs.declared.reply.Reply.TheVariants.{Opened, Trimmed, Discarded};
 
 use atomic_table::{Play, Seat, Table, TableRule};
 use snap_call::{Call, Entry, Given, Refusal, Reply, State};
@@ -206,9 +206,9 @@ pub(crate) fn charge_entry(
     id: u32,
     need: Usage,
     want: Usage,
-    now: Usage,
+    reply: Reply,
 ) -> Entry
-    ensures { result ≡ entry session (calls.Charge slot id need want) Nothing (Charged now) }
+    ensures { result ≡ entry session (calls.Charge slot id need want) Nothing reply }
 {
     Entry {
         session,
@@ -219,30 +219,7 @@ pub(crate) fn charge_entry(
             want,
         },
         given: Given::Nothing,
-        reply: Reply::Charged { now },
-    }
-}
-
-pub(crate) fn refused_charge_entry(
-    session: u64,
-    slot: u64,
-    id: u32,
-    need: Usage,
-    want: Usage,
-    why: Refusal,
-) -> Entry
-    ensures { result ≡ entry session (calls.Charge slot id need want) Nothing (Refused why) }
-{
-    Entry {
-        session,
-        call: Call::Charge {
-            slot,
-            id,
-            need,
-            want,
-        },
-        given: Given::Nothing,
-        reply: Reply::Refused(why),
+        reply,
     }
 }
 
