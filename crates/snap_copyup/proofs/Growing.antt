@@ -6,12 +6,12 @@ use Rattle.std.specs.List.Sorted.{IsStrictlySortedBy}
 use Rattle.std.specs.Map.{lookup, keys_of}
 use Rattle.std.specs.BTreeMap.{is_at, insert_entry}
 use Rattle.std.proofs.lemmas.List.{at_drop_more, at_drop_all, take_more}
-use Rattle.snap_path.specs.Text.{Names, text_below}
+use Rattle.snap_path.specs.Text.{Names, text_below, begins}
 use Rattle.snap_layer.specs.declared.node.Node.{Node}
 use Rattle.snap_layer.specs.declared.node.Node.TheVariants as node
 use Rattle.snap_layer.specs.declared.node.Body.{Body}
 use Rattle.snap_layer.specs.declared.node.Body.TheVariants as body_kinds
-use Rattle.snap_layer.specs.Tree.{Tree, Bodies, IsDirAt, at, begins, has_number, number_of, path_cmp}
+use Rattle.snap_layer.specs.Tree.{Tree, Bodies, IsDirAt, at, has_number, number_of, path_cmp}
 use Rattle.snap_layer.specs.Counts.{inode_count, block_count, name_count}
 use Rattle.snap_layer.specs.Layers.{IsLayer}
 use Rattle.snap_layer.specs.Edits.{with_entry, with_new, without, outside, bodies_without}

@@ -1,10 +1,10 @@
 -- The directories above a path that are copied up: nothing that is seen changes.
 use Rattle.std.proofs.Common.{◌≡◌, inl, inr, ℕ, ◌+◌, ◌<◌, ◌≤◌, true, false, List, [], ◌∷◌, ◌++◌, length, Option, Some, None, is_some, refl, sym, ap, subst, ◌∙◌, arith, length-append, append_assoc, append-nil}
 use Rattle.std.specs.Prelude.{option_and_then, if◌then◌else◌}
-use Rattle.snap_path.specs.Text.{Names}
+use Rattle.snap_path.specs.Text.{Names, begins}
 use Rattle.snap_layer.specs.declared.node.Node.{Node}
 use Rattle.snap_layer.specs.declared.node.Node.TheVariants.{Dir}
-use Rattle.snap_layer.specs.Tree.{Tree, IsDirAt, at, begins, number_at, number_of, node_hides}
+use Rattle.snap_layer.specs.Tree.{Tree, IsDirAt, at, number_at, number_of, node_hides}
 use Rattle.snap_layer.specs.Edits.{with_entry}
 use Rattle.snap_layer.proofs.Looks.{Sets, Sets-with_entry, split_path}
 use Rattle.snap_layer.proofs.Paths.{begins_from}

@@ -10,10 +10,10 @@ use Rattle.std.specs.Map.{lookup, remove_entry, keys_of, values_of}
 use Rattle.std.specs.BTreeMap.{is_at, insert_entry}
 use Rattle.std.proofs.lemmas.List.Sums.{sum_by-cons}
 use Rattle.std.proofs.lemmas.Map.Entries.{sum_by-insert_entry, sum_by-remove_entry, length-values_of}
-use Rattle.snap_path.specs.Text.{Names}
+use Rattle.snap_path.specs.Text.{Names, begins}
 use Rattle.snap_layer.specs.declared.node.Node.{Node}
 use Rattle.snap_layer.specs.declared.node.Body.{Body}
-use Rattle.snap_layer.specs.Tree.{Tree, Entries, Bodies, path_cmp, at, body, number_at, is_dir, is_whiteout, has_number, begins}
+use Rattle.snap_layer.specs.Tree.{Tree, Entries, Bodies, path_cmp, at, body, number_at, is_dir, is_whiteout, has_number}
 use Rattle.snap_layer.specs.Counts.{dir_count, whiteout_count, name_count, inode_count, block_count, body_blocks}
 use Rattle.snap_layer.specs.Edits.{with_entry, with_body, without, outside, inside, bodies_without}
 use Rattle.snap_layer.proofs.Lists.{sum_by-filter}

@@ -3,12 +3,12 @@ use Rattle.std.proofs.Common.{◌≡◌, ℕ, ◌+◌, ◌≤◌, Bool, true, fa
 use Rattle.std.specs.Prelude.{option_and_then, is_some}
 use Rattle.std.specs.Cmp.{nat_cmp_total}
 use Rattle.std.specs.List.Sorted.{IsStrictlySortedBy}
-use Rattle.snap_path.specs.Text.{Names, IsPath}
+use Rattle.snap_path.specs.Text.{Names, IsPath, begins}
 use Rattle.snap_layer.specs.declared.node.Node.{Node}
 use Rattle.snap_layer.specs.declared.node.Node.TheVariants.{Dir, File, Symlink, Whiteout}
 use Rattle.snap_layer.specs.declared.node.Body.{Body}
 use Rattle.snap_layer.specs.declared.node.Body.TheVariants as body_kinds
-use Rattle.snap_layer.specs.Tree.{Tree, path_cmp, at, body, number_of, number_at, is_dir, begins, IsDirAt}
+use Rattle.snap_layer.specs.Tree.{Tree, path_cmp, at, body, number_of, number_at, is_dir, IsDirAt}
 use Rattle.snap_layer.specs.Counts.{inode_count}
 use Rattle.snap_layer.specs.Layers.{IsLayer, IsFile, IsSymlink, IsWhole}
 use Rattle.snap_layer.specs.Edits.{root_only, with_entry, with_body, without, IsFree, HasParent}

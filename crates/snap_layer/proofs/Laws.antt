@@ -7,12 +7,12 @@ use Rattle.std.specs.List.Sorted.{IsStrictlySortedBy}
 use Rattle.std.specs.Map.{lookup, keys_of}
 use Rattle.std.specs.Str.{bytes_eq}
 use Rattle.std.specs.BTreeMap.{is_at}
-use Rattle.snap_path.specs.Text.{Names}
+use Rattle.snap_path.specs.Text.{Names, begins}
 use Rattle.snap_layer.specs.declared.node.Node.{Node}
 use Rattle.snap_layer.specs.declared.node.Node.TheVariants.{Dir, File, Symlink, Whiteout}
 use Rattle.snap_layer.specs.declared.node.Body.{Body}
 use Rattle.snap_layer.specs.declared.node.Body.TheVariants as body_kinds
-use Rattle.snap_layer.specs.Tree.{Tree, Entries, IsDirAt, path_cmp, at, body, number_of, number_at, begins, name_below, names_below}
+use Rattle.snap_layer.specs.Tree.{Tree, Entries, IsDirAt, path_cmp, at, body, number_of, number_at, name_below, names_below}
 use Rattle.snap_layer.specs.Counts.{inode_count, block_count, blocks_of, body_blocks}
 use Rattle.snap_layer.specs.Layers.{IsLayer}
 use Rattle.snap_layer.specs.Edits.{with_entry, with_node, with_new, with_bytes, with_body, with_mode, with_file_mode, body_with_mode, with_opaque, without, outside, bodies_without}

@@ -10,11 +10,11 @@ use Rattle.std.specs.BTreeMap.{is_at, insert_entry}
 use Rattle.std.proofs.lemmas.Bool.Decides.{nat_tests}
 use Rattle.std.proofs.lemmas.Bool.{cond-true, cond-false}
 use Rattle.std.proofs.lemmas.List.Sums.{sum_by-cons}
-use Rattle.snap_path.specs.Text.{Names}
+use Rattle.snap_path.specs.Text.{Names, begins}
 use Rattle.snap_layer.specs.declared.node.Node.{Node}
 use Rattle.snap_layer.specs.declared.node.Node.TheVariants.{Dir, File, Symlink, Whiteout}
 use Rattle.snap_layer.specs.declared.node.Body.{Body}
-use Rattle.snap_layer.specs.Tree.{Tree, Entries, Bodies, path_cmp, at, body, number_of, has_number, begins}
+use Rattle.snap_layer.specs.Tree.{Tree, Entries, Bodies, path_cmp, at, body, number_of, has_number}
 use Rattle.snap_layer.specs.Counts.{name_count}
 use Rattle.snap_layer.specs.Edits.{with_entry, with_body, without, bodies_without}
 use Rattle.snap_layer.proofs.Lists.{split_key, at_itself, apart_from, lookup-insert_entry, lookup-filter, lookup-remove_entry, lookup_below, same_lists, sorted-remove_entry}

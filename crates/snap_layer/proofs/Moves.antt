@@ -10,10 +10,10 @@ use Rattle.std.specs.BTreeMap.{is_at}
 use Rattle.std.proofs.lemmas.Bool.{cond-true, cond-false}
 use Rattle.std.proofs.lemmas.List.Sums.{sum_by-cons}
 use Rattle.std.proofs.lemmas.Map.Entries.{sum_by-insert_entry}
-use Rattle.snap_path.specs.Text.{Names, IsPath}
+use Rattle.snap_path.specs.Text.{Names, IsPath, begins}
 use Rattle.snap_layer.specs.declared.node.Node.{Node}
 use Rattle.snap_layer.specs.declared.node.Node.TheVariants.{Dir, File, Symlink, Whiteout}
-use Rattle.snap_layer.specs.Tree.{Tree, Entries, path_cmp, at, body, number_of, number_at, has_number, begins, IsDirAt}
+use Rattle.snap_layer.specs.Tree.{Tree, Entries, path_cmp, at, body, number_of, number_at, has_number, IsDirAt}
 use Rattle.snap_layer.specs.Counts.{dir_count, whiteout_count, name_count, inode_count, block_count}
 use Rattle.snap_layer.specs.Layers.{IsFile, IsSymlink, IsWhole, IsLayer}
 use Rattle.snap_layer.specs.Edits.{with_entry, without, outside, inside, relocated, relocate, put_all, moved, with_moved, HasParent}

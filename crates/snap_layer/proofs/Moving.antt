@@ -5,10 +5,10 @@ use Rattle.std.specs.Ordering.{nat_cmp}
 use Rattle.std.specs.List.Sorted.{IsStrictlySortedBy}
 use Rattle.std.specs.Map.{lookup, remove_entry, keys_of}
 use Rattle.std.specs.BTreeMap.{is_at, insert_entry}
-use Rattle.snap_path.specs.Text.{Names, IsPath}
+use Rattle.snap_path.specs.Text.{Names, IsPath, begins}
 use Rattle.snap_layer.specs.declared.node.Node.{Node}
 use Rattle.snap_layer.specs.declared.node.Node.TheVariants.{Whiteout}
-use Rattle.snap_layer.specs.Tree.{Tree, Entries, Bodies, path_cmp, at, number_of, number_at, begins, IsDirAt}
+use Rattle.snap_layer.specs.Tree.{Tree, Entries, Bodies, path_cmp, at, number_of, number_at, IsDirAt}
 use Rattle.snap_layer.specs.Counts.{inode_count, name_count}
 use Rattle.snap_layer.specs.Layers.{IsLayer}
 use Rattle.snap_layer.specs.Edits.{without, outside, inside, bodies_without, relocated, relocate, put_all, moved, with_moved, IsMovable}

@@ -8,8 +8,8 @@ use Rattle.std.specs.Cmp.Lexicographic.{slice_cmp, pointwise, lists_total, lists
 use Rattle.std.specs.FinMap.{IsAntisymmetric, slice_cmp-IsAntisymmetric, nat_cmp-IsAntisymmetric}
 use Rattle.std.specs.BTreeMap.{is_at}
 use Rattle.std.proofs.lemmas.Slice.Eq.{bytes_eq-Decides, starts_is}
-use Rattle.snap_path.specs.Text.{Names}
-use Rattle.snap_layer.specs.Tree.{path_cmp, begins, name_below}
+use Rattle.snap_path.specs.Text.{Names, begins}
+use Rattle.snap_layer.specs.Tree.{path_cmp, name_below}
 
 pub path_cmp_total : IsTotalOrder path_cmp
 path_cmp_total = lists_total nat_list_cmp_total

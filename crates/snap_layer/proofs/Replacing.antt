@@ -12,11 +12,11 @@ use Rattle.std.specs.BTreeMap.{is_at, insert_entry}
 use Rattle.std.proofs.lemmas.Bool.Decides.{nat_tests}
 use Rattle.std.proofs.lemmas.Bool.{cond-true}
 use Rattle.std.proofs.lemmas.List.Sums.{sum_by-cons}
-use Rattle.snap_path.specs.Text.{Names, IsPath}
+use Rattle.snap_path.specs.Text.{Names, IsPath, begins}
 use Rattle.snap_layer.specs.declared.node.Node.{Node}
 use Rattle.snap_layer.specs.declared.node.Node.TheVariants.{Dir, File, Symlink, Whiteout}
 use Rattle.snap_layer.specs.declared.node.Body.{Body}
-use Rattle.snap_layer.specs.Tree.{Tree, Entries, Bodies, path_cmp, at, body, number_of, number_at, has_number, is_dir, is_whiteout, begins, IsDirAt}
+use Rattle.snap_layer.specs.Tree.{Tree, Entries, Bodies, path_cmp, at, body, number_of, number_at, has_number, is_dir, is_whiteout, IsDirAt}
 use Rattle.snap_layer.specs.Counts.{inode_count, name_count, is_within}
 use Rattle.snap_layer.specs.Layers.{IsLayer, IsWhole}
 use Rattle.snap_layer.specs.Edits.{with_entry, with_node, with_new, without, outside, inside, bodies_without, IsFree, HasParent, HasRoom, HasPlace}

@@ -8,10 +8,10 @@ use Rattle.std.specs.BTreeMap.{is_at}
 use Rattle.std.proofs.lemmas.Bool.{cond-true, cond-false}
 use Rattle.std.proofs.lemmas.Bool.Decides.{nat_tests}
 use Rattle.std.proofs.lemmas.List.Folds.{list_all-append}
-use Rattle.snap_path.specs.Text.{Names, is_name, text_of, text_below, IsPath}
+use Rattle.snap_path.specs.Text.{Names, is_name, text_of, text_below, IsPath, begins}
 use Rattle.snap_path.proofs.Texts.{text_below-append}
 use Rattle.snap_layer.specs.declared.node.Node.{Node}
-use Rattle.snap_layer.specs.Tree.{Tree, Entries, path_cmp, at, begins, is_whiteout, name_below, IsDirAt}
+use Rattle.snap_layer.specs.Tree.{Tree, Entries, path_cmp, at, is_whiteout, name_below, IsDirAt}
 use Rattle.snap_layer.specs.Edits.{IsFree, HasParent}
 use Rattle.snap_layer.proofs.Lists.{at_itself, lookup_below}
 use Rattle.snap_layer.proofs.Looks.{split_path}

@@ -4,7 +4,7 @@ use Rattle.std.specs.declared.cmp.Ordering.{Ordering}
 use Rattle.std.specs.Ordering.{nat_cmp}
 use Rattle.std.specs.Cmp.Lexicographic.{slice_cmp}
 use Rattle.std.specs.Map.{lookup, keys_of}
-use Rattle.std.specs.List.{filter_map, starts_with}
+use Rattle.std.specs.List.{filter_map}
 use Rattle.std.specs.Str.{bytes_eq}
 use Rattle.std.specs.BTreeMap.{is_at}
 use Rattle.snap_path.specs.Text.{Names}
@@ -74,10 +74,6 @@ number_at t p = option_and_then number_of (at t p)
 abbrev pub IsDirAt : Option Node → Type 0
 IsDirAt None = ⊥
 IsDirAt (Some n) = is_dir n ≡ true
-
--- the front is the path, or one of its proper prefixes
-abbrev pub begins : Names → Names → Bool
-begins front p = starts_with bytes_eq p front
 
 -- the name, where the path is that of the directory and one name more
 abbrev pub name_below : Names → Names → Option (List ℕ)

@@ -4,23 +4,16 @@ ghost use Rattle.std.specs.Option.{option_copied};
 ghost use Rattle.std.specs.List.{list_all};
 ghost use Rattle.std.specs.Map.{lookup, values_of};
 ghost use Rattle.std.specs.BTreeMap.{is_at, insert_entry, IsOrdered};
-ghost use Rattle.snap_layer.specs.Tree.{path_cmp, begins, name_below, is_dir, is_whiteout};
+ghost use Rattle.snap_layer.specs.Tree.{path_cmp, name_below, is_dir, is_whiteout};
 ghost use Rattle.snap_layer.specs.Counts.{name_count};
 ghost use Rattle.snap_layer.specs.Edits.{inside, outside, relocated, relocate, put_all, with_moved, IsFree};
-ghost use Rattle.snap_path.specs.Text.{Names, IsPath, text_of};
+ghost use Rattle.snap_path.specs.Text.{Names, IsPath, text_of, begins};
 
 use super::node::Node;
 use snap_path::limits::MAX_PATH_BYTES;
 use snap_path::{Name, Path};
 use std::alloc::AllocError;
 use std::collections::BTreeMap;
-
-/// Whether the names are those of the front, or go on below it.
-pub(crate) fn begins(front: &[Name], names: &[Name]) -> bool
-    ensures { result ≡ begins front.now names.now }
-{
-    names.starts_with(front)
-}
 
 /// The name, where the path lies in the directory.
 pub(crate) fn name_below<'a>(directory: &[Name], names: &'a [Name]) -> Option<&'a Name>
@@ -69,7 +62,7 @@ pub(crate) fn take_entries(entries: &mut BTreeMap<Path, Node>, path: &Path)
     ensures ordered { IsOrdered path_cmp entries.new }
     ensures was_ordered { IsOrdered path_cmp entries.old }
 {
-    entries.retain(|other, _| !begins(path.names(), other.names()));
+    entries.retain(|other, _| !other.begins(path));
 }
 
 /// Puts the node in place of what stands at the path and below it.
@@ -85,7 +78,7 @@ pub(crate) fn replace_entries(
     ensures was_ordered { IsOrdered path_cmp entries.old }
 {
     put_entry(entries, path, node)?;
-    entries.retain(|other, _| other == path || !begins(path.names(), other.names()));
+    entries.retain(|other, _| other == path || !other.begins(path));
     Ok(())
 }
 
@@ -95,8 +88,7 @@ pub(crate) fn nodes_inside(entries: &BTreeMap<Path, Node>, path: &Path) -> usize
 {
     entries
         .iter()
-        .filter(|(other, node)| begins(path.names(), other.names())
-            && (node.is_dir() || node.is_whiteout()))
+        .filter(|(other, node)| other.begins(path) && (node.is_dir() || node.is_whiteout()))
         .count()
 }
 
@@ -106,7 +98,7 @@ pub(crate) fn names_outside(entries: &BTreeMap<Path, Node>, path: &Path, number:
 {
     entries
         .iter()
-        .filter(|(other, node)| !begins(path.names(), other.names()) && node.has_number(number))
+        .filter(|(other, node)| !other.begins(path) && node.has_number(number))
         .count()
 }
 
@@ -138,7 +130,7 @@ pub(crate) fn moved_entries(
     let mut moved = copied(entries)?;
     take_entries(&mut moved, from);
     let mut inside = copied(entries)?;
-    inside.retain(|path, _| begins(from.names(), path.names()));
+    inside.retain(|path, _| path.begins(from));
     while let Some((path, node)) = inside.pop_last() {
         moved.insert(relocated(&path, from, to)?, node)?;
     }
@@ -190,7 +182,6 @@ pub(crate) fn are_short(entries: &BTreeMap<Path, Node>, from: &Path, to: &Path) 
     let front = from.as_str().len();
     let target = to.as_str().len();
     entries.iter().all(|(other, _)| {
-        !begins(from.names(), other.names())
-            || other.as_str().len() + target <= MAX_PATH_BYTES + front
+        !other.begins(from) || other.as_str().len() + target <= MAX_PATH_BYTES + front
     })
 }

@@ -10,8 +10,8 @@ ghost use Rattle.snap_layer.specs.Edits.{root_only, with_entry, with_node, with_
 
 use super::bodies::{block_sum, drop_unnamed, replace_body, set_file_mode};
 use super::entries::{
-    self, are_short, begins, has_whiteouts_alone, name_below, names_outside, nodes_inside,
-    put_entry, replace_entries, shifted_entries, take_entries,
+    self, are_short, has_whiteouts_alone, name_below, names_outside, nodes_inside, put_entry,
+    replace_entries, shifted_entries, take_entries,
 };
 use super::error::LayerError;
 use super::node::{Body, Bytes, Node};
@@ -322,9 +322,10 @@ impl Layer {
         if self.at(from).is_none() || !self.has_place(to) {
             return false;
         }
-        if begins(from.names(), to.names()) || begins(to.names(), from.names()) {
+        if to.begins(from) || from.begins(to) {
             return false;
         }
+        let _ = to.names();
         self.has_short_paths(from, to)
     }
 

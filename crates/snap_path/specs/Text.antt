@@ -1,6 +1,6 @@
 -- The names of a path, and their text.
 use Rattle.std.specs.Prelude.{take, slice_get, Option, Some, None, ◌-◌, ◌≡◌, ℕ, ◌≤◌, Bool, not, false, ◌&&◌, ◌==◌, nat_lt, nat_le, List, [], ◌∷◌, ◌++◌, length, true}
-use Rattle.std.specs.List.{list_all, slice_split}
+use Rattle.std.specs.List.{list_all, slice_split, starts_with}
 use Rattle.std.specs.Str.{bytes_eq}
 
 -- a path as its names, from the root down
@@ -57,6 +57,10 @@ last_name ns = slice_get ns (length ns - 1)
 -- the front is the path or a prefix of it
 abbrev pub Begins : Names → Names → Type 0
 Begins front ns = (rest : Names) × (ns ≡ front ++ rest)
+
+-- the test of `Begins`
+abbrev pub begins : Names → Names → Bool
+begins front ns = starts_with bytes_eq ns front
 
 -- these names are a path, and the text is theirs
 abbrev pub Spells : List ℕ → Names → Type 0

@@ -3,7 +3,7 @@ ghost use Rattle.std.specs.Fmt.{padded};
 ghost use Rattle.std.specs.String.{string_bytes};
 ghost use Rattle.std.specs.Option.{option_copied};
 ghost use Rattle.std.specs.List.{list_all, slice_split};
-ghost use Rattle.snap_path.specs.Text.{is_name, is_path, path_names, text_of, text_below, parent_of, last_name, Begins, IsHeld, IsPath, IsJoined, IsSpelling};
+ghost use Rattle.snap_path.specs.Text.{is_name, is_path, path_names, text_of, text_below, parent_of, last_name, Begins, begins, IsHeld, IsPath, IsJoined, IsSpelling};
 
 use super::limits::MAX_PATH_BYTES;
 use super::name::{Name, PathError, is_name_text};
@@ -199,7 +199,8 @@ impl Path {
     /// Whether `front` is this path, or a directory above it. It takes no memory, and its cost grows
     /// with the front's text at most.
     pub fn begins(&self, front: &Path) -> bool
-        ensures { IsTrue result ↔ Begins front.now self.now }
+        ensures value { result ≡ begins front.now self.now }
+        ensures prefix { IsTrue result ↔ Begins front.now self.now }
     {
         self.names.starts_with(&front.names)
     }

@@ -8,10 +8,10 @@ use Rattle.std.specs.List.Sorted.{IsStrictlySortedBy}
 use Rattle.std.specs.Map.{keys_of}
 use Rattle.std.specs.Str.{bytes_eq}
 use Rattle.std.proofs.lemmas.Bool.{cond-true, cond-false}
-use Rattle.snap_path.specs.Text.{Names}
+use Rattle.snap_path.specs.Text.{Names, begins}
 use Rattle.snap_layer.specs.declared.node.Node.{Node}
 use Rattle.snap_layer.specs.declared.node.Node.TheVariants.{Dir, File, Symlink, Whiteout}
-use Rattle.snap_layer.specs.Tree.{Tree, Bodies, at, body, begins, hides, node_hides, number_at, number_of}
+use Rattle.snap_layer.specs.Tree.{Tree, Bodies, at, body, hides, node_hides, number_at, number_of}
 use Rattle.snap_layer.specs.Layers.{IsLayer}
 use Rattle.snap_layer.specs.Edits.{HasPlace, IsTakeable, outside, with_node, without}
 use Rattle.snap_layer.proofs.Paths.{split_front}

@@ -5,12 +5,12 @@ use Rattle.std.specs.Ordering.{nat_cmp}
 use Rattle.std.specs.List.Sorted.{IsStrictlySortedBy}
 use Rattle.std.specs.Map.{lookup, keys_of}
 use Rattle.std.specs.BTreeMap.{is_at, insert_entry}
-use Rattle.snap_path.specs.Text.{Names, IsPath}
+use Rattle.snap_path.specs.Text.{Names, IsPath, begins}
 use Rattle.snap_layer.specs.declared.node.Node.{Node}
 use Rattle.snap_layer.specs.declared.node.Node.TheVariants as node
 use Rattle.snap_layer.specs.declared.node.Body.{Body}
 use Rattle.snap_layer.specs.declared.node.Body.TheVariants as body_kinds
-use Rattle.snap_layer.specs.Tree.{Tree, Bodies, IsDirAt, at, body, begins, has_number, number_of, path_cmp}
+use Rattle.snap_layer.specs.Tree.{Tree, Bodies, IsDirAt, at, body, has_number, number_of, path_cmp}
 use Rattle.snap_layer.specs.Counts.{inode_count, block_count, name_count, body_blocks, blocks_of}
 use Rattle.snap_layer.specs.Layers.{IsLayer}
 use Rattle.snap_layer.specs.Edits.{IsFree, with_entry, with_node, with_new, without, outside, bodies_without}

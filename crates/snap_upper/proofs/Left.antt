@@ -4,8 +4,8 @@ use Rattle.std.specs.Prelude.{option_and_then, ◌==◌, count_by}
 use Rattle.std.specs.List.{sum_by}
 use Rattle.std.specs.List.Sorted.{IsStrictlySortedBy}
 use Rattle.std.specs.Map.{keys_of, values_of}
-use Rattle.snap_path.specs.Text.{Names}
-use Rattle.snap_layer.specs.Tree.{Tree, Entries, path_cmp, at, body, begins, has_number, is_dir, is_whiteout, number_at, number_of}
+use Rattle.snap_path.specs.Text.{Names, begins}
+use Rattle.snap_layer.specs.Tree.{Tree, Entries, path_cmp, at, body, has_number, is_dir, is_whiteout, number_at, number_of}
 use Rattle.snap_layer.specs.Counts.{inode_count, block_count, name_count, body_blocks}
 use Rattle.snap_layer.specs.Layers.{IsLayer}
 use Rattle.snap_layer.specs.Edits.{inside, outside, without}

@@ -10,9 +10,9 @@ use Rattle.std.specs.Str.{bytes_eq}
 use Rattle.std.proofs.lemmas.Bool.{cond-true, cond-false}
 use Rattle.std.proofs.lemmas.Bool.Decides.{nat_tests}
 use Rattle.std.proofs.lemmas.Slice.Eq.{bytes_eq-Decides}
-use Rattle.snap_path.specs.Text.{Names, text_below}
+use Rattle.snap_path.specs.Text.{Names, text_below, begins}
 use Rattle.snap_layer.specs.declared.node.Node.{Node}
-use Rattle.snap_layer.specs.Tree.{Tree, Entries, path_cmp, at, begins, number_at}
+use Rattle.snap_layer.specs.Tree.{Tree, Entries, path_cmp, at, number_at}
 use Rattle.snap_layer.specs.Layers.{IsLayer}
 use Rattle.snap_layer.specs.Edits.{inside, relocated}
 use Rattle.snap_layer.proofs.Lists.{at_itself}

@@ -4,10 +4,10 @@ use Rattle.std.specs.Prelude.{if◌then◌else◌}
 use Rattle.std.specs.Ordering.{nat_cmp}
 use Rattle.std.specs.List.Sorted.{IsStrictlySortedBy}
 use Rattle.std.specs.Map.{keys_of}
-use Rattle.snap_path.specs.Text.{Names}
+use Rattle.snap_path.specs.Text.{Names, begins}
 use Rattle.snap_layer.specs.declared.node.Node.{Node}
 use Rattle.snap_layer.specs.declared.node.Node.TheVariants.{Dir, File, Symlink, Whiteout}
-use Rattle.snap_layer.specs.Tree.{Tree, at, body, begins, hides, node_hides}
+use Rattle.snap_layer.specs.Tree.{Tree, at, body, hides, node_hides}
 use Rattle.snap_layer.specs.Edits.{with_moved, with_opaque}
 use Rattle.snap_layer.proofs.Paths.{split_front, begins_itself, begins-append}
 use Rattle.snap_layer.proofs.Looks.{Sets-with_entry}

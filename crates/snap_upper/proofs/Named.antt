@@ -1,10 +1,10 @@
 -- What a layer takes with one more name.
 use Rattle.std.proofs.Common.{◌≡◌, inl, inr, ℕ, Bool, true, false, List, [], ◌∷◌, ◌++◌, Option, Some, None, is_some, refl, sym, ap, subst, ◌∙◌, append-nil}
 use Rattle.std.specs.Prelude.{if◌then◌else◌, ◌+◌}
-use Rattle.snap_path.specs.Text.{Names, IsPath}
+use Rattle.snap_path.specs.Text.{Names, IsPath, begins}
 use Rattle.snap_layer.specs.declared.node.Node.{Node}
 use Rattle.snap_layer.specs.declared.node.Node.TheVariants.{Whiteout}
-use Rattle.snap_layer.specs.Tree.{Tree, at, begins}
+use Rattle.snap_layer.specs.Tree.{Tree, at}
 use Rattle.snap_layer.specs.Counts.{inode_count, block_count, is_within}
 use Rattle.snap_layer.specs.Layers.{IsLayer}
 use Rattle.snap_layer.specs.Edits.{HasPlace, IsFree, without}

@@ -5,12 +5,12 @@ use Rattle.std.specs.Ordering.{nat_cmp}
 use Rattle.std.specs.List.Sorted.{IsStrictlySortedBy}
 use Rattle.std.specs.Map.{lookup, keys_of}
 use Rattle.std.specs.BTreeMap.{is_at}
-use Rattle.snap_path.specs.Text.{Names, IsPath}
+use Rattle.snap_path.specs.Text.{Names, IsPath, begins}
 use Rattle.snap_layer.specs.declared.node.Node.{Node}
 use Rattle.snap_layer.specs.declared.node.Node.TheVariants.{File, Symlink}
 use Rattle.snap_layer.specs.declared.node.Body.{Body}
 use Rattle.snap_layer.specs.declared.node.Body.TheVariants as body_kinds
-use Rattle.snap_layer.specs.Tree.{Tree, Bodies, path_cmp, at, body, begins, number_at, number_of}
+use Rattle.snap_layer.specs.Tree.{Tree, Bodies, path_cmp, at, body, number_at, number_of}
 use Rattle.snap_layer.specs.Layers.{IsLayer}
 use Rattle.snap_layer.specs.Edits.{HasParent, IsFree, IsMovable, with_new, bodies_without, outside}
 use Rattle.snap_layer.proofs.Paths.{begins_from, begins_itself, split_front}

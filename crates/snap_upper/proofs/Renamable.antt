@@ -5,8 +5,8 @@ use Rattle.std.specs.List.{list_any}
 use Rattle.std.specs.Str.{bytes_eq}
 use Rattle.std.proofs.lemmas.Bool.{cond-false}
 use Rattle.std.proofs.lemmas.Bool.Decides.{nat_tests}
-use Rattle.snap_path.specs.Text.{Names}
-use Rattle.snap_layer.specs.Tree.{Tree, begins, number_at}
+use Rattle.snap_path.specs.Text.{Names, begins}
+use Rattle.snap_layer.specs.Tree.{Tree, number_at}
 use Rattle.snap_layer.specs.Layers.{IsLayer}
 use Rattle.snap_layer.proofs.Paths.{split_front, begins_itself}
 use Rattle.snap_layer.proofs.Moving.{begins_length}

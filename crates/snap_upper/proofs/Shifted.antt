@@ -9,12 +9,12 @@ use Rattle.std.specs.BTreeMap.{is_at}
 use Rattle.std.specs.Ordering.{nat_cmp}
 use Rattle.std.proofs.lemmas.Bool.{cond-true, cond-false}
 use Rattle.std.proofs.lemmas.Bool.Decides.{nat_tests}
-use Rattle.snap_path.specs.Text.{Names}
+use Rattle.snap_path.specs.Text.{Names, begins}
 use Rattle.snap_layer.specs.declared.node.Node.{Node}
 use Rattle.snap_layer.specs.declared.node.Node.TheVariants.{Dir, File, Symlink, Whiteout}
 use Rattle.snap_layer.specs.declared.error.LayerError.{LayerError}
 use Rattle.snap_layer.specs.declared.error.LayerError.TheVariants as layer_errors
-use Rattle.snap_layer.specs.Tree.{Tree, Entries, Bodies, IsDirAt, path_cmp, at, body, begins, is_dir, is_whiteout, number_at, number_of}
+use Rattle.snap_layer.specs.Tree.{Tree, Entries, Bodies, IsDirAt, path_cmp, at, body, is_dir, is_whiteout, number_at, number_of}
 use Rattle.snap_layer.specs.Counts.{inode_count, block_count, is_within, name_count}
 use Rattle.snap_layer.specs.Layers.{IsLayer}
 use Rattle.snap_layer.specs.Edits.{inside, outside, with_moved, with_opaque, without}

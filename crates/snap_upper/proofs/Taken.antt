@@ -5,12 +5,12 @@ use Rattle.std.specs.Ordering.{nat_cmp}
 use Rattle.std.specs.List.Sorted.{IsStrictlySortedBy}
 use Rattle.std.specs.Map.{lookup, keys_of}
 use Rattle.std.specs.BTreeMap.{is_at, insert_entry}
-use Rattle.snap_path.specs.Text.{Names}
+use Rattle.snap_path.specs.Text.{Names, begins}
 use Rattle.snap_layer.specs.declared.node.Node.{Node}
 use Rattle.snap_layer.specs.declared.node.Node.TheVariants.{Dir, File, Symlink, Whiteout}
 use Rattle.snap_layer.specs.declared.node.Body.{Body}
 use Rattle.snap_layer.specs.declared.node.Body.TheVariants as body_kinds
-use Rattle.snap_layer.specs.Tree.{Tree, Bodies, path_cmp, at, number_at, number_of, node_hides, begins}
+use Rattle.snap_layer.specs.Tree.{Tree, Bodies, path_cmp, at, number_at, number_of, node_hides}
 use Rattle.snap_layer.specs.Edits.{with_entry, with_new, without, outside, bodies_without}
 use Rattle.snap_layer.proofs.Paths.{begins-append, begins_itself, begins-trans}
 use Rattle.snap_layer.proofs.Looks.{Sets-with_entry, split_path, at-with_entry, at-without, at-without_outside, same_tree}

@@ -1,8 +1,8 @@
 -- No operation answers NeedsCharge of its own: the error is that of a share that is too small.
 use Rattle.std.proofs.Common.{◌≡◌, Bool, true, false, List, [], ◌∷◌, ◌++◌, Option, Some, None, Ok, Err}
 use Rattle.std.specs.Prelude.{ℕ, ◌+◌, ◌&&◌, ◌||◌, not, nat_lt, length, is_some, if◌then◌else◌}
-use Rattle.snap_path.specs.Text.{Names}
-use Rattle.snap_layer.specs.Tree.{Tree, begins}
+use Rattle.snap_path.specs.Text.{Names, begins}
+use Rattle.snap_layer.specs.Tree.{Tree}
 use Rattle.snap_layer.specs.Counts.{is_within}
 use Rattle.snap_usage.specs.declared.usage.Usage.{Usage}
 use Rattle.snap_merge.specs.declared.error.FsError.{FsError}

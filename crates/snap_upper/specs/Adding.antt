@@ -1,9 +1,9 @@
 -- What is added to a layer, and what it takes.
 use Rattle.std.specs.Prelude.{◌≡◌, ◌==◌, ◌+◌, [], ◌∷◌, ◌++◌, if◌then◌else◌, ℕ, List, Bool, true, false, length, Option, Some, None, is_some}
-use Rattle.snap_path.specs.Text.{Names}
+use Rattle.snap_path.specs.Text.{Names, begins}
 use Rattle.snap_layer.specs.declared.node.Body.{Body}
 use Rattle.snap_layer.specs.Counts.{blocks_of, body_blocks, name_count, inode_count, block_count, is_within}
-use Rattle.snap_layer.specs.Tree.{Tree, at, body, begins}
+use Rattle.snap_layer.specs.Tree.{Tree, at, body}
 use Rattle.snap_layer.specs.Layers.{IsLayer}
 use Rattle.snap_layer.specs.Edits.{IsFree}
 use Rattle.snap_usage.specs.declared.usage.Usage.{Usage}

@@ -5,7 +5,7 @@ use Rattle.snap_layer.specs.declared.node.Node.{Node}
 use Rattle.snap_layer.specs.declared.node.Node.TheVariants as node
 use Rattle.snap_layer.specs.declared.node.Body.{Body}
 use Rattle.snap_layer.specs.declared.node.Body.TheVariants as body_kinds
-use Rattle.snap_layer.specs.Tree.{Tree, at, body, number_at, begins, is_whiteout}
+use Rattle.snap_layer.specs.Tree.{Tree, at, body, number_at, is_whiteout}
 use Rattle.snap_layer.specs.Counts.{is_within}
 use Rattle.snap_layer.specs.Edits.{with_entry, with_node, with_new, with_name, with_bytes, with_mode, with_opaque, with_moved, without, inside, relocated}
 use Rattle.snap_usage.specs.declared.usage.Usage.{Usage}
@@ -15,7 +15,7 @@ use Rattle.snap_merge.specs.declared.error.FsError.TheVariants.{NotFound, NotDir
 use Rattle.snap_merge.specs.Objects.{Object, dir, file, symlink, seen, is_shown_dir}
 use Rattle.snap_merge.specs.Walk.{walk}
 use Rattle.snap_merge.specs.Listing.{names}
-use Rattle.snap_path.specs.Text.{Names, text_below}
+use Rattle.snap_path.specs.Text.{Names, text_below, begins}
 use Rattle.snap_upper.specs.declared.op.Op.{Op}
 use Rattle.snap_upper.specs.declared.op.Op.TheVariants.{Mkdir, Create, Write, Truncate, SetMode, Symlink, Link, Unlink, Rmdir, Rename}
 use Rattle.snap_upper.specs.declared.usage.Planned.{Planned}

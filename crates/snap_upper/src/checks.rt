@@ -3,7 +3,7 @@ ghost use Rattle.std.specs.Prelude.{◌≡◌, ◌⊎◌, ◌==◌, [], ◌∷�
 ghost use Rattle.std.specs.Option.{option_map};
 ghost use Rattle.std.specs.Result.{result_err};
 ghost use Rattle.std.specs.List.{list_any};
-ghost use Rattle.snap_layer.specs.Tree.{begins};
+ghost use Rattle.snap_path.specs.Text.{begins};
 ghost use Rattle.snap_merge.specs.declared.error.FsError.{FsError};
 ghost use Rattle.snap_merge.specs.Objects.{object, seen, is_shown_dir, AreLayers};
 ghost use Rattle.snap_merge.specs.Walk.{walk};
@@ -275,14 +275,7 @@ fn is_same_name(layer: &Layer, from: &Path, to: &Path) -> bool
 fn is_same_path(from: &Path, to: &Path) -> bool
     ensures { result ≡ is_same_path from.now to.now }
 {
-    begins(from, to) && begins(to, from)
-}
-
-/// Whether the path is the front, or goes on below it.
-fn begins(front: &Path, path: &Path) -> bool
-    ensures { result ≡ begins front.now path.now }
-{
-    path.names().starts_with(front.names())
+    to.begins(from) && from.begins(to)
 }
 
 /// Whether both numbers are there, and they are one.
@@ -307,7 +300,7 @@ fn check_move(layer: &Layer, lowers: &[Shared], from: &Path, to: &Path) -> Resul
 {
     let stack = Stack::over(layer, lowers);
     let moved = stack.look(from);
-    if is_dir(moved) && begins(from, to) {
+    if is_dir(moved) && to.begins(from) {
         return Err(FsError::Invalid);
     }
     check_kinds(moved, stack.look(to))?;

@@ -3,8 +3,8 @@ use Rattle.std.specs.Map.{lookup}
 use Rattle.std.specs.BTreeMap.{is_at, insert_entry}
 use Rattle.std.proofs.lemmas.Map.Made.{filter_same_pairs}
 use Rattle.std.proofs.Common.{IsSome}
-use Rattle.snap_path.specs.Text.{Names}
-use Rattle.snap_layer.specs.Tree.{Entries, path_cmp, begins}
+use Rattle.snap_path.specs.Text.{Names, begins}
+use Rattle.snap_layer.specs.Tree.{Entries, path_cmp}
 use Rattle.snap_layer.specs.Edits.{inside, outside, relocated, relocate, put_all}
 use Rattle.snap_layer.proofs.Moving.{put_all_last, found_before, found_inside}
 use Rattle.snap_layer.proofs.entries.moved_entries.Goals as goal

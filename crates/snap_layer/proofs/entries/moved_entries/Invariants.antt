@@ -1,8 +1,8 @@
 use Rattle.std.proofs.Common.{◌≡◌, IsSome, map, true}
 use Rattle.std.specs.Map.{lookup}
 use Rattle.std.specs.BTreeMap.{is_at, btree_map_len}
-use Rattle.snap_path.specs.Text.{Names, IsPath}
-use Rattle.snap_layer.specs.Tree.{path_cmp, begins}
+use Rattle.snap_path.specs.Text.{Names, IsPath, begins}
+use Rattle.snap_layer.specs.Tree.{path_cmp}
 use Rattle.snap_layer.specs.Edits.{inside, outside, relocated, relocate, put_all}
 use Rattle.snap_layer.proofs.entries.moved_entries.Given as goal
 

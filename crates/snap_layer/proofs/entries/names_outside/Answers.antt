@@ -1,6 +1,7 @@
 use Rattle.std.proofs.Common.{◌≡◌, ◌∙◌, not, rules}
 use Rattle.std.specs.Prelude.{count_by, ◌&&◌}
-use Rattle.snap_layer.specs.Tree.{begins, has_number}
+use Rattle.snap_path.specs.Text.{begins}
+use Rattle.snap_layer.specs.Tree.{has_number}
 use Rattle.snap_layer.proofs.Replacing.{scan_outside}
 use Rattle.snap_layer.proofs.entries.names_outside.Goals as goal
 

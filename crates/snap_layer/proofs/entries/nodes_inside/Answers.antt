@@ -1,5 +1,6 @@
 use Rattle.std.proofs.Common.{◌≡◌, ◌∙◌, rules}
-use Rattle.snap_layer.specs.Tree.{begins, is_dir, is_whiteout}
+use Rattle.snap_path.specs.Text.{begins}
+use Rattle.snap_layer.specs.Tree.{is_dir, is_whiteout}
 use Rattle.snap_layer.proofs.Replacing.{scan_inside}
 use Rattle.std.specs.Prelude.{count_by, ◌&&◌, ◌||◌}
 use Rattle.snap_layer.proofs.entries.nodes_inside.Goals as goal

@@ -1,6 +1,6 @@
 use Rattle.std.proofs.Common.{not, rules}
 use Rattle.std.proofs.lemmas.Map.Made.{filter_same_pairs}
-use Rattle.snap_layer.specs.Tree.{begins}
+use Rattle.snap_path.specs.Text.{begins}
 use Rattle.snap_layer.proofs.entries.take_entries.Goals as goal
 
 pub returns-clause-taken : goal.returns-clause-taken

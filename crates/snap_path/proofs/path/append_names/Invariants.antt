@@ -1,6 +1,4 @@
 use Rattle.std.proofs.Common.{◌≡◌, ◌++◌, take}
-use Rattle.std.specs.String.{string_bytes}
-use Rattle.snap_path.specs.Text.{text_below}
 use Rattle.snap_path.proofs.path.append_names.Given as goal
 
 abbrev pub invariant-loop-name : goal.invariant-loop-name
