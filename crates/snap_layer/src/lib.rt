@@ -6,6 +6,7 @@
 #![tactic(auto)]
 
 mod bodies;
+mod edits;
 mod entries;
 mod error;
 mod layer;
