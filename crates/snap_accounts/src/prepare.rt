@@ -9,6 +9,7 @@ ghost use Rattle.snap_accounts.specs.Vacant.{IsVacant};
 
 use crate::accounts::Accounts;
 use crate::charge::{has_room, sum};
+use snap_call::limits::MAX_ID;
 use snap_call::{Refusal, is_key, is_parent};
 use snap_ledger::{Share, StoreName};
 use snap_record::{Content, Labels, Record, Text};
@@ -58,7 +59,7 @@ impl<N: StoreName> Accounts<N> {
         if !has_room(self.state.limit_at(place), self.total(place), one()) {
             return Err(self.over_limit(place));
         }
-        if self.state.next_id > 4_294_967_295 {
+        if self.state.next_id > MAX_ID {
             return Err(Refusal::NumbersSpent);
         }
         Ok(slot)

@@ -18,6 +18,7 @@ ghost use Rattle.snap_book.specs.Slot.{slot_of};
 
 use crate::journal::{Journal, Opening, session_entry, twice};
 use snap_accounts::Accounts;
+use snap_call::limits::MAX_SESSIONS;
 use snap_call::{Call, Config, Entry, Given, Refusal, Reply};
 use snap_ledger::{NewTable, StoreName};
 use snap_record::{Content, Record};
@@ -80,7 +81,7 @@ impl<N: StoreName> Book<N> {
     {
         self.journal.admit(self.accounts.open_slots(), 1)?;
         let number = self.accounts.state().sessions;
-        if number >= 65_536 {
+        if number >= MAX_SESSIONS {
             return Err(Refusal::NumbersSpent);
         }
         self.accounts.open_session();

@@ -3,13 +3,11 @@ ghost use Rattle.std.specs.Prelude.{◌≡◌, false, [], ◌++◌, IfOk, OnOk, 
 ghost use Rattle.snap_call.specs.Records.{is_committed, committed_at};
 ghost use Rattle.snap_call.specs.State.{chain_from, chain_if, ancestors, ids_of, layers_of, with_layer, is_present, is_base, is_too_deep};
 
+use crate::limits::MAX_ANCESTORS;
 use crate::records::Records;
 use snap_layer::Shared;
 use snap_record::{Content, Record, Sequence};
 use std::alloc::{AllocError, Global};
-
-/// A snapshot has at most so many committed ancestors.
-pub const MAX_ANCESTORS: u64 = 64;
 
 /// The committed ancestors of a snapshot, nearest first.
 #[derive(Drop)]

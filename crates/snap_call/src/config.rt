@@ -2,16 +2,11 @@ ghost use Rattle.std.specs.Prelude.{◌≡◌};
 ghost use Rattle.snap_call.specs.Forms.{is_config};
 
 use crate::forms::{are_namespaces, has_distinct_names};
+use crate::limits::{MAX_JOURNAL, MAX_NAMESPACES};
 use snap_mount::is_root_text;
 use snap_record::{Sequence, Text};
 use snap_usage::Usage;
 use std::alloc::AllocError;
-
-/// A store has at most so many namespaces.
-pub const MAX_NAMESPACES: usize = 64;
-
-/// A journal has at most so many entries.
-pub const MAX_JOURNAL: u64 = 1_048_576;
 
 /// A namespace of a store: it has keys, leases and a limit of its own.
 #[derive(Debug, Drop, PartialEq, Eq)]

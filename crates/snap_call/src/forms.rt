@@ -3,17 +3,8 @@ ghost use Rattle.std.specs.List.{list_any, list_all};
 ghost use Rattle.snap_call.specs.Forms.{is_text, is_key, is_parent, is_limit, is_namespace, has_name, have_distinct_names};
 
 use crate::config::Namespace;
+use crate::limits::{MAX_KEY_BYTES, MAX_LIMIT, MAX_NAMESPACE_BYTES};
 use snap_usage::Usage;
-
-/// The most bytes of a key of a snapshot, and of the name of a committed snapshot, of a parent or of
-/// a lease.
-pub const MAX_KEY_BYTES: usize = 1024;
-
-/// The most bytes of a namespace's name.
-pub const MAX_NAMESPACE_BYTES: usize = 255;
-
-/// The most blocks and the most inodes of a namespace's limit: 2^40.
-pub const MAX_LIMIT: u64 = 1_099_511_627_776;
 
 /// Whether the text has 1 to so many bytes, none of them NUL.
 fn is_text(most: usize, text: &str) -> bool

@@ -5,13 +5,11 @@ ghost use Rattle.snap_call.specs.Records.{record_at, has_key, is_slot, active_at
 
 use crate::order::{is_named, is_slot, place_for, place_of_slot};
 use snap_layer::Shared;
+use snap_ledger::MAX_SLOTS;
 use snap_record::{Content, Record, Text};
 use snap_usage::{Usage, count};
 use std::alloc::{AllocFailed, Global};
 use std::marker::Model;
-
-/// At most so many snapshots are active: the slots are 0 to 63.
-pub const MAX_SLOTS: u64 = 64;
 
 /// The records of a store, in order of their namespaces' places and the bytes of their keys.
 /// Contracts see the list.

@@ -1,5 +1,6 @@
 ghost use Rattle.std.specs.Prelude.{◌≡◌, List, ℕ, IfOk};
 
+use snap_path::limits::BLOCK_BYTES;
 use std::alloc::{AllocError, Global};
 use std::marker::Model;
 
@@ -178,7 +179,7 @@ impl Body {
         ensures { result ≡ body_blocks self.now }
     {
         match self {
-            Body::File { bytes, .. } => (bytes.as_slice().len() as u64).div_ceil(4096),
+            Body::File { bytes, .. } => (bytes.as_slice().len() as u64).div_ceil(BLOCK_BYTES),
             Body::Symlink { .. } => 0,
         }
     }

@@ -16,6 +16,10 @@ use std::marker::{Brand, Model, PhantomData};
 use std::mem;
 use std::sync::Arc;
 
+/// The slots of a store, which are 0 to 63: at most so many snapshots are active. A limit of this
+/// project.
+pub const MAX_SLOTS: u64 = 64;
+
 /// The name of a store: which table its halves are of.
 pub trait StoreName {
     ghost use Rattle.atomic_table.specs.Seated.{TableId};
@@ -140,8 +144,8 @@ impl<N: StoreName> Charge<N> {
     {
         let NewTable { table, mut first } = table;
         let table = Arc::new(alloc, table)?;
-        let mut row = Vec::with_capacity(alloc, 64)?;
-        for slot in 0u64..64 {
+        let mut row = Vec::with_capacity(alloc, MAX_SLOTS as usize)?;
+        for slot in 0..MAX_SLOTS {
             row.push(Charge::made(&table, &mut first, slot)?)?;
         }
         Ok(row)

@@ -10,4 +10,4 @@ mod halves;
 mod rule;
 mod view;
 
-pub use halves::{Charge, NewTable, Share, StoreName};
+pub use halves::{Charge, MAX_SLOTS, NewTable, Share, StoreName};

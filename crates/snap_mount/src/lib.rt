@@ -6,4 +6,4 @@ mod mount;
 mod table;
 
 pub use mount::{Mount, MountKind};
-pub use table::{is_root_text, mounts_of};
+pub use table::{MAX_ROOT_BYTES, is_root_text, mounts_of};

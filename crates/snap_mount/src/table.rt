@@ -7,6 +7,9 @@ use crate::mount::{Mount, MountKind};
 use snap_record::{Kind, Sequence, Text};
 use std::alloc::{AllocError, Global};
 
+/// The most bytes of the directory that all snapshots lie in: a limit of this project.
+pub const MAX_ROOT_BYTES: usize = 1024;
+
 /// Whether a text can be the directory that all snapshots lie in: it begins with `/`, has at most
 /// 1024 bytes and none of `:`, `,`, `\` and NUL, which have a meaning of their own in mount
 /// options. Takes no memory. Its cost grows with the length of the text.
@@ -16,7 +19,7 @@ pub fn is_root_text(text: &str) -> bool
     let bytes = text.as_bytes();
     match bytes {
         [] => false,
-        [first, ..] => *first == b'/' && bytes.len() <= 1024 && !has_mark(bytes),
+        [first, ..] => *first == b'/' && bytes.len() <= MAX_ROOT_BYTES && !has_mark(bytes),
     }
 }
 

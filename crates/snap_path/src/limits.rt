@@ -1,4 +1,4 @@
-//! The limits of names, paths, files and layers, each with its source.
+//! The limits of names, paths, files and layers, and the unit of their count, each with its source.
 
 /// The most bytes of a name: `NAME_MAX` of limits.h.
 pub const MAX_NAME_BYTES: usize = 255;
@@ -23,3 +23,6 @@ pub const MAX_FILE_BYTES: u64 = 1_048_576;
 
 /// The most inodes of a layer: a limit of this project.
 pub const MAX_INODES: usize = 65_536;
+
+/// The bytes of a block, in which files are counted: a choice of this project.
+pub const BLOCK_BYTES: u64 = 4096;

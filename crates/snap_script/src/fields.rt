@@ -12,11 +12,10 @@ use crate::fault::{Fault, Field, ReadError};
 use serde_json::{Map, Value};
 use snap_call::Namespace;
 use snap_layer::Bytes;
+use snap_path::limits::MAX_FILE_BYTES;
 use snap_record::{Labels, Sequence, Text};
 use snap_usage::Usage;
 use std::alloc::{AllocError, Global};
-
-const MAX_FILL: u64 = 1_048_576;
 
 /// The value of a field, if the line has it.
 fn find(field: Field, line: &Value) -> Option<&Value>
@@ -246,7 +245,7 @@ fn fill(alloc: Global, line: &Value) -> Result<Bytes, ReadError>
     let fault = Fault::BadField(Field::Fill);
     let value = find(Field::Fill, line).ok_or(fault)?;
     let (byte, number) = pair(value).ok_or(fault)?;
-    if byte > 255 || number > MAX_FILL {
+    if byte > 255 || number > MAX_FILE_BYTES {
         return Err(ReadError::Fault(fault));
     }
     Ok(repeated(alloc, byte as u8, number as usize)?)

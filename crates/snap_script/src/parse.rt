@@ -13,17 +13,16 @@ use crate::fields::{
 };
 use crate::verb::{FileVerb, Verb};
 use serde_json::Value;
-use snap_call::{Config, MAX_JOURNAL};
+use snap_call::Config;
+use snap_call::limits::MAX_JOURNAL;
 use snap_layer::Bytes;
+use snap_path::limits::DEFAULT_MODE;
 use snap_record::Text;
 use snap_usage::Usage;
 use std::alloc::Global;
 
 /// The id of a store's first snapshot.
 const FIRST_ID: u32 = 1;
-
-/// The mode of a new directory, where the line has none.
-const DIRECTORY_MODE: u32 = 0o755;
 
 /// The mode of a new file, where the line has none.
 const FILE_MODE: u32 = 0o644;
@@ -132,7 +131,7 @@ fn mkdir(alloc: Global, line: &Value) -> Result<FileCommand, ReadError>
     ensures { Gives (λ c. c) result (made_of file_variants.Mkdir 493 (view line.now)) }
 {
     let path = text(alloc, Field::Path, line)?;
-    let mode = mode_or(DIRECTORY_MODE, line)?;
+    let mode = mode_or(DEFAULT_MODE, line)?;
     Ok(FileCommand::Mkdir { path, mode })
 }
 

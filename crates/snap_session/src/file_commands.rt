@@ -7,7 +7,8 @@ ghost use Rattle.snap_session.specs.Commands.{on_key, more, wanted, need_by, nee
 
 use crate::calls::found;
 use crate::step::{stepped, take_step, told};
-use snap_call::{Call, MAX_LIMIT, Reply};
+use snap_call::limits::MAX_LIMIT;
+use snap_call::{Call, Reply};
 use snap_ledger::StoreName;
 use snap_merge::FsError;
 use snap_record::Text;

@@ -5,6 +5,7 @@ ghost use Rattle.snap_layer.specs.Counts.{block_count, inode_count};
 ghost use Rattle.snap_usage.specs.Counted.{Covers, blocks_if, count_of, usage_text};
 
 use snap_layer::Layer;
+use snap_path::limits::BLOCK_BYTES;
 use std::fmt;
 
 /// So many blocks of 4096 bytes, and so many inodes: the two quantities of containerd's
@@ -60,7 +61,7 @@ pub fn difference(usage: Usage, part: Usage) -> Usage
 pub fn blocks_of(size: u64) -> u64
     ensures { result ≡ layer_counts.blocks_of size }
 {
-    size.div_ceil(4096)
+    size.div_ceil(BLOCK_BYTES)
 }
 
 /// What the layer takes, without the layers below it (containerd's `Snapshotter.Usage`). A file

@@ -7,7 +7,7 @@ ghost use Rattle.snap_world.specs.Move.{is_under, is_unsealed, is_working, meets
 ghost use Rattle.snap_world.specs.Stacks.{layers_in};
 
 use snap_book::{Active, Book, Held, Sealed};
-use snap_ledger::StoreName;
+use snap_ledger::{MAX_SLOTS, StoreName};
 use snap_merge::Stack;
 use snap_usage::Usage;
 use std::alloc::{AllocError, Global};
@@ -163,8 +163,8 @@ impl<N: StoreName> Hands<N> {
     pub(crate) fn open(alloc: Global) -> Result<Hands<N>, AllocError>
         ensures { IfOk result (λ hands. hands ≡ replicate 64 None) }
     {
-        let mut list = Vec::with_capacity(alloc, 64)?;
-        for _ in 0..64_u64 {
+        let mut list = Vec::with_capacity(alloc, MAX_SLOTS as usize)?;
+        for _ in 0..MAX_SLOTS {
             list.push_reserved(None);
         }
         Ok(Hands { alloc, list })
@@ -191,7 +191,7 @@ impl<N: StoreName> Hands<N> {
         ensures low { IfSome result (λ _. slot < 64) }
         ensures rest { self.new ≡ with_hand slot None self.old }
     {
-        if slot < 64 {
+        if slot < MAX_SLOTS {
             self.list[slot as usize].take()
         } else {
             None

@@ -1,0 +1,26 @@
+//! The limits of a store, each with its unit. Those without a source are limits of this project.
+
+/// The most bytes of a key of a snapshot, and of the name of a committed snapshot, of a parent or of
+/// a lease.
+pub const MAX_KEY_BYTES: usize = 1024;
+
+/// The most bytes of a namespace's name.
+pub const MAX_NAMESPACE_BYTES: usize = 255;
+
+/// The most namespaces of a store.
+pub const MAX_NAMESPACES: usize = 64;
+
+/// The most blocks and the most inodes of a namespace's limit: 2^40.
+pub const MAX_LIMIT: u64 = 1_099_511_627_776;
+
+/// The most committed ancestors of a snapshot.
+pub const MAX_ANCESTORS: u64 = 64;
+
+/// The most entries of a journal.
+pub const MAX_JOURNAL: u64 = 1_048_576;
+
+/// The most sessions that a store opens: their numbers are 0 to 65,535.
+pub const MAX_SESSIONS: u64 = 65_536;
+
+/// The greatest id of a snapshot.
+pub const MAX_ID: u64 = 4_294_967_295;
