@@ -1,4 +1,5 @@
-ghost use Rattle.std.specs.Prelude.{◌≡◌};
+ghost use Rattle.std.specs.Prelude.{◌≡◌, IfOk};
+ghost use Rattle.snap_call.specs.declared.call.Call.TheVariants.{Prepare, Commit};
 
 use snap_layer::Shared;
 use snap_record::{Labels, Text};
@@ -114,59 +115,83 @@ impl Clone for Call {
     ghost is_clone = { λ a b. b ≡ a };
 
     fn clone(&self) -> Result<Call, AllocError> {
-        Ok(match self {
-            Call::Session => Call::Session,
+        match self {
+            Call::Session => Ok(Call::Session),
             Call::Prepare {
                 namespace,
                 key,
                 parent,
                 labels,
-            } => Call::Prepare {
-                namespace: namespace.clone()?,
-                key: key.clone()?,
-                parent: parent.clone()?,
-                labels: labels.clone()?,
-            },
+            } => clone_prepare(namespace, key, parent, labels),
             Call::Charge {
                 slot,
                 id,
                 need,
                 want,
-            } => Call::Charge {
+            } => Ok(Call::Charge {
                 slot: *slot,
                 id: *id,
                 need: *need,
                 want: *want,
-            },
-            Call::Trim { slot, id } => Call::Trim {
+            }),
+            Call::Trim { slot, id } => Ok(Call::Trim {
                 slot: *slot,
                 id: *id,
-            },
+            }),
             Call::Commit {
                 slot,
                 id,
                 name,
                 lease,
-            } => Call::Commit {
+            } => clone_commit(*slot, *id, name, lease),
+            Call::Discard { slot, id } => Ok(Call::Discard {
                 slot: *slot,
                 id: *id,
-                name: name.clone()?,
-                lease: lease.clone()?,
-            },
-            Call::Discard { slot, id } => Call::Discard {
-                slot: *slot,
-                id: *id,
-            },
-            Call::Stat { namespace, key } => Call::Stat {
-                namespace: namespace.clone()?,
-                key: key.clone()?,
-            },
-            Call::Usage { namespace, key } => Call::Usage {
-                namespace: namespace.clone()?,
-                key: key.clone()?,
-            },
-        })
+            }),
+            Call::Stat { namespace, key } => {
+                let (namespace, key) = clone_both(namespace, key)?;
+                Ok(Call::Stat { namespace, key })
+            }
+            Call::Usage { namespace, key } => {
+                let (namespace, key) = clone_both(namespace, key)?;
+                Ok(Call::Usage { namespace, key })
+            }
+        }
     }
+}
+
+fn clone_both(a: &Text, b: &Text) -> Result<(Text, Text), AllocError>
+    ensures { IfOk result (λ both. both ≡ (a.now, b.now)) }
+{
+    Ok((a.clone()?, b.clone()?))
+}
+
+fn clone_prepare(
+    namespace: &Text,
+    key: &Text,
+    parent: &Text,
+    labels: &Labels,
+) -> Result<Call, AllocError>
+    ensures { IfOk result (λ call. call ≡ Prepare namespace.now key.now parent.now labels.now) }
+{
+    let (namespace, key) = clone_both(namespace, key)?;
+    Ok(Call::Prepare {
+        namespace,
+        key,
+        parent: parent.clone()?,
+        labels: labels.clone()?,
+    })
+}
+
+fn clone_commit(slot: u64, id: u32, name: &Text, lease: &Option<Text>) -> Result<Call, AllocError>
+    ensures { IfOk result (λ call. call ≡ Commit slot id name.now lease.now) }
+{
+    Ok(Call::Commit {
+        slot,
+        id,
+        name: name.clone()?,
+        lease: lease.clone()?,
+    })
 }
 
 /// One more holder of the same layer, which is not copied.

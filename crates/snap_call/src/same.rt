@@ -1,9 +1,11 @@
 //! Equality of plain data, as it is in contracts.
 ghost use Rattle.std.specs.Prelude.{◌≡◌, IsTrue, ◌↔◌};
+ghost use Rattle.snap_call.specs.declared.call.Call.TheVariants as calls;
 
 use crate::call::{Call, Given};
 use crate::reply::Reply;
 use snap_record::{Info, Labels, Sequence, Text};
+use snap_usage::Usage;
 
 pub(crate) fn is_same_labels(a: &Labels, b: &Labels) -> bool
     ensures { IsTrue result ↔ (a.now ≡ b.now) }
@@ -53,68 +55,122 @@ pub(crate) fn is_same_given(a: &Given, b: &Given) -> bool
 pub(crate) fn is_same_call(a: &Call, b: &Call) -> bool
     ensures { IsTrue result ↔ (a.now ≡ b.now) }
 {
-    match (a, b) {
-        (Call::Session, Call::Session) => true,
-        (
-            Call::Prepare {
-                namespace,
-                key,
-                parent,
-                labels,
-            },
-            Call::Prepare {
-                namespace: n,
-                key: k,
-                parent: p,
-                labels: l,
-            },
-        ) => *namespace == *n && *key == *k && *parent == *p && is_same_labels(labels, l),
-        (
-            Call::Charge {
-                slot,
-                id,
-                need,
-                want,
-            },
-            Call::Charge {
-                slot: s,
-                id: i,
-                need: n,
-                want: w,
-            },
-        ) => *slot == *s && *id == *i && *need == *n && *want == *w,
-        (Call::Trim { slot, id }, Call::Trim { slot: s, id: i }) => *slot == *s && *id == *i,
-        (
-            Call::Commit {
-                slot,
-                id,
-                name,
-                lease,
-            },
-            Call::Commit {
-                slot: s,
-                id: i,
-                name: n,
-                lease: l,
-            },
-        ) => *slot == *s && *id == *i && *name == *n && is_same_lease(lease, l),
-        (Call::Discard { slot, id }, Call::Discard { slot: s, id: i }) => {
-            *slot == *s && *id == *i
-        }
-        (
-            Call::Stat { namespace, key },
-            Call::Stat {
-                namespace: n,
-                key: k,
-            },
-        ) => *namespace == *n && *key == *k,
-        (
-            Call::Usage { namespace, key },
-            Call::Usage {
-                namespace: n,
-                key: k,
-            },
-        ) => *namespace == *n && *key == *k,
+    match a {
+        Call::Session => is_session(b),
+        Call::Prepare {
+            namespace,
+            key,
+            parent,
+            labels,
+        } => is_prepare(b, namespace, key, parent, labels),
+        Call::Charge {
+            slot,
+            id,
+            need,
+            want,
+        } => is_charge(b, *slot, *id, *need, *want),
+        Call::Trim { slot, id } => is_trim(b, *slot, *id),
+        Call::Commit {
+            slot,
+            id,
+            name,
+            lease,
+        } => is_commit(b, *slot, *id, name, lease),
+        Call::Discard { slot, id } => is_discard(b, *slot, *id),
+        Call::Stat { namespace, key } => is_stat(b, namespace, key),
+        Call::Usage { namespace, key } => is_usage(b, namespace, key),
+    }
+}
+
+fn is_session(call: &Call) -> bool
+    ensures { IsTrue result ↔ (calls.Session ≡ call.now) }
+{
+    match call {
+        Call::Session => true,
+        _ => false,
+    }
+}
+
+fn is_prepare(call: &Call, namespace: &Text, key: &Text, parent: &Text, labels: &Labels) -> bool
+    ensures { IsTrue result ↔ (calls.Prepare namespace.now key.now parent.now labels.now ≡ call.now) }
+{
+    match call {
+        Call::Prepare {
+            namespace: n,
+            key: k,
+            parent: p,
+            labels: l,
+        } => *namespace == *n && *key == *k && *parent == *p && is_same_labels(labels, l),
+        _ => false,
+    }
+}
+
+fn is_charge(call: &Call, slot: u64, id: u32, need: Usage, want: Usage) -> bool
+    ensures { IsTrue result ↔ (calls.Charge slot id need want ≡ call.now) }
+{
+    match call {
+        Call::Charge {
+            slot: s,
+            id: i,
+            need: n,
+            want: w,
+        } => slot == *s && id == *i && need == *n && want == *w,
+        _ => false,
+    }
+}
+
+fn is_trim(call: &Call, slot: u64, id: u32) -> bool
+    ensures { IsTrue result ↔ (calls.Trim slot id ≡ call.now) }
+{
+    match call {
+        Call::Trim { slot: s, id: i } => slot == *s && id == *i,
+        _ => false,
+    }
+}
+
+fn is_commit(call: &Call, slot: u64, id: u32, name: &Text, lease: &Option<Text>) -> bool
+    ensures { IsTrue result ↔ (calls.Commit slot id name.now lease.now ≡ call.now) }
+{
+    match call {
+        Call::Commit {
+            slot: s,
+            id: i,
+            name: n,
+            lease: l,
+        } => slot == *s && id == *i && *name == *n && is_same_lease(lease, l),
+        _ => false,
+    }
+}
+
+fn is_discard(call: &Call, slot: u64, id: u32) -> bool
+    ensures { IsTrue result ↔ (calls.Discard slot id ≡ call.now) }
+{
+    match call {
+        Call::Discard { slot: s, id: i } => slot == *s && id == *i,
+        _ => false,
+    }
+}
+
+fn is_stat(call: &Call, namespace: &Text, key: &Text) -> bool
+    ensures { IsTrue result ↔ (calls.Stat namespace.now key.now ≡ call.now) }
+{
+    match call {
+        Call::Stat {
+            namespace: n,
+            key: k,
+        } => *namespace == *n && *key == *k,
+        _ => false,
+    }
+}
+
+fn is_usage(call: &Call, namespace: &Text, key: &Text) -> bool
+    ensures { IsTrue result ↔ (calls.Usage namespace.now key.now ≡ call.now) }
+{
+    match call {
+        Call::Usage {
+            namespace: n,
+            key: k,
+        } => *namespace == *n && *key == *k,
         _ => false,
     }
 }
