@@ -84,6 +84,7 @@ module _ (ns : List Namespace) (rs ts : List Record) (keeps : Keeps rs ts) where
 
 pub good_counters : (s : State) (sessions entries : ℕ) → Good s → Good (record s { sessions = sessions; entries = entries })
 good_counters s m n good = record {
+  root = good.root;
   parents = good.parents;
   leased = good.leased;
   counted = good.counted;
@@ -107,6 +108,7 @@ pub good_prepared : (s : State) (place : ℕ) (key parent : Bytes) (slot : ℕ) 
     → is_base place parent s.records ≡ true → is_too_deep place parent s.records ≡ false → slot < 64 → active_at slot s.records ≡ None
     → Covers (limit_at place s.namespaces) (plus (charge_of place s.records) one) → Good (prepared s place key parent slot).0
 good_prepared s place key parent slot good low free base deep few none room = record {
+  root = good.root;
   parents = stand_parents ns rs ts keeps ts (all-with_record r (HasParent rs) rs (base-stands rs place parent base) good.parents);
   leased = stand_leases ns rs ts keeps s.leases good.leased;
   counted = all-with_record r (λ t. IsCounted t.content) rs tt good.counted;
@@ -156,6 +158,7 @@ module _ (slot : ℕ) (to : Usage) where
   pub good_recharged : (s : State) (r : Record) → Good s → active_at slot s.records ≡ Some r → Covers (limit_at r.namespace s.namespaces) (charge_with r to s.records)
       → Good (record s { records = recharged slot to s.records; entries = s.entries + 1 })
   good_recharged s r good e room = record {
+    root = good.root;
     parents = stand_parents ns rs ts keeps ts (all-recharged slot to (HasParent rs) rs (λ t is h. h) good.parents);
     leased = stand_leases ns rs ts keeps s.leases good.leased;
     counted = all-recharged slot to (λ t. IsCounted t.content) rs (λ t is h. tt) good.counted;
@@ -196,6 +199,7 @@ covered s slot r to good e less =
 
 pub good_discarded : (s : State) (slot : ℕ) (r : Record) → Good s → active_at slot s.records ≡ Some r → Good (record s { records = without_slot slot s.records; entries = s.entries + 1 })
 good_discarded s slot r good e = record {
+  root = good.root;
   parents = stand_parents ns rs ts keeps ts (all-without_slot slot (HasParent rs) rs good.parents);
   leased = stand_leases ns rs ts keeps s.leases good.leased;
   counted = all-without_slot slot (λ t. IsCounted t.content) rs good.counted;
@@ -232,6 +236,7 @@ good_discarded s slot r good e = record {
 pub good_committed : (s : State) (slot : ℕ) (name : Bytes) (layer : Tree) (r : Record) → Good s → active_at slot s.records ≡ Some r → has_key r.namespace name s.records ≡ false → Covers (usage_of r.content) (count_of layer)
     → Good (committed s slot name layer r).0
 good_committed s slot name layer r good e free less = record {
+  root = good.root;
   parents = stand_parents ns rs ts keeps ts (all-with_record c (HasParent rs) us (active_at-all (HasParent rs) slot rs r e good.parents) (all-without_slot slot (HasParent rs) rs good.parents));
   leased = stand_leases ns rs ts keeps s.leases good.leased;
   counted = all-with_record c (λ t. IsCounted t.content) us refl (all-without_slot slot (λ t. IsCounted t.content) rs good.counted);
@@ -400,9 +405,13 @@ namespaces_formed c e =
     let j = and_parts (root && each && few) apart i.0 in
     (and_parts root each (and_parts (root && each) few j.0).0).1
 
+root_formed : (c : Config) → is_config c ≡ true → is_root_text c.root ≡ true
+root_formed c e = (and_parts _ _ (and_parts _ _ (and_parts _ _ (and_parts _ _ (and_parts _ _ e).0).0).0).0).0
+
 pub good_opening : (c : Config) → is_config c ≡ true → Good (opening c)
 unfolding IsStrictlySortedBy
 good_opening c e = record {
+  root = root_formed c e;
   parents = tt;
   leased = tt;
   counted = tt;

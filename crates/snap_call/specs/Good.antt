@@ -8,6 +8,7 @@ use Rattle.snap_record.specs.Labels.{Bytes}
 use Rattle.snap_record.specs.declared.record.Content.{Content}
 use Rattle.snap_record.specs.declared.record.Content.TheVariants.{Active, Committed}
 use Rattle.snap_record.specs.declared.record.Record.{Record}
+use Rattle.snap_mount.specs.Mounts.{is_root_text}
 use Rattle.snap_call.specs.declared.config.Namespace.{Namespace}
 use Rattle.snap_call.specs.declared.state.State.{State}
 use Rattle.snap_call.specs.Forms.{is_limit}
@@ -51,6 +52,8 @@ AreApart r t = (slot : ℕ) → is_slot slot r ≡ true → is_slot slot t ≡ f
 
 -- what is true of the state whenever no call is under way
 pub record Good (s : State) : Type 0 where
+  -- the root can be the directory that all snapshots lie in
+  pub root : is_root_text s.root ≡ true
   -- each parent is a committed snapshot of the same namespace
   pub parents : AllByRecursion (HasParent s.records) s.records
   -- each snapshot that a lease names is a committed one
