@@ -1,14 +1,15 @@
-// The state, and what is kept beside it.
-ghost use Rattle.std.specs.Prelude.{◌≡◌, ◌<◌, ◌+◌, ◌^◌, IfOk, length, true};
+// The state, and what each namespace is charged.
+ghost use Rattle.std.specs.Prelude.{◌≡◌, ◌<◌, ◌+◌, ◌^◌, IfOk, length, replicate, slice_set, true};
 ghost use Rattle.snap_usage.specs.Counted.{Covers};
+ghost use Rattle.snap_record.specs.Records.{no_usage};
 ghost use Rattle.snap_call.specs.Forms.{is_config};
 ghost use Rattle.snap_call.specs.Good.{Good};
 ghost use Rattle.snap_call.specs.Records.{charge_of, open_count};
 ghost use Rattle.snap_call.specs.State.{limit_at, opening};
 ghost use Rattle.snap_call.specs.Step.{counted};
+ghost use Rattle.snap_accounts.specs.Totals.{total_at};
 
 use crate::slots::Slots;
-use crate::totals::Totals;
 use snap_call::{Config, State};
 use snap_ledger::{NewTable, StoreName};
 use snap_usage::Usage;
@@ -99,5 +100,45 @@ impl<N: StoreName> Accounts<N> {
     {
         self.state.sessions += 1;
         self.state.entries += 1;
+    }
+}
+
+// A usage for each namespace, by its place.
+#[derive(Drop)]
+pub(crate) struct Totals {
+    list: Vec<Usage>,
+}
+
+impl Model for Totals {
+    ghost use Rattle.std.specs.Prelude.{List};
+    ghost use Rattle.snap_usage.specs.declared.usage.Usage.{Usage};
+
+    ghost Value = { List Usage };
+
+    ghost view = { λ t. t.list.items };
+}
+
+impl Totals {
+    // 0/0 for so many namespaces.
+    pub(crate) fn zero(alloc: Global, count: usize) -> Result<Totals, AllocError>
+        ensures { IfOk result (λ t. t ≡ replicate count no_usage) }
+    {
+        let mut list = Vec::new(alloc);
+        list.resize(count, Usage::ZERO)?;
+        Ok(Totals { list })
+    }
+
+    pub(crate) fn at(&self, place: usize) -> Usage
+        requires { place < length self.now }
+        ensures { result ≡ total_at place self.now }
+    {
+        self.list[place]
+    }
+
+    pub(crate) fn set(&mut self, place: usize, to: Usage)
+        requires { place < length self.old }
+        ensures { self.new ≡ slice_set self.old place to }
+    {
+        self.list[place] = to;
     }
 }

@@ -13,7 +13,6 @@ mod commit;
 mod info;
 mod prepare;
 mod slots;
-mod totals;
 
 pub use accounts::Accounts;
 pub use prepare::Vacancy;

@@ -11,7 +11,6 @@ mod config;
 mod entry;
 mod forms;
 pub mod limits;
-mod order;
 mod records;
 mod refusal;
 mod reply;

@@ -1,14 +1,15 @@
-ghost use Rattle.std.specs.Prelude.{◌≡◌, ◌<◌, [], length, option_copied, OnOk, OnErr, OnSome, IfErr, MatchOption, IsTrue, ◌↔◌, vec_len, vec_capacity};
-ghost use Rattle.std.specs.List.{list_any};
+ghost use Rattle.std.specs.Prelude.{◌≡◌, ◌<◌, ◌≤◌, [], length, position, option_copied, OnOk, OnErr, OnSome, IfErr, MatchOption, IsTrue, ◌↔◌, vec_len, vec_capacity};
+ghost use Rattle.std.specs.Ordering.{is_lt};
+ghost use Rattle.std.specs.List.{insert, list_any};
 ghost use Rattle.snap_usage.specs.Counted.{count_of};
-ghost use Rattle.snap_call.specs.Records.{record_at, has_key, is_slot, active_at, with_record, without_slot, recharged, committed_as, lowest_free};
+ghost use Rattle.snap_call.specs.Records.{record_at, record_cmp, has_key, is_named, is_slot, is_later, active_at, with_record, without_slot, recharged, committed_as, lowest_free};
 
-use crate::order::{is_named, is_slot, place_for, place_of_slot};
 use snap_layer::Shared;
 use snap_ledger::MAX_SLOTS;
 use snap_record::{Content, Record, Text};
 use snap_usage::{Usage, count};
 use std::alloc::{AllocFailed, Global};
+use std::cmp::Ordering;
 use std::marker::Model;
 
 /// The records of a store, in order of their namespaces' places and the bytes of their keys.
@@ -174,4 +175,59 @@ fn put_reserved(list: &mut Vec<Record>, added: Record)
 {
     let place = place_for(list, &added);
     let _ = list.insert(place, added);
+}
+
+/// Whether the one record comes before the other: by the places of their namespaces, then by the
+/// bytes of their keys.
+fn is_before(a: &Record, b: &Record) -> bool
+    ensures { result ≡ is_lt (record_cmp a.now b.now) }
+{
+    match a.namespace.cmp(&b.namespace) {
+        Ordering::Less => true,
+        Ordering::Equal => a.key.cmp(&b.key).is_lt(),
+        Ordering::Greater => false,
+    }
+}
+
+/// Whether the record has this key in the namespace at this place.
+fn is_named(snapshot: &Record, place: usize, key: &str) -> bool
+    ensures { result ≡ is_named place key.now snapshot.now }
+{
+    snapshot.namespace == place && snapshot.key.as_str() == key
+}
+
+/// Whether the record is active in the slot.
+fn is_slot(snapshot: &Record, slot: u64) -> bool
+    ensures { result ≡ is_slot slot snapshot.now }
+{
+    match &snapshot.content {
+        Content::View => false,
+        Content::Active { slot: own, .. } => *own == slot,
+        Content::Committed { .. } => false,
+    }
+}
+
+/// Where the first record stands that comes after this one.
+fn place_after(list: &[Record], snapshot: &Record) -> Option<usize>
+    ensures { result ≡ position (is_later snapshot.now) list.now }
+{
+    list.iter().position(|other| is_before(snapshot, other))
+}
+
+/// Where the record goes in the list.
+fn place_for(list: &[Record], snapshot: &Record) -> usize
+    ensures within { result ≤ length list.now }
+    ensures in_order { insert list.now result snapshot.now ≡ with_record snapshot.now list.now }
+{
+    match place_after(list, snapshot) {
+        Some(place) => place,
+        None => list.len(),
+    }
+}
+
+/// Where the record of the slot stands.
+fn place_of_slot(list: &[Record], slot: u64) -> Option<usize>
+    ensures { result ≡ position (is_slot slot) list.now }
+{
+    list.iter().position(|snapshot| is_slot(snapshot, slot))
 }

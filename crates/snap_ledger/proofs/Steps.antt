@@ -5,8 +5,8 @@ use lib.ListN.{get_elem?}
 use Rattle.atomic_table.specs.Table.{State, Me, step, keeps, Allows, Splits, Joins}
 use Rattle.atomic_table.proofs.Lists.{at_set, set_again}
 use Rattle.snap_usage.specs.declared.usage.Usage.{Usage}
-use Rattle.snap_ledger.specs.declared.view.Holding.{Holding}
-use Rattle.snap_ledger.specs.declared.view.HalfView.{HalfView}
+use Rattle.snap_ledger.specs.declared.rule.Holding.{Holding}
+use Rattle.snap_ledger.specs.declared.rule.HalfView.{HalfView}
 use Rattle.snap_ledger.specs.Halves.{no_usage, maker, maker_after, new_charge, no_holding, whole, charge_half, share_half, charge_issued, share_of, spent_view, joined, Sound, Agree, AllAgree, Checked, SetTo}
 use Rattle.snap_ledger.specs.States.{charge_view, HeldWhile, CoversOne}
 

@@ -4,8 +4,8 @@ use mathlib.Core.Option.{Option, some, none}
 use lib.ListN.{get_elem?}
 use Rattle.atomic_table.specs.Table.{Me, Step}
 use Rattle.snap_usage.specs.declared.usage.Usage.{Usage}
-use Rattle.snap_ledger.specs.declared.view.Holding.{Holding}
-use Rattle.snap_ledger.specs.declared.view.HalfView.{HalfView}
+use Rattle.snap_ledger.specs.declared.rule.Holding.{Holding}
+use Rattle.snap_ledger.specs.declared.rule.HalfView.{HalfView}
 
 -- no blocks and no inodes
 abbrev pub no_usage : Usage

@@ -2,8 +2,8 @@
 use Rattle.std.specs.Prelude.{◌≡◌, ℕ, zero, suc, ◌+◌, ◌-◌, ◌^◌, ◌≤◌, List, [], ◌∷◌, ◌++◌, Bool, true, false}
 use Rattle.snap_usage.specs.declared.usage.Usage.{Usage}
 use Rattle.snap_usage.specs.Counted.{Covers}
-use Rattle.snap_ledger.specs.declared.view.Holding.{Holding}
-use Rattle.snap_ledger.specs.declared.view.HalfView.{HalfView}
+use Rattle.snap_ledger.specs.declared.rule.Holding.{Holding}
+use Rattle.snap_ledger.specs.declared.rule.HalfView.{HalfView}
 use Rattle.snap_ledger.specs.Halves.{whole, charge_half, no_usage, no_holding}
 
 -- the store's half: its slot, the id and usage that it holds, and whether its share is in a writer's hands

@@ -6,9 +6,9 @@ ghost use Rattle.snap_ledger.specs.States.{CoversOne, SumFits, Meets, plus, minu
 ghost use Rattle.snap_usage.specs.Counted.{Covers};
 
 use crate::rule::{
-    HalvesTable, JoinShare, LoadPair, SetHolding, SplitCharge, SplitEmpty, SplitShare,
+    HalfView, HalvesTable, Holding, JoinShare, LoadPair, SetHolding, SplitCharge, SplitEmpty,
+    SplitShare,
 };
-use crate::view::{HalfView, Holding};
 use atomic_table::{Seat, Table};
 use snap_usage::{Usage, difference};
 use std::alloc::{AllocError, Global};

@@ -8,6 +8,5 @@
 
 mod halves;
 mod rule;
-mod view;
 
 pub use halves::{Charge, MAX_SLOTS, NewTable, Share, StoreName};

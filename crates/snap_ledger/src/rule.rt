@@ -1,7 +1,41 @@
-// The rule over all views, and what each step tells.
-use crate::view::{HalfView, Holding};
+// What a half holds and what a seat knows, the rule over all views, and what each step tells.
+ghost use Rattle.std.specs.Prelude.{◌≡◌};
+ghost use Rattle.snap_ledger.specs.Halves.{no_holding};
+
 use atomic_table::{Join, Play, Split, Table, TableRule};
+use snap_usage::Usage;
 use std::alloc::Global;
+
+/// What a half holds, and the id of its snapshot.
+#[derive(Clone, Copy)]
+pub struct Holding {
+    pub id: u32,
+    pub usage: Usage,
+}
+
+impl Holding {
+    /// What the charge of a free slot holds.
+    pub fn none() -> Holding
+        ensures { result ≡ no_holding }
+    {
+        Holding {
+            id: 0,
+            usage: Usage::ZERO,
+        }
+    }
+}
+
+/// What a seat knows. No value of it is made.
+// A charge that isn't issued has the marks of both halves.
+pub struct HalfView {
+    pub makes: bool,
+    pub charges: bool,
+    pub shares: bool,
+    pub clashes: bool,
+    pub slot: u64,
+    pub holding: Holding,
+    pub met: Holding,
+}
 
 /// A slot has one charge, and one share exactly while it is issued, and both hold the same.
 pub struct HalvesRule;

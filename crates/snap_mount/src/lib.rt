@@ -1,7 +1,6 @@
 //! How snapshots are mounted.
 #![tactic(auto)]
 
-mod line;
 mod mount;
 mod table;
 

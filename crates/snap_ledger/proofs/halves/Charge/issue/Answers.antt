@@ -1,8 +1,8 @@
 use Rattle.std.proofs.Common.{rules, eqb, ap, ◌∙◌}
 use prog.Atomic.{either}
 use Rattle.atomic_table.specs.Table.{Me}
-use Rattle.snap_ledger.specs.declared.view.HalfView.{HalfView}
-use Rattle.snap_ledger.specs.declared.view.Holding.{Holding}
+use Rattle.snap_ledger.specs.declared.rule.HalfView.{HalfView}
+use Rattle.snap_ledger.specs.declared.rule.Holding.{Holding}
 use Rattle.snap_ledger.specs.Halves.{whole}
 use Rattle.snap_ledger.specs.States.{ChargeState}
 use Rattle.snap_ledger.proofs.Steps.{holds_nothing, unissued, sets_as, gives_share_as}

@@ -1,6 +1,6 @@
 use Rattle.std.proofs.Common.{◌++◌, take, flat_map, codes}
 use Rattle.std.specs.Fmt.{HasWritten, IsPlainFormatter}
-use Rattle.snap_mount.proofs.line.FurtherOptionsDisplay.fmt.Given as goal
+use Rattle.snap_mount.proofs.mount.FurtherOptionsDisplay.fmt.Given as goal
 
 abbrev pub invariant-loop-option : goal.invariant-loop-option
 invariant-loop-option g l =
