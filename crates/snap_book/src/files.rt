@@ -1,11 +1,11 @@
 // The files of an open snapshot: what it shows, and the operations on its layer.
-ghost use Rattle.std.specs.Prelude.{◌≡◌, ◌⊎◌, ◌∷◌, IfOk, IfErr, Ok, Err, ◌↔◌, OnOk, OnErr, IsErrOf, false};
+ghost use Rattle.std.specs.Prelude.{◌≡◌, ◌⊎◌, [], ◌∷◌, IfOk, IfErr, IfSome, Ok, Err, ◌↔◌, OnOk, OnErr, IsErrOf, false};
 ghost use Rattle.std.specs.Option.{option_map};
 ghost use Rattle.snap_merge.specs.Objects.{object, seen};
 ghost use Rattle.snap_merge.specs.Walk.{Answers};
 ghost use Rattle.snap_merge.specs.Reading.{reading};
 ghost use Rattle.snap_merge.specs.Listing.{listing, IsListing};
-ghost use Rattle.snap_merge.specs.Resolving.{resolution};
+ghost use Rattle.snap_merge.specs.Resolving.{plain_error, resolution};
 ghost use Rattle.snap_merge.specs.Rules.{ResolvingRules};
 ghost use Rattle.snap_merge.specs.declared.error.FsError.TheVariants.{OutOfMemory, NeedsCharge};
 ghost use Rattle.snap_usage.specs.Counted.{Covers};
@@ -50,6 +50,8 @@ impl<N: StoreName> Active<N> {
     pub fn list(&self, path: &Path) -> Result<Vec<Name>, FsError>
         ensures ok { IfOk result (λ v. listing (self.now.layer ∷ self.now.lowers) path.now ≡ Ok v.items) }
         ensures err { IfErr result (λ e. (e ≡ OutOfMemory) ⊎ (listing (self.now.layer ∷ self.now.lowers) path.now ≡ Err e)) }
+        // Any other error comes before memory is taken.
+        ensures first { IfErr (listing (self.now.layer ∷ self.now.lowers) path.now) (λ e. result ≡ Err e) }
         // A list has exactly the names at which something is seen, in order.
         ensures names { IfOk result (λ v. IsListing (self.now.layer ∷ self.now.lowers) path.now v.items) }
     {
@@ -73,9 +75,12 @@ impl<N: StoreName> Active<N> {
     /// path at which no symlink is seen (path_resolution(7)).
     ///
     /// The errors are those of [`Stack::resolve`], word by word: `NotDir`, `BadPath`, `NotFound`,
-    /// `TooManyLinks`; `OutOfMemory` where memory for names, words or paths is refused. So is the cost.
+    /// `TooManyLinks`; `OutOfMemory` where memory for names, words or paths is refused, but not for an
+    /// error before the first symlink. So is the cost.
     pub fn resolve(&self, path: &Path) -> Result<Path, FsError>
         ensures answer { Answers (resolution (self.now.layer ∷ self.now.lowers) path.now) result }
+        // An error before the first symlink comes before any memory is taken.
+        ensures first { IfSome (plain_error (self.now.layer ∷ self.now.lowers) [] path.now) (λ e. result ≡ Err e) }
         // A path without symlinks leads to itself, and each path to what is no symlink.
         ensures rules { ResolvingRules (self.now.layer ∷ self.now.lowers) path.now }
     {
@@ -97,8 +102,8 @@ impl<N: StoreName> Active<N> {
     /// need not cover.
     ///
     /// The errors are those of [`Active::apply`] up to `LayerFull`, in the same order. It changes
-    /// nothing. It takes no memory but for the names of a directory that is removed or renamed over:
-    /// such a plan can answer `OutOfMemory`. The cost is that of `snap_upper::plan`.
+    /// nothing. It takes no memory but for the names of a directory that is removed or renamed over,
+    /// where no test before that fails: such a plan can answer `OutOfMemory`. The cost is that of `snap_upper::plan`.
     pub fn plan(&self, op: &Op) -> Result<Planned, FsError>
         ensures answer { Answers (planned (after op.now self.now.layer self.now.lowers)) result }
         ensures sure { lists_names op.now (self.now.layer ∷ self.now.lowers) ≡ false → result ≡ planned (after op.now self.now.layer self.now.lowers) }

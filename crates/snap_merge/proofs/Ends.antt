@@ -1,6 +1,7 @@
 -- Where a way ends.
-use Rattle.std.proofs.Common.{◌≡◌, ℕ, ◌+◌, ◌≤◌, Bool, true, false, not, List, [], ◌∷◌, ◌++◌, Option, Some, None, Ok, Err, length, take, get_or, refl, sym, ap, subst, ◌∙◌, append_assoc, append-nil, arith}
+use Rattle.std.proofs.Common.{◌≡◌, ℕ, ◌+◌, ◌≤◌, Bool, true, false, not, List, [], ◌∷◌, ◌++◌, Option, Some, None, Ok, Err, length, take, get_or, refl, sym, ap, inr, subst, ◌∙◌, append_assoc, append-nil, arith}
 use Rattle.std.specs.Prelude.{if◌then◌else◌, is_some, zero, suc, nat_lt, nat_le, ◌&&◌, ◌||◌, ◌==◌}
+use Rattle.std.specs.Result.{IsErrAnd}
 use Rattle.std.specs.List.{list_all}
 use Rattle.std.specs.Str.{bytes_eq}
 use Rattle.std.proofs.lemmas.Bool.Decides.{nat_tests}
@@ -9,10 +10,10 @@ use Rattle.snap_path.specs.Text.{Names, IsPath, is_name, is_name_byte, text_belo
 use Rattle.snap_path.proofs.Texts.{IsPath-front}
 use Rattle.snap_layer.specs.Tree.{Tree}
 use Rattle.snap_merge.specs.declared.error.FsError.{FsError}
-use Rattle.snap_merge.specs.declared.error.FsError.TheVariants.{BadPath, NotDir}
+use Rattle.snap_merge.specs.declared.error.FsError.TheVariants.{BadPath, NotDir, NotFound}
 use Rattle.snap_merge.specs.Objects.{Object, dir, file, symlink, seen, is_shown_dir, AreLayers}
-use Rattle.snap_merge.specs.Walk.{walk_on, walk_from}
-use Rattle.snap_merge.specs.Resolving.{Answer, is_here, is_above, above, is_too_long, start_of, words_of, entered, way, following, is_shown_end}
+use Rattle.snap_merge.specs.Walk.{walk_on, walk_from, Answers}
+use Rattle.snap_merge.specs.Resolving.{Answer, is_here, is_above, above, is_too_long, start_of, words_of, entered, way, following, resolution, met, plain_error, is_shown_end}
 use Rattle.snap_merge.specs.Rules.{ResolvingRules}
 use Rattle.snap_merge.proofs.Above.{dir_above}
 use Rattle.snap_merge.proofs.Ways.{way_enters}
@@ -116,20 +117,55 @@ next_end : (s : List Tree) (front rest : Names) → walk_from s front rest ≡ N
 next_end s front [] e f = subst (IsEnd s) (append-nil front) f
 next_end s front (n ∷ rest) e f = dir_is_end _ (passes (seen s front) (walk_from s (front ++ n ∷ []) rest) e).0
 
-way_plain : (follow : Names → Names → Answer) (s : List Tree) (rest front : Names) → IsPath (front ++ rest) → walk_from s front rest ≡ None → is_shown_end (seen s (front ++ rest)) ≡ true → way follow s front rest ≡ Ok (front ++ rest)
-way_plain follow s [] front ok e f = ap (λ (p : Names). Ok p) (sym (append-nil front))
-way_plain follow s (n ∷ rest) front ok e f =
+-- the names of a path are words that lead into a directory
+names_enter : (front : Names) (n : List ℕ) (rest : Names) → IsPath (front ++ n ∷ rest) → (is_here n ≡ false) × (is_above n ≡ false) × (is_too_long front n ≡ false)
+names_enter front n rest ok =
     let whole : (front ++ n ∷ []) ++ rest ≡ front ++ n ∷ rest = append_assoc front (n ∷ []) rest in
-    let here = passes (seen s front) (walk_from s (front ++ n ∷ []) rest) e in
     let name = no_word n (middle_true front n rest ok.0) in
     let short : length (text_below (front ++ n ∷ [])) ≤ 4095 = (IsPath-front (front ++ n ∷ rest) (front ++ n ∷ []) rest ok (sym whole)).1 in
     let few : length n ≤ 255 = name.2 in
     let long : nat_lt 255 (length n) ≡ false = grind (arith, nat_tests) in
     let far : nat_lt 4095 (length (text_below (front ++ n ∷ []))) ≡ false = grind (arith, nat_tests) in
+    (name.0, name.1, neither _ _ long far)
+
+way_plain : (follow : Names → Names → Answer) (s : List Tree) (rest front : Names) → IsPath (front ++ rest) → walk_from s front rest ≡ None → is_shown_end (seen s (front ++ rest)) ≡ true → way follow s front rest ≡ Ok (front ++ rest)
+way_plain follow s [] front ok e f = ap (λ (p : Names). Ok p) (sym (append-nil front))
+way_plain follow s (n ∷ rest) front ok e f =
+    let whole : (front ++ n ∷ []) ++ rest ≡ front ++ n ∷ rest = append_assoc front (n ∷ []) rest in
+    let here = passes (seen s front) (walk_from s (front ++ n ∷ []) rest) e in
+    let enters = names_enter front n rest ok in
     let later = way_plain follow s rest (front ++ n ∷ []) (subst IsPath (sym whole) ok) here.1 (subst (IsEnd s) (sym whole) f) in
-    way_enters follow s front n rest here.0 name.0 name.1 (neither _ _ long far)
+    way_enters follow s front n rest here.0 enters.0 enters.1 enters.2
     ∙ goes_on _ _ _ (next_end s (front ++ n ∷ []) rest here.1 (subst (IsEnd s) (sym whole) f))
     ∙ later ∙ ap (λ (p : Names). Ok p) whole
+
+-- a name leads to the error that is met, where it leads to one before a symlink
+met_error : (follow : Names → Names → Answer) (s : List Tree) (place : Names) (w : List ℕ) (ws : Names) (e : FsError)
+    → (plain_error s (place ++ w ∷ []) ws ≡ Some e → way follow s (place ++ w ∷ []) ws ≡ Err e)
+    → (d h a l : Bool) → h ≡ false → a ≡ false → l ≡ false → (o : Option Object)
+    → (if not d then Some NotDir else met o (plain_error s (place ++ w ∷ []) ws)) ≡ Some e
+    → ◌≡◌ {A = Answer} (if not d then Err NotDir else if h then way follow s place ws else if a then way follow s (above place) ws else if l then Err BadPath else entered (λ target. follow (start_of place target) (words_of target ++ ws)) (way follow s (place ++ w ∷ []) ws) o) (Err e)
+met_error follow s place w ws e later false h a l here over long o is = let same : NotDir ≡ e = cc in ap (λ (x : FsError). Err x) same
+met_error follow s place w ws e later true true a l here over long o is = absurd (cc)
+met_error follow s place w ws e later true false true l here over long o is = absurd (cc)
+met_error follow s place w ws e later true false false true here over long o is = absurd (cc)
+met_error follow s place w ws e later true false false false here over long None is = let same : NotFound ≡ e = cc in ap (λ (x : FsError). Err x) same
+met_error follow s place w ws e later true false false false here over long (Some (dir m)) is = later is
+met_error follow s place w ws e later true false false false here over long (Some (file m b)) is = later is
+met_error follow s place w ws e later true false false false here over long (Some (symlink t)) is = absurd (cc)
+
+-- the way by a path's names has the error that is met before a symlink
+way_refused : (follow : Names → Names → Answer) (s : List Tree) (rest front : Names) (e : FsError) → IsPath (front ++ rest) → plain_error s front rest ≡ Some e → way follow s front rest ≡ Err e
+way_refused follow s [] front e ok is = absurd (cc)
+way_refused follow s (n ∷ rest) front e ok is =
+    let whole : (front ++ n ∷ []) ++ rest ≡ front ++ n ∷ rest = append_assoc front (n ∷ []) rest in
+    let enters = names_enter front n rest ok in
+    met_error follow s front n rest e (way_refused follow s rest (front ++ n ∷ []) e (subst IsPath (sym whole) ok)) (is_shown_dir (seen s front)) (is_here n) (is_above n) (is_too_long front n) enters.0 enters.1 enters.2 (seen s (front ++ n ∷ [])) is
+
+-- the call answers the error that a path meets before a symlink
+pub plain_answers : (s : List Tree) (p : Names) (x : FsError) (r : Answer) → IsPath p → IsErrAnd r (λ e. e ≡ x) → Some x ≡ plain_error s [] p → Answers (resolution s p) r
+plain_answers s p x (Ok q) ok same is = absurd same
+plain_answers s p x (Err e) ok same is = inr (way_refused (following 40 s) s p [] e ok (sym is ∙ ap (λ (y : FsError). Some y) (sym same)))
 
 pub resolving_rules : (s : List Tree) → AreLayers s → (p : Names) → IsPath p → ResolvingRules s p
 resolving_rules s ok p path = record {

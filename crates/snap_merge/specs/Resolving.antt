@@ -63,6 +63,22 @@ following (suc k) s place ws = way (following k s) s place ws
 abbrev pub resolution : List Tree → Names → Answer
 resolution s p = way (following 40 s) s [] p
 
+-- a symlink
+abbrev pub is_symlink : Object → Bool
+is_symlink (dir mode) = false
+is_symlink (file mode bytes) = false
+is_symlink (symlink target) = true
+
+-- nothing is an error, a symlink none, since its target says where the way goes on, and anything else leaves the later one
+abbrev pub met : Option Object → Option FsError → Option FsError
+met None later = Some NotFound
+met (Some o) later = if is_symlink o then None else later
+
+-- the error of the way from a place by these names, as far as no symlink is met on it
+abbrev pub plain_error : List Tree → Names → Names → Option FsError
+plain_error s place [] = None
+plain_error s place (n ∷ ns) = if not (is_shown_dir (seen s place)) then Some NotDir else met (seen s (place ++ n ∷ [])) (plain_error s (place ++ n ∷ []) ns)
+
 -- a directory or a file is seen
 abbrev pub is_shown_end : Option Object → Bool
 is_shown_end None = false

@@ -1,14 +1,15 @@
 // Where a path leads when its symlinks are followed.
 ghost use Rattle.std.specs.Prelude.{◌≡◌, ◌≤◌, ◌∷◌, ◌++◌, [], ℕ, List, map, MatchOption, IfOk, OnOk, false, length};
+ghost use Rattle.std.specs.Result.{result_err};
 ghost use Rattle.std.specs.Borrow.{Bor};
 ghost use Rattle.snap_path.specs.Text.{Names, text_below};
-ghost use Rattle.snap_merge.specs.Objects.{seen};
+ghost use Rattle.snap_merge.specs.Objects.{object, seen};
 ghost use Rattle.snap_merge.specs.Walk.{Answers};
-ghost use Rattle.snap_merge.specs.Resolving.{Answer, is_here, is_above, is_too_long, start_of, words_of, entered, way, resolution};
+ghost use Rattle.snap_merge.specs.Resolving.{Answer, is_here, is_above, is_too_long, start_of, words_of, entered, way, is_symlink, plain_error, resolution};
 ghost use Rattle.snap_merge.specs.Arrivals.{Leads, Ends};
 
 use super::error::FsError;
-use super::look::Seen;
+use super::look::{Seen, is_dir};
 use super::stack::Stack;
 use snap_path::Path;
 use snap_path::limits::{MAX_LINKS, MAX_NAME_BYTES, MAX_PATH_BYTES};
@@ -22,6 +23,32 @@ pub(crate) enum Arrival<'a> {
     Place(Path),
     /// To a symlink in the directory, with this target.
     Link { directory: Path, target: &'a [u8] },
+}
+
+/// Meets the path's names one after another, as far as no symlink is seen, and answers the first error. It
+/// takes no memory.
+pub(crate) fn check_plain(stack: &Stack<'_>, path: &Path) -> Result<(), FsError>
+    ensures { result_err result ≡ plain_error stack.now [] path.now }
+{
+    for names in 0..path.names().len() {
+        if !is_dir(stack.look_front(path, names)) {
+            return Err(FsError::NotDir);
+        }
+        let Some(entry) = stack.look_front(path, names + 1) else {
+            return Err(FsError::NotFound);
+        };
+        if is_symlink(entry) {
+            return Ok(());
+        }
+    }
+    Ok(())
+}
+
+/// Whether a symlink is seen.
+fn is_symlink(entry: Seen<'_>) -> bool
+    ensures { result ≡ is_symlink (object entry.entry) }
+{
+    matches!(entry, Seen::Symlink { .. })
 }
 
 /// Where the path leads from the root.

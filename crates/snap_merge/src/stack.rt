@@ -1,16 +1,16 @@
-ghost use Rattle.std.specs.Prelude.{◌≡◌, ◌⊎◌, [], ◌∷◌, ◌++◌, ◌≤◌, is_some, false, MatchOption, length, take, IsSome, OnOk, IfOk, IfErr, Ok, Err, Some, None};
+ghost use Rattle.std.specs.Prelude.{◌≡◌, ◌⊎◌, [], ◌∷◌, ◌++◌, ◌≤◌, is_some, false, MatchOption, length, take, IsSome, OnOk, IfOk, IfErr, IfSome, Ok, Err, Some, None};
 ghost use Rattle.std.specs.Option.{option_map};
 ghost use Rattle.snap_merge.specs.Objects.{object, seen, is_shown_dir, AreLayers};
 ghost use Rattle.snap_merge.specs.Walk.{walk, Answers};
 ghost use Rattle.snap_merge.specs.Reading.{reading};
 ghost use Rattle.snap_merge.specs.Listing.{gathered, names, listing, put_names, IsListing};
-ghost use Rattle.snap_merge.specs.Resolving.{is_too_long, resolution};
+ghost use Rattle.snap_merge.specs.Resolving.{is_too_long, plain_error, resolution};
 ghost use Rattle.snap_merge.specs.Rules.{ResolvingRules};
 ghost use Rattle.snap_path.specs.Text.{IsPath};
 
 use super::error::FsError;
 use super::look::{Decision, Seen, decide, is_dir, look_below, show_are_layers};
-use super::resolve::resolve;
+use super::resolve::{check_plain, resolve};
 use snap_layer::{Layer, Shared};
 use snap_path::{Name, Path};
 use std::alloc::{AllocError, Global};
@@ -150,6 +150,8 @@ impl<'a> Stack<'a> {
     pub fn list(&self, alloc: Global, path: &Path) -> Result<Vec<Name>, FsError>
         ensures ok { IfOk result (λ v. listing self.now path.now ≡ Ok v.items) }
         ensures err { IfErr result (λ e. (e ≡ FsError.OutOfMemory) ⊎ (listing self.now path.now ≡ Err e)) }
+        // Any other error comes before memory is taken.
+        ensures first { IfErr (listing self.now path.now) (λ e. result ≡ Err e) }
         // A list has exactly the names at which something is seen, in order.
         ensures names { IfOk result (λ v. IsListing self.now path.now v.items) }
     {
@@ -207,15 +209,18 @@ impl<'a> Stack<'a> {
     /// Word by word, and in this order: `NotDir` where the way goes on from something else than a
     /// directory; `BadPath` where the word has more than 255 bytes, or the path with it more than 4095;
     /// `NotFound` where nothing is seen; `TooManyLinks` at the 41st symlink. `OutOfMemory` where memory
-    /// for names, words or paths is refused. Cost: for each word each layer's number of paths, and that
-    /// of two looks.
+    /// for names, words or paths is refused, but not for an error before the first symlink. Cost: for each
+    /// word each layer's number of paths, and that of four looks.
     pub fn resolve(&self, alloc: Global, path: &Path) -> Result<Path, FsError>
         ensures answer { Answers (resolution self.now path.now) result }
+        // An error before the first symlink comes before any memory is taken.
+        ensures first { IfSome (plain_error self.now [] path.now) (λ e. result ≡ Err e) }
         // A path without symlinks leads to itself, and each path to what is no symlink.
         ensures rules { ResolvingRules self.now path.now }
     {
         self.show_are_layers();
         let _ = path.names();
+        check_plain(self, path)?;
         resolve(self, alloc, path)
     }
 

@@ -28,7 +28,7 @@ use Rattle.snap_merge.proofs.Above.{nothing_seen}
 use Rattle.snap_copyup.specs.Copying.{is_pure}
 use Rattle.snap_copyup.proofs.Alone.{walk_passes}
 use Rattle.snap_upper.specs.declared.op.Op.TheVariants as op
-use Rattle.snap_upper.specs.After.{tests, move_tests, first_error, error_if, kind_error, is_root, has_names, is_same_name, is_same_path, is_same_number, is_too_long}
+use Rattle.snap_upper.specs.After.{tests, move_tests, first_error, error_if, kind_error, is_root, has_names, is_same_name, is_same_path, is_same_number, is_too_long, is_late, lists_names}
 use Rattle.snap_upper.proofs.Outcomes.{test_passes, error_if_passes}
 
 no_bool : true ≡ false → ⊥
@@ -89,6 +89,11 @@ module _ (u : Tree) (ls : List Tree) (from to : Names) where
         by : (r : Result Bool FsError) → IsErrAnd r (λ e. e ≡ x) → IfErr r (λ e. (e ≡ OutOfMemory) ⊎ (first_error (tests (op.Rename from to) (u ∷ ls)) ≡ Some e))
         by (Ok b) same = absurd same
         by (Err e) same = inl (same ∙ memory)
+
+-- no directory's names are listed for a rename that has something to do
+pub move_lists_none : (u : Tree) (ls : List Tree) (from to : Names) → is_same_name u from to ≡ false → first_error (tests (op.Rename from to) (u ∷ ls)) ≡ first_error (move_tests u ls from to)
+    → lists_names (op.Rename from to) (u ∷ ls) ≡ false → (is_shown_dir (seen (u ∷ ls) to) && is_late (first_error (move_tests u ls from to))) ≡ false
+move_lists_none u ls from to other decides none = sym (λ i. not (other i) && is_shown_dir (seen (u ∷ ls) to) && is_late (decides i)) ∙ none
 
 -- ---- a directory without names
 

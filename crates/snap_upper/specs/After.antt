@@ -215,7 +215,14 @@ abbrev pub within_share : Usage → Outcome → Outcome
 within_share share (Ok next) = let need = count_of next in if nat_le need.blocks share.blocks && nat_le need.inodes share.inodes then Ok next else Err (NeedsCharge need)
 within_share share (Err e) = Err e
 
--- the plan lists the names of a directory, which takes memory: of one that is removed, or whose place another takes
+-- there is no error, or it comes after the names of the directory were listed that is removed, or whose place another takes
+abbrev pub is_late : Option FsError → Bool
+is_late None = true
+is_late (Some NotEmpty) = true
+is_late (Some BadPath) = true
+is_late (Some e) = false
+
+-- the names of a directory are listed, which takes memory: of one that is removed, or whose place another takes, where no test before that fails
 abbrev pub lists_names : Op → List Tree → Bool
 lists_names (Mkdir path mode) s = false
 lists_names (Create path mode) s = false
@@ -225,5 +232,6 @@ lists_names (SetMode path mode) s = false
 lists_names (Symlink path target) s = false
 lists_names (Link from to) s = false
 lists_names (Unlink path) s = false
-lists_names (Rmdir path) s = is_shown_dir (seen s path)
-lists_names (Rename from to) s = is_shown_dir (seen s to)
+lists_names (Rmdir path) s = is_shown_dir (seen s path) && is_late (first_error (tests (Rmdir path) s))
+lists_names (Rename from to) [] = false
+lists_names (Rename from to) (u ∷ lowers) = not (is_same_name u from to) && is_shown_dir (seen (u ∷ lowers) to) && is_late (first_error (tests (Rename from to) (u ∷ lowers)))

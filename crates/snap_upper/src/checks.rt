@@ -1,5 +1,5 @@
 // The tests that an operation has to pass.
-ghost use Rattle.std.specs.Prelude.{◌≡◌, ◌⊎◌, ◌==◌, [], ◌∷◌, is_some, true, false, None, Some, OnOk, IfErr, ◌||◌, not, IfOk, Ok, Err};
+ghost use Rattle.std.specs.Prelude.{◌≡◌, ◌⊎◌, ◌==◌, [], ◌∷◌, is_some, true, false, None, Some, OnOk, IfErr, ◌||◌, ◌&&◌, not, IfOk, Ok, Err};
 ghost use Rattle.std.specs.Option.{option_map};
 ghost use Rattle.std.specs.Result.{result_err};
 ghost use Rattle.std.specs.List.{list_any};
@@ -7,7 +7,7 @@ ghost use Rattle.snap_path.specs.Text.{begins};
 ghost use Rattle.snap_merge.specs.declared.error.FsError.{FsError};
 ghost use Rattle.snap_merge.specs.Objects.{object, seen, is_shown_dir, AreLayers};
 ghost use Rattle.snap_merge.specs.Walk.{walk};
-ghost use Rattle.snap_upper.specs.After.{tests, first_error, error_if, file_error, mode_error, link_error, dir_error, has_names, is_no_target, move_tests, kind_error, is_root, is_same_name, is_same_path, is_same_number, is_too_long};
+ghost use Rattle.snap_upper.specs.After.{tests, first_error, error_if, file_error, mode_error, link_error, dir_error, has_names, is_no_target, move_tests, kind_error, is_root, is_same_name, is_same_path, is_same_number, is_too_long, is_late, lists_names};
 ghost use Rattle.snap_upper.specs.declared.op.Op.TheVariants as op;
 
 use super::change::own_number;
@@ -184,7 +184,7 @@ pub(crate) fn check_unlink(stack: &Stack<'_>, path: &Path) -> Result<(), FsError
 pub(crate) fn check_rmdir(stack: &Stack<'_>, alloc: Global, path: &Path) -> Result<(), FsError>
     ensures ok { OnOk result (first_error (tests (op.Rmdir path.now) stack.now) ≡ None) }
     ensures error { IfErr result (λ e. (e ≡ FsError.OutOfMemory) ⊎ (first_error (tests (op.Rmdir path.now) stack.now) ≡ Some e)) }
-    ensures sure { is_shown_dir (seen stack.now path.now) ≡ false → IfErr result (λ e. first_error (tests (op.Rmdir path.now) stack.now) ≡ Some e) }
+    ensures sure { lists_names (op.Rmdir path.now) stack.now ≡ false → IfErr result (λ e. first_error (tests (op.Rmdir path.now) stack.now) ≡ Some e) }
     ensures layers { AreLayers stack.now }
 {
     stack.walk(path)?;
@@ -237,7 +237,7 @@ pub(crate) fn check_rename(
     ensures moves { IfOk result (λ moves. moves ≡ not (is_same_name layer.now from.now to.now)) }
     ensures error { IfErr result (λ e. (e ≡ FsError.OutOfMemory) ⊎ (first_error (tests (op.Rename from.now to.now) (layer.now ∷ lowers.now)) ≡ Some e)) }
     // Memory is taken for the names of a directory that is seen at `to`.
-    ensures sure { is_shown_dir (seen (layer.now ∷ lowers.now) to.now) ≡ false → IfErr result (λ e. first_error (tests (op.Rename from.now to.now) (layer.now ∷ lowers.now)) ≡ Some e) }
+    ensures sure { lists_names (op.Rename from.now to.now) (layer.now ∷ lowers.now) ≡ false → IfErr result (λ e. first_error (tests (op.Rename from.now to.now) (layer.now ∷ lowers.now)) ≡ Some e) }
     ensures layers { AreLayers (layer.now ∷ lowers.now) }
 {
     check_ends(&Stack::over(layer, lowers), from, to)?;
@@ -296,7 +296,7 @@ fn check_move(layer: &Layer, lowers: &[Shared], from: &Path, to: &Path) -> Resul
     requires layers { AreLayers (layer.now ∷ lowers.now) }
     ensures ok { OnOk result (first_error (move_tests layer.now lowers.now from.now to.now) ≡ None) }
     ensures error { IfErr result (λ e. (e ≡ FsError.OutOfMemory) ⊎ (first_error (move_tests layer.now lowers.now from.now to.now) ≡ Some e)) }
-    ensures sure { is_shown_dir (seen (layer.now ∷ lowers.now) to.now) ≡ false → IfErr result (λ e. first_error (move_tests layer.now lowers.now from.now to.now) ≡ Some e) }
+    ensures sure { (is_shown_dir (seen (layer.now ∷ lowers.now) to.now) && is_late (first_error (move_tests layer.now lowers.now from.now to.now))) ≡ false → IfErr result (λ e. first_error (move_tests layer.now lowers.now from.now to.now) ≡ Some e) }
 {
     let stack = Stack::over(layer, lowers);
     let moved = stack.look(from);

@@ -60,6 +60,8 @@ pub fn apply(layer: &mut Layer, lowers: &[Shared], op: &Op) -> Result<(), FsErro
     ensures ok { OnOk result (after op.now layer.old lowers.now ≡ Ok layer.new) }
     ensures error { IfErr result (λ e. (e ≡ FsError.OutOfMemory) ⊎ (after op.now layer.old lowers.now ≡ Err e)) }
     ensures unchanged { OnErr result (layer.new ≡ layer.old) }
+    // Each error but `LayerFull` comes before any memory is taken, but for a list of names.
+    ensures first { lists_names op.now (layer.old ∷ lowers.now) ≡ false → IfErr (after op.now layer.old lowers.now) (λ e. (e ≡ FsError.LayerFull) ⊎ (result ≡ Err e)) }
 
     // What `after` means for what is seen: here, and for the operation over any lower layers.
     ensures view { OnOk result (changed op.now layer.old (seen (layer.old ∷ lowers.now)) (seen (layer.new ∷ lowers.now))) }

@@ -38,7 +38,8 @@ pub struct Planned {
 /// Cost: for each name of a path a look through the layers, and the number of the layer's paths and files.
 ///
 /// It takes no memory but for the names of a directory that is seen at the path of an `Rmdir`, or where a
-/// `Rename` goes to. These plans may answer `OutOfMemory`, and their cost is also that of the list.
+/// `Rename` goes to. These plans may answer `OutOfMemory`, where no test before the list fails, and their
+/// cost is also that of the list.
 pub fn plan(layer: &Layer, lowers: &[Shared], op: &Op) -> Result<Planned, FsError>
     ensures answer { Answers (planned (after op.now layer.now lowers.now)) result }
     ensures sure { lists_names op.now (layer.now ∷ lowers.now) ≡ false → result ≡ planned (after op.now layer.now lowers.now) }

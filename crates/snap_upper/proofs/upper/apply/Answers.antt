@@ -1,6 +1,6 @@
 use Rattle.snap_copyup.proofs.Alone.{OnOk-weaker}
 use Rattle.snap_upper.proofs.Changing.{after_changes}
-use Rattle.snap_upper.proofs.Made.{made_changes}
+use Rattle.snap_upper.proofs.Made.{made_changes, made_first}
 use Rattle.snap_upper.proofs.upper.apply.Goals as goal
 
 pub returns-in_err-change-clause-law : goal.returns-in_err-change-clause-law
@@ -11,3 +11,6 @@ returns-clause-view c = OnOk-weaker c.perform.result (made_changes c.args.op.now
 
 pub returns-clause-law : goal.returns-clause-law
 returns-clause-law c = λ lowers v layers e. after_changes c.args.op.now c.args.layer.now lowers v c.show_is_layer.ensures.layer layers e
+
+pub returns-clause-first : goal.returns-clause-first
+returns-clause-first c = λ none. made_first c.args.op.now c.args.layer.now c.args.lowers.now c.in_ok-change.change c.perform.result c.in_ok-change.ensures.ok
