@@ -87,9 +87,11 @@ good_counters s m n good = record {
   root = good.root;
   parents = good.parents;
   leased = good.leased;
+  named_once = good.named_once;
   counted = good.counted;
   within = good.within;
   limits = good.limits;
+  distinct = good.distinct;
   placed = good.placed;
   sorted = good.sorted;
   ids = good.ids;
@@ -111,9 +113,11 @@ good_prepared s place key parent slot good low free base deep few none room = re
   root = good.root;
   parents = stand_parents ns rs ts keeps ts (all-with_record r (HasParent rs) rs (base-stands rs place parent base) good.parents);
   leased = stand_leases ns rs ts keeps s.leases good.leased;
+  named_once = good.named_once;
   counted = all-with_record r (λ t. IsCounted t.content) rs tt good.counted;
   within = within_after ns rs ts place good.within (subst (λ (u : Usage). Covers (limit_at place ns) u) (sym (charge_of-with_record_own r rs)) room) (λ p apart. charge_of-with_record_other p r rs apart);
   limits = good.limits;
+  distinct = good.distinct;
   placed = all-with_record r (λ t. t.namespace < length ns) rs low good.placed;
   sorted = sorted-with_record r rs free good.sorted;
   ids = pairwise-with_record r (λ t u. t.id ≢ u.id) rs
@@ -161,9 +165,11 @@ module _ (slot : ℕ) (to : Usage) where
     root = good.root;
     parents = stand_parents ns rs ts keeps ts (all-recharged slot to (HasParent rs) rs (λ t is h. h) good.parents);
     leased = stand_leases ns rs ts keeps s.leases good.leased;
+    named_once = good.named_once;
     counted = all-recharged slot to (λ t. IsCounted t.content) rs (λ t is h. tt) good.counted;
     within = within_after ns rs ts r.namespace good.within (subst (λ (u : Usage). Covers (limit_at r.namespace ns) u) (sym (charge_of-recharged_own slot to rs r e)) room) (λ p apart. charge_of-recharged_other p slot to rs r e apart);
     limits = good.limits;
+    distinct = good.distinct;
     placed = all-recharged slot to (λ t. t.namespace < length ns) rs (λ t is h. h) good.placed;
     sorted = sorted-recharged slot to rs good.sorted;
     ids = pairwise-recharged slot to (λ t u. t.id ≢ u.id) rs (λ t u is h. h) (λ t u is h. h) good.ids;
@@ -202,11 +208,13 @@ good_discarded s slot r good e = record {
   root = good.root;
   parents = stand_parents ns rs ts keeps ts (all-without_slot slot (HasParent rs) rs good.parents);
   leased = stand_leases ns rs ts keeps s.leases good.leased;
+  named_once = good.named_once;
   counted = all-without_slot slot (λ t. IsCounted t.content) rs good.counted;
   within = within_after ns rs ts r.namespace good.within
       (subst (λ (u : Usage). Covers (limit_at r.namespace ns) u) (sym (charge_of-without_slot_own slot rs r e)) (covers_gone (limit_at r.namespace ns) (charge_of r.namespace rs) (usage_of r.content) (good.within r.namespace low)))
       (λ p apart. charge_of-without_slot_other p slot rs r e apart);
   limits = good.limits;
+  distinct = good.distinct;
   placed = all-without_slot slot (λ t. t.namespace < length ns) rs good.placed;
   sorted = sorted-without_slot slot rs good.sorted;
   ids = pairwise-without_slot slot (λ t u. t.id ≢ u.id) rs good.ids;
@@ -239,11 +247,13 @@ good_committed s slot name layer r good e free less = record {
   root = good.root;
   parents = stand_parents ns rs ts keeps ts (all-with_record c (HasParent rs) us (active_at-all (HasParent rs) slot rs r e good.parents) (all-without_slot slot (HasParent rs) rs good.parents));
   leased = stand_leases ns rs ts keeps s.leases good.leased;
+  named_once = good.named_once;
   counted = all-with_record c (λ t. IsCounted t.content) us refl (all-without_slot slot (λ t. IsCounted t.content) rs good.counted);
   within = within_after ns rs ts r.namespace good.within
       (subst (λ (u : Usage). Covers (limit_at r.namespace ns) u) (sym (charge_of-committed_own slot name layer (s.entries + 1) rs r e)) (covered s slot r (count_of layer) good e less))
       (λ p apart. charge_of-committed_other p slot name layer (s.entries + 1) rs r e apart);
   limits = good.limits;
+  distinct = good.distinct;
   placed = all-with_record c (λ t. t.namespace < length ns) us (active_at-all (λ t. t.namespace < length ns) slot rs r e good.placed) (all-without_slot slot (λ t. t.namespace < length ns) rs good.placed);
   sorted = sorted-with_record c us left (sorted-without_slot slot rs good.sorted);
   ids = pairwise-with_record c (λ t u. t.id ≢ u.id) us
@@ -393,7 +403,8 @@ limits_from [] place all low = absurd (omega arith)
 limits_from (n ∷ ns) zero all low = let h = and_parts (is_namespace n) (list_all is_namespace ns) all in (and_parts (is_text 255 n.name) (is_limit n.limit) h.0).1
 limits_from (n ∷ ns) (suc place) all low = let h = and_parts (is_namespace n) (list_all is_namespace ns) all in limits_from ns place h.1 (omega arith)
 
-namespaces_formed : (c : Config) → is_config c ≡ true → list_all is_namespace c.namespaces ≡ true
+-- the namespaces have their form, and their names are distinct
+namespaces_formed : (c : Config) → is_config c ≡ true → (list_all is_namespace c.namespaces ≡ true) × (have_distinct_names c.namespaces ≡ true)
 namespaces_formed c e =
     let root = is_root_text c.root in
     let each = list_all is_namespace c.namespaces in
@@ -403,7 +414,7 @@ namespaces_formed c e =
     let h = and_parts (root && each && few && apart && journal) (nat_le 1 c.first_id) e in
     let i = and_parts (root && each && few && apart) journal h.0 in
     let j = and_parts (root && each && few) apart i.0 in
-    (and_parts root each (and_parts (root && each) few j.0).0).1
+    ((and_parts root each (and_parts (root && each) few j.0).0).1, j.1)
 
 root_formed : (c : Config) → is_config c ≡ true → is_root_text c.root ≡ true
 root_formed c e = (and_parts _ _ (and_parts _ _ (and_parts _ _ (and_parts _ _ (and_parts _ _ e).0).0).0).0).0
@@ -414,9 +425,11 @@ good_opening c e = record {
   root = root_formed c e;
   parents = tt;
   leased = tt;
+  named_once = tt;
   counted = tt;
   within = λ place low. record { blocks = omega arith; inodes = omega arith };
-  limits = λ place low. limits_from c.namespaces place (namespaces_formed c e) low;
+  limits = λ place low. limits_from c.namespaces place (namespaces_formed c e).0 low;
+  distinct = (namespaces_formed c e).1;
   placed = tt;
   sorted = tt;
   ids = tt;

@@ -1,7 +1,8 @@
 -- What is true of the state whenever no call is under way.
 use Rattle.std.specs.Prelude.{◌≡◌, ◌≢◌, ℕ, ◌<◌, true, false, List, [], ◌∷◌, Option, None, Some, IsSome, length}
-use Rattle.std.specs.List.{AllByRecursion}
+use Rattle.std.specs.List.{AllByRecursion, IsDistinct}
 use Rattle.std.specs.List.Sorted.{IsStrictlySortedBy}
+use Rattle.std.specs.Str.{bytes_eq}
 use Rattle.snap_usage.specs.Counted.{count_of, Covers}
 use Rattle.snap_lease.specs.Lease.{Lease}
 use Rattle.snap_record.specs.Labels.{Bytes}
@@ -11,7 +12,7 @@ use Rattle.snap_record.specs.declared.record.Record.{Record}
 use Rattle.snap_mount.specs.Mounts.{is_root_text}
 use Rattle.snap_call.specs.declared.config.Namespace.{Namespace}
 use Rattle.snap_call.specs.declared.state.State.{State}
-use Rattle.snap_call.specs.Forms.{is_limit}
+use Rattle.snap_call.specs.Forms.{is_limit, have_distinct_names}
 use Rattle.snap_call.specs.Records.{record_cmp, is_slot, committed_at, charge_of}
 use Rattle.snap_call.specs.State.{place_of, limit_at, chain}
 
@@ -36,6 +37,10 @@ NamesStand rs (Some place) names = AllByRecursion (λ name. IsSome (committed_at
 abbrev pub IsGuarding : List Namespace → List Record → Lease → Type 0
 IsGuarding ns rs l = NamesStand rs (place_of l.namespace ns) l.names
 
+-- no two of the names that the lease has are equal
+abbrev pub NamesOnce : Lease → Type 0
+NamesOnce l = IsDistinct bytes_eq l.names
+
 -- a committed snapshot's stored usage is the count over its layer
 abbrev pub IsCounted : Content → Type 0
 IsCounted (Committed layer usage) = usage ≡ count_of layer
@@ -58,11 +63,15 @@ pub record Good (s : State) : Type 0 where
   pub parents : AllByRecursion (HasParent s.records) s.records
   -- each snapshot that a lease names is a committed one
   pub leased : AllByRecursion (IsGuarding s.namespaces s.records) s.leases
+  -- a lease names each snapshot once
+  pub named_once : AllByRecursion NamesOnce s.leases
   -- each stored usage is the count over the stored layer
   pub counted : AllByRecursion (λ r. IsCounted r.content) s.records
   -- each namespace is charged within its limit, which is at most 2^40 of each quantity
   pub within : (place : ℕ) → place < length s.namespaces → Covers (limit_at place s.namespaces) (charge_of place s.records)
   pub limits : (place : ℕ) → place < length s.namespaces → is_limit (limit_at place s.namespaces) ≡ true
+  -- no two namespaces have the same name
+  pub distinct : have_distinct_names s.namespaces ≡ true
   pub placed : AllByRecursion (λ r. r.namespace < length s.namespaces) s.records
   -- each key stands once in its namespace, and the records are in order
   pub sorted : IsStrictlySortedBy record_cmp s.records
