@@ -1,5 +1,11 @@
-ghost use Rattle.std.specs.Prelude.{◌≡◌};
+ghost use Rattle.std.specs.Prelude.{◌≡◌, true};
+ghost use Rattle.snap_call.specs.Forms.{is_config};
+ghost use Rattle.snap_call.specs.Good.{Good};
 ghost use Rattle.snap_call.specs.State.{opening, place_of, limit_at};
+ghost use Rattle.snap_call.specs.Step.{IsAllowed, step};
+ghost use Rattle.snap_call.specs.declared.call.Call.{Call};
+ghost use Rattle.snap_call.specs.declared.call.Given.{Given};
+ghost use Rattle.snap_call.specs.declared.state.State.{State};
 
 use crate::config::{Config, Namespace};
 use crate::forms::has_name;
@@ -29,7 +35,11 @@ impl State {
     /// The state of a store that is opened: the parts of the configuration, and no records, leases,
     /// sessions and entries. Takes no memory.
     pub fn opening(alloc: Global, config: Config) -> State
-        ensures { result ≡ opening config }
+        ensures opening { result ≡ opening config }
+        // What is true of it where a store can be opened with the configuration, and what each allowed
+        // call keeps.
+        ensures good { is_config config ≡ true → Good result }
+        ensures keeps { (s : State) (call : Call) (given : Given) → Good s → IsAllowed s call given → Good (step s call given).0 }
     {
         State {
             root: config.root,

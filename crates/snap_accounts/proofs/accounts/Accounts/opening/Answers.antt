@@ -33,5 +33,5 @@ accounts_opened config us cs formed is_us is_cs = record {
 pub invariant_of-result : goal.invariant_of-result
 invariant_of-result g c =
     let counted = c.in_ok-totals.ensures ∙ ap (λ (n : ℕ). replicate n no_usage) c.len.ensures in
-    subst (λ (s : State). AreAccounts s c.in_ok-totals.totals c.in_ok-slots.slots 0) (sym c.opening.ensures)
+    subst (λ (s : State). AreAccounts s c.in_ok-totals.totals c.in_ok-slots.slots 0) (sym c.opening.ensures.opening)
     (accounts_opened c.args.config c.in_ok-totals.totals c.in_ok-slots.slots c.requires.config counted c.in_ok-slots.ensures)

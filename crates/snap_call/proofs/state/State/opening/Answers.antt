@@ -1,0 +1,16 @@
+use Rattle.std.proofs.Common.{◌≡◌, sym, subst}
+use Rattle.snap_call.specs.declared.state.State.{State}
+use Rattle.snap_call.specs.Good.{Good}
+use Rattle.snap_call.specs.State.{opening}
+use Rattle.snap_call.proofs.Kept.{good_opening, good_step}
+use Rattle.snap_call.proofs.state.State.opening.Goals as goal
+
+pub returns-clause-good : goal.returns-clause-good
+returns-clause-good c = λ valid.
+    let config = c.args.config in
+    let state : State = record { root = config.root; namespaces = config.namespaces; records = c.new.result; leases = c.new-2.result; next_id = config.first_id; sessions = 0; entries = 0 } in
+    let same : state ≡ opening config = λ i. record { root = config.root; namespaces = config.namespaces; records = c.new.ensures i; leases = c.new-2.ensures i; next_id = config.first_id; sessions = 0; entries = 0 } in
+    subst Good (sym same) (good_opening config valid)
+
+pub returns-clause-keeps : goal.returns-clause-keeps
+returns-clause-keeps c = good_step
