@@ -1,10 +1,9 @@
 -- What is true of the state whenever no call is under way.
 use Rattle.std.specs.Prelude.{◌≡◌, ◌≢◌, ℕ, ◌<◌, true, false, List, [], ◌∷◌, Option, None, Some, IsSome, length}
-use Rattle.std.specs.List.{AllByRecursion, IsDistinct}
+use Rattle.std.specs.List.{AllByRecursion}
 use Rattle.std.specs.List.Sorted.{IsStrictlySortedBy}
-use Rattle.std.specs.Str.{bytes_eq}
 use Rattle.snap_usage.specs.Counted.{count_of, Covers}
-use Rattle.snap_lease.specs.Lease.{Lease}
+use Rattle.snap_lease.specs.Lease.{Lease, NamesOnce}
 use Rattle.snap_record.specs.Labels.{Bytes}
 use Rattle.snap_record.specs.declared.record.Content.{Content}
 use Rattle.snap_record.specs.declared.record.Content.TheVariants.{Active, Committed}
@@ -36,10 +35,6 @@ NamesStand rs (Some place) names = AllByRecursion (λ name. IsSome (committed_at
 
 abbrev pub IsGuarding : List Namespace → List Record → Lease → Type 0
 IsGuarding ns rs l = NamesStand rs (place_of l.namespace ns) l.names
-
--- no two of the names that the lease has are equal
-abbrev pub NamesOnce : Lease → Type 0
-NamesOnce l = IsDistinct bytes_eq l.names
 
 -- a committed snapshot's stored usage is the count over its layer
 abbrev pub IsCounted : Content → Type 0

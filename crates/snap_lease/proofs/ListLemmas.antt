@@ -5,8 +5,8 @@ use Rattle.std.proofs.lemmas.List.Quantifiers.{position-Some}
 use Rattle.std.proofs.lemmas.Option.{slice_get-get_or}
 use Rattle.std.proofs.lemmas.Bool.Decides.{nat_tests}
 use Rattle.std.proofs.lemmas.Slice.Eq.{bytes_eq-Decides}
-use Rattle.std.specs.List.{list_any, position_or_len}
-use Rattle.snap_lease.specs.Lease.{Lease, is_lease, does_name, with_name}
+use Rattle.std.specs.List.{list_any, position_or_len, AllByRecursion, IsDistinct}
+use Rattle.snap_lease.specs.Lease.{Lease, is_lease, does_name, empty_lease, with_name, NamesOnce}
 use Rattle.snap_lease.specs.Leases.{has_lease, AreDistinct, with_name_added}
 
 -- a test that no element passes: the filter by its negation keeps all, and a change where it passes changes nothing
@@ -99,6 +99,40 @@ AreDistinct-filter p (l ∷ ls) distinct = by (p l) (AreDistinct-filter p ls dis
     by true rest = (list_any-filter_none (is_lease l.namespace l.name) p ls distinct.0, rest)
     by false rest = rest
 
+-- ---- what is so of each element
+
+module _ {X : Type 0} (P : X → Type 0) where
+  pub all-push : (xs : List X) (x : X) → AllByRecursion P xs → P x → AllByRecursion P (xs ++ x ∷ [])
+  all-push [] x all last = (last, tt)
+  all-push (y ∷ xs) x all last = (all.0, all-push xs x all.1 last)
+
+  pub all-filter : (p : X → Bool) (xs : List X) → AllByRecursion P xs → AllByRecursion P (filter p xs)
+  all-filter p [] all = tt
+  all-filter p (x ∷ xs) all = by (p x) (all-filter p xs all.1)
+    where
+      by : (b : Bool) → AllByRecursion P (filter p xs) → AllByRecursion P (cond b (x ∷ filter p xs) (filter p xs))
+      by true rest = (all.0, rest)
+      by false rest = rest
+
+-- a name that is new goes last
+IsDistinct-push : (ns : List (List ℕ)) (name : List ℕ) → list_any (bytes_eq name) ns ≡ false → IsDistinct bytes_eq ns → IsDistinct bytes_eq (ns ++ name ∷ [])
+unfolding IsDistinct
+IsDistinct-push [] name absent once = (tt, tt)
+IsDistinct-push (n ∷ ns) name absent once =
+    let both = list_any-tail (bytes_eq name) n ns absent in
+    (all-push (λ y. bytes_eq n y ≡ false) ns name once.0 (bytes_eq_comm n name ∙ both.0), IsDistinct-push ns name both.1 once.1)
+
+pub NamesOnce-empty : (namespace lease : List ℕ) (until : Option ℕ) → NamesOnce (empty_lease namespace lease until)
+unfolding IsDistinct
+NamesOnce-empty namespace lease until = tt
+
+pub NamesOnce-with_name : (name : List ℕ) (l : Lease) → NamesOnce l → NamesOnce (with_name name l)
+NamesOnce-with_name name l once = by (does_name name l) refl
+  where
+    by : (b : Bool) → does_name name l ≡ b → NamesOnce (if b then l else record l { names = l.names ++ name ∷ [] })
+    by true named = once
+    by false absent = IsDistinct-push l.names name absent once
+
 -- after a lease that is of the namespace and of the name, there is no other
 pub has_lease-after : (namespace lease : List ℕ) (l : Lease) (ls : List Lease) → AreDistinct (l ∷ ls) → is_lease namespace lease l ≡ true → has_lease ls namespace lease ≡ false
 has_lease-after namespace lease l ls distinct is =
@@ -156,6 +190,14 @@ module _ (namespace lease name : List ℕ) where
   AreDistinct-with_name_added [] distinct = tt
   AreDistinct-with_name_added (l ∷ ls) distinct =
       (has_lease-with_name_added (changed l).namespace (changed l).name ls ∙ ap (λ n. has_lease ls n (changed l).name) (namespace-changed l) ∙ ap (has_lease ls l.namespace) (name-changed l) ∙ distinct.0, AreDistinct-with_name_added ls distinct.1)
+
+  pub NamesOnce-with_name_added : (ls : List Lease) → AllByRecursion NamesOnce ls → AllByRecursion NamesOnce (with_name_added ls namespace lease name)
+  NamesOnce-with_name_added [] all = tt
+  NamesOnce-with_name_added (l ∷ ls) all = (by (is_lease namespace lease l), NamesOnce-with_name_added ls all.1)
+    where
+      by : (b : Bool) → NamesOnce (if b then with_name name l else l)
+      by true = NamesOnce-with_name name l all.0
+      by false = all.0
 
   -- a write at the place of the lease changes it alone
   pub set-with_name_added : (ls : List Lease) (place : ℕ) (d : Lease) → AreDistinct ls → place < length ls → is_lease namespace lease (get_or ls place d) ≡ true

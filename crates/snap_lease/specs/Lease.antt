@@ -1,6 +1,6 @@
 -- What a lease is, and what is asked of one lease. Texts are their bytes.
 use Rattle.std.specs.Prelude.{ℕ, Bool, true, List, [], ◌∷◌, ◌++◌, Option, None, Some, nat_le, ◌&&◌, if◌then◌else◌}
-use Rattle.std.specs.List.{list_any}
+use Rattle.std.specs.List.{list_any, IsDistinct}
 use Rattle.std.specs.Str.{bytes_eq}
 
 -- a lease of a namespace: its last moment, if it has one, and the snapshots that it names, in order
@@ -13,6 +13,10 @@ pub record Lease : Type 0 where
 -- whether the lease is of the namespace
 abbrev pub is_of : List ℕ → Lease → Bool
 is_of namespace l = bytes_eq namespace l.namespace
+
+-- the lease names each snapshot once
+abbrev pub NamesOnce : Lease → Type 0
+NamesOnce l = IsDistinct bytes_eq l.names
 
 -- whether it is the namespace's lease of this name
 abbrev pub is_lease : List ℕ → List ℕ → Lease → Bool

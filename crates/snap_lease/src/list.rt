@@ -1,6 +1,7 @@
 //! The leases of all namespaces.
 ghost use Rattle.std.specs.Prelude.{◌≡◌, ◌≢◌, ◌↔◌, ◌<◌, ℕ, List, [], ◌∷◌, ◌++◌, map, false, count_by, position, string_bytes, Some, IsTrue, IfOk, OnOk, OnErr, IsErrOf, IsOkUnless};
-ghost use Rattle.snap_lease.specs.Lease.{empty_lease, is_lease};
+ghost use Rattle.std.specs.List.{AllByRecursion};
+ghost use Rattle.snap_lease.specs.Lease.{empty_lease, is_lease, NamesOnce};
 ghost use Rattle.snap_lease.specs.Leases.{AreDistinct, has_lease, names_of, lease_names, count_of, is_guarded, is_guarded_at, has_ended, with_name_added, without_lease, without_ended, CountsAdded, CountsReleased, CountsLive};
 
 use crate::LeaseError;
@@ -21,14 +22,15 @@ pub struct Leases {
 
 impl Model for Leases {
     ghost use Rattle.std.specs.Prelude.{List};
-    ghost use Rattle.snap_lease.specs.Lease.{Lease};
+    ghost use Rattle.std.specs.List.{AllByRecursion};
+    ghost use Rattle.snap_lease.specs.Lease.{Lease, NamesOnce};
     ghost use Rattle.snap_lease.specs.Leases.{AreDistinct};
 
     ghost Value = { List Lease };
 
     ghost view = { λ a. a.list.items };
 
-    ghost invariant = { λ a. AreDistinct a.list.items };
+    ghost invariant = { λ a. AreDistinct a.list.items × AllByRecursion NamesOnce a.list.items };
 }
 
 impl Leases {
@@ -163,8 +165,10 @@ impl Leases {
     pub fn count(&self, namespace: &str, name: &str) -> u64
         ensures value { result ≡ count_of self.now namespace.now name.now }
 
-        // What is so of all leases: no two of one namespace have the same name.
+        // What is so of all leases: no two of one namespace have the same name, and each names a snapshot
+        // once.
         ensures distinct { AreDistinct self.now }
+        ensures once { AllByRecursion NamesOnce self.now }
     {
         self.list
             .iter()

@@ -1,9 +1,10 @@
 use Rattle.std.proofs.Common.{◌∙◌, ◌≡◌, ◌<◌, ℕ, List, Some, true, false, Bool, ap, get_or, length, position, refl, set, subst, sym}
 use Rattle.std.proofs.lemmas.List.Quantifiers.{position-Some}
-use Rattle.snap_lease.specs.Lease.{Lease, does_name, is_lease, with_name}
+use Rattle.std.specs.List.{AllByRecursion}
+use Rattle.snap_lease.specs.Lease.{Lease, does_name, is_lease, with_name, NamesOnce}
 use Rattle.snap_lease.specs.Leases.{AreDistinct, CountsAdded, lease_names, with_name_added}
 use Rattle.snap_lease.proofs.CountLemmas.{CountsAdded-with_name_added, lease_names-at}
-use Rattle.snap_lease.proofs.ListLemmas.{AreDistinct-with_name_added, set-with_name_added}
+use Rattle.snap_lease.proofs.ListLemmas.{AreDistinct-with_name_added, NamesOnce-with_name_added, set-with_name_added}
 use Rattle.snap_lease.proofs.list.Leases.add.Goals as goal
 
 -- a place that `position` found is within the list, and the lease there is the one meant
@@ -32,7 +33,7 @@ written ls namespace lease name place entry new at is =
 added : (c : goal.In_ok-add) → IsAt c.self.inside.list.items c.args.namespace.now c.args.lease.now c.in-Some.place c.index_mut-entry.result.now
 added c =
     at_place c.self.inside.list.items c.args.self.now c.args.namespace.now c.args.lease.now c.in-Some.place c.index_mut-entry.result.now
-    c.self.view_is c.self.invariant c.in-Some.ensures c.index_mut-entry.ensures.value
+    c.self.view_is c.self.invariant.0 c.in-Some.ensures c.index_mut-entry.ensures.value
 
 new_items : (c : goal.In_ok-add) → set c.self.inside.list.items c.in-Some.place c.add.new.self ≡ with_name_added c.self.inside.list.items c.args.namespace.now c.args.lease.now c.args.name.now
 new_items c =
@@ -40,7 +41,9 @@ new_items c =
 
 pub invariant_of-self-2 : goal.invariant_of-self-2
 invariant_of-self-2 c =
-    subst AreDistinct (sym (new_items c)) (AreDistinct-with_name_added c.args.namespace.now c.args.lease.now c.args.name.now c.self.inside.list.items c.self.invariant)
+    let distinct = AreDistinct-with_name_added c.args.namespace.now c.args.lease.now c.args.name.now c.self.inside.list.items c.self.invariant.0 in
+    let once = NamesOnce-with_name_added c.args.namespace.now c.args.lease.now c.args.name.now c.self.inside.list.items c.self.invariant.1 in
+    (subst AreDistinct (sym (new_items c)) distinct, subst (AllByRecursion NamesOnce) (sym (new_items c)) once)
 
 pub returns-clause-ok : goal.returns-clause-ok
 returns-clause-ok c = new_items c ∙ ap (λ ls. with_name_added ls c.args.namespace.now c.args.lease.now c.args.name.now) c.self.view_is
@@ -57,7 +60,7 @@ pub returns-in_err-add-clause-memory : goal.returns-in_err-add-clause-memory
 returns-in_err-add-clause-memory c =
     let at =
     at_place c.self.inside.list.items c.args.self.now c.args.namespace.now c.args.lease.now c.in-Some.place c.index_mut-entry.result.now
-    c.self.view_is c.self.invariant c.in-Some.ensures c.index_mut-entry.ensures.value in
+    c.self.view_is c.self.invariant.0 c.in-Some.ensures c.index_mut-entry.ensures.value in
     let named : lease_names c.args.self.now c.args.namespace.now c.args.lease.now c.args.name.now ≡ does_name c.args.name.now c.index_mut-entry.result.now =
     ap (λ ls. lease_names ls c.args.namespace.now c.args.lease.now c.args.name.now) (sym c.self.view_is)
     ∙ lease_names-at c.args.namespace.now c.args.lease.now c.args.name.now c.self.inside.list.items c.in-Some.place c.index_mut-entry.result.now at.distinct at.within at.is

@@ -1,7 +1,8 @@
 use Rattle.std.proofs.Common.{◌∙◌, ◌≡◌, ◌++◌, ◌∷◌, [], false, ap, sym, subst}
-use Rattle.snap_lease.specs.Lease.{Lease, empty_lease}
+use Rattle.std.specs.List.{AllByRecursion}
+use Rattle.snap_lease.specs.Lease.{Lease, empty_lease, NamesOnce}
 use Rattle.snap_lease.specs.Leases.{has_lease, AreDistinct}
-use Rattle.snap_lease.proofs.ListLemmas.{AreDistinct-push}
+use Rattle.snap_lease.proofs.ListLemmas.{AreDistinct-push, NamesOnce-empty, all-push}
 use Rattle.snap_lease.proofs.list.Leases.create.Goals as goal
 
 pub invariant_of-self-2 : goal.invariant_of-self-2
@@ -11,4 +12,5 @@ invariant_of-self-2 c =
     let new : has_lease c.self.inside.list.items c.in_ok-entry.entry.namespace c.in_ok-entry.entry.name ≡ false =
     ap (λ (l : Lease). has_lease c.self.inside.list.items l.namespace l.name) entry ∙ ap (λ ls. has_lease ls c.args.namespace.now c.args.lease.now) c.self.view_is ∙ absent in
     let items : c.push.new.self.items ≡ c.self.inside.list.items ++ c.in_ok-entry.entry ∷ [] = c.in_ok-push.ensures.items in
-    subst AreDistinct (sym items) (AreDistinct-push c.self.inside.list.items c.in_ok-entry.entry c.self.invariant new)
+    let once : NamesOnce c.in_ok-entry.entry = subst NamesOnce (sym entry) (NamesOnce-empty c.args.namespace.now c.args.lease.now c.args.until) in
+    (subst AreDistinct (sym items) (AreDistinct-push c.self.inside.list.items c.in_ok-entry.entry c.self.invariant.0 new), subst (AllByRecursion NamesOnce) (sym items) (all-push NamesOnce c.self.inside.list.items c.in_ok-entry.entry c.self.invariant.1 once))

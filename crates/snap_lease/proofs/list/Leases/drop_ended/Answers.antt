@@ -1,8 +1,10 @@
 use Rattle.std.proofs.Common.{◌∙◌, ◌≡◌, rules, ap, sym, subst}
 use Rattle.std.proofs.lemmas.Fn.{filter_same}
+use Rattle.std.specs.List.{AllByRecursion}
+use Rattle.snap_lease.specs.Lease.{NamesOnce}
 use Rattle.snap_lease.specs.Leases.{AreDistinct, without_ended, CountsLive}
 use Rattle.snap_lease.proofs.CountLemmas.{CountsLive-without_ended}
-use Rattle.snap_lease.proofs.ListLemmas.{AreDistinct-filter}
+use Rattle.snap_lease.proofs.ListLemmas.{AreDistinct-filter, all-filter}
 use Rattle.snap_lease.proofs.list.Leases.drop_ended.Goals as goal
 
 -- what the call leaves
@@ -10,7 +12,7 @@ kept : (c : goal.After-retain) → c.retain.new.self.items ≡ without_ended c.s
 kept c = filter_same _ _ _ (λ x b f' k. search rules) _ _ c.retain.ensures.filtered
 
 pub invariant_of-self : goal.invariant_of-self
-invariant_of-self c = subst AreDistinct (sym (kept c)) (AreDistinct-filter _ _ c.self.invariant)
+invariant_of-self c = (subst AreDistinct (sym (kept c)) (AreDistinct-filter _ _ c.self.invariant.0), subst (AllByRecursion NamesOnce) (sym (kept c)) (all-filter NamesOnce _ _ c.self.invariant.1))
 
 pub returns-clause-leases : goal.returns-clause-leases
 returns-clause-leases c = kept c ∙ ap (λ ls. without_ended ls c.args.namespace.now c.args.now) c.self.view_is
