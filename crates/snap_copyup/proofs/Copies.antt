@@ -21,7 +21,7 @@ use Rattle.snap_merge.specs.Walk.{walk}
 use Rattle.snap_merge.proofs.Views.{seen_node}
 use Rattle.snap_merge.proofs.Above.{nothing_seen}
 use Rattle.snap_copyup.specs.Copying.{below, with_object, with_parents, copied_up}
-use Rattle.snap_copyup.specs.Places.{with_last, Fits, last_of}
+use Rattle.snap_copyup.specs.Places.{with_last, CanStand, last_of}
 use Rattle.snap_copyup.proofs.Alone.{below_seen, copied_there, copied_missing}
 use Rattle.snap_copyup.proofs.Elsewhere.{Puts, shown_same, shown_number, seen-put_hiding}
 use Rattle.snap_copyup.proofs.ParentDirs.{AddsParents, adds_parents, one_dir}
@@ -133,15 +133,15 @@ module _ (u : Tree) (ls : List Tree) (p : Names) (way : walk (u ∷ ls) p ≡ No
       by None e = ap (λ (v : Tree). seen (v ∷ ls) q) (copied_below e) ∙ seen_as (below u ls p) e (below_seen u ls p e)
 
 -- what a copy-up puts at the path may be put there
-pub copy_fits : (u : Tree) (ls : List Tree) (p : Names) → IsLayer u → AreLayers ls → Fits (last_of (at u p) (below u ls p)) u p
+pub copy_fits : (u : Tree) (ls : List Tree) (p : Names) → IsLayer u → AreLayers ls → CanStand (last_of (at u p) (below u ls p)) u p
 copy_fits u ls p ok layers = by (at u p) refl
   where
-    fits : (o : Option Object) → at u p ≡ None → IsWholeObject o → Fits (last_of None o) u p
+    fits : (o : Option Object) → at u p ≡ None → IsWholeObject o → CanStand (last_of None o) u p
     fits None none whole = tt
     fits (Some (dir mode)) none whole = (vacant u p ok none, whole)
     fits (Some (file mode bytes)) none whole = (vacant u p ok none, whole.0, whole.1)
     fits (Some (symlink target)) none whole = (vacant u p ok none, whole)
 
-    by : (o : Option Node) → at u p ≡ o → Fits (last_of o (below u ls p)) u p
+    by : (o : Option Node) → at u p ≡ o → CanStand (last_of o (below u ls p)) u p
     by (Some n) e = tt
     by None e = fits (below u ls p) e (whole_below u ls layers p)

@@ -20,7 +20,7 @@ use Rattle.snap_merge.proofs.Views.{walk_same}
 use Rattle.snap_copyup.specs.declared.parents.Last.{Last}
 use Rattle.snap_copyup.specs.declared.parents.Last.TheVariants.{Nothing, Dir, File, Symlink, Whiteout}
 use Rattle.snap_copyup.specs.Copying.{below, copied, with_object, with_parents_from, with_parents, copied_up}
-use Rattle.snap_copyup.specs.Places.{with_last, Fits, ParentStands, last_of}
+use Rattle.snap_copyup.specs.Places.{with_last, CanStand, ParentStands, last_of}
 use Rattle.snap_copyup.proofs.Alone.{walk_passes, below_seen, copied_there, copied_missing, some_dir}
 use Rattle.snap_copyup.proofs.ParentDirs.{AddsParents, adds_parents, dir_copied, copied_stands, parents_stand}
 use Rattle.snap_copyup.proofs.Growing.{grows_once, grows_from, last_inodes}
@@ -100,7 +100,7 @@ last_from t within = by (nat_le (inode_count t) 65536) within
     by true e = grind (arith, nat_tests)
     by false e = absurd (cc)
 
-pub IsLayer-with_last : (t : Tree) (p : Names) (last : Last) → IsLayer t → IsPath p → Fits last t p → ParentStands t p → is_within (with_last last t p) ≡ true → IsLayer (with_last last t p)
+pub IsLayer-with_last : (t : Tree) (p : Names) (last : Last) → IsLayer t → IsPath p → CanStand last t p → ParentStands t p → is_within (with_last last t p) ≡ true → IsLayer (with_last last t p)
 IsLayer-with_last t p Nothing ok path fit parent within = ok
 IsLayer-with_last t p (Dir mode opaque) ok path fit parent within =
     let same = with_node-free t ok p (node.Dir mode opaque) fit.0.free in
@@ -120,7 +120,7 @@ IsLayer-with_last t p Whiteout ok path fit parent within =
     becomes.layer (omega (arith, becomes.count, few_from v within))
 
 -- the layer with the directories above a path, and with what is put there
-pub IsLayer-put : (u : Tree) (ls : List Tree) (p : Names) (last : Last) → IsLayer u → AreLayers ls → walk (u ∷ ls) p ≡ None → IsPath p → Fits last u p → is_within (with_last last (with_parents u ls p) p) ≡ true → IsLayer (with_last last (with_parents u ls p) p)
+pub IsLayer-put : (u : Tree) (ls : List Tree) (p : Names) (last : Last) → IsLayer u → AreLayers ls → walk (u ∷ ls) p ≡ None → IsPath p → CanStand last u p → is_within (with_last last (with_parents u ls p) p) ≡ true → IsLayer (with_last last (with_parents u ls p) p)
 IsLayer-put u ls p last ok layers way path fit within =
     IsLayer-with_last t p last (by (at u p) refl) path (fits_same last u t p (adds.leaves p (omega arith)) fit) (parents_stand u ls p way) within
   where

@@ -19,7 +19,7 @@ use Rattle.snap_merge.proofs.Walking.{walk_more}
 use Rattle.snap_copyup.specs.declared.parents.Last.{Last}
 use Rattle.snap_copyup.specs.declared.parents.Last.TheVariants.{Nothing, Dir, File, Symlink, Whiteout}
 use Rattle.snap_copyup.specs.Copying.{below, copied, with_object, with_parents_from}
-use Rattle.snap_copyup.specs.Places.{with_last, IsVacant, Fits, ParentStands}
+use Rattle.snap_copyup.specs.Places.{with_last, IsFreePlace, CanStand, ParentStands}
 use Rattle.snap_copyup.proofs.Alone.{walk_passes, below_seen, copied_there, copied_missing, dir_there_over, some_dir}
 use Rattle.snap_copyup.proofs.ParentDirs.{AddsParents, adds_from, dir_copied, copied_stands}
 use Rattle.snap_copyup.proofs.Growing.{grows_once, grows_from, last_inodes}
@@ -43,16 +43,16 @@ parent_next u p k lt stands q n e = subst (λ (r : Names). IsDirAt (at u r)) (sn
 
 -- ---- where it is put
 
-pub room : (u : Tree) (p : Names) → IsVacant u p → ParentStands u p → HasRoom u p
+pub room : (u : Tree) (p : Names) → IsFreePlace u p → ParentStands u p → HasRoom u p
 room u p vacant parent = record { free = vacant.free; above = record { below_root = vacant.below_root; parent = parent } }
 
-pub place : (u : Tree) (p : Names) → IsLayer u → IsVacant u p → ParentStands u p → HasPlace u p
+pub place : (u : Tree) (p : Names) → IsLayer u → IsFreePlace u p → ParentStands u p → HasPlace u p
 place u p ok vacant parent = HasPlace-from_room u p ok (room u p vacant parent)
 
-vacant_same : (u v : Tree) (p : Names) → at v p ≡ at u p → IsVacant u p → IsVacant v p
+vacant_same : (u v : Tree) (p : Names) → at v p ≡ at u p → IsFreePlace u p → IsFreePlace v p
 vacant_same u v p same vacant = record { below_root = vacant.below_root; free = subst IsFree (sym same) vacant.free }
 
-pub fits_same : (last : Last) (u v : Tree) (p : Names) → at v p ≡ at u p → Fits last u p → Fits last v p
+pub fits_same : (last : Last) (u v : Tree) (p : Names) → at v p ≡ at u p → CanStand last u p → CanStand last v p
 fits_same Nothing u v p same fit = fit
 fits_same (Dir mode opaque) u v p same fit = (vacant_same u v p same fit.0, fit.1)
 fits_same (File mode bytes) u v p same fit = (vacant_same u v p same fit.0, fit.1, fit.2)
@@ -80,7 +80,7 @@ present u ls p k lt way some =
 pub record Missing (u v : Tree) (ls : List Tree) (p : Names) (k : ℕ) (front : Names) (last : Last) : Type 0 where
   pub way : walk_from (v ∷ ls) (take (k + 1) p) (drop (k + 1) p) ≡ None
   pub parent : ParentStands v (take (k + 1) p)
-  pub fit : Fits last u p → Fits last v p
+  pub fit : CanStand last u p → CanStand last v p
   pub takeable : IsTakeable v front
   pub back : without v front ≡ u
   pub more : with_parents_from u ls (take k p) (drop k p) ≡ with_parents_from v ls (take (k + 1) p) (drop (k + 1) p)

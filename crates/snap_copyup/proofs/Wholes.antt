@@ -13,7 +13,7 @@ use Rattle.snap_layer.specs.Edits.{IsFree}
 use Rattle.snap_merge.specs.Objects.{Object, dir, file, symlink, seen, seen_over, shown, shown_body, AreLayers}
 use Rattle.snap_merge.specs.declared.error.FsError.{FsError}
 use Rattle.snap_copyup.specs.Copying.{below}
-use Rattle.snap_copyup.specs.Places.{IsVacant, IsRefusal}
+use Rattle.snap_copyup.specs.Places.{IsFreePlace, IsRefusal}
 
 -- the object's mode, size or target is within the limits
 abbrev pub IsWholeObject : Option Object → Type 0
@@ -54,7 +54,7 @@ pub whole_below : (u : Tree) (ls : List Tree) → AreLayers ls → (p : Names) �
 whole_below u ls ok p = whole_unless (hides u p) (seen ls p) (whole_seen ls ok p)
 
 -- nothing stands there
-pub vacant : (u : Tree) (p : Names) → IsLayer u → at u p ≡ None → IsVacant u p
+pub vacant : (u : Tree) (p : Names) → IsLayer u → at u p ≡ None → IsFreePlace u p
 vacant u p ok none = record {
   below_root = λ e. subst IsDirAt none (subst (λ (q : Names). IsDirAt (at u q)) (sym e) ok.root);
   free = subst IsFree (sym none) tt;

@@ -2,7 +2,7 @@
 use Rattle.std.specs.Prelude.{Bool, false, not, ◌||◌, List, [], ◌∷◌, ◌++◌, Option, Some, None, is_some, if◌then◌else◌}
 use Rattle.snap_path.specs.Text.{Names}
 use Rattle.snap_layer.specs.declared.node.Node.{Node}
-use Rattle.snap_layer.specs.declared.node.Node.TheVariants.{Dir, File, Symlink, Whiteout}
+use Rattle.snap_layer.specs.declared.node.Node.TheVariants.{Dir, File, Symlink}
 use Rattle.snap_layer.specs.declared.node.Body.TheVariants as body_kinds
 use Rattle.snap_layer.specs.Tree.{Tree, at, hides}
 use Rattle.snap_layer.specs.Edits.{with_entry, with_new}
@@ -14,11 +14,8 @@ below u lowers p = if hides u p then None else seen lowers p
 
 -- the node is a directory that is opaque, or there is no directory under it
 abbrev pub is_pure_over : Option Node → Option Object → Bool
-is_pure_over None under = false
 is_pure_over (Some (Dir mode opaque)) under = opaque || not (is_shown_dir under)
-is_pure_over (Some (File number)) under = false
-is_pure_over (Some (Symlink number)) under = false
-is_pure_over (Some Whiteout) under = false
+is_pure_over other under = false
 
 -- the upper layer alone has the directory at the path: it is opaque, or no directory is below it (overlayfs.rst, "renaming directories")
 abbrev pub is_pure : Tree → List Tree → Names → Bool

@@ -23,17 +23,17 @@ with_last (Symlink target) t p = with_new t p (node.Symlink t.next) (body_kinds.
 with_last Whiteout t p = with_node t p node.Whiteout
 
 -- the path is not the root, and nothing or a whiteout stands there
-pub record IsVacant (t : Tree) (p : Names) : Type 0 where
+pub record IsFreePlace (t : Tree) (p : Names) : Type 0 where
   pub below_root : p ≡ [] → ⊥
   pub free : IsFree (at t p)
 
 -- it may be put at the path: there is a place, and its mode, size or target is within the limits of a layer
-abbrev pub Fits : Last → Tree → Names → Type 0
-Fits Nothing t p = Unit {0}
-Fits (Dir mode opaque) t p = IsVacant t p × (mode ≤ 4095)
-Fits (File mode bytes) t p = IsVacant t p × (mode ≤ 4095) × (length bytes ≤ 1048576)
-Fits (Symlink target) t p = IsVacant t p × (is_target target ≡ true)
-Fits Whiteout t p = IsVacant t p
+abbrev pub CanStand : Last → Tree → Names → Type 0
+CanStand Nothing t p = Unit {0}
+CanStand (Dir mode opaque) t p = IsFreePlace t p × (mode ≤ 4095)
+CanStand (File mode bytes) t p = IsFreePlace t p × (mode ≤ 4095) × (length bytes ≤ 1048576)
+CanStand (Symlink target) t p = IsFreePlace t p × (is_target target ≡ true)
+CanStand Whiteout t p = IsFreePlace t p
 
 -- why a next layer was not made: it would pass the limits of a layer, or memory was refused
 abbrev pub IsRefusal : Tree → FsError → Type 0

@@ -5,7 +5,7 @@ ghost use Rattle.snap_layer.specs.Tree.{Tree, at};
 ghost use Rattle.snap_merge.specs.Objects.{seen, is_shown_dir, AreLayers};
 ghost use Rattle.snap_merge.specs.Walk.{walk, walk_from};
 ghost use Rattle.snap_copyup.specs.Copying.{copied, with_parents, with_parents_from};
-ghost use Rattle.snap_copyup.specs.Places.{with_last, missing_from, Fits, IsRefusal, ParentStands, TakesMore};
+ghost use Rattle.snap_copyup.specs.Places.{with_last, missing_from, CanStand, IsRefusal, ParentStands, TakesMore};
 
 use super::lower::below;
 use snap_layer::{Bytes, Layer, Shared};
@@ -57,7 +57,7 @@ pub fn ensure_dirs(layer: &mut Layer, lowers: &[Shared], path: &Path) -> Result<
 /// refused. After either the layer is as it was, and the bytes are gone. Cost: as `ensure_dirs`.
 pub fn put(layer: &mut Layer, lowers: &[Shared], path: &Path, last: Last) -> Result<(), FsError>
     requires way { walk (layer.old ∷ lowers.now) path.now ≡ None }
-    requires fit { Fits last layer.old path.now }
+    requires fit { CanStand last layer.old path.now }
     ensures ok { OnOk result (layer.new ≡ with_last last (with_parents layer.old lowers.now path.now) path.now) }
     ensures error { IfErr result (λ e. IsRefusal (with_last last (with_parents layer.old lowers.now path.now) path.now) e) }
     ensures unchanged { OnErr result (layer.new ≡ layer.old) }
@@ -79,7 +79,7 @@ fn put_from(
     requires layers { AreLayers lowers.now }
     requires way { walk_from (layer.old ∷ lowers.now) (take names path.now) (drop names path.now) ≡ None }
     requires parent { ParentStands layer.old (take names path.now) }
-    requires fit { Fits last layer.old path.now }
+    requires fit { CanStand last layer.old path.now }
     ensures ok { OnOk result (layer.new ≡ with_last last (with_parents_from layer.old lowers.now (take names path.now) (drop names path.now)) path.now) }
     ensures error { IfErr result (λ e. IsRefusal (with_last last (with_parents_from layer.old lowers.now (take names path.now) (drop names path.now)) path.now) e) }
     ensures unchanged { OnErr result (layer.new ≡ layer.old) }
@@ -104,7 +104,7 @@ fn put_from(
 
 /// Puts it at the path, in one edit.
 pub(crate) fn put_last(layer: &mut Layer, path: &Path, last: Last) -> Result<(), FsError>
-    requires fit { Fits last layer.old path.now }
+    requires fit { CanStand last layer.old path.now }
     requires parent { ParentStands layer.old path.now }
     ensures ok { OnOk result (layer.new ≡ with_last last layer.old path.now) }
     ensures error { IfErr result (λ e. IsRefusal (with_last last layer.old path.now) e) }

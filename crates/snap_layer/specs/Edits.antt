@@ -1,5 +1,6 @@
 -- The layer after each edit, and when the edit may be made.
 use Rattle.std.specs.Prelude.{◌≡◌, ℕ, ◌+◌, Bool, true, false, not, ◌==◌, filter, map, List, [], ◌∷◌, ◌++◌, length, drop, Option, Some, None, IsSome, if◌then◌else◌}
+use Rattle.std.specs.Option.{option_map_or}
 use Rattle.std.specs.Ordering.{nat_cmp}
 use Rattle.std.specs.Map.{remove_entry}
 use Rattle.std.specs.BTreeMap.{is_at, insert_entry}
@@ -29,8 +30,7 @@ outside p es = filter (λ e. not (begins p e.0)) es
 
 -- the bodies but that of the number, where no entry names it any more
 abbrev pub bodies_without : Option ℕ → Entries → Bodies → Bodies
-bodies_without None es bs = bs
-bodies_without (Some k) es bs = if name_count k es == 0 then remove_entry (is_at (nat_cmp k)) bs else bs
+bodies_without o es bs = option_map_or (λ k. if name_count k es == 0 then remove_entry (is_at (nat_cmp k)) bs else bs) o bs
 
 -- the layer without what stands at the path; a body goes with its last name (unlink(2))
 abbrev pub without : Tree → Names → Tree
@@ -56,14 +56,12 @@ name_of k (Some (body_kinds.Symlink target)) = Some (Symlink k)
 
 -- the layer with the name, if there is one, in place of what stands at the path
 abbrev pub with_name : Tree → Names → Option Node → Tree
-with_name t p None = t
-with_name t p (Some n) = with_node t p n
+with_name t p o = option_map_or (λ n. with_node t p n) o t
 
 -- the layer with other bytes of a file
 abbrev pub with_bytes : Tree → ℕ → Option Body → List ℕ → Tree
-with_bytes t k None bytes = t
 with_bytes t k (Some (body_kinds.File mode old)) bytes = with_body t k (body_kinds.File mode bytes)
-with_bytes t k (Some (body_kinds.Symlink target)) bytes = t
+with_bytes t k other bytes = t
 
 -- a file with another mode
 abbrev pub body_with_mode : Body → ℕ → Body
@@ -72,24 +70,18 @@ body_with_mode (body_kinds.Symlink target) mode = body_kinds.Symlink target
 
 -- the layer with another mode of a file
 abbrev pub with_file_mode : Tree → ℕ → Option Body → ℕ → Tree
-with_file_mode t k None mode = t
-with_file_mode t k (Some b) mode = with_body t k (body_with_mode b mode)
+with_file_mode t k o mode = option_map_or (λ b. with_body t k (body_with_mode b mode)) o t
 
 -- the layer with another mode of the directory or the file at a path; all names of a file have its mode (chmod(2))
 abbrev pub with_mode : Tree → Names → Option Node → ℕ → Tree
-with_mode t p None mode = t
 with_mode t p (Some (Dir old opaque)) mode = with_entry t p (Dir mode opaque)
 with_mode t p (Some (File k)) mode = with_file_mode t k (body t k) mode
-with_mode t p (Some (Symlink k)) mode = t
-with_mode t p (Some Whiteout) mode = t
+with_mode t p other mode = t
 
 -- the layer with the mark of the directory at a path
 abbrev pub with_opaque : Tree → Names → Option Node → Bool → Tree
-with_opaque t p None opaque = t
 with_opaque t p (Some (Dir mode old)) opaque = with_entry t p (Dir mode opaque)
-with_opaque t p (Some (File k)) opaque = t
-with_opaque t p (Some (Symlink k)) opaque = t
-with_opaque t p (Some Whiteout) opaque = t
+with_opaque t p other opaque = t
 
 -- the path with `to` in place of its front `from`
 abbrev pub relocated : Names → Names → Names → Names
@@ -154,14 +146,11 @@ pub record IsMovable (t : Tree) (from to : Names) : Type 0 where
 
 -- a regular file
 abbrev pub IsRegular : Option Body → Type 0
-IsRegular None = ⊥
 IsRegular (Some (body_kinds.File mode bytes)) = Unit {0}
-IsRegular (Some (body_kinds.Symlink target)) = ⊥
+IsRegular other = ⊥
 
 -- a directory's or a file's mode may be set
 abbrev pub HasMode : Option Node → Type 0
-HasMode None = ⊥
 HasMode (Some (Dir mode opaque)) = Unit {0}
 HasMode (Some (File number)) = Unit {0}
-HasMode (Some (Symlink number)) = ⊥
-HasMode (Some Whiteout) = ⊥
+HasMode other = ⊥

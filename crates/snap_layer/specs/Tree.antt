@@ -41,30 +41,24 @@ body t k = lookup (is_at (nat_cmp k)) t.bodies
 -- a directory
 abbrev pub is_dir : Node → Bool
 is_dir (Dir mode opaque) = true
-is_dir (File number) = false
-is_dir (Symlink number) = false
-is_dir Whiteout = false
+is_dir other = false
 
 -- a whiteout: it hides its name in the layers below (overlayfs.rst, "whiteouts and opaque directories")
 abbrev pub is_whiteout : Node → Bool
-is_whiteout (Dir mode opaque) = false
-is_whiteout (File number) = false
-is_whiteout (Symlink number) = false
 is_whiteout Whiteout = true
+is_whiteout other = false
 
 -- the file number that a node names: hard links to one file share it (link(2))
 abbrev pub number_of : Node → Option ℕ
-number_of (Dir mode opaque) = None
 number_of (File number) = Some number
 number_of (Symlink number) = Some number
-number_of Whiteout = None
+number_of other = None
 
 -- a node that names the file number
 abbrev pub has_number : ℕ → Node → Bool
-has_number k (Dir mode opaque) = false
 has_number k (File number) = number == k
 has_number k (Symlink number) = number == k
-has_number k Whiteout = false
+has_number k other = false
 
 -- the file number at a path, or nothing
 abbrev pub number_at : Tree → Names → Option ℕ
@@ -77,11 +71,9 @@ IsDirAt (Some n) = is_dir n ≡ true
 
 -- the name, where the path is that of the directory and one name more
 abbrev pub name_below : Names → Names → Option (List ℕ)
-name_below [] [] = None
 name_below [] (n ∷ []) = Some n
-name_below [] (n ∷ m ∷ ns) = None
-name_below (d ∷ ds) [] = None
 name_below (d ∷ ds) (n ∷ ns) = if bytes_eq d n then name_below ds ns else None
+name_below ds ns = None
 
 -- the names in a directory, in order
 abbrev pub names_below : Names → Entries → Names
@@ -91,9 +83,7 @@ names_below d es = filter_map (name_below d) (keys_of es)
 abbrev pub node_hides : Option Node → Bool
 node_hides None = false
 node_hides (Some (Dir mode opaque)) = opaque
-node_hides (Some (File number)) = true
-node_hides (Some (Symlink number)) = true
-node_hides (Some Whiteout) = true
+node_hides (Some other) = true
 
 -- the layer hides the path front ++ rest at the front, or at a longer proper prefix
 abbrev pub hides_from : Tree → Names → Names → Bool

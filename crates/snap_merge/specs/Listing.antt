@@ -11,7 +11,7 @@ use Rattle.snap_path.specs.Text.{Names}
 use Rattle.snap_layer.specs.Tree.{Tree, names_below}
 use Rattle.snap_merge.specs.declared.error.FsError.{FsError}
 use Rattle.snap_merge.specs.declared.error.FsError.TheVariants.{NotFound, NotDir}
-use Rattle.snap_merge.specs.Objects.{Object, dir, file, symlink, seen}
+use Rattle.snap_merge.specs.Objects.{Object, dir, seen}
 use Rattle.snap_merge.specs.Walk.{walk, unless}
 
 -- names are ordered by their bytes
@@ -36,8 +36,7 @@ names s p = filter (λ n. is_some (seen s (p ++ n ∷ []))) (gathered s p [])
 abbrev pub names_of : List Tree → Names → Option Object → Result Names FsError
 names_of s p None = Err NotFound
 names_of s p (Some (dir mode)) = Ok (names s p)
-names_of s p (Some (file mode bytes)) = Err NotDir
-names_of s p (Some (symlink target)) = Err NotDir
+names_of s p (Some other) = Err NotDir
 
 -- the walk's error, or the names in the directory, or why there are none
 abbrev pub listing : List Tree → Names → Result Names FsError

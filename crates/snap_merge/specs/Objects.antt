@@ -47,10 +47,8 @@ seen (t ∷ ts) p = seen_over t (at t p) p (seen ts p)
 
 -- a directory is seen
 abbrev pub is_shown_dir : Option Object → Bool
-is_shown_dir None = false
 is_shown_dir (Some (dir mode)) = true
-is_shown_dir (Some (file mode bytes)) = false
-is_shown_dir (Some (symlink target)) = false
+is_shown_dir other = false
 
 -- each of them is a layer
 abbrev pub AreLayers : List Tree → Type 0

@@ -6,7 +6,7 @@ use Rattle.snap_path.specs.Text.{Names, text_below, parent_of}
 use Rattle.snap_layer.specs.Tree.{Tree}
 use Rattle.snap_merge.specs.declared.error.FsError.{FsError}
 use Rattle.snap_merge.specs.declared.error.FsError.TheVariants.{BadPath, NotFound, NotDir, TooManyLinks}
-use Rattle.snap_merge.specs.Objects.{Object, dir, file, symlink, seen, is_shown_dir}
+use Rattle.snap_merge.specs.Objects.{Object, symlink, seen, is_shown_dir}
 
 -- the answer: a path or an error
 abbrev pub Answer : Type 0
@@ -40,9 +40,8 @@ words_of target = slice_split (λ b. b == 47) target
 -- nothing is an error, at a symlink its target is followed, and from anything else the way goes on
 abbrev pub entered : (List ℕ → Answer) → Answer → Option Object → Answer
 entered follow on None = Err NotFound
-entered follow on (Some (dir mode)) = on
-entered follow on (Some (file mode bytes)) = on
 entered follow on (Some (symlink target)) = follow target
+entered follow on (Some other) = on
 
 -- the way from a place by these words; `follow` is the way from a symlink's start, by its target's words and those left
 abbrev pub way : (Names → Names → Answer) → List Tree → Names → Names → Answer
@@ -82,6 +81,5 @@ plain_error s place (n ∷ ns) = if not (is_shown_dir (seen s place)) then Some 
 -- a directory or a file is seen
 abbrev pub is_shown_end : Option Object → Bool
 is_shown_end None = false
-is_shown_end (Some (dir mode)) = true
-is_shown_end (Some (file mode bytes)) = true
 is_shown_end (Some (symlink target)) = false
+is_shown_end (Some other) = true

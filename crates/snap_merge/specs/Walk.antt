@@ -4,14 +4,13 @@ use Rattle.snap_path.specs.Text.{Names}
 use Rattle.snap_layer.specs.Tree.{Tree}
 use Rattle.snap_merge.specs.declared.error.FsError.{FsError}
 use Rattle.snap_merge.specs.declared.error.FsError.TheVariants.{NotFound, NotDir, OutOfMemory}
-use Rattle.snap_merge.specs.Objects.{Object, dir, file, symlink, seen}
+use Rattle.snap_merge.specs.Objects.{Object, dir, seen}
 
 -- the error where no directory is seen, or that of the walk from there on
 abbrev pub walk_on : Option Object → Option FsError → Option FsError
 walk_on None later = Some NotFound
 walk_on (Some (dir mode)) later = later
-walk_on (Some (file mode bytes)) later = Some NotDir
-walk_on (Some (symlink target)) later = Some NotDir
+walk_on (Some other) later = Some NotDir
 
 -- the first error at the front and the longer proper prefixes of front ++ rest
 abbrev pub walk_from : List Tree → Names → Names → Option FsError

@@ -27,8 +27,9 @@ use Rattle.snap_upper.specs.declared.op.Op.{Op}
 use Rattle.snap_upper.specs.declared.op.Op.TheVariants as op
 use Rattle.snap_copyup.specs.Copying.{with_parents, copied_up}
 use Rattle.snap_copyup.proofs.Layers.{no_missing}
-use Rattle.snap_merge.specs.Walk.{walk}
-use Rattle.snap_upper.specs.After.{after, tests, first_error, limited, unless, next_layer, is_whiteout_at, written, resized, with_content, file_error, mode_error}
+use Rattle.snap_merge.specs.Walk.{walk, unless}
+use Rattle.snap_upper.specs.After.{after, tests, first_error, limited, next_layer, is_whiteout_at, written, resized, with_content}
+use Rattle.snap_upper.proofs.KindErrors.{file_error, mode_error}
 use Rattle.snap_upper.specs.Changed.{ShowsAt, IsName, Turns, with_file_bytes, with_object_mode, changed}
 use Rattle.snap_copyup.proofs.Alone.{free_unseen, dir_seen}
 use Rattle.snap_upper.proofs.Erased.{IsErasable-name, IsErasable-dir, erased_changes}

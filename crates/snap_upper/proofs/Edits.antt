@@ -10,12 +10,12 @@ use Rattle.snap_merge.specs.Objects.{file, seen, AreLayers}
 use Rattle.snap_merge.specs.Walk.{walk}
 use Rattle.snap_copyup.specs.declared.parents.Last.TheVariants as last
 use Rattle.snap_copyup.specs.Copying.{below, copied_up, with_parents}
-use Rattle.snap_copyup.specs.Places.{with_last, Fits}
+use Rattle.snap_copyup.specs.Places.{with_last, CanStand}
 use Rattle.snap_copyup.proofs.Alone.{below_seen}
 use Rattle.snap_copyup.proofs.Wholes.{IsWholeObject, whole_seen, vacant}
 use Rattle.snap_upper.specs.declared.change.Edit.{Edit}
 use Rattle.snap_upper.specs.declared.change.Edit.TheVariants.{Keep, Write, Resize}
-use Rattle.snap_upper.specs.After.{limited, with_content, bytes_of}
+use Rattle.snap_upper.specs.After.{limited, with_content, body_bytes}
 use Rattle.snap_upper.specs.Changes.{edited, IsShort}
 use Rattle.snap_upper.proofs.Writing.{written_short, resized_length, own_file, no_own, own_filled, copy_filled}
 
@@ -33,11 +33,11 @@ module _ (u : Tree) (ls : List Tree) (p : Names) (e : Edit) (ok : IsLayer u) (la
   pub own_edit : (k : ℕ) → number_at u p ≡ Some k → ((x : ℕ) × (y : List ℕ) × (body u k ≡ Some (body_kinds.File x y)) × IsShort e × (length (edited e y) ≤ 1048576)) × (limited (with_content u (Some k) (edited e)) ≡ limited (with_content (copied_up u ls p) (number_at (copied_up u ls p) p) (edited e)))
   own_edit k number =
       let there = own_file u ls p m old ok was k number in
-      let fill : with_content u (Some k) (edited e) ≡ with_content (copied_up u ls p) (number_at (copied_up u ls p) p) (edited e) = ap (λ (o : Option Body). with_bytes u k o (edited e (bytes_of o))) there.1 ∙ sym (own_filled u ls p k m old (edited e) ok there.0 there.1) in
+      let fill : with_content u (Some k) (edited e) ≡ with_content (copied_up u ls p) (number_at (copied_up u ls p) p) (edited e) = ap (λ (o : Option Body). with_bytes u k o (edited e (body_bytes o))) there.1 ∙ sym (own_filled u ls p k m old (edited e) ok there.0 there.1) in
       ((m, old, there.1, is_short, edited_short e old is_short whole.1), ap limited fill)
 
   -- a lower file, which is copied up
-  pub lower_edit : walk (u ∷ ls) p ≡ None → number_at u p ≡ None → (x : ℕ) (y : List ℕ) → below u ls p ≡ Some (file x y) → ((walk (u ∷ ls) p ≡ None) × Fits (last.File x (edited e y)) u p × (IsShort e × (length (edited e y) ≤ 1048576))) × (limited (with_last (last.File x (edited e y)) (with_parents u ls p) p) ≡ limited (with_content (copied_up u ls p) (number_at (copied_up u ls p) p) (edited e)))
+  pub lower_edit : walk (u ∷ ls) p ≡ None → number_at u p ≡ None → (x : ℕ) (y : List ℕ) → below u ls p ≡ Some (file x y) → ((walk (u ∷ ls) p ≡ None) × CanStand (last.File x (edited e y)) u p × (IsShort e × (length (edited e y) ≤ 1048576))) × (limited (with_last (last.File x (edited e y)) (with_parents u ls p) p) ≡ limited (with_content (copied_up u ls p) (number_at (copied_up u ls p) p) (edited e)))
   lower_edit way number x y is =
       let none = no_own u ls p m old ok was number in
       let here : seen (u ∷ ls) p ≡ Some (file x y) = below_seen u ls p none ∙ is in

@@ -34,7 +34,8 @@ use Rattle.snap_copyup.proofs.ParentDirs.{AddsParents, adds_parents}
 use Rattle.snap_copyup.proofs.Layers.{no_missing}
 use Rattle.snap_upper.specs.declared.op.Op.TheVariants as op
 use Rattle.snap_merge.specs.declared.error.FsError.TheVariants.{Invalid, NotEmpty}
-use Rattle.snap_upper.specs.After.{tests, first_error, error_if, name_error, dir_error, is_root, has_names, erased}
+use Rattle.snap_upper.specs.After.{tests, first_error, error_if, is_root, has_names, erased}
+use Rattle.snap_upper.proofs.KindErrors.{name_error, dir_error}
 use Rattle.snap_upper.specs.Changed.{ShowsAt}
 use Rattle.snap_upper.proofs.Outcomes.{test_passes, error_if_passes}
 

@@ -27,7 +27,7 @@ use Rattle.snap_merge.specs.Walk.{walk}
 use Rattle.snap_copyup.specs.declared.parents.Last.{Last}
 use Rattle.snap_copyup.specs.declared.parents.Last.TheVariants.{Nothing, Dir, File, Symlink, Whiteout}
 use Rattle.snap_copyup.specs.Copying.{with_parents}
-use Rattle.snap_copyup.specs.Places.{with_last, Fits, TakesMore}
+use Rattle.snap_copyup.specs.Places.{with_last, CanStand, TakesMore}
 use Rattle.snap_copyup.proofs.ParentDirs.{AddsParents, adds_parents}
 use Rattle.snap_copyup.proofs.Growing.{grows_from}
 use Rattle.snap_copyup.proofs.Layers.{no_missing, IsLayer-put}
@@ -219,7 +219,7 @@ module _ (u : Tree) (ls : List Tree) (p : Names) (last : Last) (blocks : ℕ) (n
   pub all_bodies : (k : ℕ) → (k ≡ u.next → ⊥) → body v k ≡ body u k
   all_bodies k other = adds.bodies k (λ e. other (e ∙ parents.next)) ∙ ap (λ (bs : Bodies). lookup (is_at (nat_cmp k)) bs) parents.bodies
 
-  pub growth_next : AreLayers ls → IsPath p → Fits last u p → (usage : Usage) → usage.inodes + (if is_whiteout_at (at u p) then 1 else 0) ≡ inode_count u + missing + 1 → usage.blocks ≡ block_count u + missing + blocks → IsNext u v usage numbered
+  pub growth_next : AreLayers ls → IsPath p → CanStand last u p → (usage : Usage) → usage.inodes + (if is_whiteout_at (at u p) then 1 else 0) ≡ inode_count u + missing + 1 → usage.blocks ≡ block_count u + missing + blocks → IsNext u v usage numbered
   growth_next layers path fit usage inodes is_blocks = record {
     inodes = omega (arith, all_inodes, inodes);
     blocks = omega (arith, is_blocks, all_blocks);

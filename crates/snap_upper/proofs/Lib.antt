@@ -23,3 +23,4 @@ pub mod Made
 pub mod Shares
 pub mod Examples
 pub mod Uncharged
+pub mod KindErrors

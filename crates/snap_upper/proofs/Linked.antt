@@ -40,7 +40,8 @@ use Rattle.snap_copyup.proofs.Layers.{no_missing}
 use Rattle.snap_copyup.proofs.Copies.{Puts-with_new, copied_view}
 use Rattle.snap_copyup.proofs.Wholes.{refused_later}
 use Rattle.snap_upper.specs.declared.op.Op.TheVariants as op
-use Rattle.snap_upper.specs.After.{tests, first_error, error_if, link_error, limited, next_layer}
+use Rattle.snap_upper.specs.After.{tests, first_error, error_if, limited, next_layer}
+use Rattle.snap_upper.proofs.KindErrors.{link_error}
 use Rattle.snap_upper.specs.Changed.{ShowsAt}
 use Rattle.snap_upper.proofs.Outcomes.{test_passes, error_if_passes, refused}
 use Rattle.snap_upper.proofs.Erased.{above_out, body_stays, whiteout_changes}

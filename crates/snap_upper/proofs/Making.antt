@@ -11,7 +11,7 @@ use Rattle.snap_layer.specs.Layers.{IsLayer}
 use Rattle.snap_layer.specs.Edits.{with_entry}
 use Rattle.snap_copyup.specs.declared.parents.Last.TheVariants as last
 use Rattle.snap_copyup.specs.Copying.{with_parents}
-use Rattle.snap_copyup.specs.Places.{with_last, IsVacant}
+use Rattle.snap_copyup.specs.Places.{with_last, IsFreePlace}
 use Rattle.snap_merge.specs.Objects.{Object, seen, is_shown_dir}
 use Rattle.snap_merge.specs.Walk.{walk}
 use Rattle.snap_merge.specs.declared.error.FsError.TheVariants.{Exists, Invalid, TooBig}
@@ -48,7 +48,7 @@ shown_some : (b : Bool) → b ≡ true → b ≡ false → ⊥
 shown_some b e f = cc
 
 -- where nothing is seen there is a place
-pub vacant_unseen : (u : Tree) (ls : List Tree) (p : Names) → IsLayer u → is_some (seen (u ∷ ls) p) ≡ false → IsVacant u p
+pub vacant_unseen : (u : Tree) (ls : List Tree) (p : Names) → IsLayer u → is_some (seen (u ∷ ls) p) ≡ false → IsFreePlace u p
 vacant_unseen u ls p ok unseen = record {
   below_root = λ root. shown_some (is_some (seen (u ∷ ls) [])) (some_shown (seen (u ∷ ls) []) (dir_seen u ls [] ok.root)) (subst (λ (q : Names). is_some (seen (u ∷ ls) q) ≡ false) root unseen);
   free = free_unseen u ls p ok unseen;

@@ -22,7 +22,7 @@ use Rattle.snap_merge.specs.declared.error.FsError.TheVariants.{Invalid}
 use Rattle.snap_upper.specs.declared.usage.Planned.{Planned}
 use Rattle.snap_merge.proofs.Views.{seen_node}
 use Rattle.snap_copyup.specs.Copying.{copied, copied_up, with_object, with_parents}
-use Rattle.snap_copyup.specs.Places.{with_last, Fits}
+use Rattle.snap_copyup.specs.Places.{with_last, CanStand}
 use Rattle.snap_copyup.proofs.Alone.{copied_there, copied_missing, below_seen}
 use Rattle.snap_copyup.proofs.ParentDirs.{adds_parents}
 use Rattle.snap_copyup.proofs.Wholes.{IsWholeObject, whole_seen, vacant}
@@ -33,7 +33,8 @@ use Rattle.snap_upper.specs.declared.change.Edit.{Edit}
 use Rattle.snap_upper.specs.declared.change.New.{New}
 use Rattle.snap_upper.specs.declared.change.New.TheVariants as new
 use Rattle.snap_upper.specs.Changes.{as_last, edited, IsShort, IsSound, IsWithMode}
-use Rattle.snap_upper.specs.After.{after, limited, planned, tests, first_error, error_if, mode_error}
+use Rattle.snap_upper.specs.After.{after, limited, planned, tests, first_error, error_if}
+use Rattle.snap_upper.proofs.KindErrors.{mode_error}
 use Rattle.snap_upper.proofs.Outcomes.{test_passes, error_if_passes, after_passes, planned_fits}
 use Rattle.snap_upper.proofs.Writing.{new_with_body, entry_with_entry}
 
@@ -162,7 +163,7 @@ with_mode_planned u p mode ok has low usage is =
 -- ---- changes
 
 module _ (u : Tree) (ls : List Tree) (p : Names) (mode : ℕ) (ok : IsLayer u) (passes : first_error (tests (op.SetMode p mode) (u ∷ ls)) ≡ None) where
-  pub lower_ready : AreLayers ls → is_some (at u p) ≡ false → (n : New) → IsWithMode n (seen (u ∷ ls) p) mode → (walk (u ∷ ls) p ≡ None) × Fits (as_last n) u p × IsSound n
+  pub lower_ready : AreLayers ls → is_some (at u p) ≡ false → (n : New) → IsWithMode n (seen (u ∷ ls) p) mode → (walk (u ∷ ls) p ≡ None) × CanStand (as_last n) u p × IsSound n
   lower_ready layers none (new.Dir m opaque) is =
       let can = settable u ls p mode ok passes in
       (can.way, (vacant u p ok (none_from (at u p) none), subst (λ (x : ℕ). x ≤ 4095) (sym is.1) can.low), tt)

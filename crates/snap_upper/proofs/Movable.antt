@@ -28,7 +28,7 @@ use Rattle.snap_merge.proofs.Above.{nothing_seen}
 use Rattle.snap_copyup.specs.Copying.{is_pure}
 use Rattle.snap_copyup.proofs.Alone.{walk_passes}
 use Rattle.snap_upper.specs.declared.op.Op.TheVariants as op
-use Rattle.snap_upper.specs.After.{tests, move_tests, first_error, error_if, kind_error, is_root, has_names, is_same_name, is_same_path, is_same_number, is_too_long, is_late, lists_names}
+use Rattle.snap_upper.specs.After.{tests, move_tests, first_error, error_if, kind_error, is_root, has_names, is_same_name, is_same_path, is_same_number, moves_too_long, is_late, lists_names}
 use Rattle.snap_upper.proofs.Outcomes.{test_passes, error_if_passes}
 
 no_bool : true ≡ false → ⊥
@@ -153,18 +153,18 @@ all_short from to (e ∷ es) sorted short = by (begins from e.0) refl (all_short
         (λ i. first i || later i)
 
 -- no moved path is too long
-pub short_paths : (u : Tree) (from to : Names) → is_too_long u from to ≡ false → (r : Names) → IsSome (at u (from ++ r)) → length (text_below (to ++ r)) ≤ 4095
+pub short_paths : (u : Tree) (from to : Names) → moves_too_long u from to ≡ false → (r : Names) → IsSome (at u (from ++ r)) → length (text_below (to ++ r)) ≤ 4095
 short_paths u from to short = short_from from to u.entries short
 
 -- the layer's test says so
 pub long_test : (u : Tree) (from to : Names) (b : Bool) → IsLayer u
     → (b ≡ true → (r : Names) → IsSome (at u (from ++ r)) → length (text_below (to ++ r)) ≤ 4095)
     → (((r : Names) → IsSome (at u (from ++ r)) → length (text_below (to ++ r)) ≤ 4095) → b ≡ true)
-    → not b ≡ is_too_long u from to
+    → not b ≡ moves_too_long u from to
 long_test u from to true ok there back = sym (all_short from to u.entries ok.sorted_paths (there refl))
-long_test u from to false ok there back = by (is_too_long u from to) refl
+long_test u from to false ok there back = by (moves_too_long u from to) refl
   where
-    by : (c : Bool) → is_too_long u from to ≡ c → true ≡ is_too_long u from to
+    by : (c : Bool) → moves_too_long u from to ≡ c → true ≡ moves_too_long u from to
     by true e = sym e
     by false e = absurd (no_bool (sym (back (short_paths u from to e))))
 
@@ -185,7 +185,7 @@ pub record IsRenamable (u : Tree) (ls : List Tree) (from to : Names) : Type 0 wh
   pub pure : is_shown_dir (seen (u ∷ ls) from) ≡ true → is_pure u ls from ≡ true
   -- nothing is seen in `to`, and no moved path is too long
   pub clear : (n : List ℕ) → is_some (seen (u ∷ ls) (to ++ n ∷ [])) ≡ false
-  pub short : is_too_long u from to ≡ false
+  pub short : moves_too_long u from to ≡ false
 
 -- above a path that is walked is a directory
 dir_from : (s : List Tree) (q front : Names) (n : List ℕ) (r : Names) → walk_from s front (q ++ n ∷ r) ≡ None → is_shown_dir (seen s (front ++ q)) ≡ true
@@ -273,7 +273,7 @@ renamable u ls from to passes other =
         let kind = kind_error (seen s from) (seen s to) in
         let mixed = error_if (is_dir && not (is_pure u ls from)) CrossDevice in
         let full = error_if (has_names s to) NotEmpty in
-        let long = error_if (is_too_long u from to) BadPath in
+        let long = error_if (moves_too_long u from to) BadPath in
         let one = test_passes (error_if (is_dir && begins from to) Invalid) (kind ∷ mixed ∷ full ∷ long ∷ []) left in
         let two = test_passes kind (mixed ∷ full ∷ long ∷ []) one.1 in
         let three = test_passes mixed (full ∷ long ∷ []) two.1 in
@@ -290,5 +290,5 @@ renamable u ls from to passes other =
           kinds = two.0;
           pure = and_second is_dir (is_pure u ls from) (error_if_passes (is_dir && not (is_pure u ls from)) CrossDevice three.0);
           clear = clear;
-          short = error_if_passes (is_too_long u from to) BadPath five.0;
+          short = error_if_passes (moves_too_long u from to) BadPath five.0;
         }

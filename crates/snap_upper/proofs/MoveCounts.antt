@@ -14,7 +14,7 @@ use Rattle.snap_usage.specs.declared.usage.Usage.{Usage}
 use Rattle.snap_merge.specs.Objects.{AreLayers}
 use Rattle.snap_copyup.specs.Copying.{below}
 use Rattle.snap_copyup.proofs.Alone.{free_unseen}
-use Rattle.snap_upper.specs.After.{prepared, renamed, shifted}
+use Rattle.snap_upper.specs.After.{before_move, renamed, shifted}
 use Rattle.snap_upper.specs.Adding.{IsPlaceable, IsNext}
 use Rattle.snap_upper.proofs.Outcomes.{few_from}
 use Rattle.snap_upper.proofs.Movable.{IsRenamable}
@@ -46,7 +46,7 @@ module _ (u : Tree) (ls : List Tree) (from to : Names) (ok : IsLayer u) (layers 
   }
 
   abbrev t : Tree
-  t = prepared u ls from to
+  t = before_move u ls from to
 
   abbrev leaves : Bool
   leaves = is_some (below u ls from)
@@ -54,17 +54,17 @@ module _ (u : Tree) (ls : List Tree) (from to : Names) (ok : IsLayer u) (layers 
   abbrev covers : Bool
   covers = is_some (below u ls to)
 
-  counted : inode_count (renamed u ls from to) ≡ inode_count (without (prepared u ls from to) to) + (if is_some (below u ls from) then 1 else 0)
+  counted : inode_count (renamed u ls from to) ≡ inode_count (without (before_move u ls from to) to) + (if is_some (below u ls from) then 1 else 0)
   counted = shifted_inodes t from to (prepared_sorted u ls from to ok layers is) is.not_around leaves covers
 
   -- where it is within the limits, so was the layer before the move
-  prepared_fits : is_within (renamed u ls from to) ≡ true → is_within (prepared u ls from to) ≡ true
-  prepared_fits within = by (is_within (prepared u ls from to)) refl
+  prepared_fits : is_within (renamed u ls from to) ≡ true → is_within (before_move u ls from to) ≡ true
+  prepared_fits within = by (is_within (before_move u ls from to)) refl
     where
       no_bool : true ≡ false → ⊥
       no_bool e = cc
 
-      by : (b : Bool) → is_within (prepared u ls from to) ≡ b → is_within (prepared u ls from to) ≡ true
+      by : (b : Bool) → is_within (before_move u ls from to) ≡ b → is_within (before_move u ls from to) ≡ true
       by true e = e
       by false e = absurd (no_bool (sym within ∙ prepared_full u ls from to ok layers is e))
 
@@ -72,7 +72,7 @@ module _ (u : Tree) (ls : List Tree) (from to : Names) (ok : IsLayer u) (layers 
   layer path_from path_to within =
       let fits = prepared_fits within in
       let ready = prepared_layer u ls from to ok layers placeable path_from path_to (few_from t fits) (last_from t fits) in
-      let few : inode_count (without (prepared u ls from to) to) + (if is_some (below u ls from) then 1 else 0) ≤ 65536 = omega (arith, counted, few_from (renamed u ls from to) within) in
+      let few : inode_count (without (before_move u ls from to) to) + (if is_some (below u ls from) then 1 else 0) ≤ 65536 = omega (arith, counted, few_from (renamed u ls from to) within) in
       let movable = prepared_movable u ls from to ok layers is path_to ready in
       by covers ((moved_becomes t from to leaves (inode_count (without t to)) (inode_count (without t to) + (if leaves then 1 else 0)) ready movable refl refl).layer few)
     where
@@ -80,7 +80,7 @@ module _ (u : Tree) (ls : List Tree) (from to : Names) (ok : IsLayer u) (layers 
       by true moved = opaque_layer (with_moved t from to leaves) moved to
       by false moved = moved
 
-  pub renamed_next : IsPath from → IsPath to → (usage : Usage) → usage.inodes ≡ inode_count (without (prepared u ls from to) to) + (if is_some (below u ls from) then 1 else 0) → usage.blocks ≡ block_count (without (prepared u ls from to) to) → (lower : Bool) → (prepared u ls from to).next ≡ u.next + (if lower then 1 else 0) → IsNext u (renamed u ls from to) usage lower
+  pub renamed_next : IsPath from → IsPath to → (usage : Usage) → usage.inodes ≡ inode_count (without (before_move u ls from to) to) + (if is_some (below u ls from) then 1 else 0) → usage.blocks ≡ block_count (without (before_move u ls from to) to) → (lower : Bool) → (before_move u ls from to).next ≡ u.next + (if lower then 1 else 0) → IsNext u (renamed u ls from to) usage lower
   renamed_next path_from path_to usage inodes blocks lower number = record {
     inodes = omega (arith, inodes, counted);
     blocks = blocks ∙ sym (shifted_blocks t from to (prepared_sorted u ls from to ok layers is) is.not_around leaves covers);

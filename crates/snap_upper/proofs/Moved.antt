@@ -19,7 +19,7 @@ use Rattle.snap_merge.proofs.Hiding.{hidden_by, hides_from_above, hides_alike}
 use Rattle.snap_merge.proofs.Above.{nothing_seen}
 use Rattle.snap_copyup.specs.Copying.{below}
 use Rattle.snap_copyup.proofs.Elsewhere.{shown_same}
-use Rattle.snap_upper.specs.Changed.{Moves}
+use Rattle.snap_upper.specs.Changed.{ShowsMoved}
 use Rattle.snap_upper.proofs.Erased.{above_out, above_itself, body_stays}
 
 -- ---- nothing is seen below a path
@@ -209,5 +209,5 @@ module _ (t : Tree) (ls : List Tree) (from to : Names) (leaves covers : Bool) (n
   ]
 
   -- what stands at `from` with all below it is seen at `to`
-  pub moved_changes : Moves (seen (t ∷ ls)) (seen (moved_on t from to leaves covers ∷ ls)) from to
+  pub moved_changes : ShowsMoved (seen (t ∷ ls)) (seen (moved_on t from to leaves covers ∷ ls)) from to
   moved_changes = record { here = moved_here; gone = moved_gone; others = moved_others }

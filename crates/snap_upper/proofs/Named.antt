@@ -15,7 +15,8 @@ use Rattle.snap_usage.specs.declared.usage.Usage.{Usage}
 use Rattle.snap_merge.specs.Objects.{Object, dir, file, symlink, seen, is_shown_dir, AreLayers}
 use Rattle.snap_copyup.proofs.Layers.{IsLayer-copied_up}
 use Rattle.snap_upper.specs.declared.op.Op.TheVariants as op
-use Rattle.snap_upper.specs.After.{tests, first_error, link_error, next_layer, prepared}
+use Rattle.snap_upper.specs.After.{tests, first_error, next_layer, before_move}
+use Rattle.snap_upper.proofs.KindErrors.{link_error}
 use Rattle.snap_upper.specs.Adding.{IsPlaceable, IsNext}
 use Rattle.snap_upper.proofs.Outcomes.{few_from}
 use Rattle.snap_upper.proofs.Movable.{dir_above}
@@ -40,7 +41,7 @@ name_no_dir (Some (symlink target)) e = refl
 module _ (u : Tree) (ls : List Tree) (from to : Names) (ok : IsLayer u) (layers : AreLayers ls) (passes : first_error (tests (op.Link from to) (u ∷ ls)) ≡ None) where
   -- before the name is put
   abbrev room : Tree
-  room = without (prepared u ls from to) to
+  room = without (before_move u ls from to) to
 
   abbrev next : Tree
   next = next_layer (op.Link from to) u ls
@@ -94,15 +95,15 @@ module _ (u : Tree) (ls : List Tree) (from to : Names) (ok : IsLayer u) (layers 
       by : (o : Option Node) → at u to ≡ o → IsLayer room
       by None e =
           let same = room_is u ls from to ok layers passes e in
-          let prepared_fits : is_within (prepared u ls from to) ≡ true = ap is_within same ∙ fits in
-          subst IsLayer same (prepared_layer u ls from to ok layers linkable path_from path_to (few_from (prepared u ls from to) prepared_fits) (last_from (prepared u ls from to) prepared_fits))
+          let prepared_fits : is_within (before_move u ls from to) ≡ true = ap is_within same ∙ fits in
+          subst IsLayer same (prepared_layer u ls from to ok layers linkable path_from path_to (few_from (before_move u ls from to) prepared_fits) (last_from (before_move u ls from to) prepared_fits))
       by (Some x) e =
           let white = whiteout_from (at u to) (free u ls from to ok layers passes) (ap is_some e) in
           let base = (clears_place u to ok (name_place white)).layer in
           let same = room_first u ls from to ok layers passes white in
           subst IsLayer same (IsLayer-copied_up (without u to) ls from base layers (way_without u ls from to ok layers passes white) path_from (ap is_within same ∙ fits))
 
-  pub linked_next : IsPath from → IsPath to → (usage : Usage) → usage ≡ record { blocks = block_count (without (prepared u ls from to) to); inodes = inode_count (without (prepared u ls from to) to) } → (lower : Bool) → (prepared u ls from to).next ≡ u.next + (if lower then 1 else 0) → IsNext u (next_layer (op.Link from to) u ls) usage lower
+  pub linked_next : IsPath from → IsPath to → (usage : Usage) → usage ≡ record { blocks = block_count (without (before_move u ls from to) to); inodes = inode_count (without (before_move u ls from to) to) } → (lower : Bool) → (before_move u ls from to).next ≡ u.next + (if lower then 1 else 0) → IsNext u (next_layer (op.Link from to) u ls) usage lower
   linked_next path_from path_to usage counted lower number = record {
     inodes = ap (λ (x : Usage). x.inodes) counted ∙ sym (linked_inodes u ls from to ok layers passes);
     blocks = ap (λ (x : Usage). x.blocks) counted ∙ sym (linked_blocks u ls from to ok layers passes);

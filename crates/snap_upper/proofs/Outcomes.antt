@@ -4,6 +4,7 @@ use Rattle.std.specs.Prelude.{if◌then◌else◌}
 use Rattle.std.proofs.lemmas.Bool.Decides.{nat_tests}
 use Rattle.snap_layer.specs.declared.error.LayerError.{LayerError}
 use Rattle.snap_layer.specs.declared.error.LayerError.TheVariants as layer_errors
+use Rattle.snap_merge.specs.Walk.{unless}
 use Rattle.snap_merge.specs.Errors.{OfLayer}
 use Rattle.snap_layer.specs.Tree.{Tree}
 use Rattle.snap_layer.specs.Counts.{is_within, inode_count, block_count}
@@ -17,7 +18,7 @@ use Rattle.snap_copyup.specs.Places.{IsRefusal}
 use Rattle.snap_upper.specs.declared.usage.Planned.{Planned}
 use Rattle.snap_upper.specs.declared.op.Op.{Op}
 use Rattle.snap_upper.specs.Adding.{IsNext}
-use Rattle.snap_upper.specs.After.{Outcome, after, tests, first_error, error_if, unless, limited, next_layer, planned}
+use Rattle.snap_upper.specs.After.{Outcome, after, tests, first_error, error_if, limited, next_layer, planned}
 
 no_bool : true ≡ false → ⊥
 no_bool e = cc

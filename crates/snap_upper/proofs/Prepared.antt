@@ -27,7 +27,7 @@ use Rattle.snap_copyup.proofs.ParentDirs.{AddsParents, Extends, adds_parents, pa
 use Rattle.snap_copyup.proofs.Growing.{grows_from}
 use Rattle.snap_copyup.proofs.Layers.{no_missing}
 use Rattle.snap_copyup.proofs.Copies.{Puts-with_new, not_next, last_copied, copied_view}
-use Rattle.snap_upper.specs.After.{prepared}
+use Rattle.snap_upper.specs.After.{before_move}
 use Rattle.snap_upper.proofs.Movable.{IsRenamable, short_paths}
 
 no_bool : true ≡ false → ⊥
@@ -136,13 +136,13 @@ module _ (u : Tree) (ls : List Tree) (from to : Names) (ok : IsLayer u) (layers 
   pub way_after : walk (copied_up u ls from ∷ ls) to ≡ None
   way_after = walk_same (u ∷ ls) (v ∷ ls) copied_seen [] to ∙ is.way_to
 
-  pub added : AddsParents (copied_up u ls from) (prepared u ls from to) ls (length to)
+  pub added : AddsParents (copied_up u ls from) (before_move u ls from to) ls (length to)
   added = adds_parents v ls to way_after
 
-  extended : Extends (copied_up u ls from) (prepared u ls from to) to
+  extended : Extends (copied_up u ls from) (before_move u ls from to) to
   extended = parents_extend v ls to way_after
 
-  pub prepared_seen : (q : Names) → seen (prepared u ls from to ∷ ls) q ≡ seen (u ∷ ls) q
+  pub prepared_seen : (q : Names) → seen (before_move u ls from to ∷ ls) q ≡ seen (u ∷ ls) q
   prepared_seen q = added.view q ∙ copied_seen q
 
   -- a lower directory is not pure
@@ -163,14 +163,14 @@ module _ (u : Tree) (ls : List Tree) (from to : Names) (ok : IsLayer u) (layers 
       by (Some n) e = ap (λ (t : Tree). is_some (at t from)) (own_copy u ls from ok (ap is_some e)) ∙ ap is_some e
       by None e = (lower_is_copy e).here
 
-  kept : is_some (at (prepared u ls from to) from) ≡ true
+  kept : is_some (at (before_move u ls from to) from) ≡ true
   kept = by (at v from) refl copied_some
     where
-      by : (o : Option Node) → at v from ≡ o → is_some o ≡ true → is_some (at (prepared u ls from to) from) ≡ true
+      by : (o : Option Node) → at v from ≡ o → is_some o ≡ true → is_some (at (before_move u ls from to) from) ≡ true
       by (Some n) e some = ap is_some (extended.keeps from n e)
       by None e some = absurd (cc)
 
-  fits : IsPath to → (r : Names) → is_some (at (prepared u ls from to) (from ++ r)) ≡ true → IsPath (to ++ r)
+  fits : IsPath to → (r : Names) → is_some (at (before_move u ls from to) (from ++ r)) ≡ true → IsPath (to ++ r)
   fits path r some = by (at u from) refl r (ap is_some (sym (extended.beside (from ++ r) (longer_out from to r is.not_inside))) ∙ some)
     where
       by : (o : Option Node) → at u from ≡ o → (r : Names) → is_some (at v (from ++ r)) ≡ true → IsPath (to ++ r)
@@ -181,11 +181,11 @@ module _ (u : Tree) (ls : List Tree) (from to : Names) (ok : IsLayer u) (layers 
       by None e (n ∷ r) some = absurd (no_bool (sym some ∙ ap is_some ((lower_is_copy e).bare n r)))
 
   -- what is seen at `from` can move
-  pub prepared_movable : IsPath to → IsLayer (prepared u ls from to) → IsMovable (prepared u ls from to) from to
+  pub prepared_movable : IsPath to → IsLayer (before_move u ls from to) → IsMovable (before_move u ls from to) from to
   prepared_movable path okt = record {
     there = kept;
     place = record {
-      clear = λ n. free_unseen (prepared u ls from to) ls (to ++ n ∷ []) okt (ap is_some (prepared_seen (to ++ n ∷ [])) ∙ is.clear n);
+      clear = λ n. free_unseen (before_move u ls from to) ls (to ++ n ∷ []) okt (ap is_some (prepared_seen (to ++ n ∷ [])) ∙ is.clear n);
       above = record { below_root = is.not_root; parent = λ q n e. parents_stand v ls to way_after q n e };
     };
     not_inside = is.not_inside;
@@ -194,5 +194,5 @@ module _ (u : Tree) (ls : List Tree) (from to : Names) (ok : IsLayer u) (layers 
   }
 
   -- nothing has to be added
-  pub prepared_there : is_some (at u from) ≡ true → HasParent u to → prepared u ls from to ≡ u
+  pub prepared_there : is_some (at u from) ≡ true → HasParent u to → before_move u ls from to ≡ u
   prepared_there some parent = ap (λ (t : Tree). with_parents t ls to) (own_copy u ls from ok some) ∙ parents_there u ls to ok parent

@@ -26,7 +26,7 @@ use Rattle.snap_copyup.proofs.Growing.{Grows, grows_from, missing_same, takes_mi
 use Rattle.snap_copyup.proofs.Layers.{IsLayer-with_parents, IsLayer-copied_up}
 use Rattle.snap_copyup.proofs.ParentDirs.{AddsParents, adds_parents}
 use Rattle.snap_copyup.proofs.Wholes.{IsWholeObject, whole_seen}
-use Rattle.snap_upper.specs.After.{is_whiteout_at, prepared}
+use Rattle.snap_upper.specs.After.{is_whiteout_at, before_move}
 use Rattle.snap_upper.specs.Adding.{IsPlaceable, Takes, object_blocks}
 use Rattle.snap_upper.proofs.Growth.{all_inodes, all_blocks, all_paths, all_others, all_names, all_bodies, next_number}
 use Rattle.snap_upper.proofs.Left.{Keeps, left_inodes, left_blocks}
@@ -57,12 +57,12 @@ few_seen s layers p = few_of_object (seen s p) (whole_seen s layers p)
 
 module _ (u : Tree) (ls : List Tree) (from to : Names) (ok : IsLayer u) (layers : AreLayers ls) (is : IsPlaceable u ls from to) where
   abbrev t : Tree
-  t = prepared u ls from to
+  t = before_move u ls from to
 
   -- ---- the layer has what is seen at `from`
 
   module _ (some : is_some (at u from) ≡ true) where
-    pub prepared_own : prepared u ls from to ≡ with_parents u ls to
+    pub prepared_own : before_move u ls from to ≡ with_parents u ls to
     prepared_own = ap (λ (v : Tree). with_parents v ls to) (own_copy u ls from ok some)
 
     own_adds : AddsParents u (with_parents u ls to) ls (length to)
@@ -78,14 +78,14 @@ module _ (u : Tree) (ls : List Tree) (from to : Names) (ok : IsLayer u) (layers 
           bodies = λ k number. ap (λ (bs : Bodies). lookup (is_at (nat_cmp k)) bs) own_adds.bodies;
         }
 
-    pub own_next : (prepared u ls from to).next ≡ u.next
+    pub own_next : (before_move u ls from to).next ≡ u.next
     own_next = ap (λ (v : Tree). v.next) prepared_own ∙ own_adds.next
 
     module _ (missing : ℕ) (more : TakesMore missing u (with_parents u ls to)) where
-      pub own_inodes : inode_count (prepared u ls from to) ≡ inode_count u + missing
+      pub own_inodes : inode_count (before_move u ls from to) ≡ inode_count u + missing
       own_inodes = ap inode_count prepared_own ∙ more.0
 
-      pub own_left : LeavesSo (prepared u ls from to) to (inode_count (without u to) + missing) (block_count (without u to) + missing)
+      pub own_left : LeavesSo (before_move u ls from to) to (inode_count (without u to) + missing) (block_count (without u to) + missing)
       own_left = subst (λ (v : Tree). LeavesSo v to (inode_count (without u to) + missing) (block_count (without u to) + missing)) (sym prepared_own) (record {
         inodes_are = omega (arith, left_inodes u (with_parents u ls to) to ok own_keeps, more.0);
         blocks_are = omega (arith, left_blocks u (with_parents u ls to) to ok own_keeps, more.1);
@@ -143,10 +143,10 @@ module _ (u : Tree) (ls : List Tree) (from to : Names) (ok : IsLayer u) (layers 
     way_after : walk (copied_up u ls from ∷ ls) to ≡ None
     way_after = walk_same (u ∷ ls) (copy ∷ ls) (copied_view u ls from is.way_from ok layers) [] to ∙ is.way_to
 
-    grows : Grows (copied_up u ls from) (prepared u ls from to) (missing_from (copied_up u ls from) [] to)
+    grows : Grows (copied_up u ls from) (before_move u ls from to) (missing_from (copied_up u ls from) [] to)
     grows = grows_from copy ls [] to copy_paths way_after
 
-    adds : AddsParents (copied_up u ls from) (prepared u ls from to) ls (length to)
+    adds : AddsParents (copied_up u ls from) (before_move u ls from to) ls (length to)
     adds = adds_parents copy ls to way_after
 
     -- above `to` the copy adds nothing but the directories above it
@@ -163,7 +163,7 @@ module _ (u : Tree) (ls : List Tree) (from to : Names) (ok : IsLayer u) (layers 
     other : (k : ℕ) → number_at u to ≡ Some k → k ≡ u.next → ⊥
     other k number same = omega (arith, same, (ok.numbers k (has_body u ok to k number)).1)
 
-    lower_keeps : Keeps u (prepared u ls from to) to
+    lower_keeps : Keeps u (before_move u ls from to) to
     lower_keeps = record {
       paths = grows.sorted;
       same = λ r. adds.leaves (to ++ r) (omega (arith, length-append to r)) ∙ lower_is.beside (to ++ r) (longer_out to from r is.not_around);
@@ -174,7 +174,7 @@ module _ (u : Tree) (ls : List Tree) (from to : Names) (ok : IsLayer u) (layers 
           ∙ all_bodies u ls from last blocks true ok is.way_from takes free (missing_from u [] from) above k (other k number);
     }
 
-    pub lower_next : (prepared u ls from to).next ≡ u.next + 1
+    pub lower_next : (before_move u ls from to).next ≡ u.next + 1
     lower_next = adds.next ∙ copy_next
 
     module _ (missing : ℕ) (more : TakesMore missing u (with_parents (with_parents u ls from) ls to)) where
@@ -183,13 +183,13 @@ module _ (u : Tree) (ls : List Tree) (from to : Names) (ok : IsLayer u) (layers 
           let later = grows_from v ls [] to (grows_from u ls [] from ok.sorted_paths is.way_from).sorted (walk_same (u ∷ ls) (v ∷ ls) parents.view [] to ∙ is.way_to) in
           omega (arith, more.0, above.0, later.inodes, further)
 
-      pub lower_inodes : inode_count (prepared u ls from to) ≡ inode_count u + missing + 1
+      pub lower_inodes : inode_count (before_move u ls from to) ≡ inode_count u + missing + 1
       lower_inodes = omega (arith, grows.inodes, copy_inodes, all_missing)
 
-      lower_blocks : block_count (prepared u ls from to) ≡ block_count u + missing + object_blocks (seen (u ∷ ls) from)
+      lower_blocks : block_count (before_move u ls from to) ≡ block_count u + missing + object_blocks (seen (u ∷ ls) from)
       lower_blocks = omega (arith, grows.blocks, copy_blocks, all_missing)
 
-      pub lower_left : LeavesSo (prepared u ls from to) to (inode_count (without u to) + missing + 1) (block_count (without u to) + missing + object_blocks (seen (u ∷ ls) from))
+      pub lower_left : LeavesSo (before_move u ls from to) to (inode_count (without u to) + missing + 1) (block_count (without u to) + missing + object_blocks (seen (u ∷ ls) from))
       lower_left = record {
         inodes_are = omega (arith, left_inodes u t to ok lower_keeps, lower_inodes);
         blocks_are = omega (arith, left_blocks u t to ok lower_keeps, lower_blocks);
@@ -198,15 +198,15 @@ module _ (u : Tree) (ls : List Tree) (from to : Names) (ok : IsLayer u) (layers 
   -- ---- the limits
 
   -- the next number, and one more where a file is copied up
-  pub prepared_next : (lower : Bool) → (lower ≡ true → at u from ≡ None) → (lower ≡ false → is_some (at u from) ≡ true) → (prepared u ls from to).next ≡ u.next + (if lower then 1 else 0)
+  pub prepared_next : (lower : Bool) → (lower ≡ true → at u from ≡ None) → (lower ≡ false → is_some (at u from) ≡ true) → (before_move u ls from to).next ≡ u.next + (if lower then 1 else 0)
   prepared_next true none some = lower_next (none refl)
   prepared_next false none some = omega (arith, own_next (some refl))
 
   -- it is a layer where it is within the limits
-  pub prepared_layer : IsPath from → IsPath to → inode_count (prepared u ls from to) ≤ 65536 → (prepared u ls from to).next ≤ 4294967295 → IsLayer (prepared u ls from to)
+  pub prepared_layer : IsPath from → IsPath to → inode_count (before_move u ls from to) ≤ 65536 → (before_move u ls from to).next ≤ 4294967295 → IsLayer (before_move u ls from to)
   prepared_layer path_from path_to few low = by (at u from) refl
     where
-      by : (o : Option Node) → at u from ≡ o → IsLayer (prepared u ls from to)
+      by : (o : Option Node) → at u from ≡ o → IsLayer (before_move u ls from to)
       by (Some n) e =
           let same = prepared_own (ap is_some e) in
           subst IsLayer (sym same) (IsLayer-with_parents u ls to ok layers is.way_to path_to (subst (λ (x : Tree). inode_count x ≤ 65536) same few))

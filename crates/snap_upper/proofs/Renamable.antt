@@ -18,7 +18,7 @@ use Rattle.snap_merge.proofs.Listings.{listing_is}
 use Rattle.snap_copyup.specs.Copying.{is_pure}
 use Rattle.snap_copyup.proofs.Alone.{walk_passes}
 use Rattle.snap_upper.specs.declared.op.Op.TheVariants as op
-use Rattle.snap_upper.specs.After.{tests, first_error, error_if, kind_error, is_root, has_names, is_too_long, is_same_path, is_same_number, is_same_name, move_tests}
+use Rattle.snap_upper.specs.After.{tests, first_error, error_if, kind_error, is_root, has_names, moves_too_long, is_same_path, is_same_number, is_same_name, move_tests}
 use Rattle.snap_upper.specs.Changed.{IsName}
 use Rattle.snap_upper.proofs.Outcomes.{test_passes, error_if_passes}
 use Rattle.snap_upper.proofs.Erased.{nil_from, nothing_under}
@@ -112,7 +112,7 @@ module _ (u : Tree) (ls : List Tree) (from to : Names) where
       let kind = kind_error (seen (u ∷ ls) from) (seen (u ∷ ls) to) in
       let cross = error_if (is_shown_dir (seen (u ∷ ls) from) && not (is_pure u ls from)) CrossDevice in
       let full = error_if (has_names (u ∷ ls) to) NotEmpty in
-      let long = error_if (is_too_long u from to) BadPath in
+      let long = error_if (moves_too_long u from to) BadPath in
       let first = test_passes inner (kind ∷ cross ∷ full ∷ long ∷ []) passes in
       let second = test_passes kind (cross ∷ full ∷ long ∷ []) first.1 in
       let third = test_passes cross (full ∷ long ∷ []) second.1 in

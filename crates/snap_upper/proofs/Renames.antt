@@ -29,7 +29,7 @@ use Rattle.snap_copyup.proofs.Copies.{last_copied, copied_view, Puts-with_new}
 use Rattle.snap_copyup.proofs.Layers.{no_missing}
 use Rattle.snap_upper.specs.declared.op.Op.TheVariants as op
 use Rattle.snap_upper.specs.After.{tests, first_error, is_same_name, renamed, next_layer}
-use Rattle.snap_upper.specs.Changed.{IsName, Stays, Moves}
+use Rattle.snap_upper.specs.Changed.{IsName, Stays, ShowsMoved}
 use Rattle.snap_upper.proofs.Moved.{nothing_hidden, nothing_lower, moved_changes}
 use Rattle.snap_upper.proofs.Renamable.{is_name, not_name, IsRenamable, IsRenamable-passed}
 
@@ -216,14 +216,14 @@ module _ (u : Tree) (ls : List Tree) (from to : Names) (ok : IsLayer u) (layers 
             | inr under ↦ nothing_lower t ls from layers (ap is_shown_dir from_below ∙ under) m r none
           ]
 
-  renamed_changes : Moves (seen (u ∷ ls)) (seen (renamed u ls from to ∷ ls)) from to
+  renamed_changes : ShowsMoved (seen (u ∷ ls)) (seen (renamed u ls from to ∷ ls)) from to
   renamed_changes = record {
     here = λ r. moves.here r ∙ view (from ++ r);
     gone = λ r. moves.gone r;
     others = λ q out_from out_to. moves.others q out_from out_to ∙ view q;
   }
     where
-      moves : Moves (seen (with_parents (copied_up u ls from) ls to ∷ ls)) (seen (renamed u ls from to ∷ ls)) from to
+      moves : ShowsMoved (seen (with_parents (copied_up u ls from) ls to ∷ ls)) (seen (renamed u ls from to ∷ ls)) from to
       moves =
           moved_changes t ls from to (is_some (below u ls from)) (is_some (below u ls to)) ready.not_inside ready.not_around layers
           (subst (λ (bs : Bodies). IsStrictlySortedBy nat_cmp (keys_of bs)) (sym adds.bodies) copy.sorted)
@@ -232,13 +232,13 @@ module _ (u : Tree) (ls : List Tree) (from to : Names) (ok : IsLayer u) (layers 
 -- ---- the law
 
 pub rename_changes : (u : Tree) (ls : List Tree) (from to : Names) → IsLayer u → AreLayers ls → first_error (tests (op.Rename from to) (u ∷ ls)) ≡ None
-    → (IsName u from to × Stays (seen (u ∷ ls)) (seen (next_layer (op.Rename from to) u ls ∷ ls))) ⊎ ((IsName u from to → ⊥) × Moves (seen (u ∷ ls)) (seen (next_layer (op.Rename from to) u ls ∷ ls)) from to)
+    → (IsName u from to × Stays (seen (u ∷ ls)) (seen (next_layer (op.Rename from to) u ls ∷ ls))) ⊎ ((IsName u from to → ⊥) × ShowsMoved (seen (u ∷ ls)) (seen (next_layer (op.Rename from to) u ls ∷ ls)) from to)
 rename_changes u ls from to ok layers passes = by (is_same_name u from to) refl
   where
     by : (b : Bool) → is_same_name u from to ≡ b
-        → (IsName u from to × Stays (seen (u ∷ ls)) (seen (next_layer (op.Rename from to) u ls ∷ ls))) ⊎ ((IsName u from to → ⊥) × Moves (seen (u ∷ ls)) (seen (next_layer (op.Rename from to) u ls ∷ ls)) from to)
+        → (IsName u from to × Stays (seen (u ∷ ls)) (seen (next_layer (op.Rename from to) u ls ∷ ls))) ⊎ ((IsName u from to → ⊥) × ShowsMoved (seen (u ∷ ls)) (seen (next_layer (op.Rename from to) u ls ∷ ls)) from to)
     by true e = inl (is_name u from to e, λ q. ap (λ (w : Tree). seen (w ∷ ls) q) (cond-true (is_same_name u from to) u (renamed u ls from to) e))
     by false e = inr (
       not_name u from to e,
-      subst (λ (w : Tree). Moves (seen (u ∷ ls)) (seen (w ∷ ls)) from to) (sym (cond-false (is_same_name u from to) u (renamed u ls from to) e)) (renamed_changes u ls from to ok layers (IsRenamable-passed u ls from to ok layers e passes)),
+      subst (λ (w : Tree). ShowsMoved (seen (u ∷ ls)) (seen (w ∷ ls)) from to) (sym (cond-false (is_same_name u from to) u (renamed u ls from to) e)) (renamed_changes u ls from to ok layers (IsRenamable-passed u ls from to ok layers e passes)),
     )

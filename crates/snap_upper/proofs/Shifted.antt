@@ -35,7 +35,7 @@ use Rattle.snap_copyup.proofs.Alone.{below_seen, dir_seen}
 use Rattle.snap_copyup.proofs.ParentDirs.{AddsParents}
 use Rattle.snap_copyup.proofs.Growing.{Grows, grows_from}
 use Rattle.snap_copyup.proofs.Layers.{no_missing}
-use Rattle.snap_upper.specs.After.{tests, first_error, after, error_if, kind_error, is_same_name, limited, renamed, prepared, shifted}
+use Rattle.snap_upper.specs.After.{tests, first_error, after, error_if, kind_error, is_same_name, limited, renamed, before_move, shifted}
 use Rattle.snap_upper.specs.declared.op.Op.TheVariants as op
 use Rattle.snap_upper.proofs.Outcomes.{after_passes, few_from, limited_fits, layer_fits, refused}
 use Rattle.snap_upper.proofs.Movable.{IsRenamable}
@@ -215,7 +215,7 @@ module _ (u : Tree) (ls : List Tree) (from to : Names) (ok : IsLayer u) (layers 
   v = copied_up u ls from
 
   abbrev t : Tree
-  t = prepared u ls from to
+  t = before_move u ls from to
 
   copied_sorted : IsStrictlySortedBy path_cmp (keys_of (copied_up u ls from).entries)
   copied_sorted = by (at u from) refl
@@ -224,17 +224,17 @@ module _ (u : Tree) (ls : List Tree) (from to : Names) (ok : IsLayer u) (layers 
       by (Some n) e = subst (λ (x : Tree). IsStrictlySortedBy path_cmp (keys_of x.entries)) (sym (own_copy u ls from ok (ap is_some e))) ok.sorted_paths
       by None e = (lower_is_copy u ls from to ok layers is e).sorted
 
-  grows : Grows (copied_up u ls from) (prepared u ls from to) (missing_from (copied_up u ls from) [] to)
+  grows : Grows (copied_up u ls from) (before_move u ls from to) (missing_from (copied_up u ls from) [] to)
   grows = grows_from v ls [] to copied_sorted (way_after u ls from to ok layers is)
 
-  pub prepared_sorted : IsStrictlySortedBy path_cmp (keys_of (prepared u ls from to).entries)
+  pub prepared_sorted : IsStrictlySortedBy path_cmp (keys_of (before_move u ls from to).entries)
   prepared_sorted = grows.sorted
 
-  adds : AddsParents (copied_up u ls from) (prepared u ls from to) ls (length to)
+  adds : AddsParents (copied_up u ls from) (before_move u ls from to) ls (length to)
   adds = added u ls from to ok layers is
 
   -- where it takes no less than the layer before the move, it passes the limits with it
-  passes_too : inode_count (prepared u ls from to) ≤ inode_count (without (prepared u ls from to) to) + (cond (is_some (below u ls from)) 1 0) → is_within (prepared u ls from to) ≡ false → is_within (renamed u ls from to) ≡ false
+  passes_too : inode_count (before_move u ls from to) ≤ inode_count (without (before_move u ls from to) to) + (cond (is_some (below u ls from)) 1 0) → is_within (before_move u ls from to) ≡ false → is_within (renamed u ls from to) ≡ false
   passes_too more full =
       full_more t (renamed u ls from to) (omega (arith, more, shifted_inodes t from to grows.sorted is.not_around (is_some (below u ls from)) (is_some (below u ls to))))
       (shifted_next t from to grows.sorted (is_some (below u ls from)) (is_some (below u ls to))) full
@@ -243,7 +243,7 @@ module _ (u : Tree) (ls : List Tree) (from to : Names) (ok : IsLayer u) (layers 
   below_to n r none = adds.leaves (to ++ n ∷ r) (omega (arith, length-append to (n ∷ r))) ∙ none
 
   -- the layer has what is seen at `from`: where it has a node at `to` too, nothing is added, and else nothing is taken
-  own_full : is_some (at u from) ≡ true → is_within (prepared u ls from to) ≡ false → is_within (renamed u ls from to) ≡ false
+  own_full : is_some (at u from) ≡ true → is_within (before_move u ls from to) ≡ false → is_within (renamed u ls from to) ≡ false
   own_full some full = by (at u to) refl
     where
       same : copied_up u ls from ≡ u
@@ -251,7 +251,7 @@ module _ (u : Tree) (ls : List Tree) (from to : Names) (ok : IsLayer u) (layers 
 
       by : (o : Option Node) → at u to ≡ o → is_within (renamed u ls from to) ≡ false
       by (Some n) e =
-          let unchanged : prepared u ls from to ≡ u = ap (λ (x : Tree). with_parents x ls to) same ∙ no_missing u ls to ok (ap is_some e) in
+          let unchanged : before_move u ls from to ≡ u = ap (λ (x : Tree). with_parents x ls to) same ∙ no_missing u ls to ok (ap is_some e) in
           absurd (no_bool (sym (layer_fits u ok) ∙ ap is_within (sym unchanged) ∙ full))
       by None e =
           let none : at t to ≡ None = adds.leaves to (omega arith) ∙ ap (λ (x : Tree). at x to) same ∙ e in
@@ -262,7 +262,7 @@ module _ (u : Tree) (ls : List Tree) (from to : Names) (ok : IsLayer u) (layers 
           none_number none number = none_some (sym (ap (option_and_then number_of) none) ∙ number)
 
   -- a lower file at `from` leaves a whiteout, and at `to` is one inode at most
-  lower_full : at u from ≡ None → is_within (prepared u ls from to) ≡ false → is_within (renamed u ls from to) ≡ false
+  lower_full : at u from ≡ None → is_within (before_move u ls from to) ≡ false → is_within (renamed u ls from to) ≡ false
   lower_full none full =
       passes_too (omega (arith, taken t to grows.sorted (λ n r. below_to n r (nothing n r)) (at t to) refl bodies, at_most (is_some (at t to)), ap {B = ℕ} (λ b. cond b 1 0) leaves)) full
     where
@@ -282,11 +282,11 @@ module _ (u : Tree) (ls : List Tree) (from to : Names) (ok : IsLayer u) (layers 
       nothing : (n : List ℕ) (r : Names) → at (copied_up u ls from) (to ++ n ∷ r) ≡ None
       nothing n r = copy.beside (to ++ n ∷ r) (longer_out to from (n ∷ r) is.not_around) ∙ nothing_below u ok to no_dir n r
 
-      bodies : (k : ℕ) → number_at (prepared u ls from to) to ≡ Some k → is_some (body (prepared u ls from to) k) ≡ true
+      bodies : (k : ℕ) → number_at (before_move u ls from to) to ≡ Some k → is_some (body (before_move u ls from to) k) ≡ true
       bodies k number = ap (λ (bs : Bodies). is_some (lookup (is_at (nat_cmp k)) bs)) adds.bodies ∙ copy.bodies to k is.not_around (sym (adds.numbers to) ∙ number)
 
   -- where the layer before the move passes the limits, so does the one after it
-  pub prepared_full : is_within (prepared u ls from to) ≡ false → is_within (renamed u ls from to) ≡ false
+  pub prepared_full : is_within (before_move u ls from to) ≡ false → is_within (renamed u ls from to) ≡ false
   prepared_full full = by (at u from) refl
     where
       by : (o : Option Node) → at u from ≡ o → is_within (renamed u ls from to) ≡ false

@@ -8,11 +8,12 @@ use Rattle.snap_usage.specs.declared.usage.Usage.{Usage}
 use Rattle.snap_merge.specs.declared.error.FsError.{FsError}
 use Rattle.snap_merge.specs.declared.error.FsError.TheVariants.{NotFound, NotDir, IsDir, Exists, Invalid, NotEmpty, BadPath, CrossDevice, TooBig, LayerFull, NeedsCharge}
 use Rattle.snap_merge.specs.Objects.{Object, dir, file, symlink, seen, is_shown_dir}
-use Rattle.snap_merge.specs.Walk.{walk, walk_from, walk_on}
+use Rattle.snap_merge.specs.Walk.{unless, walk, walk_from, walk_on}
 use Rattle.snap_copyup.specs.Copying.{is_pure}
 use Rattle.snap_upper.specs.declared.op.Op.{Op}
 use Rattle.snap_upper.specs.declared.op.Op.TheVariants.{Mkdir, Create, Write, Truncate, SetMode, Symlink, Link, Unlink, Rmdir, Rename}
-use Rattle.snap_upper.specs.After.{Outcome, after, tests, first_error, error_if, file_error, mode_error, name_error, dir_error, link_error, kind_error, is_no_target, is_root, has_names, is_same_name, is_too_long, move_tests, unless, limited, next_layer}
+use Rattle.snap_upper.specs.After.{Outcome, after, tests, first_error, error_if, kind_error, is_no_target, is_root, has_names, is_same_name, moves_too_long, move_tests, limited, next_layer}
+use Rattle.snap_upper.proofs.KindErrors.{file_error, mode_error, name_error, dir_error, link_error}
 
 module _ (need : Usage) where
   -- ---- tests
@@ -112,7 +113,7 @@ module _ (need : Usage) where
       (no_first (kind_error (seen s from) (seen s to)) _ (no_kind_error (seen s from) (seen s to))
       (no_first (error_if merged CrossDevice) _ (no_error_if merged CrossDevice not_device)
       (no_first (error_if (has_names s to) NotEmpty) _ (no_error_if (has_names s to) NotEmpty not_full)
-      (no_first (error_if (is_too_long u from to) BadPath) [] (no_error_if (is_too_long u from to) BadPath not_path) no_none))))
+      (no_first (error_if (moves_too_long u from to) BadPath) [] (no_error_if (moves_too_long u from to) BadPath not_path) no_none))))
 
   no_rename : (u : Tree) (lowers : List Tree) (from to : Names) (b : Bool) → first_error (if b then [] else move_tests u lowers from to) ≡ Some (NeedsCharge need) → ⊥
   no_rename u lowers from to true = no_none

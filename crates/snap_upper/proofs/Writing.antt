@@ -34,7 +34,8 @@ use Rattle.snap_copyup.proofs.Alone.{copied_there, copied_missing, below_seen}
 use Rattle.snap_copyup.proofs.ParentDirs.{adds_parents}
 use Rattle.snap_copyup.proofs.Layers.{no_missing}
 use Rattle.snap_upper.specs.declared.op.Op.TheVariants as op
-use Rattle.snap_upper.specs.After.{tests, first_error, error_if, file_error, written, resized, bytes_of, with_content}
+use Rattle.snap_upper.specs.After.{tests, first_error, error_if, written, resized, body_bytes, with_content}
+use Rattle.snap_upper.proofs.KindErrors.{file_error}
 use Rattle.snap_upper.proofs.Outcomes.{test_passes, error_if_passes}
 
 -- the tests of a write have passed
@@ -168,7 +169,7 @@ pub own_layer : (t : Tree) (ls : List Tree) (p : Names) (k m : ℕ) (old : List 
 own_layer t ls p k m old g is file_is =
     ap (λ (v : Tree). with_content v (number_at v p) g) (copied_there t ls p (ap is_some is))
     ∙ ap (λ (o : Option ℕ). with_content t o g) (ap (option_and_then number_of) is)
-    ∙ ap (λ (o : Option Body). with_bytes t k o (g (bytes_of o))) file_is
+    ∙ ap (λ (o : Option Body). with_bytes t k o (g (body_bytes o))) file_is
 
 -- it is copied up
 pub copy_layer : (t : Tree) (ls : List Tree) (p : Names) (m : ℕ) (old : List ℕ) (g : List ℕ → List ℕ) → at t p ≡ None → seen (t ∷ ls) p ≡ Some (file m old)
@@ -178,7 +179,7 @@ copy_layer t ls p m old g none was =
     let v = with_new t p (File t.next) b in
     ap (λ (w : Tree). with_content w (number_at w p) g) (copied_missing t ls p none ∙ ap (with_object t p) (sym (below_seen t ls p none) ∙ was))
     ∙ ap (λ (o : Option ℕ). with_content v o g) (ap (option_and_then number_of) (Replaces-with_new t p (File t.next) b).here)
-    ∙ ap (λ (o : Option Body). with_bytes v t.next o (g (bytes_of o))) (SetsBody-with_new t p (File t.next) b).here
+    ∙ ap (λ (o : Option Body). with_bytes v t.next o (g (body_bytes o))) (SetsBody-with_new t p (File t.next) b).here
 
 -- the next layer, where the layer has the file
 pub own_filled : (u : Tree) (ls : List Tree) (p : Names) (k m : ℕ) (old : List ℕ) (f : List ℕ → List ℕ) → IsLayer u → at u p ≡ Some (File k) → body u k ≡ Some (body_kinds.File m old)

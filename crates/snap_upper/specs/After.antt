@@ -1,6 +1,7 @@
 -- The upper layer after an operation, or the operation's error.
-use Rattle.std.specs.Prelude.{ℕ, ◌+◌, ◌-◌, ◌==◌, ◌||◌, ◌&&◌, Bool, true, false, nat_lt, nat_le, not, List, [], ◌∷◌, ◌++◌, length, take, drop, replicate, Option, Some, None, is_some, if◌then◌else◌, Result, Ok, Err}
+use Rattle.std.specs.Prelude.{ℕ, ◌+◌, ◌-◌, ◌==◌, ◌||◌, ◌&&◌, Bool, true, false, nat_lt, not, List, [], ◌∷◌, ◌++◌, length, take, drop, replicate, Option, Some, None, is_some, if◌then◌else◌, Result, Ok, Err}
 use Rattle.std.specs.List.{list_any}
+use Rattle.std.specs.Option.{option_map_or}
 use Rattle.snap_layer.specs.declared.node.Node.{Node}
 use Rattle.snap_layer.specs.declared.node.Node.TheVariants as node
 use Rattle.snap_layer.specs.declared.node.Body.{Body}
@@ -9,11 +10,11 @@ use Rattle.snap_layer.specs.Tree.{Tree, at, body, number_at, is_whiteout}
 use Rattle.snap_layer.specs.Counts.{is_within}
 use Rattle.snap_layer.specs.Edits.{with_entry, with_node, with_new, with_name, with_bytes, with_mode, with_opaque, with_moved, without, inside, relocated}
 use Rattle.snap_usage.specs.declared.usage.Usage.{Usage}
-use Rattle.snap_usage.specs.Counted.{count_of}
+use Rattle.snap_usage.specs.Counted.{count_of, covers}
 use Rattle.snap_merge.specs.declared.error.FsError.{FsError}
 use Rattle.snap_merge.specs.declared.error.FsError.TheVariants.{NotFound, NotDir, IsDir, Exists, NotEmpty, Invalid, BadPath, CrossDevice, NotPermitted, TooBig, LayerFull, NeedsCharge}
 use Rattle.snap_merge.specs.Objects.{Object, dir, file, symlink, seen, is_shown_dir}
-use Rattle.snap_merge.specs.Walk.{walk}
+use Rattle.snap_merge.specs.Walk.{walk, unless}
 use Rattle.snap_merge.specs.Listing.{names}
 use Rattle.snap_path.specs.Text.{Names, text_below, begins}
 use Rattle.snap_upper.specs.declared.op.Op.{Op}
@@ -27,37 +28,16 @@ use Rattle.snap_copyup.specs.Copying.{below, is_pure, with_parents, copied_up}
 abbrev pub error_if : Bool → FsError → Option FsError
 error_if holds e = if holds then Some e else None
 
--- the error where no regular file is seen
-abbrev pub file_error : Option Object → Option FsError
-file_error None = Some NotFound
-file_error (Some (dir mode)) = Some IsDir
-file_error (Some (file mode bytes)) = None
-file_error (Some (symlink target)) = Some Invalid
-
--- the error where no directory and no regular file is seen
-abbrev pub mode_error : Option Object → Option FsError
-mode_error None = Some NotFound
-mode_error (Some (dir mode)) = None
-mode_error (Some (file mode bytes)) = None
-mode_error (Some (symlink target)) = Some Invalid
+-- the error where nothing is seen, or that of a directory, of a regular file or of a symlink, if it has one
+abbrev pub error_by_kind : Option FsError → Option FsError → Option FsError → Option Object → Option FsError
+error_by_kind of_dir of_file of_symlink None = Some NotFound
+error_by_kind of_dir of_file of_symlink (Some (dir mode)) = of_dir
+error_by_kind of_dir of_file of_symlink (Some (file mode bytes)) = of_file
+error_by_kind of_dir of_file of_symlink (Some (symlink target)) = of_symlink
 
 -- a target that is empty or has a NUL
 abbrev pub is_no_target : List ℕ → Bool
 is_no_target target = length target == 0 || list_any (λ b. b == 0) target
-
--- the error where nothing or a directory is seen
-abbrev pub name_error : Option Object → Option FsError
-name_error None = Some NotFound
-name_error (Some (dir mode)) = Some IsDir
-name_error (Some (file mode bytes)) = None
-name_error (Some (symlink target)) = None
-
--- the error where no directory is seen
-abbrev pub dir_error : Option Object → Option FsError
-dir_error None = Some NotFound
-dir_error (Some (dir mode)) = None
-dir_error (Some (file mode bytes)) = Some NotDir
-dir_error (Some (symlink target)) = Some NotDir
 
 -- the root
 abbrev pub is_root : Names → Bool
@@ -68,22 +48,14 @@ is_root (n ∷ p) = false
 abbrev pub has_names : List Tree → Names → Bool
 has_names s p = nat_lt 0 (length (names s p))
 
--- the error where no file and no symlink is seen
-abbrev pub link_error : Option Object → Option FsError
-link_error None = Some NotFound
-link_error (Some (dir mode)) = Some NotPermitted
-link_error (Some (file mode bytes)) = None
-link_error (Some (symlink target)) = None
-
 -- the paths are one
 abbrev pub is_same_path : Names → Names → Bool
 is_same_path p q = begins p q && begins q p
 
 -- both numbers are there, and they are one
 abbrev pub is_same_number : Option ℕ → Option ℕ → Bool
-is_same_number None k = false
-is_same_number (Some j) None = false
 is_same_number (Some j) (Some k) = j == k
+is_same_number j k = false
 
 -- one path, or two names of one file of the upper layer (rename(2))
 abbrev pub is_same_name : Tree → Names → Names → Bool
@@ -93,18 +65,17 @@ is_same_name u from to = is_same_path from to || is_same_number (number_at u fro
 abbrev pub kind_error : Option Object → Option Object → Option FsError
 kind_error moved None = None
 kind_error moved (Some (dir mode)) = error_if (not (is_shown_dir moved)) IsDir
-kind_error moved (Some (file mode bytes)) = error_if (is_shown_dir moved) NotDir
-kind_error moved (Some (symlink target)) = error_if (is_shown_dir moved) NotDir
+kind_error moved (Some other) = error_if (is_shown_dir moved) NotDir
 
 -- a path of the upper layer that moves with `from` would be longer than 4095 bytes (limits.h, PATH_MAX without the closing NUL)
-abbrev pub is_too_long : Tree → Names → Names → Bool
-is_too_long u from to = list_any (λ e. nat_lt 4095 (length (text_below (relocated from to e.0)))) (inside from u.entries)
+abbrev pub moves_too_long : Tree → Names → Names → Bool
+moves_too_long u from to = list_any (λ e. nat_lt 4095 (length (text_below (relocated from to e.0)))) (inside from u.entries)
 
 -- the tests of a rename that has something to do; a directory that has one of a lower layer below it stays (overlayfs.rst, "renaming directories")
 abbrev pub move_tests : Tree → List Tree → Names → Names → List (Option FsError)
 move_tests u lowers from to =
     let is_dir = is_shown_dir (seen (u ∷ lowers) from) in
-    error_if (is_dir && begins from to) Invalid ∷ kind_error (seen (u ∷ lowers) from) (seen (u ∷ lowers) to) ∷ error_if (is_dir && not (is_pure u lowers from)) CrossDevice ∷ error_if (has_names (u ∷ lowers) to) NotEmpty ∷ error_if (is_too_long u from to) BadPath ∷ []
+    error_if (is_dir && begins from to) Invalid ∷ kind_error (seen (u ∷ lowers) from) (seen (u ∷ lowers) to) ∷ error_if (is_dir && not (is_pure u lowers from)) CrossDevice ∷ error_if (has_names (u ∷ lowers) to) NotEmpty ∷ error_if (moves_too_long u from to) BadPath ∷ []
 
 -- the tests of a rename over the upper layer and the lower ones (rename(2))
 abbrev pub rename_tests : Tree → List Tree → Names → Names → List (Option FsError)
@@ -114,13 +85,13 @@ rename_tests u lowers from to = walk (u ∷ lowers) from ∷ walk (u ∷ lowers)
 abbrev pub tests : Op → List Tree → List (Option FsError)
 tests (Mkdir path mode) s = walk s path ∷ error_if (is_some (seen s path)) Exists ∷ error_if (nat_lt 4095 mode) Invalid ∷ []
 tests (Create path mode) s = walk s path ∷ error_if (is_some (seen s path)) Exists ∷ error_if (nat_lt 4095 mode) Invalid ∷ []
-tests (Write path offset bytes) s = walk s path ∷ file_error (seen s path) ∷ error_if (nat_lt 1048576 (offset + length bytes)) TooBig ∷ []
-tests (Truncate path size) s = walk s path ∷ file_error (seen s path) ∷ error_if (nat_lt 1048576 size) TooBig ∷ []
-tests (SetMode path mode) s = walk s path ∷ mode_error (seen s path) ∷ error_if (nat_lt 4095 mode) Invalid ∷ []
+tests (Write path offset bytes) s = walk s path ∷ error_by_kind (Some IsDir) None (Some Invalid) (seen s path) ∷ error_if (nat_lt 1048576 (offset + length bytes)) TooBig ∷ []
+tests (Truncate path size) s = walk s path ∷ error_by_kind (Some IsDir) None (Some Invalid) (seen s path) ∷ error_if (nat_lt 1048576 size) TooBig ∷ []
+tests (SetMode path mode) s = walk s path ∷ error_by_kind None None (Some Invalid) (seen s path) ∷ error_if (nat_lt 4095 mode) Invalid ∷ []
 tests (Symlink path target) s = walk s path ∷ error_if (is_some (seen s path)) Exists ∷ error_if (is_no_target target) Invalid ∷ error_if (nat_lt 4095 (length target)) TooBig ∷ []
-tests (Link from to) s = walk s from ∷ walk s to ∷ link_error (seen s from) ∷ error_if (is_some (seen s to)) Exists ∷ []
-tests (Unlink path) s = walk s path ∷ name_error (seen s path) ∷ []
-tests (Rmdir path) s = walk s path ∷ error_if (is_root path) Invalid ∷ dir_error (seen s path) ∷ error_if (has_names s path) NotEmpty ∷ []
+tests (Link from to) s = walk s from ∷ walk s to ∷ error_by_kind (Some NotPermitted) None None (seen s from) ∷ error_if (is_some (seen s to)) Exists ∷ []
+tests (Unlink path) s = walk s path ∷ error_by_kind (Some IsDir) None None (seen s path) ∷ []
+tests (Rmdir path) s = walk s path ∷ error_if (is_root path) Invalid ∷ error_by_kind None (Some NotDir) (Some NotDir) (seen s path) ∷ error_if (has_names s path) NotEmpty ∷ []
 tests (Rename from to) [] = []
 tests (Rename from to) (u ∷ lowers) = rename_tests u lowers from to
 
@@ -134,8 +105,7 @@ first_error (Some e ∷ later) = Some e
 
 -- a whiteout stands there
 abbrev pub is_whiteout_at : Option Node → Bool
-is_whiteout_at None = false
-is_whiteout_at (Some n) = is_whiteout n
+is_whiteout_at o = option_map_or is_whiteout o false
 
 -- the bytes put into the old ones at an offset; a gap before them has zero bytes, and no bytes change nothing (pwrite(2), lseek(2))
 abbrev pub written : List ℕ → ℕ → List ℕ → List ℕ
@@ -147,23 +117,21 @@ abbrev pub resized : List ℕ → ℕ → List ℕ
 resized old size = take size old ++ replicate (size - length old) 0
 
 -- the bytes of a file
-abbrev pub bytes_of : Option Body → List ℕ
-bytes_of None = []
-bytes_of (Some (body_kinds.File mode bytes)) = bytes
-bytes_of (Some (body_kinds.Symlink target)) = []
+abbrev pub body_bytes : Option Body → List ℕ
+body_bytes (Some (body_kinds.File mode bytes)) = bytes
+body_bytes other = []
 
 -- the layer with other bytes of the file with the number, for all its names
 abbrev pub with_content : Tree → Option ℕ → (List ℕ → List ℕ) → Tree
-with_content t None f = t
-with_content t (Some k) f = with_bytes t k (body t k) (f (bytes_of (body t k)))
+with_content t o f = option_map_or (λ k. with_bytes t k (body t k) (f (body_bytes (body t k)))) o t
 
 -- the layer without what stands at the path, and with a whiteout there where something is below (overlayfs.rst, "whiteouts and opaque directories")
 abbrev pub erased : Tree → List Tree → Names → Tree
 erased u lowers p = let t = with_parents u lowers p in if is_some (below u lowers p) then with_node t p node.Whiteout else without t p
 
 -- the layer before a move: what is seen at `from` is copied up, and the directories above `to` are there (overlayfs.rst, "Non-directories")
-abbrev pub prepared : Tree → List Tree → Names → Names → Tree
-prepared u lowers from to = with_parents (copied_up u lowers from) lowers to
+abbrev pub before_move : Tree → List Tree → Names → Names → Tree
+before_move u lowers from to = with_parents (copied_up u lowers from) lowers to
 
 -- the layer after a move of what stands at `from` to `to`, in place of what stands there: it leaves a whiteout or none, and makes a moved directory opaque or not (overlayfs.rst, "whiteouts and opaque directories")
 abbrev pub shifted : Tree → Names → Names → Bool → Bool → Tree
@@ -171,7 +139,7 @@ shifted t from to leaves covers = let v = with_moved t from to leaves in if cove
 
 -- the layer after a rename: a whiteout is left where something is below `from`, and a directory is opaque where something is below `to`
 abbrev pub renamed : Tree → List Tree → Names → Names → Tree
-renamed u lowers from to = shifted (prepared u lowers from to) from to (is_some (below u lowers from)) (is_some (below u lowers to))
+renamed u lowers from to = shifted (before_move u lowers from to) from to (is_some (below u lowers from)) (is_some (below u lowers to))
 
 -- the effect of an operation on the upper layer
 abbrev pub next_layer : Op → Tree → List Tree → Tree
@@ -192,11 +160,6 @@ next_layer (Rename from to) u lowers = if is_same_name u from to then u else ren
 abbrev pub Outcome : Type 0
 Outcome = Result Tree FsError
 
--- the outcome, where there is no error before it
-abbrev pub unless : Option FsError → Outcome → Outcome
-unless None later = later
-unless (Some e) later = Err e
-
 -- the layer, where it has at most 65,536 inodes and its file numbers aren't used up
 abbrev pub limited : Tree → Outcome
 limited t = if is_within t then Ok t else Err LayerFull
@@ -212,7 +175,7 @@ planned (Err e) = Err e
 
 -- the outcome of an operation that may fill the share and no more: the next layer, where the share covers its count in both quantities, else so much has to be charged. An error stays
 abbrev pub within_share : Usage → Outcome → Outcome
-within_share share (Ok next) = let need = count_of next in if nat_le need.blocks share.blocks && nat_le need.inodes share.inodes then Ok next else Err (NeedsCharge need)
+within_share share (Ok next) = if covers share (count_of next) then Ok next else Err (NeedsCharge (count_of next))
 within_share share (Err e) = Err e
 
 -- there is no error, or it comes after the names of the directory were listed that is removed, or whose place another takes

@@ -27,7 +27,7 @@ pub record Turns (u : Tree) (v w : View) (p : Names) (f : Object → Object) : T
   pub others : (q : Names) → (IsName u p q → ⊥) → w q ≡ v q
 
 -- w shows at `to` and below it what v shows at `from` and below it, nothing there any more, and at every other path what v shows
-pub record Moves (v w : View) (from to : Names) : Type 0 where
+pub record ShowsMoved (v w : View) (from to : Names) : Type 0 where
   pub here : (r : Names) → w (to ++ r) ≡ v (from ++ r)
   pub gone : (r : Names) → w (from ++ r) ≡ None
   pub others : (q : Names) → ((r : Names) → q ≡ from ++ r → ⊥) → ((r : Names) → q ≡ to ++ r → ⊥) → w q ≡ v q
@@ -59,7 +59,7 @@ changed (Symlink path target) u v w = ShowsAt v w path (Some (symlink target))
 changed (Link from to) u v w = ShowsAt v w to (v from)
 changed (Unlink path) u v w = ShowsAt v w path None
 changed (Rmdir path) u v w = ShowsAt v w path None
-changed (Rename from to) u v w = (IsName u from to × Stays v w) ⊎ ((IsName u from to → ⊥) × Moves v w from to)
+changed (Rename from to) u v w = (IsName u from to × Stays v w) ⊎ ((IsName u from to → ⊥) × ShowsMoved v w from to)
 
 -- with any layers below, an operation that gives a next upper layer changes what is seen as `changed` says
 abbrev pub Changes : Op → Tree → Type 0

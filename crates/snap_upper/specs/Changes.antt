@@ -8,7 +8,7 @@ use Rattle.snap_merge.specs.Walk.{walk}
 use Rattle.snap_copyup.specs.declared.parents.Last.{Last}
 use Rattle.snap_copyup.specs.declared.parents.Last.TheVariants as last
 use Rattle.snap_copyup.specs.Copying.{below, with_parents}
-use Rattle.snap_copyup.specs.Places.{with_last, Fits}
+use Rattle.snap_copyup.specs.Places.{with_last, CanStand}
 use Rattle.snap_upper.specs.declared.op.Op.{Op}
 use Rattle.snap_upper.specs.declared.op.Op.TheVariants as op
 use Rattle.snap_upper.specs.declared.change.Edit.{Edit}
@@ -62,7 +62,7 @@ outcome (Move from to leaves covers) u lowers = limited (renamed u lowers from.n
 -- the change can be made: what the steps ask for is there
 abbrev pub IsReady : Change → Tree → List Tree → Type 0
 IsReady Nothing u lowers = Unit {0}
-IsReady (Put path new) u lowers = (walk (u ∷ lowers) path.now ≡ None) × Fits (as_last new) u path.now × IsSound new
+IsReady (Put path new) u lowers = (walk (u ∷ lowers) path.now ≡ None) × CanStand (as_last new) u path.now × IsSound new
 IsReady (Fill number edit) u lowers = (m : ℕ) × (old : List ℕ) × (body u number ≡ Some (body_kinds.File m old)) × IsShort edit × (length (edited edit old) ≤ 1048576)
 IsReady (SetMode path mode) u lowers = HasMode (at u path.now) × (mode ≤ 4095)
 IsReady (Erase path covers) u lowers = (walk (u ∷ lowers) path.now ≡ None) × (is_some (seen (u ∷ lowers) path.now) ≡ true) × (path.now ≡ [] → ⊥) × ((n : List ℕ) → is_some (seen (u ∷ lowers) (path.now ++ n ∷ [])) ≡ false) × (covers ≡ is_some (below u lowers path.now))

@@ -7,7 +7,7 @@ ghost use Rattle.snap_path.specs.Text.{begins};
 ghost use Rattle.snap_merge.specs.declared.error.FsError.{FsError};
 ghost use Rattle.snap_merge.specs.Objects.{object, seen, is_shown_dir, AreLayers};
 ghost use Rattle.snap_merge.specs.Walk.{walk};
-ghost use Rattle.snap_upper.specs.After.{tests, first_error, error_if, file_error, mode_error, link_error, dir_error, has_names, is_no_target, move_tests, kind_error, is_root, is_same_name, is_same_path, is_same_number, is_too_long, is_late, lists_names};
+ghost use Rattle.snap_upper.specs.After.{tests, first_error, error_if, has_names, is_no_target, move_tests, kind_error, is_root, is_same_name, is_same_path, is_same_number, moves_too_long, is_late, lists_names, error_by_kind};
 ghost use Rattle.snap_upper.specs.declared.op.Op.TheVariants as op;
 
 use super::change::own_number;
@@ -118,7 +118,7 @@ fn has_nul(bytes: &[u8]) -> bool
 
 /// Tests whether a regular file is seen at the path.
 fn check_file(stack: &Stack<'_>, path: &Path) -> Result<(), FsError>
-    ensures { result_err result ≡ file_error (seen stack.now path.now) }
+    ensures { result_err result ≡ error_by_kind (Some FsError.IsDir) None (Some FsError.Invalid) (seen stack.now path.now) }
 {
     match stack.look(path) {
         Some(Seen::File { .. }) => Ok(()),
@@ -130,7 +130,7 @@ fn check_file(stack: &Stack<'_>, path: &Path) -> Result<(), FsError>
 
 /// Tests whether a directory or a regular file, which have a mode, is seen at the path.
 fn check_has_mode(stack: &Stack<'_>, path: &Path) -> Result<(), FsError>
-    ensures { result_err result ≡ mode_error (seen stack.now path.now) }
+    ensures { result_err result ≡ error_by_kind None None (Some FsError.Invalid) (seen stack.now path.now) }
 {
     match stack.look(path) {
         Some(Seen::File { .. }) => Ok(()),
@@ -156,7 +156,7 @@ pub(crate) fn check_link(stack: &Stack<'_>, from: &Path, to: &Path) -> Result<()
 
 /// Tests whether a file or a symlink is seen at the path.
 fn check_linked(stack: &Stack<'_>, path: &Path) -> Result<(), FsError>
-    ensures { result_err result ≡ link_error (seen stack.now path.now) }
+    ensures { result_err result ≡ error_by_kind (Some FsError.NotPermitted) None None (seen stack.now path.now) }
 {
     match stack.look(path) {
         Some(Seen::File { .. }) => Ok(()),
@@ -215,7 +215,7 @@ pub(crate) fn check_empty(stack: &Stack<'_>, alloc: Global, path: &Path) -> Resu
 
 /// Tests whether a directory is seen at the path.
 fn check_dir(stack: &Stack<'_>, path: &Path) -> Result<(), FsError>
-    ensures { result_err result ≡ dir_error (seen stack.now path.now) }
+    ensures { result_err result ≡ error_by_kind None (Some FsError.NotDir) (Some FsError.NotDir) (seen stack.now path.now) }
 {
     match stack.look(path) {
         Some(Seen::Dir { .. }) => Ok(()),
@@ -317,7 +317,7 @@ fn check_move(layer: &Layer, lowers: &[Shared], from: &Path, to: &Path) -> Resul
 /// Whether a path of the layer at or below `from` would be too long at `to`.
 fn is_too_long(layer: &Layer, from: &Path, to: &Path) -> bool
     requires { (is_root from.now || is_root to.now) ≡ false }
-    ensures { result ≡ is_too_long layer.now from.now to.now }
+    ensures { result ≡ moves_too_long layer.now from.now to.now }
 {
     layer.show_is_layer();
     !layer.has_short_paths(from, to)

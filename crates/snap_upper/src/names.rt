@@ -6,7 +6,7 @@ ghost use Rattle.snap_layer.specs.declared.node.Node.TheVariants as Node;
 ghost use Rattle.snap_merge.specs.declared.error.FsError.{FsError};
 ghost use Rattle.snap_copyup.specs.Copying.{below, with_parents, copied_up};
 ghost use Rattle.snap_copyup.specs.Places.{IsRefusal};
-ghost use Rattle.snap_upper.specs.After.{tests, first_error, limited, next_layer, is_same_name, renamed, prepared, shifted};
+ghost use Rattle.snap_upper.specs.After.{tests, first_error, limited, next_layer, is_same_name, renamed, before_move, shifted};
 ghost use Rattle.snap_upper.specs.declared.op.Op.TheVariants as op;
 
 use super::change::own_number;
@@ -220,7 +220,7 @@ fn shift_on_copy(
 fn prepare(layer: &Layer, lowers: &[Shared], from: &Path, to: &Path) -> Result<Layer, FsError>
     requires passes { first_error (tests (op.Rename from.now to.now) (layer.now ∷ lowers.now)) ≡ None }
     requires moves { is_same_name layer.now from.now to.now ≡ false }
-    ensures ok { IfOk result (λ next. next ≡ prepared layer.now lowers.now from.now to.now) }
+    ensures ok { IfOk result (λ next. next ≡ before_move layer.now lowers.now from.now to.now) }
     ensures error { IfErr result (λ e. IsRefusal (renamed layer.now lowers.now from.now to.now) e) }
 {
     show_are_layers(lowers);

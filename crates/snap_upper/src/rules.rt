@@ -5,7 +5,7 @@ ghost use Rattle.snap_merge.specs.declared.error.FsError.{FsError};
 ghost use Rattle.snap_merge.specs.Objects.{file, seen, AreLayers};
 ghost use Rattle.snap_merge.specs.Walk.{walk};
 ghost use Rattle.snap_copyup.specs.Copying.{below, copied_up};
-ghost use Rattle.snap_upper.specs.After.{after, limited, with_content, lists_names, mode_error};
+ghost use Rattle.snap_upper.specs.After.{after, limited, with_content, lists_names, error_by_kind};
 ghost use Rattle.snap_upper.specs.Changes.{edited, outcome, IsChange, IsReady, IsShort, IsWithMode};
 ghost use Rattle.snap_upper.specs.declared.op.Op.TheVariants as op;
 
@@ -186,7 +186,7 @@ fn lower_with<'a>(
     mode: u32,
 ) -> Result<New<'a>, FsError>
     requires nothing { at layer.now path.now ≡ None }
-    requires there { mode_error (seen (layer.now ∷ lowers.now) path.now) ≡ None }
+    requires there { error_by_kind None None (Some FsError.Invalid) (seen (layer.now ∷ lowers.now) path.now) ≡ None }
     ensures ok { IfOk result (λ new. IsWithMode new (seen (layer.now ∷ lowers.now) path.now) mode) }
     ensures sure { IfErr result (λ e. ⊥) }
 {

@@ -7,7 +7,7 @@ ghost use Rattle.snap_merge.specs.declared.error.FsError.{FsError};
 ghost use Rattle.snap_merge.specs.Objects.{seen};
 ghost use Rattle.snap_merge.specs.Walk.{walk};
 ghost use Rattle.snap_copyup.specs.Copying.{below, with_parents};
-ghost use Rattle.snap_copyup.specs.Places.{with_last, Fits};
+ghost use Rattle.snap_copyup.specs.Places.{with_last, CanStand};
 ghost use Rattle.snap_upper.specs.After.{after, lists_names, within_share, limited, with_content, erased};
 ghost use Rattle.snap_upper.specs.Changed.{changed, Changes};
 ghost use Rattle.snap_upper.specs.Changes.{outcome, IsReady, as_last, edited, IsShort, IsSound};
@@ -132,7 +132,7 @@ fn perform(layer: &mut Layer, lowers: &[Shared], change: Change<'_>) -> Result<(
 /// Puts it at the path, with the directories that are missing above it.
 fn grow(layer: &mut Layer, lowers: &[Shared], path: &Path, last: Last) -> Result<(), FsError>
     requires way { walk (layer.old ∷ lowers.now) path.now ≡ None }
-    requires fit { Fits last layer.old path.now }
+    requires fit { CanStand last layer.old path.now }
     ensures ok { OnOk result (limited (with_last last (with_parents layer.old lowers.now path.now) path.now) ≡ Ok layer.new) }
     ensures error { IfErr result (λ e. (e ≡ FsError.OutOfMemory) ⊎ (limited (with_last last (with_parents layer.old lowers.now path.now) path.now) ≡ Err e)) }
     ensures unchanged { OnErr result (layer.new ≡ layer.old) }
@@ -147,7 +147,7 @@ fn grow(layer: &mut Layer, lowers: &[Shared], path: &Path, last: Last) -> Result
 /// Makes it with its own bytes, and puts it at the path, with the directories that are missing above it.
 fn put_new(layer: &mut Layer, lowers: &[Shared], path: &Path, new: New<'_>) -> Result<(), FsError>
     requires way { walk (layer.old ∷ lowers.now) path.now ≡ None }
-    requires fit { Fits (as_last new) layer.old path.now }
+    requires fit { CanStand (as_last new) layer.old path.now }
     requires sound { IsSound new }
     ensures ok { OnOk result (limited (with_last (as_last new.entry) (with_parents layer.old lowers.now path.now) path.now) ≡ Ok layer.new) }
     ensures error { IfErr result (λ e. (e ≡ FsError.OutOfMemory) ⊎ (limited (with_last (as_last new.entry) (with_parents layer.old lowers.now path.now) path.now) ≡ Err e)) }

@@ -9,8 +9,8 @@ ghost use Rattle.snap_merge.specs.Objects.{object, seen, AreLayers};
 ghost use Rattle.snap_merge.specs.Walk.{walk, Answers};
 ghost use Rattle.snap_copyup.specs.declared.parents.Last.{Last};
 ghost use Rattle.snap_copyup.specs.Copying.{below, with_parents};
-ghost use Rattle.snap_copyup.specs.Places.{with_last, Fits};
-ghost use Rattle.snap_upper.specs.After.{after, first_error, tests, planned, limited, next_layer, erased, prepared, renamed, is_same_name, with_content, lists_names};
+ghost use Rattle.snap_copyup.specs.Places.{with_last, CanStand};
+ghost use Rattle.snap_upper.specs.After.{after, first_error, tests, planned, limited, next_layer, erased, before_move, renamed, is_same_name, with_content, lists_names};
 ghost use Rattle.snap_upper.specs.Changes.{edited, outcome, IsReady, IsShort};
 ghost use Rattle.snap_upper.specs.Adding.{Takes, weight_of, last_blocks, object_blocks, IsPlaceable, IsNext};
 ghost use Rattle.snap_upper.specs.declared.op.Op.TheVariants as op;
@@ -113,7 +113,7 @@ fn plan_link(layer: &Layer, lowers: &[Shared], from: &Path, to: &Path) -> Result
 fn count_placed(layer: &Layer, lowers: &[Shared], from: &Path, to: &Path) -> Usage
     requires layers { AreLayers lowers.now }
     requires placeable { IsPlaceable layer.now lowers.now from.now to.now }
-    ensures count { result ≡ record { blocks = block_count (without (prepared layer.now lowers.now from.now to.now) to.now); inodes = inode_count (without (prepared layer.now lowers.now from.now to.now) to.now) } }
+    ensures count { result ≡ record { blocks = block_count (without (before_move layer.now lowers.now from.now to.now) to.now); inodes = inode_count (without (before_move layer.now lowers.now from.now to.now) to.now) } }
     ensures few { result.inodes ≤ 100000 }
 {
     let _ = from.names();
@@ -246,7 +246,7 @@ fn file_blocks(layer: &Layer, number: u32) -> u64
 fn plan_growth(layer: &Layer, path: &Path, blocks: u64, numbered: bool) -> Result<Planned, FsError>
     requires few { blocks ≤ 256 }
     requires free { IsFree (at layer.now path.now) }
-    ensures { (last : Last) (lowers : List Tree) → Takes last blocks numbered → AreLayers lowers → walk (layer.now ∷ lowers) path.now ≡ None → Fits last layer.now path.now → result ≡ planned (limited (with_last last (with_parents layer.now lowers path.now) path.now)) }
+    ensures { (last : Last) (lowers : List Tree) → Takes last blocks numbered → AreLayers lowers → walk (layer.now ∷ lowers) path.now ≡ None → CanStand last layer.now path.now → result ≡ planned (limited (with_last last (with_parents layer.now lowers path.now) path.now)) }
 {
     let _ = path.names();
     layer.show_is_layer();

@@ -19,7 +19,7 @@ use Rattle.snap_layer.specs.Counts.{dir_count, whiteout_count, block_count, inod
 use Rattle.snap_layer.specs.Layers.{IsLayer}
 use Rattle.snap_layer.proofs.Lists.{at_itself, apart_from}
 use Rattle.snap_usage.specs.declared.usage.Usage.{Usage}
-use Rattle.snap_usage.specs.Counted.{blocks_if}
+use Rattle.snap_usage.proofs.Joined.{blocks_if}
 
 -- the bodies whose numbers are above the number
 abbrev pub above : ℕ → Bodies → Bodies

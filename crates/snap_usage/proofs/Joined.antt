@@ -22,8 +22,14 @@ use Rattle.snap_layer.proofs.Lists.{lookup_below, at_itself}
 use Rattle.snap_layer.proofs.Looks.{split_number, no_name_at, name_found}
 use Rattle.snap_layer.proofs.Kept.{node_with_number, has_body}
 use Rattle.snap_usage.specs.declared.usage.Usage.{Usage}
-use Rattle.snap_usage.specs.Counted.{numbers_of, distinct, blocks_if, count_of}
+use Rattle.std.specs.Option.{option_map_or}
+use Rattle.snap_layer.specs.declared.node.Body.{Body}
+use Rattle.snap_usage.specs.Counted.{numbers_of, distinct, count_of}
 use Rattle.snap_usage.proofs.Distinct.{one_at, occurs, found, same_sums, same_lengths, not_found, is_found, occurs-distinct}
+
+-- the blocks of the body that a number has, if it has one
+abbrev pub blocks_if : Option Body → ℕ
+blocks_if o = option_map_or body_blocks o 0
 
 no_bool : true ≡ false → ⊥
 no_bool e = cc

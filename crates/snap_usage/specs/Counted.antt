@@ -1,9 +1,9 @@
 -- What a layer takes, counted over its paths.
-use Rattle.std.specs.Prelude.{ℕ, ◌+◌, ◌≤◌, ◌==◌, if◌then◌else◌, List, [], ◌∷◌, ◌++◌, length, Option, Some, None, codes}
+use Rattle.std.specs.Prelude.{ℕ, ◌+◌, ◌≤◌, ◌==◌, if◌then◌else◌, Bool, nat_le, ◌&&◌, List, [], ◌∷◌, ◌++◌, length, codes}
 use Rattle.std.specs.Fmt.{decimal}
 use Rattle.std.specs.List.{list_any, filter_map, sum_by}
+use Rattle.std.specs.Option.{option_map_or}
 use Rattle.std.specs.Map.{values_of}
-use Rattle.snap_layer.specs.declared.node.Body.{Body}
 use Rattle.snap_layer.specs.Tree.{Tree, Entries, number_of, body}
 use Rattle.snap_layer.specs.Counts.{dir_count, whiteout_count, body_blocks}
 use Rattle.snap_usage.specs.declared.usage.Usage.{Usage}
@@ -17,16 +17,19 @@ abbrev pub distinct : List ℕ → List ℕ
 distinct [] = []
 distinct (k ∷ ks) = if list_any (λ j. j == k) ks then distinct ks else k ∷ distinct ks
 
--- the blocks of the body that a number has, if it has one
-abbrev pub blocks_if : Option Body → ℕ
-blocks_if None = 0
-blocks_if (Some b) = body_blocks b
-
 -- an inode for each directory, each whiteout and each file number; a block for each directory, and those of each file number's body
 abbrev pub count_of : Tree → Usage
 count_of t =
     let files = distinct (numbers_of t.entries) in
-    record { blocks = dir_count t + sum_by (λ k. blocks_if (body t k)) files; inodes = dir_count t + whiteout_count t + length files }
+    record { blocks = dir_count t + sum_by (λ k. option_map_or body_blocks (body t k) 0) files; inodes = dir_count t + whiteout_count t + length files }
+
+-- no blocks and no inodes
+abbrev pub no_usage : Usage
+no_usage = record { blocks = 0; inodes = 0 }
+
+-- whether the first is at least the second in both quantities
+abbrev pub covers : Usage → Usage → Bool
+covers a b = nat_le b.blocks a.blocks && nat_le b.inodes a.inodes
 
 -- at least as much of both quantities
 pub record Covers (a b : Usage) : Type 0 where

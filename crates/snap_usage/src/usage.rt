@@ -1,8 +1,9 @@
 ghost use Rattle.std.specs.Prelude.{◌≡◌, ◌↔◌, ◌+◌, ◌-◌, ◌<◌, ◌^◌, Some, IsTrue};
+ghost use Rattle.std.specs.Option.{option_map_or};
 ghost use Rattle.snap_layer.specs.Tree.{body};
 ghost use Rattle.snap_layer.specs.Counts as layer_counts;
-ghost use Rattle.snap_layer.specs.Counts.{block_count, inode_count};
-ghost use Rattle.snap_usage.specs.Counted.{Covers, blocks_if, count_of, usage_text};
+ghost use Rattle.snap_layer.specs.Counts.{block_count, body_blocks, inode_count};
+ghost use Rattle.snap_usage.specs.Counted.{Covers, count_of, usage_text};
 
 use snap_layer::Layer;
 use snap_path::limits::BLOCK_BYTES;
@@ -106,7 +107,7 @@ pub fn recount(layer: &Layer) -> Usage
 
 /// The blocks of the body that the number has, if it has one.
 fn blocks_at(layer: &Layer, number: u32) -> u64
-    ensures { result ≡ blocks_if (body layer.now number) }
+    ensures { result ≡ option_map_or body_blocks (body layer.now number) 0 }
 {
     match layer.body(number) {
         Some(body) => body.blocks(),

@@ -3,7 +3,7 @@ use Rattle.snap_layer.specs.Tree.{Tree}
 use Rattle.snap_merge.specs.Objects.{seen}
 use Rattle.snap_copyup.specs.declared.parents.Last.{Last}
 use Rattle.snap_copyup.specs.Copying.{with_parents}
-use Rattle.snap_copyup.specs.Places.{with_last, Fits, IsRefusal}
+use Rattle.snap_copyup.specs.Places.{with_last, CanStand, IsRefusal}
 use Rattle.snap_copyup.proofs.Alone.{OnOk-weaker}
 use Rattle.snap_copyup.proofs.Copies.{last_copied, copied_view, copy_fits}
 use Rattle.snap_copyup.proofs.lower.copy_up.Goals as goal
@@ -11,7 +11,7 @@ use Rattle.snap_copyup.proofs.lower.copy_up.Goals as goal
 pub put-requires-clause-fit : goal.put-requires-clause-fit
 put-requires-clause-fit c =
     let u = c.args.layer.now in
-    subst (λ (l : Last). Fits l u c.args.path.now) (sym c.in_ok-last.ensures) (copy_fits u c.args.lowers.now c.args.path.now c.show_is_layer.ensures.layer c.show_are_layers.ensures)
+    subst (λ (l : Last). CanStand l u c.args.path.now) (sym c.in_ok-last.ensures) (copy_fits u c.args.lowers.now c.args.path.now c.show_is_layer.ensures.layer c.show_are_layers.ensures)
 
 pub returns-clause-ok : goal.returns-clause-ok
 returns-clause-ok c =

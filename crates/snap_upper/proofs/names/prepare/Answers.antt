@@ -4,7 +4,7 @@ use Rattle.snap_merge.specs.Walk.{walk}
 use Rattle.snap_copyup.specs.Copying.{with_parents, copied_up}
 use Rattle.snap_copyup.specs.Places.{IsRefusal}
 use Rattle.snap_copyup.proofs.Wholes.{IfErr-refused}
-use Rattle.snap_upper.specs.After.{renamed, prepared}
+use Rattle.snap_upper.specs.After.{renamed, before_move}
 use Rattle.snap_upper.proofs.Movable.{renamable}
 use Rattle.snap_upper.proofs.Prepared.{way_after}
 use Rattle.snap_upper.proofs.Shifted.{copied_full, prepared_full}
@@ -41,4 +41,4 @@ returns-in_err-ensure_dirs-clause-error c =
     let is = renamable u ls from to c.requires.passes c.requires.moves in
     let next = c.in_ok-copy_up.ensures.ok ∙ ap (λ (t : Tree). copied_up t ls from) c.in_ok-next.ensures in
     let refusal = subst (λ (t : Tree). IsRefusal (with_parents t ls to) x) next c.in_err-ensure_dirs.ensures.error in
-    IfErr-refused c.from_residual-in_err-ensure_dirs.result x (prepared u ls from to) (renamed u ls from to) c.from_residual-in_err-ensure_dirs.ensures.1 (prepared_full u ls from to c.show_is_layer.ensures.layer c.show_are_layers.ensures is) refusal
+    IfErr-refused c.from_residual-in_err-ensure_dirs.result x (before_move u ls from to) (renamed u ls from to) c.from_residual-in_err-ensure_dirs.ensures.1 (prepared_full u ls from to c.show_is_layer.ensures.layer c.show_are_layers.ensures is) refusal

@@ -6,7 +6,7 @@ use Rattle.snap_layer.specs.Edits.{without}
 use Rattle.snap_usage.specs.declared.usage.Usage.{Usage}
 use Rattle.snap_merge.specs.Objects.{seen}
 use Rattle.snap_copyup.proofs.Growing.{few_names}
-use Rattle.snap_upper.specs.After.{prepared}
+use Rattle.snap_upper.specs.After.{before_move}
 use Rattle.snap_upper.specs.Adding.{object_blocks}
 use Rattle.snap_upper.proofs.Erased.{none_from}
 use Rattle.snap_upper.proofs.PreparedCounts.{few_seen, own_left, lower_left}
@@ -25,8 +25,8 @@ returns-then-is_some-clause-count c =
     let missing = c.missing_dirs-missing.result in
     let some : is_some (at u from) ≡ true = ap is_some (sym c.at.ensures) ∙ sym c.is_some.ensures ∙ c.if-is_some.true in
     let left = own_left u ls from to c.show_is_layer.ensures.layer c.requires.layers c.requires.placeable some missing (c.missing_dirs-missing.ensures.count ls c.requires.placeable.way_to) in
-    let blocks : c.count_without-left.result.blocks + missing ≡ block_count (without (prepared u ls from to) to) = omega (arith, ap (λ (n : Usage). n.blocks) c.count_without-left.ensures.count, left.blocks_are) in
-    let inodes : c.count_without-left.result.inodes + missing ≡ inode_count (without (prepared u ls from to) to) = omega (arith, ap (λ (n : Usage). n.inodes) c.count_without-left.ensures.count, left.inodes_are) in
+    let blocks : c.count_without-left.result.blocks + missing ≡ block_count (without (before_move u ls from to) to) = omega (arith, ap (λ (n : Usage). n.blocks) c.count_without-left.ensures.count, left.blocks_are) in
+    let inodes : c.count_without-left.result.inodes + missing ≡ inode_count (without (before_move u ls from to) to) = omega (arith, ap (λ (n : Usage). n.inodes) c.count_without-left.ensures.count, left.inodes_are) in
     λ i. record { blocks = blocks i; inodes = inodes i }
 
 pub returns-then-is_some-clause-few : goal.returns-then-is_some-clause-few
@@ -54,8 +54,8 @@ returns-clause-count c =
     let placeable = c.requires.placeable in
     let left = lower_left u ls from to c.show_is_layer.ensures.layer c.requires.layers placeable none missing (c.missing_dirs_of_both-missing.ensures.count ls placeable.way_from placeable.way_to) in
     let weighs : c.seen_blocks.result ≡ object_blocks (seen (u ∷ ls) from) = c.seen_blocks.ensures ∙ ap object_blocks (c.look.ensures ∙ ap (λ s. seen s from) c.over.ensures) in
-    let blocks : c.count_without-left.result.blocks + missing + c.seen_blocks.result ≡ block_count (without (prepared u ls from to) to) = omega (arith, ap (λ (n : Usage). n.blocks) c.count_without-left.ensures.count, left.blocks_are, weighs) in
-    let inodes : c.count_without-left.result.inodes + missing + 1 ≡ inode_count (without (prepared u ls from to) to) = omega (arith, ap (λ (n : Usage). n.inodes) c.count_without-left.ensures.count, left.inodes_are) in
+    let blocks : c.count_without-left.result.blocks + missing + c.seen_blocks.result ≡ block_count (without (before_move u ls from to) to) = omega (arith, ap (λ (n : Usage). n.blocks) c.count_without-left.ensures.count, left.blocks_are, weighs) in
+    let inodes : c.count_without-left.result.inodes + missing + 1 ≡ inode_count (without (before_move u ls from to) to) = omega (arith, ap (λ (n : Usage). n.inodes) c.count_without-left.ensures.count, left.inodes_are) in
     λ i. record { blocks = blocks i; inodes = inodes i }
 
 pub returns-clause-few : goal.returns-clause-few

@@ -4,7 +4,7 @@ use Rattle.snap_layer.specs.declared.node.Body.{Body}
 use Rattle.snap_layer.specs.declared.node.Body.TheVariants as body_kinds
 use Rattle.snap_layer.specs.Edits.{with_body, with_bytes}
 use Rattle.snap_usage.specs.declared.usage.Usage.{Usage}
-use Rattle.snap_upper.specs.After.{limited, with_content, bytes_of}
+use Rattle.snap_upper.specs.After.{limited, with_content, body_bytes}
 use Rattle.snap_upper.specs.Changes.{edited}
 use Rattle.snap_upper.proofs.Outcomes.{planned_fits}
 use Rattle.snap_upper.proofs.Writing.{rewrites, few_blocks}
@@ -40,4 +40,4 @@ returns c =
     let then : c.blocks_of-new.result ≡ blocks_of (length new) = c.blocks_of-new.ensures ∙ ap blocks_of (c.size.ensures t.1 (sym size)) in
     planned_fits (with_body u k (body_kinds.File t.0 new)) (record { blocks = c.count-now.result.blocks - c.blocks_of-old.result + c.blocks_of-new.result; inodes = c.count-now.result.inodes }) (limited (with_content u (Some k) (edited c.args.edit))) next.layer
     (omega (arith, now, before, then, none, next.blocks)) (ap (λ (n : Usage). n.inodes) c.count-now.ensures.bodies ∙ sym next.inodes)
-    (ap limited (ap (λ (o : Option Body). with_bytes u k o (edited c.args.edit (bytes_of o))) t.2))
+    (ap limited (ap (λ (o : Option Body). with_bytes u k o (edited c.args.edit (body_bytes o))) t.2))
