@@ -2,7 +2,7 @@
 use Rattle.std.specs.Prelude.{if◌then◌else◌, not}
 use Rattle.std.proofs.Common.{Bool, ◌≡◌, ℕ, ◌+◌, ◌<◌, ◌≤◌, List, length, set, true, false, None, refl, sym, ap, ◌∙◌, subst, arith}
 use Rattle.snap_usage.specs.declared.usage.Usage.{Usage}
-use Rattle.snap_ledger.specs.Halves.{no_usage}
+use Rattle.snap_usage.specs.Counted.{no_usage, covers}
 use Rattle.snap_ledger.specs.States.{ChargeState, plus}
 use Rattle.snap_record.specs.Labels.{Bytes}
 use Rattle.snap_record.specs.declared.record.Record.{Record}
@@ -10,7 +10,7 @@ use Rattle.snap_call.specs.declared.refusal.Refusal.TheVariants.{TooDeep}
 use Rattle.snap_call.specs.declared.state.State.{State}
 use Rattle.snap_call.specs.Good.{Good}
 use Rattle.snap_call.specs.Records.{charge_of, active_at, has_key, is_slot, lowest_free, open_count, with_record}
-use Rattle.snap_call.specs.State.{covers, limit_at, is_present, is_base, is_too_deep}
+use Rattle.snap_call.specs.State.{limit_at, is_present, is_base, is_too_deep}
 use Rattle.snap_call.specs.Step.{new_active, one, prepare_at, prepare_slot, refused}
 use Rattle.snap_call.proofs.Counts.{open_count-with_active, open_count-most}
 use Rattle.snap_call.proofs.Kept.{covers-Covers, good_prepared}

@@ -22,7 +22,7 @@ IsInEntry (Refused why) = IsRecorded why
 IsInEntry reply = Unit {0}
 
 -- a call that asks, and changes nothing but the journal
-abbrev pub Asks : Call → Type 0
-Asks (calls.Stat namespace key) = Unit {0}
-Asks (calls.Usage namespace key) = Unit {0}
-Asks call = ⊥
+abbrev pub OnlyAsks : Call → Type 0
+OnlyAsks (calls.Stat namespace key) = Unit {0}
+OnlyAsks (calls.Usage namespace key) = Unit {0}
+OnlyAsks call = ⊥

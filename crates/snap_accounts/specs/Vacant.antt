@@ -1,10 +1,11 @@
 -- Where a new snapshot can go.
 use Rattle.std.specs.Prelude.{◌≡◌, ◌<◌, ◌≤◌, true, false, None, length}
+use Rattle.snap_usage.specs.Counted.{covers}
 use Rattle.snap_ledger.specs.States.{plus}
 use Rattle.snap_record.specs.Labels.{Bytes}
 use Rattle.snap_call.specs.declared.state.State.{State}
 use Rattle.snap_call.specs.Records.{charge_of, active_at, has_key}
-use Rattle.snap_call.specs.State.{covers, limit_at, is_base, is_too_deep}
+use Rattle.snap_call.specs.State.{limit_at, is_base, is_too_deep}
 use Rattle.snap_call.specs.Step.{one}
 use Rattle.snap_accounts.specs.declared.prepare.Vacancy.{Vacancy}
 

@@ -1,7 +1,6 @@
 // The state, and what each namespace is charged.
 ghost use Rattle.std.specs.Prelude.{◌≡◌, ◌<◌, ◌+◌, ◌^◌, IfOk, length, replicate, slice_set, true};
-ghost use Rattle.snap_usage.specs.Counted.{Covers};
-ghost use Rattle.snap_record.specs.Records.{no_usage};
+ghost use Rattle.snap_usage.specs.Counted.{Covers, no_usage};
 ghost use Rattle.snap_call.specs.Forms.{is_config};
 ghost use Rattle.snap_call.specs.Good.{Good};
 ghost use Rattle.snap_call.specs.Records.{charge_of, open_count};

@@ -1,15 +1,15 @@
 // What a snapshot's slot is charged.
 ghost use Rattle.std.specs.Prelude.{◌≡◌, ◌<◌, ◌+◌, ◌^◌, length, true, IfOk, IfErr};
-ghost use Rattle.snap_usage.specs.Counted.{Covers};
+ghost use Rattle.snap_usage.specs.Counted.{Covers, covers as covers_of};
 ghost use Rattle.snap_ledger.specs.States.{CoversOne, Meets, minus, plus};
 ghost use Rattle.snap_call.specs.Records.{charge_of, charge_at, active_at, recharged, open_count};
-ghost use Rattle.snap_call.specs.State.{covers as covers_of, limit_at, over_limit};
-ghost use Rattle.snap_call.specs.Step.{charge as charge_step, trim as trim_step, discard as discard_step, greater, IsOpen, IsCovered};
+ghost use Rattle.snap_call.specs.State.{limit_at, over_limit};
+ghost use Rattle.snap_call.specs.Step.{charge as charge_step, trim as trim_step, discard as discard_step, greater, fits, granted, IsOpen, IsCovered};
 ghost use Rattle.snap_call.specs.declared.call.Given.TheVariants.{Count};
 ghost use Rattle.snap_call.specs.declared.reply.Reply.TheVariants.{Charged, Trimmed, Discarded, Refused};
 ghost use Rattle.snap_call.specs.declared.refusal.Refusal.TheVariants.{OverLimit};
 ghost use Rattle.snap_accounts.specs.Charged.{IsCharged};
-ghost use Rattle.snap_accounts.specs.Totals.{place_if, fits_in, granted_in};
+ghost use Rattle.snap_accounts.specs.Totals.{place_if};
 
 use crate::accounts::Accounts;
 use snap_call::Refusal;
@@ -94,7 +94,7 @@ impl<N: StoreName> Accounts<N> {
     fn fits(&self, place: usize, held: Usage, to: Usage) -> bool
         requires place { place < length self.now.namespaces }
         requires held { Covers (charge_of place self.now.records) held }
-        ensures { result ≡ fits_in self.now place held to }
+        ensures { result ≡ fits self.now place held to }
     {
         has_room(
             self.state.limit_at(place),
@@ -107,7 +107,7 @@ impl<N: StoreName> Accounts<N> {
     fn grant(&self, place: usize, held: Usage, need: Usage, want: Usage) -> Option<Usage>
         requires place { place < length self.now.namespaces }
         requires held { Covers (charge_of place self.now.records) held }
-        ensures { result ≡ granted_in self.now place held need want }
+        ensures { result ≡ granted self.now place held need want }
     {
         let needed = greater(held, need);
         let wanted = greater(needed, want);
@@ -123,7 +123,7 @@ impl<N: StoreName> Accounts<N> {
     // Charges the slot so.
     fn recharge(&mut self, share: &mut Share<N>, place: usize, to: Usage)
         requires charged { IsCharged self.old place share.old }
-        requires fits { fits_in self.old place share.old.usage to ≡ true }
+        requires fits { fits self.old place share.old.usage to ≡ true }
         requires covers { CoversOne to }
         requires entries { self.old.entries < 2 ^ 63 }
         ensures state { self.new ≡ record self.old { records = recharged share.old.slot to self.old.records; entries = self.old.entries + 1 } }
@@ -173,7 +173,7 @@ impl<N: StoreName> Accounts<N> {
         requires place { place < length self.now.namespaces }
         requires held { Covers (charge_of place self.now.records) held }
         requires count { Covers held count }
-        ensures { fits_in self.now place held count ≡ true }
+        ensures { fits self.now place held count ≡ true }
     {
         let _ = self.total(place);
     }

@@ -1,11 +1,12 @@
 // A commit of an open snapshot.
 ghost use Rattle.std.specs.Prelude.{◌≡◌, ◌<◌, ◌+◌, ◌^◌, ◌&&◌, length, true, false, None, OnOk, IfErr};
+ghost use Rattle.std.specs.Option.{option_map_or};
 ghost use Rattle.snap_layer.specs.Tree.{Tree};
 ghost use Rattle.snap_usage.specs.Counted.{Covers, count_of};
 ghost use Rattle.snap_ledger.specs.States.{minus, plus};
 ghost use Rattle.snap_call.specs.Forms.{is_key};
 ghost use Rattle.snap_call.specs.Records.{charge_of, charge_at, active_at, has_key, open_count};
-ghost use Rattle.snap_call.specs.Step.{commit_as, is_lease_text, refused, IsCovered};
+ghost use Rattle.snap_call.specs.Step.{commit_as, refused, IsCovered};
 ghost use Rattle.snap_call.specs.declared.reply.Reply.TheVariants.{Committed};
 ghost use Rattle.snap_accounts.specs.Entries.{IsRecorded};
 ghost use Rattle.snap_accounts.specs.Totals.{place_if};
@@ -20,7 +21,7 @@ use snap_usage::{Usage, count, difference};
 
 // The name of a commit has its form, and so has its lease, if one is given.
 fn is_formed(name: &str, lease: &Option<Text>) -> bool
-    ensures { result ≡ (is_key name.now && is_lease_text lease.now) }
+    ensures { result ≡ (is_key name.now && option_map_or is_key lease.now true) }
 {
     is_key(name)
         && match lease {

@@ -6,7 +6,7 @@ ghost use Rattle.snap_call.specs.Step.{ask, counted, refused, step};
 ghost use Rattle.snap_call.specs.declared.call.Given.TheVariants.{Nothing};
 ghost use Rattle.snap_call.specs.declared.reply.Reply.{Reply};
 ghost use Rattle.snap_call.specs.declared.reply.Reply.TheVariants as replies;
-ghost use Rattle.snap_accounts.specs.Entries.{Asks, IsInEntry, IsRecorded};
+ghost use Rattle.snap_accounts.specs.Entries.{OnlyAsks, IsInEntry, IsRecorded};
 
 use crate::accounts::Accounts;
 use snap_call::{Call, Refusal, Reply, is_key};
@@ -63,7 +63,7 @@ impl<N: StoreName> Accounts<N> {
     /// Takes memory for an info. The cost grows with the records, and with the texts and labels of the
     /// one that is found.
     pub fn reply_to(&self, call: &Call) -> Result<Reply, AllocError>
-        requires { Asks call.now }
+        requires { OnlyAsks call.now }
         ensures reply { IfOk result (λ r. step self.now call.now Nothing ≡ (counted self.now, r)) }
         ensures recorded { IfOk result IsInEntry }
     {

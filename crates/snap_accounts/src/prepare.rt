@@ -1,8 +1,9 @@
 // A new snapshot.
 ghost use Rattle.std.specs.Prelude.{◌≡◌, ◌<◌, ◌≤◌, ◌+◌, ◌^◌, length, true, false, None, Some, IfOk, OnOk, OnErr, IfErr};
+ghost use Rattle.snap_usage.specs.Counted.{covers as covers_of};
 ghost use Rattle.snap_ledger.specs.States.{plus};
 ghost use Rattle.snap_call.specs.Records.{charge_of, active_at, lowest_free, has_key, open_count};
-ghost use Rattle.snap_call.specs.State.{covers as covers_of, limit_at, place_of, is_base, is_too_deep};
+ghost use Rattle.snap_call.specs.State.{limit_at, place_of, is_base, is_too_deep};
 ghost use Rattle.snap_call.specs.Step.{prepare, prepare_at, prepare_slot, prepared, new_active, no_more, one, refused};
 ghost use Rattle.snap_accounts.specs.Entries.{IsRecorded};
 ghost use Rattle.snap_accounts.specs.Vacant.{IsVacant};

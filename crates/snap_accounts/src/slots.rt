@@ -1,6 +1,6 @@
 // The charges of all slots.
 ghost use Rattle.std.specs.Prelude.{◌≡◌, ◌<◌, IfOk, slice_set, true};
-ghost use Rattle.snap_ledger.specs.Halves.{no_usage};
+ghost use Rattle.snap_usage.specs.Counted.{no_usage};
 ghost use Rattle.snap_ledger.specs.States.{CoversOne, Meets, free_row, free_charge};
 ghost use Rattle.snap_accounts.specs.Slots.{charge_in};
 

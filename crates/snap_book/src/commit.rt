@@ -5,7 +5,7 @@ ghost use Rattle.snap_usage.specs.Counted.{Covers, count_of};
 ghost use Rattle.snap_ledger.specs.States.{Meets};
 ghost use Rattle.snap_call.specs.Forms.{is_key};
 ghost use Rattle.snap_call.specs.Records.{charge_of, charge_at, active_at, has_key, open_count};
-ghost use Rattle.snap_call.specs.Step.{commit_as, is_lease_text, refused, IsCovered};
+ghost use Rattle.snap_call.specs.Step.{commit_as, refused, IsCovered};
 ghost use Rattle.snap_call.specs.declared.reply.Reply.TheVariants.{Committed};
 ghost use Rattle.snap_call.specs.Journal.{entry};
 ghost use Rattle.snap_call.specs.Step.{step, IsAllowed};

@@ -5,7 +5,7 @@ ghost use Rattle.snap_call.specs.Step.{counted, step};
 ghost use Rattle.snap_call.specs.declared.call.Given.TheVariants.{Nothing};
 ghost use Rattle.snap_call.specs.declared.refusal.Refusal.TheVariants.{JournalFull};
 ghost use Rattle.snap_call.specs.declared.reply.Reply.TheVariants as replies;
-ghost use Rattle.snap_accounts.specs.Entries.{Asks, IsInEntry};
+ghost use Rattle.snap_accounts.specs.Entries.{OnlyAsks, IsInEntry};
 ghost use Rattle.snap_book.specs.Book.{AnsweredBy};
 
 use crate::book::Book;
@@ -19,7 +19,7 @@ fn reply_twice<N: StoreName>(
     accounts: &Accounts<N>,
     call: &Call,
 ) -> Result<(Reply, Reply), AllocError>
-    requires { Asks call.now }
+    requires { OnlyAsks call.now }
     ensures reply { IfOk result (λ p. step accounts.now call.now Nothing ≡ (counted accounts.now, p.0)) }
     ensures copy { IfOk result (λ p. p.1 ≡ p.0) }
     ensures recorded { IfOk result (λ p. IsInEntry p.0) }
@@ -32,7 +32,7 @@ fn reply_twice<N: StoreName>(
 impl<N: StoreName> Book<N> {
     // Records a call that asks. The answer is its reply, or why there is no entry.
     fn note_reply(&mut self, session: u64, call: Call, reply: Reply, copy: Reply) -> Reply
-        requires asks { Asks call }
+        requires asks { OnlyAsks call }
         requires reply { step self.old.state call Nothing ≡ (counted self.old.state, reply) }
         requires copy { copy ≡ reply }
         requires recorded { IsInEntry reply }
@@ -53,7 +53,7 @@ impl<N: StoreName> Book<N> {
     /// Then, in this order, `BadArgument` for a key that has not its form, `NoNamespace`, `NotFound`.
     /// Its cost grows with the records, and with the texts and labels of the one that is found.
     pub fn do_call(&mut self, session: u64, call: Call) -> Reply
-        requires { Asks call }
+        requires { OnlyAsks call }
         ensures answered { AnsweredBy self.old self.new session call Nothing result }
         ensures full { (result ≡ replies.Refused JournalFull) ↔ (self.old.limit ≤ length self.old.journal + open_count self.old.state.records) }
     {

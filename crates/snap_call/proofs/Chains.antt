@@ -1,7 +1,8 @@
 -- What stands on committed records stands while they do: parents, leases and chains.
 use Rattle.std.proofs.Common.{◌≡◌, ℕ, zero, suc, true, false, true≢false, List, [], ◌∷◌, Option, Some, None, IsSome, refl, sym, ap, ◌∙◌, subst}
+use Rattle.std.specs.List.{AllByRecursion}
 use Rattle.std.specs.Option.{option_map, is_some}
-use Rattle.std.specs.Prelude.{bytes_eq, ◌==◌}
+use Rattle.std.specs.Prelude.{bytes_eq, ◌==◌, option_and_then, unwrap_or, IsSomeAnd}
 use Rattle.std.proofs.lemmas.Bool.{and_parts, eqb-true, false_from_ne_true, not-false}
 use Rattle.std.proofs.lemmas.Slice.Eq.{bytes_eq-Decides}
 use Rattle.snap_usage.specs.declared.usage.Usage.{Usage}
@@ -12,9 +13,25 @@ use Rattle.snap_record.specs.declared.record.Content.TheVariants.{View, Active, 
 use Rattle.snap_record.specs.declared.record.Record.{Record}
 use Rattle.snap_call.specs.declared.config.Namespace.{Namespace}
 use Rattle.snap_call.specs.Records.{is_named, record_at, has_key, has_slot, is_committed, committed_at, with_record, without_slot, recharged}
-use Rattle.snap_call.specs.State.{place_of, chain_over, chain_from, chain, chain_if, ancestors, is_base, is_too_deep}
-use Rattle.snap_call.specs.Good.{ParentStands, HasParent, NamesStand, IsGuarding}
+use Rattle.snap_call.specs.State.{place_of, chain_from, ancestors, is_base, is_too_deep}
+use Rattle.snap_call.specs.Good.{IsGuarding}
 use Rattle.snap_call.proofs.Lists.{all-map, none_some, committed-parts, committed-from, find-any, find-with_record, find-without_slot, find-recharged}
+
+-- the record's parent is none, or a committed record
+abbrev pub HasParent : List Record → Record → Type 0
+HasParent rs r = is_base r.namespace r.parent rs ≡ true
+
+-- the names are those of committed records of the namespace, if there is one
+abbrev NamesStand : List Record → Option ℕ → List Bytes → Type 0
+NamesStand rs o names = IsSomeAnd o (λ place. AllByRecursion (λ name. IsSome (committed_at place name rs)) names)
+
+-- the committed ancestors of a snapshot
+abbrev pub chain : List Record → Record → Option (List Record)
+chain rs r = chain_from 64 rs r.namespace r.parent
+
+-- the record before those of the next chain
+abbrev chain_over : Option Record → (Record → Option (List Record)) → Option (List Record)
+chain_over o next = option_and_then (λ r. option_map (λ above. r ∷ above) (next r)) o
 
 -- each committed record of the one list is that of its key in the other
 abbrev pub Keeps : List Record → List Record → Type 0
@@ -66,8 +83,8 @@ module _ (rs ts : List Record) (keeps : Keeps rs ts) where
       by None e is = absurd (true≢false (sym is))
       by (Some r) e is = ap is_some (keeps place key r e)
 
-  keeps_parent : (place : ℕ) (p : Bytes) → ParentStands rs place p → ParentStands ts place p
-  keeps_parent place [] h = tt
+  keeps_parent : (place : ℕ) (p : Bytes) → is_base place p rs ≡ true → is_base place p ts ≡ true
+  keeps_parent place [] h = refl
   keeps_parent place (b ∷ bs) h = keeps-some place (b ∷ bs) h
 
   pub keeps-HasParent : (r : Record) → HasParent rs r → HasParent ts r
@@ -114,15 +131,10 @@ module _ (rs ts : List Record) (keeps : Keeps rs ts) where
     where
       by : (o : Option (List Record)) → chain_from 64 rs place p ≡ o → IsSome o → ancestors place p ts ≡ ancestors place p rs
       by None e is = absurd (true≢false (sym is))
-      by (Some c) e is = ap chain_if (keeps-chain_from 64 place p c e ∙ sym e)
+      by (Some c) e is = ap (λ o. unwrap_or o []) (keeps-chain_from 64 place p c e ∙ sym e)
 
 -- ---- a parent that was tested
 
--- it stands
-pub base-stands : (rs : List Record) (place : ℕ) (p : Bytes) → is_base place p rs ≡ true → ParentStands rs place p
-base-stands rs place [] e = tt
-base-stands rs place (b ∷ bs) e = e
-
--- and there is a chain from it upwards
+-- there is a chain from it upwards
 pub chain-found : (rs : List Record) (place : ℕ) (p : Bytes) → is_too_deep place p rs ≡ false → IsSome (chain_from 64 rs place p)
 chain-found rs place p e = not-false (is_some (chain_from 64 rs place p)) e

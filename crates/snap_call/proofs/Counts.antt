@@ -11,7 +11,7 @@ use Rattle.snap_record.specs.declared.record.Content.{Content}
 use Rattle.snap_record.specs.declared.record.Content.TheVariants.{View, Active, Committed}
 use Rattle.snap_record.specs.declared.record.Record.{Record}
 use Rattle.snap_call.specs.Records.{record_cmp, has_slot, is_slot, active_at, active_one, open_count, with_record, without_slot, recharged, committed_as}
-use Rattle.snap_call.specs.Good.{AllPairwise, AreApart, HasPlace}
+use Rattle.snap_call.specs.Good.{AllPairwise, AreApart, HasLowSlot}
 use Rattle.snap_call.proofs.Sums.{active_at-past}
 use Rattle.snap_call.proofs.Slots.{active_at-without_slot_own}
 
@@ -95,12 +95,12 @@ IsBelow n (Committed layer usage) = Unit {0}
 abbrev AllBelow : ℕ → List Record → Type 0
 AllBelow n rs = AllByRecursion (λ r. IsBelow n r.content) rs
 
-place-below : (c : Content) → HasPlace c → IsBelow 64 c
+place-below : (c : Content) → HasLowSlot c → IsBelow 64 c
 place-below View h = tt
 place-below (Active slot charged) h = h
 place-below (Committed layer usage) h = tt
 
-all-below : (rs : List Record) → AllByRecursion (λ r. HasPlace r.content) rs → AllBelow 64 rs
+all-below : (rs : List Record) → AllByRecursion (λ r. HasLowSlot r.content) rs → AllBelow 64 rs
 all-below [] all = tt
 all-below (t ∷ ts) all = (place-below t.content all.0, all-below ts all.1)
 
@@ -142,5 +142,5 @@ count_below (suc n) rs apart all = at (active_at n rs) refl (count_below n)
         omega arith
 
 -- at most 64 are active, since no two have the same slot
-pub open_count-most : (rs : List Record) → AllPairwise AreApart rs → AllByRecursion (λ r. HasPlace r.content) rs → open_count rs ≤ 64
+pub open_count-most : (rs : List Record) → AllPairwise AreApart rs → AllByRecursion (λ r. HasLowSlot r.content) rs → open_count rs ≤ 64
 open_count-most rs apart placed = count_below 64 rs apart (all-below rs placed)

@@ -2,16 +2,17 @@
 use Rattle.std.proofs.Common.{◌≡◌, ◌≢◌, ℕ, zero, suc, ◌+◌, ◌<◌, Bool, true, false, true≢false, eqb, List, [], ◌∷◌, length, Option, Some, None, IsSome, refl, sym, ap, ◌∙◌, subst, inl, inr, arith}
 use Rattle.std.specs.List.{AllByRecursion, list_all}
 use Rattle.std.specs.List.Sorted.{IsStrictlySortedBy}
+use Rattle.std.specs.Option.{option_map_or, is_some}
 use Rattle.std.specs.Prelude.{if◌then◌else◌, ◌&&◌, not, nat_lt, nat_le}
 use Rattle.std.proofs.lemmas.Bool.{and_parts, eqb-true, false_from_ne_true, cases_eq, leb-true, not-false}
 use Rattle.std.proofs.lemmas.List.Quantifiers.{position-Some}
 use Rattle.snap_layer.specs.Tree.{Tree}
 use Rattle.snap_usage.specs.declared.usage.Usage.{Usage}
-use Rattle.snap_usage.specs.Counted.{count_of, Covers}
+use Rattle.snap_usage.specs.Counted.{count_of, Covers, no_usage, covers}
 use Rattle.snap_ledger.specs.States.{plus, minus}
 use Rattle.snap_lease.specs.Lease.{Lease}
 use Rattle.snap_record.specs.Labels.{Bytes, Label}
-use Rattle.snap_record.specs.Records.{no_usage, usage_of}
+use Rattle.snap_record.specs.Records.{usage_of}
 use Rattle.snap_record.specs.declared.record.Content.{Content}
 use Rattle.snap_record.specs.declared.record.Content.TheVariants.{View, Active, Committed}
 use Rattle.snap_record.specs.declared.record.Record.{Record}
@@ -24,18 +25,19 @@ use Rattle.snap_call.specs.declared.config.Config.{Config}
 use Rattle.snap_call.specs.declared.config.Namespace.{Namespace}
 use Rattle.snap_call.specs.declared.entry.Entry.{Entry}
 use Rattle.snap_call.specs.declared.refusal.Refusal.{Refusal}
+use Rattle.snap_call.specs.declared.refusal.Refusal.TheVariants.{NoNamespace}
 use Rattle.snap_call.specs.declared.reply.Reply.{Reply}
 use Rattle.snap_call.specs.declared.state.State.{State}
 use Rattle.snap_call.specs.Forms.{has_name, is_limit, is_namespace, is_text, have_distinct_names, is_config, is_key, is_parent}
 use Rattle.snap_call.specs.Records.{has_key, has_slot, is_slot, record_at, active_at, charge_of, with_record, without_slot, recharged, committed_as, lowest_free}
-use Rattle.snap_call.specs.State.{opening, place_of, limit_at, covers, charge_with, chain, is_present, is_base, is_too_deep}
-use Rattle.snap_call.specs.Good.{HasParent, IsGuarding, IsCounted, HasPlace, AreApart, Good}
-use Rattle.snap_call.specs.Step.{counted, refused, session, one, no_more, new_active, prepared, prepare_slot, prepare_at, prepare_in, prepare, greater, fits, choice, charge_to, charge, trim, committed, commit_under, is_lease_text, commit_as, commit, discard, ask_record, ask_in, ask, step, IsCovered, IsAllowed, TrimAllowed, CommitAllowed}
+use Rattle.snap_call.specs.State.{opening, place_of, limit_at, is_present, is_base, is_too_deep}
+use Rattle.snap_call.specs.Good.{IsGuarding, IsCounted, HasLowSlot, AreApart, Good}
+use Rattle.snap_call.specs.Step.{counted, refused, session, one, no_more, new_active, prepared, prepare_slot, prepare_at, prepare_in, prepare, greater, fits, charge_to, charge, trim, committed, commit_as, commit, discard, ask_record, ask, step, IsCovered, IsAllowed}
 use Rattle.snap_call.specs.Journal.{Replays}
 use Rattle.snap_call.proofs.Lists.{all-map, find-none, same_slot, active_at-all, all-with_record, pairwise-with_record, all-without_slot, pairwise-without_slot, all-beside, all-recharged, pairwise-recharged}
 use Rattle.snap_call.proofs.Ordered.{sorted-with_record, sorted-without_slot, sorted-recharged, has_key-without_slot}
-use Rattle.snap_call.proofs.Chains.{Keeps, Keeps-after, Keeps-with_record, Keeps-without_slot, Keeps-recharged, keeps-HasParent, keeps-IsGuarding, keeps-some_chain, base-stands, chain-found}
-use Rattle.snap_call.proofs.Sums.{charge_of-with_record_own, charge_of-with_record_other, charge_of-covers, charge_of-without_slot_own, charge_of-without_slot_other, charge_of-recharged_own, charge_of-recharged_other, charge_of-committed_own, charge_of-committed_other}
+use Rattle.snap_call.proofs.Chains.{HasParent, chain, Keeps, Keeps-after, Keeps-with_record, Keeps-without_slot, Keeps-recharged, keeps-HasParent, keeps-IsGuarding, keeps-some_chain, chain-found}
+use Rattle.snap_call.proofs.Sums.{charge_with, charge_of-with_record_own, charge_of-with_record_other, charge_of-covers, charge_of-without_slot_own, charge_of-without_slot_other, charge_of-recharged_own, charge_of-recharged_other, charge_of-committed_own, charge_of-committed_other}
 use Rattle.snap_call.proofs.Lowest.{lowest_free-Some}
 
 -- ---- a limit
@@ -111,7 +113,7 @@ pub good_prepared : (s : State) (place : ℕ) (key parent : Bytes) (slot : ℕ) 
     → Covers (limit_at place s.namespaces) (plus (charge_of place s.records) one) → Good (prepared s place key parent slot).0
 good_prepared s place key parent slot good low free base deep few none room = record {
   root = good.root;
-  parents = stand_parents ns rs ts keeps ts (all-with_record r (HasParent rs) rs (base-stands rs place parent base) good.parents);
+  parents = stand_parents ns rs ts keeps ts (all-with_record r (HasParent rs) rs base good.parents);
   leased = stand_leases ns rs ts keeps s.leases good.leased;
   named_once = good.named_once;
   counted = all-with_record r (λ t. IsCounted t.content) rs tt good.counted;
@@ -129,7 +131,7 @@ good_prepared s place key parent slot good low free base deep few none room = re
       (all-map (λ t. is_slot slot t ≡ false) (AreApart r) (λ t out k is. subst (λ (n : ℕ). is_slot n t ≡ false) (eqb-true slot k is) out) rs empty)
       (all-map (λ t. is_slot slot t ≡ false) (λ t. AreApart t r) (λ t out k is. apart_other slot k one t.content out is) rs empty)
       good.slots;
-  open_slots = all-with_record r (λ t. HasPlace t.content) rs few good.open_slots;
+  open_slots = all-with_record r (λ t. HasLowSlot t.content) rs few good.open_slots;
   chains = stand_chains ns rs ts keeps ts (all-with_record r (λ t. IsSome (chain rs t)) rs (chain-found rs place parent deep) good.chains);
 }
   where
@@ -154,7 +156,7 @@ good_prepared s place key parent slot good low free base deep few none room = re
 -- ---- an active snapshot charged anew
 
 module _ (slot : ℕ) (to : Usage) where
-  place_anew : (c : Content) → has_slot slot c ≡ true → HasPlace c → slot < 64
+  place_anew : (c : Content) → has_slot slot c ≡ true → HasLowSlot c → slot < 64
   place_anew View e h = absurd (true≢false (sym e))
   place_anew (Active k u) e h = subst (λ (n : ℕ). n < 64) (eqb-true k slot e) h
   place_anew (Committed l u) e h = absurd (true≢false (sym e))
@@ -178,7 +180,7 @@ module _ (slot : ℕ) (to : Usage) where
         (λ t u is h k out. h k (sym (same_slot slot k to t.content is) ∙ out))
         (λ t u is h k out. same_slot slot k to u.content is ∙ h k out)
         good.slots;
-    open_slots = all-recharged slot to (λ t. HasPlace t.content) rs (λ t is h. place_anew t.content is h) good.open_slots;
+    open_slots = all-recharged slot to (λ t. HasLowSlot t.content) rs (λ t is h. place_anew t.content is h) good.open_slots;
     chains = stand_chains ns rs ts keeps ts (all-recharged slot to (λ t. IsSome (chain rs t)) rs (λ t is h. h) good.chains);
   }
     where
@@ -220,7 +222,7 @@ good_discarded s slot r good e = record {
   ids = pairwise-without_slot slot (λ t u. t.id ≢ u.id) rs good.ids;
   numbered = all-without_slot slot (λ t. t.id < s.next_id) rs good.numbered;
   slots = pairwise-without_slot slot AreApart rs good.slots;
-  open_slots = all-without_slot slot (λ t. HasPlace t.content) rs good.open_slots;
+  open_slots = all-without_slot slot (λ t. HasLowSlot t.content) rs good.open_slots;
   chains = stand_chains ns rs ts keeps ts (all-without_slot slot (λ t. IsSome (chain rs t)) rs good.chains);
 }
   where
@@ -262,10 +264,10 @@ good_committed s slot name layer r good e free less = record {
       (pairwise-without_slot slot (λ t u. t.id ≢ u.id) rs good.ids);
   numbered = all-with_record c (λ t. t.id < s.next_id) us (active_at-all (λ t. t.id < s.next_id) slot rs r e good.numbered) (all-without_slot slot (λ t. t.id < s.next_id) rs good.numbered);
   slots = pairwise-with_record c AreApart us
-      (all-map (λ t. HasPlace t.content) (AreApart c) (λ t h k is. absurd (true≢false (sym is))) us places)
-      (all-map (λ t. HasPlace t.content) (λ t. AreApart t c) (λ t h k is. refl) us places)
+      (all-map (λ t. HasLowSlot t.content) (AreApart c) (λ t h k is. absurd (true≢false (sym is))) us places)
+      (all-map (λ t. HasLowSlot t.content) (λ t. AreApart t c) (λ t h k is. refl) us places)
       (pairwise-without_slot slot AreApart rs good.slots);
-  open_slots = all-with_record c (λ t. HasPlace t.content) us tt places;
+  open_slots = all-with_record c (λ t. HasLowSlot t.content) us tt places;
   chains = stand_chains ns rs ts keeps ts
       (all-with_record c (λ t. IsSome (chain rs t)) us (active_at-all (λ t. IsSome (chain rs t)) slot rs r e good.chains) (all-without_slot slot (λ t. IsSome (chain rs t)) rs good.chains));
 }
@@ -291,8 +293,8 @@ good_committed s slot name layer r good e free less = record {
     keeps : Keeps rs ts
     keeps = Keeps-after rs us ts (Keeps-without_slot slot rs) (Keeps-with_record c us left)
 
-    places : AllByRecursion (λ t. HasPlace t.content) us
-    places = all-without_slot slot (λ t. HasPlace t.content) rs good.open_slots
+    places : AllByRecursion (λ t. HasLowSlot t.content) us
+    places = all-without_slot slot (λ t. HasLowSlot t.content) rs good.open_slots
 
 -- ---- one call
 
@@ -338,7 +340,8 @@ good_prepare s namespace key parent labels good =
     either (is_key key && is_parent parent && no_more labels) _ _ (λ e. good_prepare_in s key parent good (place_of namespace s.namespaces) (place_of-below namespace s.namespaces)) (λ e. good_counted s good)
 
 -- the choice was tested
-good_charge_to : (s : State) (slot : ℕ) (r : Record) → Good s → active_at slot s.records ≡ Some r → (a b : Bool) (needed wanted : Usage) → fits s r wanted ≡ a → fits s r needed ≡ b → Good (charge_to s slot r (choice a b needed wanted)).0
+good_charge_to : (s : State) (slot : ℕ) (r : Record) → Good s → active_at slot s.records ≡ Some r → (a b : Bool) (needed wanted : Usage) → fits s r.namespace (usage_of r.content) wanted ≡ a → fits s r.namespace (usage_of r.content) needed ≡ b
+    → Good (charge_to s slot r (if a then Some wanted else if b then Some needed else None)).0
 good_charge_to s slot r good e true b needed wanted first second = good_recharged slot wanted s r good e (covers-Covers _ _ first)
 good_charge_to s slot r good e false true needed wanted first second = good_recharged slot needed s r good e (covers-Covers _ _ second)
 good_charge_to s slot r good e false false needed wanted first second = good_counted s good
@@ -347,25 +350,24 @@ pub good_charge : (s : State) (slot : ℕ) (need want : Usage) → Good s → (o
 good_charge s slot need want good None e = good_counted s good
 good_charge s slot need want good (Some r) e = good_charge_to s slot r good e _ _ (greater (usage_of r.content) need) (greater (greater (usage_of r.content) need) want) refl refl
 
-pub good_trim : (s : State) (slot id : ℕ) → Good s → (given : Given) (o : Option Record) → active_at slot s.records ≡ o → TrimAllowed id given o → Good (trim s slot given o).0
-good_trim s slot id good (Count now) None e h = good_counted s good
-good_trim s slot id good (Count now) (Some r) e h = good_recharged slot now s r good e (covered s slot r now good e h.1)
-good_trim s slot id good Nothing o e h = good_counted s good
-good_trim s slot id good (Layer layer) o e h = good_counted s good
+good_trim_to : (s : State) (slot id : ℕ) (now : Usage) → Good s → (o : Option Record) → active_at slot s.records ≡ o → IsCovered id now o → Good (trim s slot (Count now) o).0
+good_trim_to s slot id now good None e h = good_counted s good
+good_trim_to s slot id now good (Some r) e h = good_recharged slot now s r good e (covered s slot r now good e h.1)
 
-good_commit_under : (s : State) (slot : ℕ) (name : Bytes) (lease : Option Bytes) (layer : Tree) (r : Record) → Good s → active_at slot s.records ≡ Some r → has_key r.namespace name s.records ≡ false → Covers (usage_of r.content) (count_of layer)
-    → Good (commit_under s slot name lease layer r).0
-good_commit_under s slot name None layer r good e free less = good_committed s slot name layer r good e free less
-good_commit_under s slot name (Some lease) layer r good e free less = good_counted s good
+pub good_trim : (s : State) (slot id : ℕ) → Good s → (given : Given) → IsAllowed s (calls.Trim slot id) given → Good (trim s slot given (active_at slot s.records)).0
+good_trim s slot id good (Count now) h = good_trim_to s slot id now good (active_at slot s.records) refl h
+good_trim s slot id good Nothing h = good_counted s good
+good_trim s slot id good (Layer layer) h = good_counted s good
 
 good_commit_as : (s : State) (slot id : ℕ) (name : Bytes) (lease : Option Bytes) (layer : Tree) → Good s → (o : Option Record) → active_at slot s.records ≡ o → IsCovered id (count_of layer) o → Good (commit_as s slot name lease layer o).0
 good_commit_as s slot id name lease layer good None e h = good_counted s good
 good_commit_as s slot id name lease layer good (Some r) e h =
-    either (is_key name && is_lease_text lease) _ _
-    (λ formed. either (has_key r.namespace name s.records) _ _ (λ taken. good_counted s good) (λ free. good_commit_under s slot name lease layer r good e free h.1))
+    either (is_key name && option_map_or is_key lease true) _ _
+    (λ formed. either (has_key r.namespace name s.records) _ _ (λ taken. good_counted s good)
+    (λ free. either (is_some lease) _ _ (λ leased. good_counted s good) (λ unleased. good_committed s slot name layer r good e free h.1)))
     (λ bad. good_counted s good)
 
-pub good_commit : (s : State) (slot id : ℕ) (name : Bytes) (lease : Option Bytes) → Good s → (given : Given) → CommitAllowed id given (active_at slot s.records) → Good (commit s slot name lease given).0
+pub good_commit : (s : State) (slot id : ℕ) (name : Bytes) (lease : Option Bytes) → Good s → (given : Given) → IsAllowed s (calls.Commit slot id name lease) given → Good (commit s slot name lease given).0
 good_commit s slot id name lease good (Layer layer) h = good_commit_as s slot id name lease layer good (active_at slot s.records) refl h
 good_commit s slot id name lease good Nothing h = good_counted s good
 good_commit s slot id name lease good (Count now) h = good_counted s good
@@ -378,7 +380,7 @@ good_ask_record : (s : State) (answer : Record → Reply) → Good s → (o : Op
 good_ask_record s answer good None = good_counted s good
 good_ask_record s answer good (Some r) = good_counted s good
 
-good_ask_in : (s : State) (answer : Record → Reply) (key : Bytes) → Good s → (o : Option ℕ) → Good (ask_in s answer key o).0
+good_ask_in : (s : State) (answer : Record → Reply) (key : Bytes) → Good s → (o : Option ℕ) → Good (option_map_or (λ place. ask_record s answer (record_at place key s.records)) o (refused s NoNamespace)).0
 good_ask_in s answer key good None = good_counted s good
 good_ask_in s answer key good (Some place) = good_ask_record s answer good (record_at place key s.records)
 
@@ -390,7 +392,7 @@ pub good_step : (s : State) (call : Call) (given : Given) → Good s → IsAllow
 good_step s calls.Session given good h = good_session s good
 good_step s (calls.Prepare namespace key parent labels) given good h = good_prepare s namespace key parent labels good
 good_step s (calls.Charge slot id need want) given good h = good_charge s slot need want good (active_at slot s.records) refl
-good_step s (calls.Trim slot id) given good h = good_trim s slot id good given (active_at slot s.records) refl h
+good_step s (calls.Trim slot id) given good h = good_trim s slot id good given h
 good_step s (calls.Commit slot id name lease) given good h = good_commit s slot id name lease good given h
 good_step s (calls.Discard slot id) given good h = good_discard s slot good (active_at slot s.records) refl
 good_step s (calls.Stat namespace key) given good h = good_ask s _ namespace key good

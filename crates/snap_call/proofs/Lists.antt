@@ -10,7 +10,7 @@ use Rattle.snap_record.specs.Labels.{Bytes}
 use Rattle.snap_record.specs.declared.record.Content.{Content}
 use Rattle.snap_record.specs.declared.record.Content.TheVariants.{View, Active, Committed}
 use Rattle.snap_record.specs.declared.record.Record.{Record}
-use Rattle.snap_call.specs.Records.{record_cmp, is_named, record_at, has_slot, is_slot, active_at, is_committed, if_committed, committed_at, with_record, without_slot, recharged}
+use Rattle.snap_call.specs.Records.{record_cmp, is_named, record_at, has_slot, is_slot, active_at, is_committed, committed_at, with_record, without_slot, recharged}
 use Rattle.snap_call.specs.Good.{AllPairwise}
 
 -- ---- any list
@@ -102,6 +102,9 @@ pub record_at-all : (P : Record → Type 0) (place : ℕ) (key : Bytes) (rs : Li
 record_at-all P place key rs r e all = find-all P (is_named place key) rs r e all
 
 -- the committed record of a key is the record of that key
+abbrev if_committed : Record → Option Record
+if_committed r = if is_committed r.content then Some r else None
+
 pub committed-parts : (o : Option Record) (r : Record) → option_and_then if_committed o ≡ Some r → (o ≡ Some r) × (is_committed r.content ≡ true)
 committed-parts None r e = absurd (none_some r e)
 committed-parts (Some t) r e = by (is_committed t.content) refl e

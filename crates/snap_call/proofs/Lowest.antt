@@ -1,9 +1,14 @@
 -- The lowest free slot.
 use Rattle.std.proofs.Common.{◌≡◌, ◌≢◌, ℕ, zero, suc, ◌+◌, ◌<◌, List, [], ◌∷◌, Bool, true, false, true≢false, Some, None, refl, sym, ap, ◌∙◌, subst, ⊎_elim, arith}
 use Rattle.std.proofs.lemmas.Bool.Decides.{eqb_tells}
-use Rattle.std.specs.Prelude.{◌==◌, Option}
+use Rattle.std.specs.Prelude.{◌==◌, if◌then◌else◌, Option}
+use Rattle.std.specs.Option.{option_or}
 use Rattle.snap_record.specs.declared.record.Record.{Record}
-use Rattle.snap_call.specs.Records.{is_slot, active_at, is_free, or_if, lowest_free}
+use Rattle.snap_call.specs.Records.{is_slot, active_at, is_free, lowest_free}
+
+-- the slot that was found below n, or n where it is free
+abbrev or_if : Option ℕ → Bool → ℕ → Option ℕ
+or_if o free n = option_or o (if free then Some n else None)
 
 -- a slot is free where no record is found in it
 pub is_free-None : (slot : ℕ) (rs : List Record) → is_free slot rs ≡ true → active_at slot rs ≡ None

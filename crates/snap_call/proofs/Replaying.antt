@@ -1,9 +1,11 @@
 -- What a step leaves as it was, and a journal with one entry more.
 use Rattle.std.proofs.Common.{◌≡◌, ◌≢◌, ℕ, ◌+◌, ◌<◌, List, [], ◌∷◌, ◌++◌, length, Bool, true, false, Some, None, eq-eqb, refl, sym, ap, ◌∙◌, subst, ⊎_elim, arith}
 use Rattle.std.proofs.lemmas.Bool.Decides.{eqb_tells, nat_tests}
+use Rattle.std.specs.Option.{option_map_or, is_some}
 use Rattle.std.specs.Prelude.{◌==◌, ◌&&◌, not, nat_le, nat_lt, if◌then◌else◌, Option}
 use Rattle.snap_layer.specs.Tree.{Tree}
 use Rattle.snap_usage.specs.declared.usage.Usage.{Usage}
+use Rattle.snap_usage.specs.Counted.{covers}
 use Rattle.snap_ledger.specs.States.{plus}
 use Rattle.snap_record.specs.Labels.{Bytes, Label}
 use Rattle.snap_record.specs.Records.{usage_of, info_of}
@@ -20,8 +22,8 @@ use Rattle.snap_call.specs.declared.reply.Reply.TheVariants.{Opened, Info, Usage
 use Rattle.snap_call.specs.declared.state.State.{State}
 use Rattle.snap_call.specs.Forms.{is_key, is_parent}
 use Rattle.snap_call.specs.Records.{record_at, has_key, active_at, charge_of, lowest_free}
-use Rattle.snap_call.specs.State.{place_of, limit_at, covers, over_limit, is_present, is_base, is_too_deep}
-use Rattle.snap_call.specs.Step.{refused, session, one, no_more, prepared, prepare_slot, prepare_at, prepare_in, prepare, granted, charge_to, charge, trim, commit_under, is_lease_text, commit_as, commit, discard, ask_record, ask_in, ask, step, IsAllowed}
+use Rattle.snap_call.specs.State.{place_of, limit_at, over_limit, is_present, is_base, is_too_deep}
+use Rattle.snap_call.specs.Step.{refused, session, one, no_more, prepared, prepare_slot, prepare_at, prepare_in, prepare, granted, charge_to, charge, trim, committed, commit_as, commit, discard, ask_record, ask, step, IsAllowed}
 use Rattle.snap_call.specs.Journal.{Replays, own}
 
 -- what no step changes
@@ -72,7 +74,7 @@ charging_to s slot r (Some to) = one_more s _ refl refl refl refl
 charging_to s slot r None = refusing s (over_limit s r.namespace)
 
 charging : (s : State) (slot : ℕ) (need want : Usage) (o : Option Record) → IsNext s (charge s slot need want o).0
-charging s slot need want (Some r) = charging_to s slot r (granted s r need want)
+charging s slot need want (Some r) = charging_to s slot r (granted s r.namespace (usage_of r.content) need want)
 charging s slot need want None = refusing s NotActive
 
 trimming : (s : State) (slot : ℕ) (given : Given) (o : Option Record) → IsNext s (trim s slot given o).0
@@ -81,14 +83,11 @@ trimming s slot (Count now) None = refusing s NotActive
 trimming s slot Nothing o = refusing s BadArgument
 trimming s slot (Layer layer) o = refusing s BadArgument
 
-committing_under : (s : State) (slot : ℕ) (name : Bytes) (lease : Option Bytes) (layer : Tree) (r : Record) → IsNext s (commit_under s slot name lease layer r).0
-committing_under s slot name None layer r = one_more s _ refl refl refl refl
-committing_under s slot name (Some lease) layer r = refusing s NoLease
-
 committing_as : (s : State) (slot : ℕ) (name : Bytes) (lease : Option Bytes) (layer : Tree) (o : Option Record) → IsNext s (commit_as s slot name lease layer o).0
 committing_as s slot name lease layer (Some r) =
-    either s (is_key name && is_lease_text lease) _ _
-    (either s (has_key r.namespace name s.records) _ _ (refusing s AlreadyExists) (committing_under s slot name lease layer r))
+    either s (is_key name && option_map_or is_key lease true) _ _
+    (either s (has_key r.namespace name s.records) _ _ (refusing s AlreadyExists)
+    (either s (is_some lease) _ _ (refusing s NoLease) (one_more s (committed s slot name layer r).0 refl refl refl refl)))
     (refusing s BadArgument)
 committing_as s slot name lease layer None = refusing s NotActive
 
@@ -105,7 +104,7 @@ asking_record : (s : State) (answer : Record → Reply) (o : Option Record) → 
 asking_record s answer None = refusing s NotFound
 asking_record s answer (Some r) = one_more s _ refl refl refl refl
 
-asking_in : (s : State) (answer : Record → Reply) (key : Bytes) (o : Option ℕ) → IsNext s (ask_in s answer key o).0
+asking_in : (s : State) (answer : Record → Reply) (key : Bytes) (o : Option ℕ) → IsNext s (option_map_or (λ place. ask_record s answer (record_at place key s.records)) o (refused s NoNamespace)).0
 asking_in s answer key None = refusing s NoNamespace
 asking_in s answer key (Some place) = asking_record s answer (record_at place key s.records)
 

@@ -1,18 +1,25 @@
 -- What each change of the records does to the charge of a namespace.
 use Rattle.std.proofs.Common.{◌≡◌, ◌≢◌, ℕ, List, [], ◌∷◌, Bool, true, false, Some, eq-eqb, refl, sym, ap, ◌∙◌, subst, ⊎_elim, arith}
 use Rattle.std.proofs.lemmas.Bool.Decides.{eqb_tells}
-use Rattle.std.specs.Prelude.{◌==◌, Option}
+use Rattle.std.specs.Prelude.{◌==◌, if◌then◌else◌, Option}
 use Rattle.std.specs.Ordering.{is_lt}
 use Rattle.snap_layer.specs.Tree.{Tree}
 use Rattle.snap_usage.specs.declared.usage.Usage.{Usage}
-use Rattle.snap_usage.specs.Counted.{count_of, Covers}
+use Rattle.snap_usage.specs.Counted.{count_of, Covers, no_usage}
 use Rattle.snap_ledger.specs.States.{plus, minus}
 use Rattle.snap_record.specs.Labels.{Bytes}
-use Rattle.snap_record.specs.Records.{no_usage, usage_of}
+use Rattle.snap_record.specs.Records.{usage_of}
 use Rattle.snap_record.specs.declared.record.Content.TheVariants.{Active}
 use Rattle.snap_record.specs.declared.record.Record.{Record}
-use Rattle.snap_call.specs.Records.{record_cmp, is_slot, active_at, part_of, charge_of, with_record, without_slot, recharged, committed_as}
-use Rattle.snap_call.specs.State.{charge_with}
+use Rattle.snap_call.specs.Records.{record_cmp, is_slot, active_at, charge_of, with_record, without_slot, recharged, committed_as}
+
+-- what the record adds to the charge of the namespace at this place
+abbrev pub part_of : ℕ → Record → Usage
+part_of place r = if r.namespace == place then usage_of r.content else no_usage
+
+-- the namespace's charge, once the record is charged so much
+abbrev pub charge_with : Record → Usage → List Record → Usage
+charge_with r to rs = plus (minus (charge_of r.namespace rs) (usage_of r.content)) to
 
 -- two usages are one where both quantities agree
 pub usage : (u v : Usage) → u.blocks ≡ v.blocks → u.inodes ≡ v.inodes → u ≡ v

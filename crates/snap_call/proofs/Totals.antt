@@ -4,15 +4,16 @@ use Rattle.std.specs.Prelude.{◌==◌, if◌then◌else◌}
 use Rattle.std.specs.List.{AllByRecursion}
 use Rattle.std.specs.Option.{option_map}
 use Rattle.snap_usage.specs.declared.usage.Usage.{Usage}
+use Rattle.snap_usage.specs.Counted.{no_usage}
 use Rattle.snap_ledger.specs.States.{plus}
-use Rattle.snap_record.specs.Records.{no_usage, usage_of}
+use Rattle.snap_record.specs.Records.{usage_of}
 use Rattle.snap_record.specs.declared.record.Content.{Content}
 use Rattle.snap_record.specs.declared.record.Content.TheVariants.{View, Active, Committed}
 use Rattle.snap_record.specs.declared.record.Record.{Record}
 use Rattle.snap_call.specs.Good.{IsCounted}
-use Rattle.snap_call.specs.Records.{charge_of, part_of}
+use Rattle.snap_call.specs.Records.{charge_of}
 use Rattle.snap_call.specs.Totals.{counted_in, counts_and_shares, share_in, sum_of}
-use Rattle.snap_call.proofs.Sums.{usage, blocks, inodes, plus-none, none-plus}
+use Rattle.snap_call.proofs.Sums.{usage, blocks, inodes, part_of, plus-none, none-plus}
 
 part_split : (own : Bool) (c : Content) → IsCounted c → (if own then usage_of c else no_usage) ≡ plus (if own then counted_in c else no_usage) (if own then share_in c else no_usage)
 part_split false c h = refl

@@ -1,10 +1,9 @@
 -- What is true of the state whenever no call is under way.
-use Rattle.std.specs.Prelude.{◌≡◌, ◌≢◌, ℕ, ◌<◌, true, false, List, [], ◌∷◌, Option, None, Some, IsSome, length}
+use Rattle.std.specs.Prelude.{◌≡◌, ◌≢◌, ℕ, ◌<◌, true, false, List, [], ◌∷◌, IsSome, IsSomeAnd, length}
 use Rattle.std.specs.List.{AllByRecursion}
 use Rattle.std.specs.List.Sorted.{IsStrictlySortedBy}
 use Rattle.snap_usage.specs.Counted.{count_of, Covers}
 use Rattle.snap_lease.specs.Lease.{Lease, NamesOnce}
-use Rattle.snap_record.specs.Labels.{Bytes}
 use Rattle.snap_record.specs.declared.record.Content.{Content}
 use Rattle.snap_record.specs.declared.record.Content.TheVariants.{Active, Committed}
 use Rattle.snap_record.specs.declared.record.Record.{Record}
@@ -13,28 +12,16 @@ use Rattle.snap_call.specs.declared.config.Namespace.{Namespace}
 use Rattle.snap_call.specs.declared.state.State.{State}
 use Rattle.snap_call.specs.Forms.{is_limit, have_distinct_names}
 use Rattle.snap_call.specs.Records.{record_cmp, is_slot, committed_at, charge_of}
-use Rattle.snap_call.specs.State.{place_of, limit_at, chain}
+use Rattle.snap_call.specs.State.{place_of, limit_at, chain_from, is_base}
 
 -- R holds of any two items, the earlier one first
 abbrev pub AllPairwise : {X : Type 0} → (X → X → Type 0) → List X → Type 0
 AllPairwise R [] = Unit {0}
 AllPairwise R (x ∷ xs) = AllByRecursion (R x) xs × AllPairwise R xs
 
--- the snapshot has no parent, or its parent is a committed snapshot of its namespace
-abbrev pub ParentStands : List Record → ℕ → Bytes → Type 0
-ParentStands rs place [] = Unit {0}
-ParentStands rs place (b ∷ bs) = IsSome (committed_at place (b ∷ bs) rs)
-
-abbrev pub HasParent : List Record → Record → Type 0
-HasParent rs r = ParentStands rs r.namespace r.parent
-
 -- each snapshot that the lease names is a committed one of the lease's namespace
-abbrev pub NamesStand : List Record → Option ℕ → List Bytes → Type 0
-NamesStand rs None names = ⊥
-NamesStand rs (Some place) names = AllByRecursion (λ name. IsSome (committed_at place name rs)) names
-
 abbrev pub IsGuarding : List Namespace → List Record → Lease → Type 0
-IsGuarding ns rs l = NamesStand rs (place_of l.namespace ns) l.names
+IsGuarding ns rs l = IsSomeAnd (place_of l.namespace ns) (λ place. AllByRecursion (λ name. IsSome (committed_at place name rs)) l.names)
 
 -- a committed snapshot's stored usage is the count over its layer
 abbrev pub IsCounted : Content → Type 0
@@ -42,9 +29,9 @@ IsCounted (Committed layer usage) = usage ≡ count_of layer
 IsCounted content = Unit {0}
 
 -- an active snapshot's slot is one of 0 to 63
-abbrev pub HasPlace : Content → Type 0
-HasPlace (Active slot charged) = slot < 64
-HasPlace content = Unit {0}
+abbrev pub HasLowSlot : Content → Type 0
+HasLowSlot (Active slot charged) = slot < 64
+HasLowSlot content = Unit {0}
 
 -- the two are not active in the same slot
 abbrev pub AreApart : Record → Record → Type 0
@@ -55,7 +42,7 @@ pub record Good (s : State) : Type 0 where
   -- the root can be the directory that all snapshots lie in
   pub root : is_root_text s.root ≡ true
   -- each parent is a committed snapshot of the same namespace
-  pub parents : AllByRecursion (HasParent s.records) s.records
+  pub parents : AllByRecursion (λ r. is_base r.namespace r.parent s.records ≡ true) s.records
   -- each snapshot that a lease names is a committed one
   pub leased : AllByRecursion (IsGuarding s.namespaces s.records) s.leases
   -- a lease names each snapshot once
@@ -75,6 +62,6 @@ pub record Good (s : State) : Type 0 where
   pub numbered : AllByRecursion (λ r. r.id < s.next_id) s.records
   -- no two active snapshots have the same slot, and each has one of 0 to 63
   pub slots : AllPairwise AreApart s.records
-  pub open_slots : AllByRecursion (λ r. HasPlace r.content) s.records
+  pub open_slots : AllByRecursion (λ r. HasLowSlot r.content) s.records
   -- each snapshot has a chain of at most 64 committed ancestors
-  pub chains : AllByRecursion (λ r. IsSome (chain s.records r)) s.records
+  pub chains : AllByRecursion (λ r. IsSome (chain_from 64 s.records r.namespace r.parent)) s.records

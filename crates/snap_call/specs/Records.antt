@@ -4,12 +4,13 @@ use Rattle.std.specs.declared.cmp.Ordering.{Ordering}
 use Rattle.std.specs.Ordering.{nat_cmp, ordering_then, is_lt}
 use Rattle.std.specs.Cmp.Lexicographic.{slice_cmp}
 use Rattle.std.specs.List.{list_any}
+use Rattle.std.specs.Option.{option_or}
 use Rattle.snap_layer.specs.Tree.{Tree}
 use Rattle.snap_usage.specs.declared.usage.Usage.{Usage}
-use Rattle.snap_usage.specs.Counted.{count_of}
+use Rattle.snap_usage.specs.Counted.{count_of, no_usage}
 use Rattle.snap_ledger.specs.States.{ChargeState, free_charge, plus}
 use Rattle.snap_record.specs.Labels.{Bytes}
-use Rattle.snap_record.specs.Records.{no_usage, usage_of}
+use Rattle.snap_record.specs.Records.{usage_of}
 use Rattle.snap_record.specs.declared.record.Content.{Content}
 use Rattle.snap_record.specs.declared.record.Content.TheVariants.{Active, Committed}
 use Rattle.snap_record.specs.declared.record.Record.{Record}
@@ -50,21 +51,14 @@ abbrev pub is_committed : Content → Bool
 is_committed (Committed layer usage) = true
 is_committed content = false
 
-abbrev pub if_committed : Record → Option Record
-if_committed r = if is_committed r.content then Some r else None
-
 -- the committed record of this key in the namespace
 abbrev pub committed_at : ℕ → Bytes → List Record → Option Record
-committed_at place key rs = option_and_then if_committed (record_at place key rs)
-
--- what the record adds to the charge of the namespace at this place
-abbrev pub part_of : ℕ → Record → Usage
-part_of place r = if r.namespace == place then usage_of r.content else no_usage
+committed_at place key rs = option_and_then (λ r. if is_committed r.content then Some r else None) (record_at place key rs)
 
 -- the charge of a namespace: stored usages of its committed snapshots and charged usages of its active ones
 abbrev pub charge_of : ℕ → List Record → Usage
 charge_of place [] = no_usage
-charge_of place (r ∷ rs) = plus (part_of place r) (charge_of place rs)
+charge_of place (r ∷ rs) = plus (if r.namespace == place then usage_of r.content else no_usage) (charge_of place rs)
 
 -- the charge of a slot, as the ledger has it
 abbrev pub charge_if : ℕ → Option Record → ChargeState
@@ -108,11 +102,6 @@ abbrev pub is_free : ℕ → List Record → Bool
 is_free slot rs = if list_any (is_slot slot) rs then false else true
 
 -- of the slots below a number, the lowest that is free
-abbrev pub or_if : Option ℕ → Bool → ℕ → Option ℕ
-or_if (Some slot) free n = Some slot
-or_if None true n = Some n
-or_if None false n = None
-
 unfoldable pub lowest_free : ℕ → List Record → Option ℕ
 lowest_free zero rs = None
-lowest_free (suc n) rs = or_if (lowest_free n rs) (is_free n rs) n
+lowest_free (suc n) rs = option_or (lowest_free n rs) (if is_free n rs then Some n else None)

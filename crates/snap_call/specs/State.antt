@@ -1,11 +1,11 @@
 -- The state of a store.
-use Rattle.std.specs.Prelude.{ℕ, zero, suc, Bool, true, ◌&&◌, nat_le, List, [], ◌∷◌, Option, None, Some, position, slice_get, map, not}
-use Rattle.std.specs.Option.{option_map, is_some}
+use Rattle.std.specs.Prelude.{ℕ, zero, suc, Bool, true, List, [], ◌∷◌, Option, None, Some, option_and_then, unwrap_or, position, slice_get, map, not}
+use Rattle.std.specs.Option.{option_map, option_map_or, is_some}
 use Rattle.snap_layer.specs.Tree.{Tree}
 use Rattle.snap_usage.specs.declared.usage.Usage.{Usage}
-use Rattle.snap_ledger.specs.States.{plus, minus}
+use Rattle.snap_usage.specs.Counted.{no_usage}
+use Rattle.snap_ledger.specs.States.{minus}
 use Rattle.snap_record.specs.Labels.{Bytes}
-use Rattle.snap_record.specs.Records.{no_usage, usage_of}
 use Rattle.snap_record.specs.declared.record.Content.{Content}
 use Rattle.snap_record.specs.declared.record.Content.TheVariants.{Committed}
 use Rattle.snap_record.specs.declared.record.Record.{Record}
@@ -26,20 +26,8 @@ abbrev pub place_of : Bytes → List Namespace → Option ℕ
 place_of name ns = position (has_name name) ns
 
 -- the limit of the namespace at a place
-abbrev pub limit_if : Option Namespace → Usage
-limit_if None = no_usage
-limit_if (Some n) = n.limit
-
 abbrev pub limit_at : ℕ → List Namespace → Usage
-limit_at place ns = limit_if (slice_get ns place)
-
--- whether a is at least b in both quantities
-abbrev pub covers : Usage → Usage → Bool
-covers a b = nat_le b.blocks a.blocks && nat_le b.inodes a.inodes
-
--- the namespace's charge, once the record is charged so much
-abbrev pub charge_with : Record → Usage → List Record → Usage
-charge_with r to rs = plus (minus (charge_of r.namespace rs) (usage_of r.content)) to
+limit_at place ns = option_map_or (λ n. n.limit) (slice_get ns place) no_usage
 
 -- the refusal of an amount that the limit doesn't cover, with what is free: the limit less the charge
 abbrev pub over_limit : State → ℕ → Refusal
@@ -48,18 +36,10 @@ over_limit s place =
     OverLimit free.blocks free.inodes
 
 -- the committed records from a parent upwards, nearest first; nothing where one is missing or isn't committed, or where there are more than so many
-abbrev pub chain_over : Option Record → (Record → Option (List Record)) → Option (List Record)
-chain_over None next = None
-chain_over (Some r) next = option_map (λ rs. r ∷ rs) (next r)
-
 abbrev pub chain_from : ℕ → List Record → ℕ → Bytes → Option (List Record)
 chain_from n rs place [] = Some []
 chain_from zero rs place (b ∷ bs) = None
-chain_from (suc n) rs place (b ∷ bs) = chain_over (committed_at place (b ∷ bs) rs) (λ r. chain_from n rs place r.parent)
-
--- the committed ancestors of a snapshot, nearest first: at most 64
-abbrev pub chain : List Record → Record → Option (List Record)
-chain rs r = chain_from 64 rs r.namespace r.parent
+chain_from (suc n) rs place (b ∷ bs) = option_and_then (λ r. option_map (λ above. r ∷ above) (chain_from n rs place r.parent)) (committed_at place (b ∷ bs) rs)
 
 -- ---- a parent, by its name
 
@@ -78,12 +58,8 @@ abbrev pub is_too_deep : ℕ → Bytes → List Record → Bool
 is_too_deep place parent rs = not (is_some (chain_from 64 rs place parent))
 
 -- the committed ancestors of a snapshot on it, nearest first
-abbrev pub chain_if : Option (List Record) → List Record
-chain_if None = []
-chain_if (Some rs) = rs
-
 abbrev pub ancestors : ℕ → Bytes → List Record → List Record
-ancestors place parent rs = chain_if (chain_from 64 rs place parent)
+ancestors place parent rs = unwrap_or (chain_from 64 rs place parent) []
 
 -- their ids and their layers, in the same order
 abbrev pub ids_of : List Record → List ℕ

@@ -1,9 +1,10 @@
 -- What one call answers, and the state after it. The cases of each call stand in the order in which its refusals are tested.
-use Rattle.std.specs.Prelude.{◌≡◌, ℕ, ◌+◌, ◌<◌, Bool, true, false, not, ◌&&◌, nat_le, nat_lt, if◌then◌else◌, List, [], ◌∷◌, Option, None, Some, max}
+use Rattle.std.specs.Prelude.{◌≡◌, ℕ, ◌+◌, ◌<◌, Bool, true, false, not, ◌&&◌, nat_le, nat_lt, if◌then◌else◌, List, [], ◌∷◌, Option, None, Some, IsSomeAnd, is_some, max}
+use Rattle.std.specs.Option.{option_map_or}
 use Rattle.snap_layer.specs.Tree.{Tree}
 use Rattle.snap_usage.specs.declared.usage.Usage.{Usage}
-use Rattle.snap_usage.specs.Counted.{count_of, Covers}
-use Rattle.snap_ledger.specs.States.{plus}
+use Rattle.snap_usage.specs.Counted.{count_of, Covers, covers}
+use Rattle.snap_ledger.specs.States.{plus, minus}
 use Rattle.snap_record.specs.Labels.{Bytes, Label}
 use Rattle.snap_record.specs.Records.{usage_of, info_of}
 use Rattle.snap_record.specs.declared.record.Content.TheVariants.{Active}
@@ -19,7 +20,7 @@ use Rattle.snap_call.specs.declared.reply.Reply.TheVariants.{Opened, Prepared, C
 use Rattle.snap_call.specs.declared.state.State.{State}
 use Rattle.snap_call.specs.Forms.{is_key, is_parent}
 use Rattle.snap_call.specs.Records.{record_at, has_key, active_at, charge_of, with_record, without_slot, recharged, committed_as, lowest_free}
-use Rattle.snap_call.specs.State.{place_of, limit_at, covers, charge_with, over_limit, is_present, is_base, is_too_deep, ancestors, ids_of}
+use Rattle.snap_call.specs.State.{place_of, limit_at, over_limit, is_present, is_base, is_too_deep, ancestors, ids_of}
 
 -- one entry more
 abbrev pub counted : State → State
@@ -73,30 +74,27 @@ abbrev pub prepare : State → Bytes → Bytes → Bytes → List Label → Stat
 prepare s namespace key parent labels =
     if is_key key && is_parent parent && no_more labels then prepare_in s key parent (place_of namespace s.namespaces) else refused s BadArgument
 
--- Charge: the wanted amount where the limit covers it, else the needed one where the limit covers that
+-- Charge: the greater in each quantity
 abbrev pub greater : Usage → Usage → Usage
 greater a b = record { blocks = max a.blocks b.blocks; inodes = max a.inodes b.inodes }
 
-abbrev pub fits : State → Record → Usage → Bool
-fits s r to = covers (limit_at r.namespace s.namespaces) (charge_with r to s.records)
+-- the limit of the namespace at a place covers its charge, once what is charged the one amount is charged the other
+abbrev pub fits : State → ℕ → Usage → Usage → Bool
+fits s place held to = covers (limit_at place s.namespaces) (plus (minus (charge_of place s.records) held) to)
 
-abbrev pub choice : Bool → Bool → Usage → Usage → Option Usage
-choice true b needed wanted = Some wanted
-choice false true needed wanted = Some needed
-choice false false needed wanted = None
-
-abbrev pub granted : State → Record → Usage → Usage → Option Usage
-granted s r need want =
-    let needed = greater (usage_of r.content) need in
+-- the wanted amount where the limit covers it, else the needed one where the limit covers that
+abbrev pub granted : State → ℕ → Usage → Usage → Usage → Option Usage
+granted s place held need want =
+    let needed = greater held need in
     let wanted = greater needed want in
-    choice (fits s r wanted) (fits s r needed) needed wanted
+    if fits s place held wanted then Some wanted else if fits s place held needed then Some needed else None
 
 abbrev pub charge_to : State → ℕ → Record → Option Usage → State × Reply
 charge_to s slot r (Some to) = (record s { records = recharged slot to s.records; entries = s.entries + 1 }, Charged to)
 charge_to s slot r None = refused s (over_limit s r.namespace)
 
 abbrev pub charge : State → ℕ → Usage → Usage → Option Record → State × Reply
-charge s slot need want (Some r) = charge_to s slot r (granted s r need want)
+charge s slot need want (Some r) = charge_to s slot r (granted s r.namespace (usage_of r.content) need want)
 charge s slot need want None = refused s NotActive
 
 -- Trim: charged for the count of its layer
@@ -109,18 +107,10 @@ trim s slot given r = refused s BadArgument
 abbrev pub committed : State → ℕ → Bytes → Tree → Record → State × Reply
 committed s slot name layer r = (record s { records = with_record (committed_as name layer (s.entries + 1) r) (without_slot slot s.records); entries = s.entries + 1 }, Committed r.id (count_of layer))
 
-abbrev pub commit_under : State → ℕ → Bytes → Option Bytes → Tree → Record → State × Reply
-commit_under s slot name None layer r = committed s slot name layer r
-commit_under s slot name (Some lease) layer r = refused s NoLease
-
-abbrev pub is_lease_text : Option Bytes → Bool
-is_lease_text None = true
-is_lease_text (Some lease) = is_key lease
-
 abbrev pub commit_as : State → ℕ → Bytes → Option Bytes → Tree → Option Record → State × Reply
 commit_as s slot name lease layer (Some r) =
-    if is_key name && is_lease_text lease
-    then if has_key r.namespace name s.records then refused s AlreadyExists else commit_under s slot name lease layer r
+    if is_key name && option_map_or is_key lease true
+    then if has_key r.namespace name s.records then refused s AlreadyExists else if is_some lease then refused s NoLease else committed s slot name layer r
     else refused s BadArgument
 commit_as s slot name lease layer None = refused s NotActive
 
@@ -138,12 +128,11 @@ abbrev pub ask_record : State → (Record → Reply) → Option Record → State
 ask_record s answer None = refused s NotFound
 ask_record s answer (Some r) = (counted s, answer r)
 
-abbrev pub ask_in : State → (Record → Reply) → Bytes → Option ℕ → State × Reply
-ask_in s answer key None = refused s NoNamespace
-ask_in s answer key (Some place) = ask_record s answer (record_at place key s.records)
-
 abbrev pub ask : State → (Record → Reply) → Bytes → Bytes → State × Reply
-ask s answer namespace key = if is_key key then ask_in s answer key (place_of namespace s.namespaces) else refused s BadArgument
+ask s answer namespace key =
+    if is_key key
+    then option_map_or (λ place. ask_record s answer (record_at place key s.records)) (place_of namespace s.namespaces) (refused s NoNamespace)
+    else refused s BadArgument
 
 -- one call: the state after it, and its reply
 abbrev pub step : State → Call → Given → State × Reply
@@ -158,27 +147,19 @@ step s (calls.Usage namespace key) given = ask s (λ r. UsageReply (usage_of r.c
 
 -- the slot is open under the id
 abbrev pub IsOpen : ℕ → Option Record → Type 0
-IsOpen id None = ⊥
-IsOpen id (Some r) = r.id ≡ id
+IsOpen id o = IsSomeAnd o (λ r. r.id ≡ id)
 
 -- and its charge covers so much
 abbrev pub IsCovered : ℕ → Usage → Option Record → Type 0
-IsCovered id now None = ⊥
-IsCovered id now (Some r) = (r.id ≡ id) × Covers (usage_of r.content) now
-
-abbrev pub TrimAllowed : ℕ → Given → Option Record → Type 0
-TrimAllowed id (Count now) r = IsCovered id now r
-TrimAllowed id given r = ⊥
-
-abbrev pub CommitAllowed : ℕ → Given → Option Record → Type 0
-CommitAllowed id (Layer layer) r = IsCovered id (count_of layer) r
-CommitAllowed id given r = ⊥
+IsCovered id now o = IsSomeAnd o (λ r. (r.id ≡ id) × Covers (usage_of r.content) now)
 
 -- the condition of a call: its slot is open under its id, and the charge covers what the value has; a session is opened only where one is left
 abbrev pub IsAllowed : State → Call → Given → Type 0
 IsAllowed s calls.Session given = s.sessions < 65536
 IsAllowed s (calls.Charge slot id need want) given = IsOpen id (active_at slot s.records)
-IsAllowed s (calls.Trim slot id) given = TrimAllowed id given (active_at slot s.records)
-IsAllowed s (calls.Commit slot id name lease) given = CommitAllowed id given (active_at slot s.records)
+IsAllowed s (calls.Trim slot id) (Count now) = IsCovered id now (active_at slot s.records)
+IsAllowed s (calls.Trim slot id) given = ⊥
+IsAllowed s (calls.Commit slot id name lease) (Layer layer) = IsCovered id (count_of layer) (active_at slot s.records)
+IsAllowed s (calls.Commit slot id name lease) given = ⊥
 IsAllowed s (calls.Discard slot id) given = IsOpen id (active_at slot s.records)
 IsAllowed s call given = Unit {0}

@@ -1,9 +1,8 @@
 -- What a namespace's charge is the sum of.
 use Rattle.std.specs.Prelude.{ℕ, ◌==◌, if◌then◌else◌, List, [], ◌∷◌}
 use Rattle.snap_usage.specs.declared.usage.Usage.{Usage}
-use Rattle.snap_usage.specs.Counted.{count_of}
+use Rattle.snap_usage.specs.Counted.{count_of, no_usage}
 use Rattle.snap_ledger.specs.States.{plus}
-use Rattle.snap_record.specs.Records.{no_usage}
 use Rattle.snap_record.specs.declared.record.Content.{Content}
 use Rattle.snap_record.specs.declared.record.Content.TheVariants.{Active, Committed}
 use Rattle.snap_record.specs.declared.record.Record.{Record}

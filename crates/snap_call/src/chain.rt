@@ -1,7 +1,7 @@
 // The committed ancestors of a snapshot.
-ghost use Rattle.std.specs.Prelude.{◌≡◌, false, [], ◌++◌, IfOk, OnOk, IsSome, is_some, option_copied};
+ghost use Rattle.std.specs.Prelude.{◌≡◌, false, [], ◌++◌, IfOk, OnOk, IsSome, is_some, unwrap_or, option_copied};
 ghost use Rattle.snap_call.specs.Records.{is_committed, committed_at};
-ghost use Rattle.snap_call.specs.State.{chain_from, chain_if, ancestors, ids_of, layers_of, with_layer, is_present, is_base, is_too_deep};
+ghost use Rattle.snap_call.specs.State.{chain_from, ancestors, ids_of, layers_of, with_layer, is_present, is_base, is_too_deep};
 
 use crate::limits::MAX_ANCESTORS;
 use crate::records::Records;
@@ -96,8 +96,8 @@ impl Records {
         chain: &mut Chain,
     ) -> Result<(), AllocError>
         requires { IsSome (chain_from most self.now place parent.now) }
-        ensures ids { OnOk result (chain.new.ids ≡ chain.old.ids ++ ids_of (chain_if (chain_from most self.now place parent.now))) }
-        ensures layers { OnOk result (chain.new.layers ≡ chain.old.layers ++ layers_of (chain_if (chain_from most self.now place parent.now))) }
+        ensures ids { OnOk result (chain.new.ids ≡ chain.old.ids ++ ids_of (unwrap_or (chain_from most self.now place parent.now) [])) }
+        ensures layers { OnOk result (chain.new.layers ≡ chain.old.layers ++ layers_of (unwrap_or (chain_from most self.now place parent.now) [])) }
     {
         if parent.is_empty() || most == 0 {
             return Ok(());

@@ -5,8 +5,8 @@ use Rattle.std.proofs.lemmas.List.Folds.{list_any-append, list_any_at}
 use Rattle.std.proofs.lemmas.List.Sums.{sum_by-cons, sum_by-set}
 use Rattle.std.proofs.lemmas.Slice.Eq.{bytes_eq-Decides}
 use Rattle.std.specs.List.{list_any}
-use Rattle.snap_lease.specs.Lease.{Lease, is_of, is_lease, is_live, does_name, with_name}
-use Rattle.snap_lease.specs.Leases.{has_lease, has_ended, AreDistinct, guards, count_of, lease_names, with_name_added, without_lease, without_ended, CountsAdded, CountsReleased, CountsLive}
+use Rattle.snap_lease.specs.Lease.{Lease, is_of, is_lease, is_live, does_name, with_lease_name}
+use Rattle.snap_lease.specs.Leases.{has_lease, has_ended, AreDistinct, guards, naming_count, lease_names, with_name_added, without_lease, without_ended, CountsAdded, CountsReleased, CountsLive}
 use Rattle.snap_lease.proofs.ListLemmas.{changed, filter-none, has_lease-after, is_lease-parts, list_any-tail, with_name-namespace, set-with_name_added}
 use Rattle.snap_lease.proofs.LeaseLemmas.{with_name-new, with_name-there}
 
@@ -131,25 +131,25 @@ lease_names-none (l ∷ ls) namespace lease name none =
 module _ (namespace lease : List ℕ) where
   -- after a release
   count_of-without_lease : (name : List ℕ) (ls : List Lease) → AreDistinct ls
-      → count_of (without_lease ls namespace lease) namespace name + (if lease_names ls namespace lease name then 1 else 0) ≡ count_of ls namespace name
+      → naming_count (without_lease ls namespace lease) namespace name + (if lease_names ls namespace lease name then 1 else 0) ≡ naming_count ls namespace name
   count_of-without_lease name [] distinct = refl
   count_of-without_lease name (l ∷ ls) distinct = by (is_lease namespace lease l) refl (count_of-without_lease name ls distinct.1)
     where
       by : (b : Bool) → is_lease namespace lease l ≡ b
-          → count_of (without_lease ls namespace lease) namespace name + (if lease_names ls namespace lease name then 1 else 0) ≡ count_of ls namespace name
-          → count_of (without_lease (l ∷ ls) namespace lease) namespace name + (if lease_names (l ∷ ls) namespace lease name then 1 else 0) ≡ count_of (l ∷ ls) namespace name
+          → naming_count (without_lease ls namespace lease) namespace name + (if lease_names ls namespace lease name then 1 else 0) ≡ naming_count ls namespace name
+          → naming_count (without_lease (l ∷ ls) namespace lease) namespace name + (if lease_names (l ∷ ls) namespace lease name then 1 else 0) ≡ naming_count (l ∷ ls) namespace name
       by true e rest =
           let none : has_lease ls namespace lease ≡ false = has_lease-after namespace lease l ls distinct e in
           let gone : without_lease (l ∷ ls) namespace lease ≡ ls = ap (λ b. cond (not b) (l ∷ without_lease ls namespace lease) (without_lease ls namespace lease)) e ∙ filter-none (is_lease namespace lease) ls none in
           let named : lease_names (l ∷ ls) namespace lease name ≡ does_name name l = ap (λ b. (b && does_name name l) || lease_names ls namespace lease name) e ∙ ap (λ b. does_name name l || b) (lease_names-none ls namespace lease name none) ∙ or_false (does_name name l) in
           let guard : guards namespace name l ≡ does_name name l = ap (λ b. b && does_name name l) (is_of-is_lease namespace lease l e) in
-          let new : count_of (without_lease (l ∷ ls) namespace lease) namespace name ≡ count_of ls namespace name = ap (λ ks. count_of ks namespace name) gone in
+          let new : naming_count (without_lease (l ∷ ls) namespace lease) namespace name ≡ naming_count ls namespace name = ap (λ ks. naming_count ks namespace name) gone in
           let lost : one_if (lease_names (l ∷ ls) namespace lease name) ≡ one_if (guards namespace name l) = ap one_if (named ∙ sym guard) in
           omega (arith, new, lost, count_by-cons (guards namespace name) l ls)
       by false e rest =
           let gone : without_lease (l ∷ ls) namespace lease ≡ l ∷ without_lease ls namespace lease = ap (λ b. cond (not b) (l ∷ without_lease ls namespace lease) (without_lease ls namespace lease)) e in
           let named : lease_names (l ∷ ls) namespace lease name ≡ lease_names ls namespace lease name = ap (λ b. (b && does_name name l) || lease_names ls namespace lease name) e in
-          let new : count_of (without_lease (l ∷ ls) namespace lease) namespace name ≡ count_of (l ∷ without_lease ls namespace lease) namespace name = ap (λ ks. count_of ks namespace name) gone in
+          let new : naming_count (without_lease (l ∷ ls) namespace lease) namespace name ≡ naming_count (l ∷ without_lease ls namespace lease) namespace name = ap (λ ks. naming_count ks namespace name) gone in
           let lost : one_if (lease_names (l ∷ ls) namespace lease name) ≡ one_if (lease_names ls namespace lease name) = ap one_if named in
           omega (arith, rest, new, lost, count_by-cons (guards namespace name) l ls, count_by-cons (guards namespace name) l (without_lease ls namespace lease))
 
@@ -177,10 +177,10 @@ module _ (namespace lease : List ℕ) where
       by false e there rest = ap (λ b. (b && does_name name l) || lease_names ls namespace lease name) e ∙ rest
 
 -- what a lease names after a name is added
-pub does_name-with_name : (other name : List ℕ) (l : Lease) → does_name other (with_name name l) ≡ (does_name other l || bytes_eq other name)
+pub does_name-with_name : (other name : List ℕ) (l : Lease) → does_name other (with_lease_name name l) ≡ (does_name other l || bytes_eq other name)
 does_name-with_name other name l = by (does_name name l) (bytes_eq other name) refl refl
   where
-    by : (b e : Bool) → does_name name l ≡ b → bytes_eq other name ≡ e → does_name other (with_name name l) ≡ (does_name other l || bytes_eq other name)
+    by : (b e : Bool) → does_name name l ≡ b → bytes_eq other name ≡ e → does_name other (with_lease_name name l) ≡ (does_name other l || bytes_eq other name)
     by true true there same =
         let is : does_name other l ≡ true = ap (λ n. does_name n l) ((bytes_eq-Decides other name).0 same) ∙ there in
         ap (does_name other) (with_name-there name l there) ∙ is ∙ sym (ap (λ b. b || bytes_eq other name) is)
@@ -188,41 +188,41 @@ does_name-with_name other name l = by (does_name name l) (bytes_eq other name) r
     by false e absent same =
         ap (does_name other) (with_name-new name l absent) ∙ list_any-append (bytes_eq other) l.names (name ∷ []) ∙ ap (λ b. does_name other l || b) (or_false (bytes_eq other name))
 
-is_of-with_name : (space name : List ℕ) (l : Lease) → is_of space (with_name name l) ≡ is_of space l
+is_of-with_name : (space name : List ℕ) (l : Lease) → is_of space (with_lease_name name l) ≡ is_of space l
 is_of-with_name space name l = ap (bytes_eq space) (with_name-namespace name l)
 
 module _ (namespace lease name : List ℕ) where
   -- the lease that gets the name counts for it afterwards
-  guards-with_name : (l : Lease) → is_of namespace l ≡ true → guards namespace name (with_name name l) ≡ true
+  guards-with_name : (l : Lease) → is_of namespace l ≡ true → guards namespace name (with_lease_name name l) ≡ true
   guards-with_name l is =
-      let named : does_name name (with_name name l) ≡ true = does_name-with_name name name l ∙ ap (λ b. does_name name l || b) ((bytes_eq-Decides name name).1 refl) ∙ or_true (does_name name l) in
-      ap (λ b. b && does_name name (with_name name l)) (is_of-with_name namespace name l ∙ is) ∙ named
+      let named : does_name name (with_lease_name name l) ≡ true = does_name-with_name name name l ∙ ap (λ b. does_name name l || b) ((bytes_eq-Decides name name).1 refl) ∙ or_true (does_name name l) in
+      ap (λ b. b && does_name name (with_lease_name name l)) (is_of-with_name namespace name l ∙ is) ∙ named
 
   count_of-at : (ls : List Lease) (place : ℕ) (d : Lease) → AreDistinct ls → place < length ls → is_lease namespace lease (get_or ls place d) ≡ true
-      → count_of (set ls place (with_name name (get_or ls place d))) namespace name ≡ count_of ls namespace name + (if lease_names ls namespace lease name then 0 else 1)
+      → naming_count (set ls place (with_lease_name name (get_or ls place d))) namespace name ≡ naming_count ls namespace name + (if lease_names ls namespace lease name then 0 else 1)
   count_of-at ls place d distinct within is =
       let of : is_of namespace (get_or ls place d) ≡ true = is_of-is_lease namespace lease (get_or ls place d) is in
       by (does_name name (get_or ls place d)) (lease_names-at namespace lease name ls place d distinct within is) (ap (λ b. b && does_name name (get_or ls place d)) of)
-      (ap one_if (guards-with_name (get_or ls place d) of)) (sum_by-set (λ l. one_if (guards namespace name l)) ls place (with_name name (get_or ls place d)) d within)
+      (ap one_if (guards-with_name (get_or ls place d) of)) (sum_by-set (λ l. one_if (guards namespace name l)) ls place (with_lease_name name (get_or ls place d)) d within)
     where
       by : (b : Bool) → lease_names ls namespace lease name ≡ b → guards namespace name (get_or ls place d) ≡ b
-          → one_if (guards namespace name (with_name name (get_or ls place d))) ≡ 1
-          → count_of (set ls place (with_name name (get_or ls place d))) namespace name + one_if (guards namespace name (get_or ls place d)) ≡ count_of ls namespace name + one_if (guards namespace name (with_name name (get_or ls place d)))
-          → count_of (set ls place (with_name name (get_or ls place d))) namespace name ≡ count_of ls namespace name + (if lease_names ls namespace lease name then 0 else 1)
+          → one_if (guards namespace name (with_lease_name name (get_or ls place d))) ≡ 1
+          → naming_count (set ls place (with_lease_name name (get_or ls place d))) namespace name + one_if (guards namespace name (get_or ls place d)) ≡ naming_count ls namespace name + one_if (guards namespace name (with_lease_name name (get_or ls place d)))
+          → naming_count (set ls place (with_lease_name name (get_or ls place d))) namespace name ≡ naming_count ls namespace name + (if lease_names ls namespace lease name then 0 else 1)
       by true named guard one moved =
           let was : one_if (guards namespace name (get_or ls place d)) ≡ 1 = ap one_if guard in
-          omega (arith, was, one, moved) ∙ ap (λ b. count_of ls namespace name + (if b then 0 else 1)) (sym named)
+          omega (arith, was, one, moved) ∙ ap (λ b. naming_count ls namespace name + (if b then 0 else 1)) (sym named)
       by false named guard one moved =
           let was : one_if (guards namespace name (get_or ls place d)) ≡ 0 = ap one_if guard in
-          omega (arith, was, one, moved) ∙ ap (λ b. count_of ls namespace name + (if b then 0 else 1)) (sym named)
+          omega (arith, was, one, moved) ∙ ap (λ b. naming_count ls namespace name + (if b then 0 else 1)) (sym named)
 
   -- a lease counts for another name as it did
   guards-other_name : (space other : List ℕ) → other ≢ name → (l : Lease) → guards space other (changed namespace lease name l) ≡ guards space other l
   guards-other_name space other differ l = by (is_lease namespace lease l)
     where
-      by : (b : Bool) → guards space other (if b then with_name name l else l) ≡ guards space other l
+      by : (b : Bool) → guards space other (if b then with_lease_name name l else l) ≡ guards space other l
       by true =
-          ap (λ b. b && does_name other (with_name name l)) (is_of-with_name space name l)
+          ap (λ b. b && does_name other (with_lease_name name l)) (is_of-with_name space name l)
           ∙ ap (λ b. is_of space l && b) (does_name-with_name other name l ∙ ap (λ b. does_name other l || b) (bytes_eq-other other name differ) ∙ or_false (does_name other l))
       by false = refl
 
@@ -230,16 +230,16 @@ module _ (namespace lease name : List ℕ) where
   guards-other_namespace : (space other : List ℕ) → space ≢ namespace → (l : Lease) → guards space other (changed namespace lease name l) ≡ guards space other l
   guards-other_namespace space other differ l = by (is_lease namespace lease l) refl
     where
-      by : (b : Bool) → is_lease namespace lease l ≡ b → guards space other (if b then with_name name l else l) ≡ guards space other l
+      by : (b : Bool) → is_lease namespace lease l ≡ b → guards space other (if b then with_lease_name name l else l) ≡ guards space other l
       by true is =
           let elsewhere : is_of space l ≡ false = is_of-other space namespace differ l (is_of-is_lease namespace lease l is) in
-          ap (λ b. b && does_name other (with_name name l)) (is_of-with_name space name l ∙ elsewhere) ∙ sym (ap (λ b. b && does_name other l) elsewhere)
+          ap (λ b. b && does_name other (with_lease_name name l)) (is_of-with_name space name l ∙ elsewhere) ∙ sym (ap (λ b. b && does_name other l) elsewhere)
       by false is = refl
 
   pub CountsAdded-with_name_added : (ls : List Lease) (place : ℕ) (d : Lease) → AreDistinct ls → place < length ls → is_lease namespace lease (get_or ls place d) ≡ true
       → CountsAdded ls (with_name_added ls namespace lease name) namespace lease name
   CountsAdded-with_name_added ls place d distinct within is = record {
-    named = ap (λ ks. count_of ks namespace name) (sym (set-with_name_added namespace lease name ls place d distinct within is)) ∙ count_of-at ls place d distinct within is;
+    named = ap (λ ks. naming_count ks namespace name) (sym (set-with_name_added namespace lease name ls place d distinct within is)) ∙ count_of-at ls place d distinct within is;
     other_names = λ space other differ. count_by-map (guards space other) (changed namespace lease name) ls ∙ count_by-agree _ (guards space other) (guards-other_name space other differ) ls;
     other_namespaces = λ space other differ. count_by-map (guards space other) (changed namespace lease name) ls ∙ count_by-agree _ (guards space other) (guards-other_namespace space other differ) ls;
   }

@@ -5,7 +5,7 @@ use Rattle.std.specs.List.{list_any}
 use Rattle.std.specs.Str.{bytes_eq}
 use Rattle.std.specs.String.{string_eq}
 use Rattle.indexmap.specs.IndexSet.{insert_key}
-use Rattle.snap_lease.specs.Lease.{Lease, does_name, with_name}
+use Rattle.snap_lease.specs.Lease.{Lease, does_name, with_lease_name}
 
 -- a test of each element of a mapped list
 pub list_any-map : {X Y : Type 0} (p : Y → Bool) (f : X → Y) (xs : List X) → list_any p (map f xs) ≡ list_any (λ x. p (f x)) xs
@@ -24,11 +24,11 @@ module _ {Z : Type 0} where
       ap (λ b. map string_bytes (if b then keys else keys ++ k ∷ [])) none ∙ map-append string_bytes keys (k ∷ [])
 
 -- a lease that lacks the name has it last
-pub with_name-new : (name : List ℕ) (l : Lease) → does_name name l ≡ false → with_name name l ≡ record l { names = l.names ++ name ∷ [] }
+pub with_name-new : (name : List ℕ) (l : Lease) → does_name name l ≡ false → with_lease_name name l ≡ record l { names = l.names ++ name ∷ [] }
 with_name-new name l absent = ap (λ b. if b then l else record l { names = l.names ++ name ∷ [] }) absent
 
 -- a lease that has the name stays as it is
-pub with_name-there : (name : List ℕ) (l : Lease) → does_name name l ≡ true → with_name name l ≡ l
+pub with_name-there : (name : List ℕ) (l : Lease) → does_name name l ≡ true → with_lease_name name l ≡ l
 with_name-there name l there = ap (λ b. if b then l else record l { names = l.names ++ name ∷ [] }) there
 
 -- a list with a name more is the copy of a list with an element more
@@ -41,7 +41,7 @@ map-push f xs ys k x i within at same copied =
 -- a lease over the keys of a set, after a new key is inserted
 pub with_name-inserted : {Z : Type 0} (name : List ℕ) (l : Lease) (keys new : List (String Z)) (k : String Z)
     → does_name name l ≡ false → l.names ≡ map string_bytes keys → string_bytes k ≡ name → new ≡ insert_key string_eq keys k
-    → record l { names = map string_bytes new } ≡ with_name name l
+    → record l { names = map string_bytes new } ≡ with_lease_name name l
 with_name-inserted name l keys new k absent seen is inserted =
     let lacks : list_any (bytes_eq (string_bytes k)) (map string_bytes keys) ≡ false = ap (λ n. list_any (bytes_eq n) (map string_bytes keys)) is ∙ ap (list_any (bytes_eq name)) (sym seen) ∙ absent in
     let grown : map string_bytes new ≡ l.names ++ name ∷ [] = ap (map string_bytes) inserted ∙ names-insert_key keys k lacks ∙ ap (λ ns. ns ++ string_bytes k ∷ []) (sym seen) ∙ ap (λ n. l.names ++ n ∷ []) is in

@@ -6,7 +6,7 @@ use Rattle.std.proofs.lemmas.Option.{slice_get-get_or}
 use Rattle.std.proofs.lemmas.Bool.Decides.{nat_tests}
 use Rattle.std.proofs.lemmas.Slice.Eq.{bytes_eq-Decides}
 use Rattle.std.specs.List.{list_any, position_or_len, AllByRecursion, IsDistinct}
-use Rattle.snap_lease.specs.Lease.{Lease, is_lease, does_name, empty_lease, with_name, NamesOnce}
+use Rattle.snap_lease.specs.Lease.{Lease, is_lease, does_name, empty_lease, with_lease_name, NamesOnce}
 use Rattle.snap_lease.specs.Leases.{has_lease, AreDistinct, with_name_added}
 
 -- a test that no element passes: the filter by its negation keeps all, and a change where it passes changes nothing
@@ -126,7 +126,7 @@ pub NamesOnce-empty : (namespace lease : List ℕ) (until : Option ℕ) → Name
 unfolding IsDistinct
 NamesOnce-empty namespace lease until = tt
 
-pub NamesOnce-with_name : (name : List ℕ) (l : Lease) → NamesOnce l → NamesOnce (with_name name l)
+pub NamesOnce-with_name : (name : List ℕ) (l : Lease) → NamesOnce l → NamesOnce (with_lease_name name l)
 NamesOnce-with_name name l once = by (does_name name l) refl
   where
     by : (b : Bool) → does_name name l ≡ b → NamesOnce (if b then l else record l { names = l.names ++ name ∷ [] })
@@ -140,14 +140,14 @@ has_lease-after namespace lease l ls distinct is =
     ap (λ n. has_lease ls n lease) parts.0 ∙ ap (has_lease ls l.namespace) parts.1 ∙ distinct.0
 
 -- a lease keeps its namespace and its name when a name is added
-pub with_name-namespace : (name : List ℕ) (l : Lease) → (with_name name l).namespace ≡ l.namespace
+pub with_name-namespace : (name : List ℕ) (l : Lease) → (with_lease_name name l).namespace ≡ l.namespace
 with_name-namespace name l = by (does_name name l)
   where
     by : (b : Bool) → (if b then l else record l { names = l.names ++ name ∷ [] }).namespace ≡ l.namespace
     by true = refl
     by false = refl
 
-pub with_name-name : (name : List ℕ) (l : Lease) → (with_name name l).name ≡ l.name
+pub with_name-name : (name : List ℕ) (l : Lease) → (with_lease_name name l).name ≡ l.name
 with_name-name name l = by (does_name name l)
   where
     by : (b : Bool) → (if b then l else record l { names = l.names ++ name ∷ [] }).name ≡ l.name
@@ -157,26 +157,26 @@ with_name-name name l = by (does_name name l)
 module _ (namespace lease name : List ℕ) where
   -- what becomes of one lease
   abbrev pub changed : Lease → Lease
-  changed l = if is_lease namespace lease l then with_name name l else l
+  changed l = if is_lease namespace lease l then with_lease_name name l else l
 
   pub is_lease-changed : (space other : List ℕ) (l : Lease) → is_lease space other (changed l) ≡ is_lease space other l
   is_lease-changed space other l = by (is_lease namespace lease l)
     where
-      by : (b : Bool) → is_lease space other (if b then with_name name l else l) ≡ is_lease space other l
-      by true = ap (λ n. bytes_eq space n && bytes_eq other (with_name name l).name) (with_name-namespace name l) ∙ ap (λ n. bytes_eq space l.namespace && bytes_eq other n) (with_name-name name l)
+      by : (b : Bool) → is_lease space other (if b then with_lease_name name l else l) ≡ is_lease space other l
+      by true = ap (λ n. bytes_eq space n && bytes_eq other (with_lease_name name l).name) (with_name-namespace name l) ∙ ap (λ n. bytes_eq space l.namespace && bytes_eq other n) (with_name-name name l)
       by false = refl
 
   pub namespace-changed : (l : Lease) → (changed l).namespace ≡ l.namespace
   namespace-changed l = by (is_lease namespace lease l)
     where
-      by : (b : Bool) → (if b then with_name name l else l).namespace ≡ l.namespace
+      by : (b : Bool) → (if b then with_lease_name name l else l).namespace ≡ l.namespace
       by true = with_name-namespace name l
       by false = refl
 
   pub name-changed : (l : Lease) → (changed l).name ≡ l.name
   name-changed l = by (is_lease namespace lease l)
     where
-      by : (b : Bool) → (if b then with_name name l else l).name ≡ l.name
+      by : (b : Bool) → (if b then with_lease_name name l else l).name ≡ l.name
       by true = with_name-name name l
       by false = refl
 
@@ -195,23 +195,23 @@ module _ (namespace lease name : List ℕ) where
   NamesOnce-with_name_added [] all = tt
   NamesOnce-with_name_added (l ∷ ls) all = (by (is_lease namespace lease l), NamesOnce-with_name_added ls all.1)
     where
-      by : (b : Bool) → NamesOnce (if b then with_name name l else l)
+      by : (b : Bool) → NamesOnce (if b then with_lease_name name l else l)
       by true = NamesOnce-with_name name l all.0
       by false = all.0
 
   -- a write at the place of the lease changes it alone
   pub set-with_name_added : (ls : List Lease) (place : ℕ) (d : Lease) → AreDistinct ls → place < length ls → is_lease namespace lease (get_or ls place d) ≡ true
-      → set ls place (with_name name (get_or ls place d)) ≡ with_name_added ls namespace lease name
+      → set ls place (with_lease_name name (get_or ls place d)) ≡ with_name_added ls namespace lease name
   set-with_name_added [] place d distinct within is = absurd (omega arith)
   set-with_name_added (l ∷ ls) zero d distinct within is =
-      ap (λ k. k ∷ ls) (sym (ap (λ b. if b then with_name name l else l) is))
-      ∙ ap (λ ks. changed l ∷ ks) (sym (map-none (is_lease namespace lease) (with_name name) ls (has_lease-after namespace lease l ls distinct is)))
+      ap (λ k. k ∷ ls) (sym (ap (λ b. if b then with_lease_name name l else l) is))
+      ∙ ap (λ ks. changed l ∷ ks) (sym (map-none (is_lease namespace lease) (with_lease_name name) ls (has_lease-after namespace lease l ls distinct is)))
   set-with_name_added (l ∷ ls) (suc place) d distinct within is =
       let there : has_lease ls namespace lease ≡ true = list_any_at (is_lease namespace lease) ls place d (omega arith) is in
       by (is_lease namespace lease l) refl there (set-with_name_added ls place d distinct.1 (omega arith) is)
     where
       by : (b : Bool) → is_lease namespace lease l ≡ b → has_lease ls namespace lease ≡ true
-          → set ls place (with_name name (get_or ls place d)) ≡ with_name_added ls namespace lease name
-          → l ∷ set ls place (with_name name (get_or ls place d)) ≡ with_name_added (l ∷ ls) namespace lease name
+          → set ls place (with_lease_name name (get_or ls place d)) ≡ with_name_added ls namespace lease name
+          → l ∷ set ls place (with_lease_name name (get_or ls place d)) ≡ with_name_added (l ∷ ls) namespace lease name
       by true e there rest = absurd (true≢false (sym there ∙ has_lease-after namespace lease l ls distinct e))
-      by false e there rest = ap (λ ks. l ∷ ks) rest ∙ ap (λ k. k ∷ with_name_added ls namespace lease name) (sym (ap (λ b. if b then with_name name l else l) e))
+      by false e there rest = ap (λ ks. l ∷ ks) rest ∙ ap (λ k. k ∷ with_name_added ls namespace lease name) (sym (ap (λ b. if b then with_lease_name name l else l) e))

@@ -39,5 +39,5 @@ abbrev pub empty_lease : List ℕ → List ℕ → Option ℕ → Lease
 empty_lease namespace lease until = record { namespace = namespace; name = lease; until = until; names = [] }
 
 -- the lease with the name as its last, and as it is where it has that name
-abbrev pub with_name : List ℕ → Lease → Lease
-with_name name l = if does_name name l then l else record l { names = l.names ++ name ∷ [] }
+abbrev pub with_lease_name : List ℕ → Lease → Lease
+with_lease_name name l = if does_name name l then l else record l { names = l.names ++ name ∷ [] }

@@ -2,7 +2,7 @@
 use Rattle.std.specs.Prelude.{◌≡◌, ◌≢◌, ℕ, ◌+◌, Bool, false, not, List, [], ◌∷◌, Option, map, filter, find, count_by, ◌&&◌, if◌then◌else◌}
 use Rattle.std.specs.List.{list_any}
 use Rattle.std.specs.Option.{option_map}
-use Rattle.snap_lease.specs.Lease.{Lease, is_of, is_lease, does_name, is_live, with_name}
+use Rattle.snap_lease.specs.Lease.{Lease, is_of, is_lease, does_name, is_live, with_lease_name}
 
 -- whether the namespace has a lease of this name
 abbrev pub has_lease : List Lease → List ℕ → List ℕ → Bool
@@ -14,16 +14,16 @@ AreDistinct [] = Unit {0}
 AreDistinct (l ∷ ls) = (has_lease ls l.namespace l.name ≡ false) × AreDistinct ls
 
 -- the names of the namespace's lease, in order
-abbrev pub names_of : List Lease → List ℕ → List ℕ → Option (List (List ℕ))
-names_of ls namespace lease = option_map (λ l. l.names) (find (is_lease namespace lease) ls)
+abbrev pub names_in_lease : List Lease → List ℕ → List ℕ → Option (List (List ℕ))
+names_in_lease ls namespace lease = option_map (λ l. l.names) (find (is_lease namespace lease) ls)
 
 -- whether the lease is of the namespace and names the snapshot
 abbrev pub guards : List ℕ → List ℕ → Lease → Bool
 guards namespace name l = is_of namespace l && does_name name l
 
 -- the number of the namespace's leases that name the snapshot
-abbrev pub count_of : List Lease → List ℕ → List ℕ → ℕ
-count_of ls namespace name = count_by (guards namespace name) ls
+abbrev pub naming_count : List Lease → List ℕ → List ℕ → ℕ
+naming_count ls namespace name = count_by (guards namespace name) ls
 
 -- whether a lease of the namespace names the snapshot
 abbrev pub is_guarded : List Lease → List ℕ → List ℕ → Bool
@@ -39,7 +39,7 @@ has_ended namespace now l = is_of namespace l && not (is_live now l)
 
 -- the namespace's lease of this name gets the name
 abbrev pub with_name_added : List Lease → List ℕ → List ℕ → List ℕ → List Lease
-with_name_added ls namespace lease name = map (λ l. if is_lease namespace lease l then with_name name l else l) ls
+with_name_added ls namespace lease name = map (λ l. if is_lease namespace lease l then with_lease_name name l else l) ls
 
 -- the leases without the namespace's lease of this name
 abbrev pub without_lease : List Lease → List ℕ → List ℕ → List Lease
@@ -55,16 +55,16 @@ lease_names ls namespace lease name = list_any (λ l. is_lease namespace lease l
 
 -- the count of the name in the namespace grows by one where the lease lacked the name, and every other count stays
 pub record CountsAdded (old new : List Lease) (namespace lease name : List ℕ) : Type 0 where
-  pub named : count_of new namespace name ≡ count_of old namespace name + (if lease_names old namespace lease name then 0 else 1)
-  pub other_names : (space other : List ℕ) → other ≢ name → count_of new space other ≡ count_of old space other
-  pub other_namespaces : (space other : List ℕ) → space ≢ namespace → count_of new space other ≡ count_of old space other
+  pub named : naming_count new namespace name ≡ naming_count old namespace name + (if lease_names old namespace lease name then 0 else 1)
+  pub other_names : (space other : List ℕ) → other ≢ name → naming_count new space other ≡ naming_count old space other
+  pub other_namespaces : (space other : List ℕ) → space ≢ namespace → naming_count new space other ≡ naming_count old space other
 
 -- the count of each name that the lease has falls by one, and every other count stays
 pub record CountsReleased (old new : List Lease) (namespace lease : List ℕ) : Type 0 where
-  pub named : (name : List ℕ) → count_of new namespace name + (if lease_names old namespace lease name then 1 else 0) ≡ count_of old namespace name
-  pub other_namespaces : (space name : List ℕ) → space ≢ namespace → count_of new space name ≡ count_of old space name
+  pub named : (name : List ℕ) → naming_count new namespace name + (if lease_names old namespace lease name then 1 else 0) ≡ naming_count old namespace name
+  pub other_namespaces : (space name : List ℕ) → space ≢ namespace → naming_count new space name ≡ naming_count old space name
 
 -- the namespace's counts are those over its live leases, and the counts of other namespaces stay
 pub record CountsLive (old new : List Lease) (namespace : List ℕ) (now : ℕ) : Type 0 where
-  pub named : (name : List ℕ) → count_of new namespace name ≡ count_by (λ l. guards namespace name l && is_live now l) old
-  pub other_namespaces : (space name : List ℕ) → space ≢ namespace → count_of new space name ≡ count_of old space name
+  pub named : (name : List ℕ) → naming_count new namespace name ≡ count_by (λ l. guards namespace name l && is_live now l) old
+  pub other_namespaces : (space name : List ℕ) → space ≢ namespace → naming_count new space name ≡ naming_count old space name

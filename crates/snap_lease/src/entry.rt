@@ -1,6 +1,6 @@
 //! One lease, over texts that it owns.
 ghost use Rattle.std.specs.Prelude.{◌≡◌, List, ℕ, map, string_bytes, IsTrue, IsOk, IfOk, OnOk, OnErr};
-ghost use Rattle.snap_lease.specs.Lease.{is_of, is_lease, does_name, is_live, empty_lease, with_name};
+ghost use Rattle.snap_lease.specs.Lease.{is_of, is_lease, does_name, is_live, empty_lease, with_lease_name};
 
 use indexmap::IndexSet;
 use std::alloc::{AllocError, Global};
@@ -75,7 +75,7 @@ impl LeaseEntry {
 
     /// Names the snapshot too. A name that is there already takes no memory.
     pub(crate) fn add(&mut self, alloc: Global, name: &str) -> Result<(), AllocError>
-        ensures ok { OnOk result (self.new ≡ with_name name.now self.old) }
+        ensures ok { OnOk result (self.new ≡ with_lease_name name.now self.old) }
         ensures there { IsTrue (does_name name.now self.old) → IsOk result }
         ensures err { OnErr result (self.new ≡ self.old) }
     {

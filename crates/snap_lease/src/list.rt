@@ -2,7 +2,7 @@
 ghost use Rattle.std.specs.Prelude.{◌≡◌, ◌≢◌, ◌↔◌, ◌<◌, ℕ, List, [], ◌∷◌, ◌++◌, map, false, count_by, position, string_bytes, Some, IsTrue, IfOk, OnOk, OnErr, IsErrOf, IsOkUnless};
 ghost use Rattle.std.specs.List.{AllByRecursion};
 ghost use Rattle.snap_lease.specs.Lease.{empty_lease, is_lease, NamesOnce};
-ghost use Rattle.snap_lease.specs.Leases.{AreDistinct, has_lease, names_of, lease_names, count_of, is_guarded, is_guarded_at, has_ended, with_name_added, without_lease, without_ended, CountsAdded, CountsReleased, CountsLive};
+ghost use Rattle.snap_lease.specs.Leases.{AreDistinct, has_lease, names_in_lease, lease_names, naming_count, is_guarded, is_guarded_at, has_ended, with_name_added, without_lease, without_ended, CountsAdded, CountsReleased, CountsLive};
 
 use crate::LeaseError;
 use crate::entry::LeaseEntry;
@@ -71,7 +71,7 @@ impl Leases {
     ) -> Result<(), LeaseError>
         // The lease is the last one. What is named how often stays.
         ensures ok { OnOk result (self.new ≡ self.old ++ empty_lease namespace.now lease.now until ∷ []) }
-        ensures counts { (space name : List ℕ) → count_of self.new space name ≡ count_of self.old space name }
+        ensures counts { (space name : List ℕ) → naming_count self.new space name ≡ naming_count self.old space name }
 
         // The one refusal other than want of memory comes exactly where the lease is there already.
         ensures exists { IsErrOf result LeaseError.LeaseExists ↔ IsTrue (has_lease self.old namespace.now lease.now) }
@@ -136,7 +136,7 @@ impl Leases {
     /// Takes no memory. Its cost grows with the number of leases.
     pub fn holds(&self, namespace: &str, name: &str) -> bool
         ensures value { result ≡ is_guarded self.now namespace.now name.now }
-        ensures count { IsTrue result ↔ (0 < count_of self.now namespace.now name.now) }
+        ensures count { IsTrue result ↔ (0 < naming_count self.now namespace.now name.now) }
     {
         self.count(namespace, name) > 0
     }
@@ -148,7 +148,7 @@ impl Leases {
     /// copy. Its cost grows with the number of leases and with the length of the names.
     #[tactic(auto, using(crate::proofs::ListLemmas::has_lease_at_place))]
     pub fn of(&self, namespace: &str, lease: &str) -> Result<Vec<String>, LeaseError>
-        ensures ok { IfOk result (λ v. names_of self.now namespace.now lease.now ≡ Some (map string_bytes v.items)) }
+        ensures ok { IfOk result (λ v. names_in_lease self.now namespace.now lease.now ≡ Some (map string_bytes v.items)) }
         ensures no_lease { IsErrOf result LeaseError.NoLease ↔ (has_lease self.now namespace.now lease.now ≡ false) }
         ensures exists { result ≢ Err LeaseError.LeaseExists }
     {
@@ -163,7 +163,7 @@ impl Leases {
     ///
     /// Takes no memory. Its cost grows with the number of leases.
     pub fn count(&self, namespace: &str, name: &str) -> u64
-        ensures value { result ≡ count_of self.now namespace.now name.now }
+        ensures value { result ≡ naming_count self.now namespace.now name.now }
 
         // What is so of all leases: no two of one namespace have the same name, and each names a snapshot
         // once.

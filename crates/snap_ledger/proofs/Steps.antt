@@ -5,9 +5,10 @@ use lib.ListN.{get_elem?}
 use Rattle.atomic_table.specs.Table.{State, Me, step, keeps, Allows, Splits, Joins}
 use Rattle.atomic_table.proofs.Lists.{at_set, set_again}
 use Rattle.snap_usage.specs.declared.usage.Usage.{Usage}
+use Rattle.snap_usage.specs.Counted.{no_usage}
 use Rattle.snap_ledger.specs.declared.rule.Holding.{Holding}
 use Rattle.snap_ledger.specs.declared.rule.HalfView.{HalfView}
-use Rattle.snap_ledger.specs.Halves.{no_usage, maker, maker_after, new_charge, no_holding, whole, charge_half, share_half, charge_issued, share_of, spent_view, joined, Sound, Agree, AllAgree, Checked, SetTo}
+use Rattle.snap_ledger.specs.Halves.{maker, maker_after, new_charge, no_holding, whole, charge_half, share_half, charge_issued, issued_share, spent_view, joined, Sound, Agree, AllAgree, Checked, SetTo}
 use Rattle.snap_ledger.specs.States.{charge_view, HeldWhile, CoversOne}
 
 off : false ≡ true → ⊥
@@ -179,7 +180,7 @@ makes_charge id n s kept here = split_keeps s.views id (maker n) (maker (n + 1))
     rl : Agree (whole n no_holding) (maker (n + 1))
     rl = record { one_maker = λ p q. off p; charge_made = λ p q. absurd (off p); share_made = λ p q. absurd (off p); one_charge = λ p q. absurd (off q); one_share = λ p q. absurd (off q); same = λ p q. absurd (off q) }
 
-pub gives_share : (id slot : ℕ) (holding : Holding) → Splits (λ (s : State Holding HalfView). AllAgree s.views) id (whole slot holding) (charge_issued (whole slot holding)) (share_of (whole slot holding))
+pub gives_share : (id slot : ℕ) (holding : Holding) → Splits (λ (s : State Holding HalfView). AllAgree s.views) id (whole slot holding) (charge_issued (whole slot holding)) (issued_share (whole slot holding))
 gives_share id slot holding s kept here = split_keeps s.views id (whole slot holding) (charge_half slot holding) (share_half slot holding) kept here (record { met = refl; single = refl }) (record { met = refl; single = refl }) left right lr rl
   where
     left : Yields (whole slot holding) (charge_half slot holding)
@@ -258,8 +259,8 @@ issued_covers issued holding e covers = subst (λ b. HeldWhile b holding) (sym e
 pub unissued : (me : Me Holding HalfView) (issued : Bool) (slot : ℕ) (holding : Holding) → me ≡ (charge_view issued slot holding, []) → issued ≡ false → me ≡ (whole slot holding, [])
 unissued me issued slot holding e unjoined = e ∙ ap (λ b. (charge_view b slot holding, [])) unjoined
 
-pub gives_share_as : (id : ℕ) (me : Me Holding HalfView) (slot : ℕ) (holding : Holding) → me ≡ (whole slot holding, []) → Splits (λ (s : State Holding HalfView). AllAgree s.views) id me.0 (charge_issued me.0) (share_of me.0)
-gives_share_as id me slot holding e = subst (λ (m : Me Holding HalfView). Splits (λ (s : State Holding HalfView). AllAgree s.views) id m.0 (charge_issued m.0) (share_of m.0)) (sym e) (gives_share id slot holding)
+pub gives_share_as : (id : ℕ) (me : Me Holding HalfView) (slot : ℕ) (holding : Holding) → me ≡ (whole slot holding, []) → Splits (λ (s : State Holding HalfView). AllAgree s.views) id me.0 (charge_issued me.0) (issued_share me.0)
+gives_share_as id me slot holding e = subst (λ (m : Me Holding HalfView). Splits (λ (s : State Holding HalfView). AllAgree s.views) id m.0 (charge_issued m.0) (issued_share m.0)) (sym e) (gives_share id slot holding)
 
 pub makes_charge_as : (id : ℕ) (me : Me Holding HalfView) (n : ℕ) → me ≡ (maker n, []) → Splits (λ (s : State Holding HalfView). AllAgree s.views) id me.0 (maker_after me.0) (new_charge me.0)
 makes_charge_as id me n e = subst (λ (m : Me Holding HalfView). Splits (λ (s : State Holding HalfView). AllAgree s.views) id m.0 (maker_after m.0) (new_charge m.0)) (sym e) (makes_charge id n)

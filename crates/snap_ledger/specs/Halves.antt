@@ -3,13 +3,9 @@ use Rattle.std.specs.Prelude.{◌≡◌, ◌≢◌, ℕ, ◌+◌, ◌<◌, List,
 use mathlib.Core.Option.{Option, some, none}
 use lib.ListN.{get_elem?}
 use Rattle.atomic_table.specs.Table.{Me, Step}
-use Rattle.snap_usage.specs.declared.usage.Usage.{Usage}
+use Rattle.snap_usage.specs.Counted.{no_usage}
 use Rattle.snap_ledger.specs.declared.rule.Holding.{Holding}
 use Rattle.snap_ledger.specs.declared.rule.HalfView.{HalfView}
-
--- no blocks and no inodes
-abbrev pub no_usage : Usage
-no_usage = record { blocks = 0; inodes = 0 }
 
 -- what the charge of a free slot holds
 abbrev pub no_holding : Holding
@@ -44,8 +40,8 @@ abbrev pub charge_issued : HalfView → HalfView
 charge_issued v = charge_half v.slot v.holding
 
 -- the share that a charge issues
-abbrev pub share_of : HalfView → HalfView
-share_of v = share_half v.slot v.holding
+abbrev pub issued_share : HalfView → HalfView
+issued_share v = share_half v.slot v.holding
 
 -- neither half
 abbrev pub spent_view : HalfView

@@ -1,10 +1,10 @@
 -- What clauses see of a charge and of a share.
 use Rattle.std.specs.Prelude.{◌≡◌, ℕ, zero, suc, ◌+◌, ◌-◌, ◌^◌, ◌≤◌, List, [], ◌∷◌, ◌++◌, Bool, true, false}
 use Rattle.snap_usage.specs.declared.usage.Usage.{Usage}
-use Rattle.snap_usage.specs.Counted.{Covers}
+use Rattle.snap_usage.specs.Counted.{Covers, no_usage}
 use Rattle.snap_ledger.specs.declared.rule.Holding.{Holding}
 use Rattle.snap_ledger.specs.declared.rule.HalfView.{HalfView}
-use Rattle.snap_ledger.specs.Halves.{whole, charge_half, no_usage, no_holding}
+use Rattle.snap_ledger.specs.Halves.{whole, charge_half, no_holding}
 
 -- the store's half: its slot, the id and usage that it holds, and whether its share is in a writer's hands
 pub record ChargeState : Type 0 where

@@ -1,9 +1,9 @@
 // The two halves of a slot, and the calls that move both alike.
 ghost use Rattle.std.specs.Prelude.{◌≡◌, ◌<◌, ◌+◌, [], true, IfOk, OnOk};
 ghost use Rattle.std.specs.Arc.{arc_value};
-ghost use Rattle.snap_ledger.specs.Halves.{maker as maker_of, no_usage};
+ghost use Rattle.snap_ledger.specs.Halves.{maker as maker_of};
 ghost use Rattle.snap_ledger.specs.States.{CoversOne, SumFits, Meets, plus, minus, free_row, free_charge};
-ghost use Rattle.snap_usage.specs.Counted.{Covers};
+ghost use Rattle.snap_usage.specs.Counted.{Covers, no_usage};
 
 use crate::rule::{
     HalfView, HalvesTable, Holding, JoinShare, LoadPair, SetHolding, SplitCharge, SplitEmpty,

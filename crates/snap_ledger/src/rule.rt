@@ -66,11 +66,11 @@ impl Split<HalfView> for SplitCharge {
 pub struct SplitShare;
 
 impl Split<HalfView> for SplitShare {
-    ghost use Rattle.snap_ledger.specs.Halves.{charge_issued, share_of};
+    ghost use Rattle.snap_ledger.specs.Halves.{charge_issued, issued_share};
 
     ghost left = { charge_issued };
 
-    ghost right = { share_of };
+    ghost right = { issued_share };
 }
 
 /// Splits a seat off that knows nothing.

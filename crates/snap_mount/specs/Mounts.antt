@@ -1,14 +1,12 @@
 -- How a snapshot is mounted, by its kind and its ancestors.
 use Rattle.std.specs.Prelude.{ℕ, ◌==◌, nat_le, not, Bool, false, ◌&&◌, List, [], ◌∷◌, ◌++◌, length, flat_map, codes, decimal}
 use Rattle.std.specs.List.{list_any}
+use Rattle.snap_record.specs.Labels.{Bytes}
 use Rattle.snap_record.specs.declared.kind.Kind.{Kind}
 use Rattle.snap_record.specs.declared.kind.Kind.TheVariants as kinds
 use Rattle.snap_mount.specs.declared.mount.Mount.{Mount}
 use Rattle.snap_mount.specs.declared.mount.MountKind.{MountKind}
 use Rattle.snap_mount.specs.declared.mount.MountKind.TheVariants.{Bind, Overlay}
-
-abbrev pub Bytes : Type 0
-Bytes = List ℕ
 
 -- `:`, `,`, `\` and NUL
 abbrev pub is_mark : ℕ → Bool
@@ -20,9 +18,9 @@ is_root_text [] = false
 is_root_text (byte ∷ bytes) = byte == 47 && nat_le (length (byte ∷ bytes)) 1024 && not (list_any is_mark (byte ∷ bytes))
 
 -- the word for a kind of mount
-abbrev pub kind_word : MountKind → Bytes
-kind_word Bind = codes "bind"
-kind_word Overlay = codes "overlay"
+abbrev pub mount_kind_word : MountKind → Bytes
+mount_kind_word Bind = codes "bind"
+mount_kind_word Overlay = codes "overlay"
 
 -- the layer directory and the work directory of an id
 abbrev pub layer_dir : Bytes → ℕ → Bytes

@@ -1,7 +1,7 @@
 // A mount, and its line for mount(8).
 ghost use Rattle.std.specs.Prelude.{◌≡◌, ◌++◌, Some, codes, flat_map};
-ghost use Rattle.snap_mount.specs.Lines.{joined, mount_line};
-ghost use Rattle.snap_mount.specs.Mounts.{kind_word};
+ghost use Rattle.snap_mount.specs.Lines.{joined_options, mount_line};
+ghost use Rattle.snap_mount.specs.Mounts.{mount_kind_word};
 
 use snap_record::{Sequence, Text};
 use std::alloc::AllocError;
@@ -19,7 +19,7 @@ pub enum MountKind {
 impl MountKind {
     /// The kind's word: `bind` or `overlay`. Takes no memory.
     pub fn as_str(&self) -> &'static str
-        ensures { result.now ≡ kind_word self.now }
+        ensures { result.now ≡ mount_kind_word self.now }
     {
         match self {
             MountKind::Bind => "bind",
@@ -53,7 +53,7 @@ impl Clone for Mount {
 }
 
 impl fmt::Display for MountKind {
-    ghost output = { λ kind. Some (kind_word kind) };
+    ghost output = { λ kind. Some (mount_kind_word kind) };
 
     fn fmt<W: fmt::Write>(&self, f: &mut fmt::Formatter<W>) -> fmt::Result {
         f.write_str(self.as_str())
@@ -79,7 +79,7 @@ impl fmt::Display for Mount {
 struct Options<'a>(&'a [Text]);
 
 impl fmt::Display for Options<'_> {
-    ghost output = { λ options. Some (joined options.0.now) };
+    ghost output = { λ options. Some (joined_options options.0.now) };
 
     fn fmt<W: fmt::Write>(&self, f: &mut fmt::Formatter<W>) -> fmt::Result {
         match self.0 {

@@ -9,7 +9,7 @@ use Rattle.std.proofs.lemmas.Slice.Eq.{bytes_eq-Decides}
 use Rattle.std.proofs.lemmas.Map.Keys.{IsDistinct-head, IsDistinct-tail}
 use Rattle.std.proofs.lemmas.Map.Made.{is_some-lookup}
 use Rattle.snap_record.specs.Labels.{Bytes, Label, is_among, value_of, with_label, without_label, HasDistinctKeys}
-use Rattle.snap_record.specs.Updates.{named_key, names, named_keys, given_label, label_after, new_keys, with_named}
+use Rattle.snap_record.specs.Updates.{named_key, names_key, named_keys, given_label, label_after, new_keys, with_named}
 
 same : (x y : Bytes) → bytes_eq x y ≡ true → x ≡ y
 same x y h = (bytes_eq-Decides x y).0 h
@@ -40,9 +40,9 @@ cons_option-append None xs ys = refl
 cons_option-append (Some x) xs ys = refl
 
 -- a path names the key exactly where the key is among those that the paths name
-pub among-named : (key : Bytes) (paths : List Bytes) → is_among key (named_keys paths) ≡ list_any (names key) paths
+pub among-named : (key : Bytes) (paths : List Bytes) → is_among key (named_keys paths) ≡ list_any (names_key key) paths
 among-named key [] = refl
-among-named key (path ∷ paths) = by (named_key path) ∙ ap (λ b. names key path || b) (among-named key paths)
+among-named key (path ∷ paths) = by (named_key path) ∙ ap (λ b. names_key key path || b) (among-named key paths)
   where
     by : (r : Option Bytes) → list_any (bytes_eq key) (cons_option r (named_keys paths)) ≡ (option_map_or (bytes_eq key) r false || is_among key (named_keys paths))
     by None = refl

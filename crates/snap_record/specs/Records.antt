@@ -1,14 +1,12 @@
 -- What a snapshot's record says of it.
 use Rattle.snap_usage.specs.declared.usage.Usage.{Usage}
+use Rattle.snap_usage.specs.Counted.{no_usage}
 use Rattle.snap_record.specs.declared.info.Info.{Info}
 use Rattle.snap_record.specs.declared.kind.Kind.{Kind}
 use Rattle.snap_record.specs.declared.kind.Kind.TheVariants as kinds
 use Rattle.snap_record.specs.declared.record.Content.{Content}
 use Rattle.snap_record.specs.declared.record.Content.TheVariants.{View, Active, Committed}
 use Rattle.snap_record.specs.declared.record.Record.{Record}
-
-abbrev pub no_usage : Usage
-no_usage = record { blocks = 0; inodes = 0 }
 
 -- the kind of snapshot that holds it (containerd's snapshots.Kind)
 abbrev pub kind_of : Content → Kind

@@ -14,8 +14,8 @@ abbrev pub named_key : Bytes → Option Bytes
 named_key path = if starts_with nat_eq path (codes "labels.") && nat_lt 7 (length path) then Some (drop 7 path) else None
 
 -- one of the two forms of a path
-abbrev pub is_path : Bytes → Bool
-is_path path = is_whole path || is_some (named_key path)
+abbrev pub is_update_path : Bytes → Bool
+is_update_path path = is_whole path || is_some (named_key path)
 
 -- with no path, or with the path of all labels among them, the given labels replace all
 abbrev pub replaces_all : List Bytes → Bool
@@ -23,8 +23,8 @@ replaces_all [] = true
 replaces_all (path ∷ paths) = list_any is_whole (path ∷ paths)
 
 -- whether the path names the key
-abbrev pub names : Bytes → Bytes → Bool
-names key path = option_map_or (bytes_eq key) (named_key path) false
+abbrev pub names_key : Bytes → Bytes → Bool
+names_key key path = option_map_or (bytes_eq key) (named_key path) false
 
 -- the keys that the paths name, in their order
 abbrev pub named_keys : List Bytes → List Bytes
@@ -53,7 +53,7 @@ updated old given paths = if replaces_all paths then given else with_named old g
 
 -- each given label and each path has its form, whether a path takes the label or not
 abbrev pub have_forms : List Label → List Bytes → Bool
-have_forms given paths = list_all is_label given && list_all is_path paths
+have_forms given paths = list_all is_label given && list_all is_update_path paths
 
 -- an update is refused for its forms, or for a result of more than 64 labels
 abbrev pub is_granted : List Label → List Label → List Bytes → Bool

@@ -1,7 +1,7 @@
 ghost use Rattle.std.specs.Prelude.{◌≡◌, ◌&&◌, ◌||◌, not, count_by, is_some, is_none, nat_le, length, option_copied, IfOk, OnOk, OnErr, IsErrOf, Some, false, List, ℕ, ◌∷◌, ◌↔◌};
 ghost use Rattle.std.specs.List.{cons_option, list_all, list_any};
 ghost use Rattle.snap_record.specs.Labels.{value_of, is_among, HasDistinctKeys};
-ghost use Rattle.snap_record.specs.Updates.{named_key, is_whole, is_path, replaces_all, named_keys, names, with_named, updated, have_forms, is_granted, is_well_formed};
+ghost use Rattle.snap_record.specs.Updates.{named_key, is_whole, is_update_path, replaces_all, named_keys, names_key, with_named, updated, have_forms, is_granted, is_well_formed};
 
 use crate::error::LabelsError;
 use crate::labels::{Labels, MAX_LABELS};
@@ -53,13 +53,13 @@ fn have_forms(given: &Labels, paths: &[Text]) -> bool
 }
 
 fn are_paths(paths: &[Text]) -> bool
-    ensures { result ≡ list_all is_path paths.now }
+    ensures { result ≡ list_all is_update_path paths.now }
 {
-    paths.iter().all(|path| is_path(path))
+    paths.iter().all(|path| is_update_path(path))
 }
 
-fn is_path(path: &Text) -> bool
-    ensures { result ≡ is_path path.now }
+fn is_update_path(path: &Text) -> bool
+    ensures { result ≡ is_update_path path.now }
 {
     is_whole(path) || named_key(path.as_str()).is_some()
 }
@@ -99,13 +99,13 @@ fn is_named(paths: &[Text], key: &Text) -> bool
 }
 
 fn any_names(paths: &[Text], key: &Text) -> bool
-    ensures { result ≡ list_any (names key.now) paths.now }
+    ensures { result ≡ list_any (names_key key.now) paths.now }
 {
-    paths.iter().any(|path| names(path, key))
+    paths.iter().any(|path| names_key(path, key))
 }
 
-fn names(path: &Text, key: &Text) -> bool
-    ensures { result ≡ names key.now path.now }
+fn names_key(path: &Text, key: &Text) -> bool
+    ensures { result ≡ names_key key.now path.now }
 {
     match named_key(path.as_str()) {
         Some(name) => key.as_str() == name,

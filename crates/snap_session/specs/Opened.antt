@@ -2,9 +2,8 @@
 use Rattle.std.specs.Prelude.{ℕ, List, [], Option, None, Some, replicate, map}
 use Rattle.std.specs.Option.{option_map}
 use Rattle.snap_usage.specs.declared.usage.Usage.{Usage}
-use Rattle.snap_usage.specs.Counted.{count_of}
+use Rattle.snap_usage.specs.Counted.{count_of, no_usage}
 use Rattle.snap_record.specs.Labels.{Bytes}
-use Rattle.snap_record.specs.Records.{no_usage}
 use Rattle.snap_call.specs.declared.config.Config.{Config}
 use Rattle.snap_call.specs.declared.config.Namespace.{Namespace}
 use Rattle.snap_call.specs.Records.{charge_of}

@@ -30,13 +30,13 @@ use Rattle.snap_upper.specs.declared.op.Op.{Op}
 use Rattle.snap_upper.specs.After.{Outcome, lists_names}
 use Rattle.snap_book.specs.Files.{worked}
 use Rattle.snap_book.specs.Active.{ActiveValue, root_mode}
-use Rattle.snap_accounts.specs.Entries.{Asks}
+use Rattle.snap_accounts.specs.Entries.{OnlyAsks}
 use Rattle.snap_book.specs.Book.{BookValue, AnsweredBy, Recorded}
 use Rattle.snap_world.specs.declared.step.Answer.{Answer}
 use Rattle.snap_world.specs.declared.step.Answer.TheVariants as answers
 use Rattle.snap_world.specs.declared.step.Step.TheVariants as steps
 use Rattle.snap_world.specs.World.{HandValue, WorldValue, Fits, hand_at, with_hand, world_of}
-use Rattle.snap_world.specs.Move.{called, charged, committed, filed, fresh, is_full, is_its_session, is_under, is_unsealed, meets, prepared, recorded, sealed_hand}
+use Rattle.snap_world.specs.Move.{called, charged, committed_hand, with_outcome, new_hand, is_full, is_its_session, is_under, is_unsealed, meets, with_prepared, recorded, sealed_hand}
 use Rattle.snap_world.specs.Runs.{CanWant, DoesCall, IsLeft, Moves}
 use Rattle.snap_world.proofs.Ends.{ends}
 use Rattle.snap_world.proofs.Hold.{placed, under-id}
@@ -74,13 +74,13 @@ trim_does old new hands out after slot n id a b reply fits at under low answered
 pub commit_does : (old new : BookValue) (hands out after : List (Option HandValue)) (slot n id : ℕ) (name : Bytes) (lease : Option Bytes) (h : HandValue) (a : ActiveValue) (reply : Reply)
     → hand_at slot hands ≡ Some h → is_under id h ≡ true → a ≡ h.snapshot
     → AnsweredBy old new n (calls.Commit slot id name lease) (Layer a.layer) reply → (reply ≡ Refused JournalFull) ↔ (old.limit ≤ length old.journal + open_count old.state.records)
-    → out ≡ with_hand slot None hands → after ≡ with_hand slot (committed a reply) out
+    → out ≡ with_hand slot None hands → after ≡ with_hand slot (committed_hand a reply) out
     → DoesCall (world_of old hands) n (calls.Commit slot id name lease) (answers.Reply reply) (world_of new after)
 commit_does old new hands out after slot n id name lease h a reply at under is answered full gone back =
     let call : Call = calls.Commit slot id name lease in
-    let f : Reply → List (Option HandValue) = λ r. with_hand slot (committed h.snapshot r) hands in
-    let left : after ≡ f reply = back ∙ (ap (λ (l : List (Option HandValue)). with_hand slot (committed a reply) l) gone
-    ∙ (with_hand-twice slot None (committed a reply) hands ∙ ap (λ (v : ActiveValue). with_hand slot (committed v reply) hands) is)) in
+    let f : Reply → List (Option HandValue) = λ r. with_hand slot (committed_hand h.snapshot r) hands in
+    let left : after ≡ f reply = back ∙ (ap (λ (l : List (Option HandValue)). with_hand slot (committed_hand a reply) l) gone
+    ∙ (with_hand-twice slot None (committed_hand a reply) hands ∙ ap (λ (v : ActiveValue). with_hand slot (committed_hand v reply) hands) is)) in
     let full_here : (reply ≡ Refused JournalFull) ↔ (old.limit < length old.journal + open_count old.state.records + 1) = (λ e. (let p = full.0 e in omega arith), λ lt. full.1 (omega (arith, lt))) in
     let here : AnsweredBy old new n call (Layer h.snapshot.layer) reply = subst (λ (v : ActiveValue). AnsweredBy old new n call (Layer v.layer) reply) is answered in
     ⊎_elim
@@ -93,14 +93,14 @@ pub back_again : (hands out after : List (Option HandValue)) (slot : ℕ) (h : H
 back_again hands out after slot h at gone back =
     back ∙ (ap (λ (l : List (Option HandValue)). with_hand slot (Some h) l) gone ∙ (with_hand-twice slot None (Some h) hands ∙ with_hand-again slot (Some h) hands at))
 
-pub asks_does : (old new : BookValue) (hands : List (Option HandValue)) (n : ℕ) (call : Call) (reply : Reply) → Asks call → AnsweredBy old new n call Nothing reply
+pub asks_does : (old new : BookValue) (hands : List (Option HandValue)) (n : ℕ) (call : Call) (reply : Reply) → OnlyAsks call → AnsweredBy old new n call Nothing reply
     → (reply ≡ Refused JournalFull) ↔ (old.limit ≤ length old.journal + open_count old.state.records) → DoesCall (world_of old hands) n call (answers.Reply reply) (world_of new hands)
 asks_does old new hands n call reply asks answered full = at call asks answered
   where
     full_here : (reply ≡ Refused JournalFull) ↔ (old.limit < length old.journal + open_count old.state.records + 1)
     full_here = (λ e. (let p = full.0 e in omega arith), λ lt. full.1 (omega (arith, lt)))
 
-    at : (call : Call) → Asks call → AnsweredBy old new n call Nothing reply → DoesCall (world_of old hands) n call (answers.Reply reply) (world_of new hands)
+    at : (call : Call) → OnlyAsks call → AnsweredBy old new n call Nothing reply → DoesCall (world_of old hands) n call (answers.Reply reply) (world_of new hands)
     at (calls.Stat namespace key) a h =
         ⊎_elim (λ e. inl e) (λ e. inr (ap answers.Reply e.0, (e.1, ap (λ (b : BookValue). world_of b hands) e.2)))
         (admits old new hands hands hands 1 n (calls.Stat namespace key) Nothing (λ r. hands) reply (ends old new n (calls.Stat namespace key) Nothing reply h) full_here refl refl)
@@ -110,34 +110,34 @@ asks_does old new hands n call reply asks answered full = at call asks answered
     at call a h = absurd a
 
 -- a call that asks, where the journal is full
-pub asks_in_vain : (w : WorldValue) (n : ℕ) (call : Call) → Asks call → w.limit ≤ length w.journal + open_count w.state.records → DoesCall w n call (answers.Reply (Refused JournalFull)) w
+pub asks_in_vain : (w : WorldValue) (n : ℕ) (call : Call) → OnlyAsks call → w.limit ≤ length w.journal + open_count w.state.records → DoesCall w n call (answers.Reply (Refused JournalFull)) w
 asks_in_vain w n call asks full = at call asks
   where
     no_room : is_full w 1 ≡ true
     no_room = lt-ltb w.limit (length w.journal + open_count w.state.records + 1) (omega (arith, full))
 
-    at : (call : Call) → Asks call → DoesCall w n call (answers.Reply (Refused JournalFull)) w
+    at : (call : Call) → OnlyAsks call → DoesCall w n call (answers.Reply (Refused JournalFull)) w
     at (calls.Stat namespace key) a = inl (ap (λ (b : Bool). if b then (w, answers.Reply (Refused JournalFull)) else recorded w n (calls.Stat namespace key) Nothing (λ reply. w.hands)) no_room)
     at (calls.Usage namespace key) a = inl (ap (λ (b : Bool). if b then (w, answers.Reply (Refused JournalFull)) else recorded w n (calls.Usage namespace key) Nothing (λ reply. w.hands)) no_room)
     at call a = absurd a
 
 -- a call that asks wants memory only where the journal has room
-pub asks_left : (w : WorldValue) (call : Call) → Asks call → ((w.limit ≤ length w.journal + open_count w.state.records) → ⊥) → IsLeft w call w
+pub asks_left : (w : WorldValue) (call : Call) → OnlyAsks call → ((w.limit ≤ length w.journal + open_count w.state.records) → ⊥) → IsLeft w call w
 asks_left w call asks room = at call asks
   where
     free : is_full w 1 ≡ false
     free = not_lt w.limit (length w.journal + open_count w.state.records + 1) (λ lt. room (omega (arith, lt)))
 
-    at : (call : Call) → Asks call → IsLeft w call w
+    at : (call : Call) → OnlyAsks call → IsLeft w call w
     at (calls.Stat namespace key) a = (free, refl)
     at (calls.Usage namespace key) a = (free, refl)
     at call a = absurd a
 
 pub prepare_does : (old new : BookValue) (hands after : List (Option HandValue)) (n : ℕ) (namespace key parent : Bytes) (labels : List Label) (reply : Reply) → AnsweredBy old new n (calls.Prepare namespace key parent labels) Nothing reply
-    → after ≡ prepared (place_of namespace old.state.namespaces) key parent old.state.records hands reply → (reply ≡ Refused JournalFull) ↔ (old.limit < length old.journal + open_count old.state.records + 2)
+    → after ≡ with_prepared (place_of namespace old.state.namespaces) key parent old.state.records hands reply → (reply ≡ Refused JournalFull) ↔ (old.limit < length old.journal + open_count old.state.records + 2)
     → DoesCall (world_of old hands) n (calls.Prepare namespace key parent labels) (answers.Reply reply) (world_of new after)
 prepare_does old new hands after n namespace key parent labels reply answered left full =
-    let f : Reply → List (Option HandValue) = prepared (place_of namespace old.state.namespaces) key parent old.state.records hands in
+    let f : Reply → List (Option HandValue) = with_prepared (place_of namespace old.state.namespaces) key parent old.state.records hands in
     ⊎_elim (λ e. inl e) (λ e. inr (ap answers.Reply e.0, (e.1, λ i. world_of (e.2 i) ((left ∙ ap f e.0) i))))
     (admits old new hands after hands 2 n (calls.Prepare namespace key parent labels) Nothing f reply (ends old new n (calls.Prepare namespace key parent labels) Nothing reply answered) full left refl)
 
@@ -168,8 +168,8 @@ file_errs : (b : BookValue) (hands after : List (Option HandValue)) (slot : ℕ)
 file_errs b hands after slot op a e at err left =
     let h : HandValue = record { snapshot = a; sealed = false } in
     let w = world_of b hands in
-    inl (found w slot is_unsealed (λ g. filed w slot g (worked op g.snapshot.share.usage g.snapshot.layer g.snapshot.lowers)) h at refl
-    ∙ (ap (filed w slot h) err ∙ (λ i. (world_of b (sym left i), answers.File (Err e)))))
+    inl (found w slot is_unsealed (λ g. with_outcome w slot g (worked op g.snapshot.share.usage g.snapshot.layer g.snapshot.lowers)) h at refl
+    ∙ (ap (with_outcome w slot h) err ∙ (λ i. (world_of b (sym left i), answers.File (Err e)))))
 
 file_wants : (b : BookValue) (hands after : List (Option HandValue)) (slot : ℕ) (op : Op) (a : ActiveValue) (e : FsError) → hand_at slot hands ≡ Some (record { snapshot = a; sealed = false }) → e ≡ errors.OutOfMemory
     → (lists_names op (a.layer ∷ a.lowers) ≡ false → IfErr (worked op a.share.usage a.layer a.lowers) (λ x. ◌≡◌ {A = Result (Unit {0}) FsError} (Err e) (Err x)))
@@ -192,8 +192,8 @@ file_moves b hands out after slot op a v (Ok tt) at ok same error unchanged firs
     let w = world_of b hands in
     let to : HandValue = record { snapshot = v; sealed = false } in
     let left : after ≡ with_hand slot (Some to) hands = back ∙ (ap (λ (l : List (Option HandValue)). with_hand slot (Some to) l) gone ∙ with_hand-twice slot None (Some to) hands) in
-    inl (found w slot is_unsealed (λ g. filed w slot g (worked op g.snapshot.share.usage g.snapshot.layer g.snapshot.lowers)) h at refl
-    ∙ (ap (filed w slot h) ok ∙ (λ i. (world_of b ((ap (λ (x : ActiveValue). with_hand slot (Some (record { snapshot = x; sealed = false })) hands) (sym same) ∙ sym left) i), answers.File (Ok tt)))))
+    inl (found w slot is_unsealed (λ g. with_outcome w slot g (worked op g.snapshot.share.usage g.snapshot.layer g.snapshot.lowers)) h at refl
+    ∙ (ap (with_outcome w slot h) ok ∙ (λ i. (world_of b ((ap (λ (x : ActiveValue). with_hand slot (Some (record { snapshot = x; sealed = false })) hands) (sym same) ∙ sym left) i), answers.File (Ok tt)))))
 file_moves b hands out after slot op a v (Err e) at ok same error unchanged first gone back =
     let h : HandValue = record { snapshot = a; sealed = false } in
     let left = back_again hands out after slot h at gone (back ∙ ap (λ (x : ActiveValue). with_hand slot (Some (record { snapshot = x; sealed = false })) out) unchanged) in
@@ -202,11 +202,11 @@ file_moves b hands out after slot op a v (Err e) at ok same error unchanged firs
 pub no_file : (b : BookValue) (hands : List (Option HandValue)) (slot : ℕ) (op : Op) → meets is_unsealed (hand_at slot hands) ≡ false → Moves (world_of b hands) (steps.Hand slot op) answers.NoHand (world_of b hands)
 no_file b hands slot op e =
     let w = world_of b hands in
-    inl (missed w slot is_unsealed (λ g. filed w slot g (worked op g.snapshot.share.usage g.snapshot.layer g.snapshot.lowers)) e)
+    inl (missed w slot is_unsealed (λ g. with_outcome w slot g (worked op g.snapshot.share.usage g.snapshot.layer g.snapshot.lowers)) e)
 
 -- the same, where the texts are read first
 pub prepare_does_as : (old new : BookValue) (hands after : List (Option HandValue)) (n : ℕ) (a b c namespace key parent : Bytes) (labels : List Label) (reply : Reply) → a ≡ namespace → b ≡ key → c ≡ parent
-    → AnsweredBy old new n (calls.Prepare a b c labels) Nothing reply → after ≡ prepared (place_of a old.state.namespaces) b c old.state.records hands reply → (reply ≡ Refused JournalFull) ↔ (old.limit < length old.journal + open_count old.state.records + 2)
+    → AnsweredBy old new n (calls.Prepare a b c labels) Nothing reply → after ≡ with_prepared (place_of a old.state.namespaces) b c old.state.records hands reply → (reply ≡ Refused JournalFull) ↔ (old.limit < length old.journal + open_count old.state.records + 2)
     → DoesCall (world_of old hands) n (calls.Prepare namespace key parent labels) (answers.Reply reply) (world_of new after)
 prepare_does_as old new hands after n a b c namespace key parent labels reply is_a is_b is_c answered left full =
     subst (λ (x : Bytes). DoesCall (world_of old hands) n (calls.Prepare x key parent labels) (answers.Reply reply) (world_of new after)) is_a
@@ -217,15 +217,15 @@ prepare_does_as old new hands after n a b c namespace key parent labels reply is
 -- the hands after a granted prepare
 pub prepare_left : (namespace key parent : Bytes) (ns : List Namespace) (rs : List Record) (hands after : List (Option HandValue)) (a : ActiveValue) (slot : ℕ) (reply : Reply) → reply ≡ replies.Prepared a.share.id a.share.slot (ids_of (ancestors a.namespace parent rs))
     → place_of namespace ns ≡ Some a.namespace → a.key ≡ key → a.lowers ≡ layers_of (ancestors a.namespace parent rs) → a.layer ≡ root_only (root_mode a.lowers) 1 → a.share.usage ≡ one → slot ≡ a.share.slot
-    → after ≡ with_hand slot (Some (record { snapshot = a; sealed = false })) hands → after ≡ prepared (place_of namespace ns) key parent rs hands reply
+    → after ≡ with_hand slot (Some (record { snapshot = a; sealed = false })) hands → after ≡ with_prepared (place_of namespace ns) key parent rs hands reply
 prepare_left namespace key parent ns rs hands after a slot reply answer place named lowers layer share at put =
     let share_is : a.share ≡ record { slot = a.share.slot; id = a.share.id; usage = one } = λ i. record { slot = a.share.slot; id = a.share.id; usage = share i } in
     let layer_is : a.layer ≡ root_only (root_mode (layers_of (ancestors a.namespace parent rs))) 1 = layer ∙ ap (λ (l : List Tree). root_only (root_mode l) 1) lowers in
-    let hand_is : record { snapshot = a; sealed = false } ≡ fresh key parent rs a.share.id a.share.slot a.namespace =
+    let hand_is : record { snapshot = a; sealed = false } ≡ new_hand key parent rs a.share.id a.share.slot a.namespace =
     λ i. record { snapshot = record { namespace = a.namespace; key = named i; lowers = lowers i; layer = layer_is i; share = share_is i }; sealed = false } in
     put ∙ (λ i. with_hand (at i) (Some (hand_is i)) hands)
-    ∙ ap (λ (o : Option ℕ). with_hand a.share.slot (option_map (fresh key parent rs a.share.id a.share.slot) o) hands) (sym place)
-    ∙ ap (λ (r : Reply). prepared (place_of namespace ns) key parent rs hands r) (sym answer)
+    ∙ ap (λ (o : Option ℕ). with_hand a.share.slot (option_map (new_hand key parent rs a.share.id a.share.slot) o) hands) (sym place)
+    ∙ ap (λ (r : Reply). with_prepared (place_of namespace ns) key parent rs hands r) (sym answer)
 
 -- the reply of the entry that was recorded
 pub reply_of_copy : (copy : Option Entry) (n : ℕ) (call : Call) (given : Given) (reply result : Reply) → copy ≡ Some (entry n call given reply) → option_map (λ (e : Entry). e.reply) copy ≡ Some result → result ≡ reply

@@ -7,7 +7,7 @@ use Rattle.std.proofs.lemmas.Bool.{ltb-true}
 use Rattle.std.proofs.lemmas.Bool.Decides.{eqb_tells}
 use Rattle.snap_layer.specs.Tree.{Tree}
 use Rattle.snap_usage.specs.declared.usage.Usage.{Usage}
-use Rattle.snap_usage.specs.Counted.{Covers, count_of}
+use Rattle.snap_usage.specs.Counted.{Covers, count_of, covers}
 use Rattle.snap_ledger.specs.States.{plus}
 use Rattle.snap_record.specs.Labels.{Bytes, Label}
 use Rattle.snap_record.specs.Records.{usage_of, info_of}
@@ -16,22 +16,22 @@ use Rattle.snap_call.specs.declared.call.Call.{Call}
 use Rattle.snap_call.specs.declared.call.Call.TheVariants as calls
 use Rattle.snap_call.specs.declared.call.Given.{Given}
 use Rattle.snap_call.specs.declared.call.Given.TheVariants.{Nothing, Count, Layer}
-use Rattle.snap_call.specs.declared.refusal.Refusal.TheVariants.{NumbersSpent}
+use Rattle.snap_call.specs.declared.refusal.Refusal.TheVariants.{NumbersSpent, NoNamespace, NoLease}
 use Rattle.snap_call.specs.declared.reply.Reply.{Reply}
 use Rattle.snap_call.specs.declared.reply.Reply.TheVariants as replies
 use Rattle.snap_call.specs.declared.state.State.{State}
 use Rattle.snap_call.specs.Good.{Good}
 use Rattle.snap_call.specs.Records.{active_at, charge_of, has_key, is_slot, lowest_free, recharged, record_at, with_record, without_slot, committed_as}
 use Rattle.snap_call.specs.Forms.{is_key, is_parent}
-use Rattle.snap_call.specs.State.{ancestors, chain, covers, is_base, is_present, is_too_deep, layers_of, limit_at, over_limit, place_of}
-use Rattle.snap_call.specs.Step.{IsAllowed, IsCovered, IsOpen, ask, ask_in, ask_record, charge, charge_to, choice, commit_as, commit_under, discard, greater, is_lease_text, new_active, no_more, one, prepare_at, prepare_in, prepare_slot, prepared as prepared_state, refused, session, step, trim}
-use Rattle.snap_call.proofs.Chains.{Keeps, Keeps-after, Keeps-recharged, Keeps-with_record, Keeps-without_slot, chain-found, keeps-ancestors}
+use Rattle.snap_call.specs.State.{ancestors, is_base, is_present, is_too_deep, layers_of, limit_at, over_limit, place_of}
+use Rattle.snap_call.specs.Step.{IsAllowed, IsCovered, IsOpen, ask, ask_record, charge, charge_to, commit_as, committed as committed_state, discard, greater, new_active, no_more, one, prepare_at, prepare_in, prepare_slot, prepared as prepared_state, refused, session, step, trim}
+use Rattle.snap_call.proofs.Chains.{chain, Keeps, Keeps-after, Keeps-recharged, Keeps-with_record, Keeps-without_slot, chain-found, keeps-ancestors}
 use Rattle.snap_call.proofs.Kept.{covers-Covers, good_step}
 use Rattle.snap_call.proofs.Lists.{active_at-all}
 use Rattle.snap_call.proofs.Ordered.{has_key-without_slot}
 use Rattle.snap_call.proofs.Lowest.{lowest_free-Some}
 use Rattle.snap_call.proofs.Slots.{Active-is_slot, is_slot-other, active_at-with_record_own, active_at-with_record_other, active_at-without_slot_own, active_at-without_slot_other, active_at-recharged_own, active_at-recharged_other, active_at-committed_own, active_at-committed_other}
-use Rattle.std.specs.Option.{option_map}
+use Rattle.std.specs.Option.{option_map, option_map_or, is_some}
 use Rattle.snap_merge.specs.declared.error.FsError.TheVariants.{NeedsCharge}
 use Rattle.snap_upper.specs.declared.op.Op.{Op}
 use Rattle.snap_upper.specs.After.{Outcome, after, within_share}
@@ -41,9 +41,10 @@ use Rattle.snap_world.specs.declared.step.Answer.{Answer}
 use Rattle.snap_world.specs.declared.step.Step.{Step}
 use Rattle.snap_world.specs.declared.step.Step.TheVariants as steps
 use Rattle.snap_world.specs.World.{AgreesAt, Fits, HandValue, IsHandOf, WorldValue, hand_at, with_hand}
-use Rattle.snap_world.specs.Move.{admitted, called, charged_hand, committed, filed, fresh, is_under, is_unsealed, is_working, is_its_session, move, on_found, on_hand, prepared, recorded, sealed_hand}
+use Rattle.snap_world.specs.Move.{admitted, called, charged_hand, committed_hand, with_outcome, new_hand, is_under, is_unsealed, is_working, is_its_session, move, on_hand, with_prepared, recorded, sealed_hand}
 use Rattle.snap_world.specs.Runs.{IsLeft, Moves, with_sealed}
 use Rattle.snap_world.proofs.Hold.{holds, under-id}
+use Rattle.snap_world.proofs.Steps.{on_found}
 use Rattle.snap_world.proofs.Places.{hand_at-low, hand_at-other, hand_at-own, with_hand-again}
 
 cases_if : {X : Type 0} (P : X → Type 0) (b : Bool) (x y : X) → (b ≡ true → P x) → (b ≡ false → P y) → P (if b then x else y)
@@ -135,7 +136,7 @@ abbrev Left : (Reply → List (Option HandValue)) → State × Reply → Type 0
 Left f p = AgreeAll (f p.1) p.0.records
 
 left_charge_to : (s : State) (slot : ℕ) (hands : List (Option HandValue)) (h : HandValue) (r : Record) → Good s → AgreeAll hands s.records → slot < length hands → hand_at slot hands ≡ Some h → active_at slot s.records ≡ Some r → IsHandOf slot s.records h r
-    → (a b : Bool) (needed wanted : Usage) → Covers needed (count_of h.snapshot.layer) → Covers wanted (count_of h.snapshot.layer) → Left (λ reply. with_hand slot (charged_hand h reply) hands) (charge_to s slot r (choice a b needed wanted))
+    → (a b : Bool) (needed wanted : Usage) → Covers needed (count_of h.snapshot.layer) → Covers wanted (count_of h.snapshot.layer) → Left (λ reply. with_hand slot (charged_hand h reply) hands) (charge_to s slot r (if a then Some wanted else if b then Some needed else None))
 left_charge_to s slot hands h r good agree low at stands is true b needed wanted n w = recharges slot wanted hands s.records h r good.chains agree low stands is w
 left_charge_to s slot hands h r good agree low at stands is false true needed wanted n w = recharges slot needed hands s.records h r good.chains agree low stands is n
 left_charge_to s slot hands h r good agree low at stands is false false needed wanted n w = stays slot h hands s.records agree at
@@ -156,7 +157,7 @@ left_trim s slot hands h r good agree low stands is =
     (recharges slot (count_of h.snapshot.layer) hands s.records h r good.chains agree low stands is (record { blocks = omega arith; inodes = omega arith }))
 
 left_under : (s : State) (slot : ℕ) (name : Bytes) (lease : Option Bytes) (hands : List (Option HandValue)) (h : HandValue) (r : Record) → Good s → AgreeAll hands s.records → slot < length hands → active_at slot s.records ≡ Some r → IsHandOf slot s.records h r → has_key r.namespace name s.records ≡ false
-    → Left (λ reply. with_hand slot (committed h.snapshot reply) hands) (commit_under s slot name lease h.snapshot.layer r)
+    → Left (λ reply. with_hand slot (committed_hand h.snapshot reply) hands) (if is_some lease then refused s NoLease else committed_state s slot name h.snapshot.layer r)
 left_under s slot name None hands h r good agree low stands is new =
     let c : Record = committed_as name h.snapshot.layer (s.entries + 1) r in
     let us : List Record = without_slot slot s.records in
@@ -165,12 +166,12 @@ left_under s slot name None hands h r good agree low stands is new =
 left_under s slot name (Some lease) hands h r good agree low stands is new = seals slot hands s.records h r good.chains agree low stands is
 
 left_commit : (s : State) (slot : ℕ) (name : Bytes) (lease : Option Bytes) (hands : List (Option HandValue)) (h : HandValue) (r : Record) → Good s → AgreeAll hands s.records → slot < length hands → active_at slot s.records ≡ Some r → IsHandOf slot s.records h r
-    → Left (λ reply. with_hand slot (committed h.snapshot reply) hands) (commit_as s slot name lease h.snapshot.layer (active_at slot s.records))
+    → Left (λ reply. with_hand slot (committed_hand h.snapshot reply) hands) (commit_as s slot name lease h.snapshot.layer (active_at slot s.records))
 left_commit s slot name lease hands h r good agree low stands is =
-    let f : Reply → List (Option HandValue) = λ reply. with_hand slot (committed h.snapshot reply) hands in
+    let f : Reply → List (Option HandValue) = λ reply. with_hand slot (committed_hand h.snapshot reply) hands in
     let refuses = seals slot hands s.records h r good.chains agree low stands is in
     subst (λ (o : Option Record). Left f (commit_as s slot name lease h.snapshot.layer o)) (sym stands)
-    (cases_if (Left f) (is_key name && is_lease_text lease) _ _
+    (cases_if (Left f) (is_key name && option_map_or is_key lease true) _ _
     (λ formed. cases_if (Left f) (has_key r.namespace name s.records) _ _ (λ taken. refuses) (λ new. left_under s slot name lease hands h r good agree low stands is new))
     (λ bad. refuses))
 
@@ -186,7 +187,7 @@ left_ask_record : (s : State) (hands : List (Option HandValue)) (answer : Record
 left_ask_record s hands answer None agree = agree
 left_ask_record s hands answer (Some r) agree = agree
 
-left_ask_in : (s : State) (hands : List (Option HandValue)) (answer : Record → Reply) (key : Bytes) (o : Option ℕ) → AgreeAll hands s.records → Left (λ reply. hands) (ask_in s answer key o)
+left_ask_in : (s : State) (hands : List (Option HandValue)) (answer : Record → Reply) (key : Bytes) (o : Option ℕ) → AgreeAll hands s.records → Left (λ reply. hands) (option_map_or (λ place. ask_record s answer (record_at place key s.records)) o (refused s NoNamespace))
 left_ask_in s hands answer key None agree = agree
 left_ask_in s hands answer key (Some place) agree = left_ask_record s hands answer (record_at place key s.records) agree
 
@@ -198,7 +199,7 @@ left_session s hands agree = cases_if (Left (λ reply. hands)) (nat_lt s.session
 
 left_room : (s : State) (place : ℕ) (key parent : Bytes) (slot : ℕ) (hands : List (Option HandValue)) → Good s → AgreeAll hands s.records → length hands ≡ 64 → has_key place key s.records ≡ false → is_too_deep place parent s.records ≡ false
     → lowest_free 64 s.records ≡ Some slot → (room few : Bool)
-    → Left (prepared (Some place) key parent s.records hands) (if room then if few then prepared_state s place key parent slot else refused s NumbersSpent else refused s (over_limit s place))
+    → Left (with_prepared (Some place) key parent s.records hands) (if room then if few then prepared_state s place key parent slot else refused s NumbersSpent else refused s (over_limit s place))
 left_room s place key parent slot hands good agree places free deep e true true =
     let lowest = lowest_free-Some s.records slot e in
     let new : Record = new_active s place key parent slot in
@@ -206,7 +207,7 @@ left_room s place key parent slot hands good agree places free deep e true true 
     let keeps : Keeps s.records ts = Keeps-with_record new s.records free in
     let own : is_slot slot new ≡ true = Active-is_slot slot one new refl in
     let low : slot < length hands = (let p = lowest.0 in omega (arith, places)) in
-    let hand : HandValue = fresh key parent s.records s.next_id slot place in
+    let hand : HandValue = new_hand key parent s.records s.next_id slot place in
     let same : layers_of (ancestors place parent s.records) ≡ layers_of (ancestors place parent ts) = ap layers_of (sym (keeps-ancestors s.records ts keeps place parent (chain-found s.records place parent deep))) in
     agree_set s.records ts good.chains keeps slot (Some hand) hands agree low
     (subst (λ (x : Option Record). AgreesAt slot ts (Some hand) x) (sym (active_at-with_record_own slot new s.records own lowest.1))
@@ -216,28 +217,28 @@ left_room s place key parent slot hands good agree places free deep e true false
 left_room s place key parent slot hands good agree places free deep e false few = agree
 
 left_prepare_slot : (s : State) (place : ℕ) (key parent : Bytes) (hands : List (Option HandValue)) → Good s → AgreeAll hands s.records → length hands ≡ 64 → has_key place key s.records ≡ false → is_too_deep place parent s.records ≡ false
-    → (o : Option ℕ) → lowest_free 64 s.records ≡ o → Left (prepared (Some place) key parent s.records hands) (prepare_slot s place key parent o)
+    → (o : Option ℕ) → lowest_free 64 s.records ≡ o → Left (with_prepared (Some place) key parent s.records hands) (prepare_slot s place key parent o)
 left_prepare_slot s place key parent hands good agree places free deep None e = agree
 left_prepare_slot s place key parent hands good agree places free deep (Some slot) e =
     left_room s place key parent slot hands good agree places free deep e (covers (limit_at place s.namespaces) (plus (charge_of place s.records) one)) (nat_le s.next_id 4294967295)
 
-left_prepare_at : (s : State) (key parent : Bytes) (place : ℕ) (hands : List (Option HandValue)) → Good s → AgreeAll hands s.records → length hands ≡ 64 → Left (prepared (Some place) key parent s.records hands) (prepare_at s key parent place)
+left_prepare_at : (s : State) (key parent : Bytes) (place : ℕ) (hands : List (Option HandValue)) → Good s → AgreeAll hands s.records → length hands ≡ 64 → Left (with_prepared (Some place) key parent s.records hands) (prepare_at s key parent place)
 left_prepare_at s key parent place hands good agree places =
-    let f : Reply → List (Option HandValue) = prepared (Some place) key parent s.records hands in
+    let f : Reply → List (Option HandValue) = with_prepared (Some place) key parent s.records hands in
     cases_if (Left f) (not (is_present place parent s.records)) _ _ (λ missing. agree)
     (λ present. cases_if (Left f) (has_key place key s.records) _ _ (λ taken. agree)
     (λ free. cases_if (Left f) (not (is_base place parent s.records)) _ _ (λ active. agree)
     (λ base. cases_if (Left f) (is_too_deep place parent s.records) _ _ (λ deep. agree)
     (λ deep. left_prepare_slot s place key parent hands good agree places free deep (lowest_free 64 s.records) refl))))
 
-left_prepare_in : (s : State) (key parent : Bytes) (hands : List (Option HandValue)) → Good s → AgreeAll hands s.records → length hands ≡ 64 → (o : Option ℕ) → Left (prepared o key parent s.records hands) (prepare_in s key parent o)
+left_prepare_in : (s : State) (key parent : Bytes) (hands : List (Option HandValue)) → Good s → AgreeAll hands s.records → length hands ≡ 64 → (o : Option ℕ) → Left (with_prepared o key parent s.records hands) (prepare_in s key parent o)
 left_prepare_in s key parent hands good agree places None = agree
 left_prepare_in s key parent hands good agree places (Some place) = left_prepare_at s key parent place hands good agree places
 
 left_prepare : (s : State) (namespace key parent : Bytes) (labels : List Label) (hands : List (Option HandValue)) → Good s → AgreeAll hands s.records → length hands ≡ 64
-    → Left (prepared (place_of namespace s.namespaces) key parent s.records hands) (step s (calls.Prepare namespace key parent labels) Nothing)
+    → Left (with_prepared (place_of namespace s.namespaces) key parent s.records hands) (step s (calls.Prepare namespace key parent labels) Nothing)
 left_prepare s namespace key parent labels hands good agree places =
-    cases_if (Left (prepared (place_of namespace s.namespaces) key parent s.records hands)) (is_key key && is_parent parent && no_more labels) _ _
+    cases_if (Left (with_prepared (place_of namespace s.namespaces) key parent s.records hands)) (is_key key && is_parent parent && no_more labels) _ _
     (λ formed. left_prepare_in s key parent hands good agree places (place_of namespace s.namespaces)) (λ bad. agree)
 
 -- ---- steps
@@ -284,9 +285,9 @@ fits_called w n calls.Session fit =
     (λ spent. fit))
 fits_called w n (calls.Prepare namespace key parent labels) fit =
     fits_admitted w 2 w.hands _ fit
-    (fits_recorded w n (calls.Prepare namespace key parent labels) Nothing (prepared (place_of namespace w.state.namespaces) key parent w.state.records w.hands) fit tt places (left_prepare w.state namespace key parent labels w.hands fit.good fit.hands fit.places))
+    (fits_recorded w n (calls.Prepare namespace key parent labels) Nothing (with_prepared (place_of namespace w.state.namespaces) key parent w.state.records w.hands) fit tt places (left_prepare w.state namespace key parent labels w.hands fit.good fit.hands fit.places))
   where
-    places : (r : Reply) → length (prepared (place_of namespace w.state.namespaces) key parent w.state.records w.hands r) ≡ 64
+    places : (r : Reply) → length (with_prepared (place_of namespace w.state.namespaces) key parent w.state.records w.hands r) ≡ 64
     places replies.Opened = fit.places
     places (replies.Prepared id slot chain) = set_places w slot _ fit
     places (replies.Charged now) = fit.places
@@ -311,7 +312,7 @@ fits_called w n (calls.Commit slot id name lease) fit =
     (λ h r low at stands is test. let inside : slot < length w.hands = (let p = fit.places in omega (arith, low)) in
     fits_admitted w 1 (with_hand slot (Some (sealed_hand h.snapshot)) w.hands) _
     (record { good = fit.good; places = set_places w slot _ fit; hands = seals slot w.hands w.state.records h r fit.good.chains fit.hands inside stands is })
-    (fits_recorded w n (calls.Commit slot id name lease) (Layer h.snapshot.layer) (λ reply. with_hand slot (committed h.snapshot reply) w.hands) fit (covered_under w slot id h r stands is test) (λ reply. set_places w slot _ fit)
+    (fits_recorded w n (calls.Commit slot id name lease) (Layer h.snapshot.layer) (λ reply. with_hand slot (committed_hand h.snapshot reply) w.hands) fit (covered_under w slot id h r stands is test) (λ reply. set_places w slot _ fit)
     (left_commit w.state slot name lease w.hands h r fit.good fit.hands inside stands is)))
 fits_called w n (calls.Discard slot id) fit =
     fits_on_hand w slot (is_under id) _ fit
@@ -334,7 +335,7 @@ within share (Ok t) next is = at (covers share (count_of t)) refl is
     at true e is = let same : t ≡ next = cc in subst (λ (l : Tree). Covers share (count_of l)) same (covers-Covers share (count_of t) e)
     at false e is = absurd (cc)
 
-fits_filed : (w : WorldValue) (slot : ℕ) (h : HandValue) (r : Record) (o : Outcome) → Fits w → slot < 64 → active_at slot w.state.records ≡ Some r → IsHandOf slot w.state.records h r → ((next : Tree) → o ≡ Ok next → Covers h.snapshot.share.usage (count_of next)) → Fits (filed w slot h o).0
+fits_filed : (w : WorldValue) (slot : ℕ) (h : HandValue) (r : Record) (o : Outcome) → Fits w → slot < 64 → active_at slot w.state.records ≡ Some r → IsHandOf slot w.state.records h r → ((next : Tree) → o ≡ Ok next → Covers h.snapshot.share.usage (count_of next)) → Fits (with_outcome w slot h o).0
 fits_filed w slot h r (Err e) fit low stands is covers_it = fit
 fits_filed w slot h r (Ok next) fit low stands is covers_it = record {
   good = fit.good;

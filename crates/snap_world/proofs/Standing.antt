@@ -1,6 +1,6 @@
 -- The hand of an active snapshot, found by the snapshot's key.
 use Rattle.std.proofs.Common.{◌≡◌, ℕ, ◌<◌, List, [], ◌∷◌, Bool, true, false, true≢false, Option, None, Some, eq-eqb, refl, sym, ap, ◌∙◌, subst}
-use Rattle.std.specs.Prelude.{Result, Ok, Err}
+use Rattle.std.specs.Prelude.{Result, Ok, Err, option_and_then}
 use Rattle.std.proofs.lemmas.Bool.{eqb-true}
 use Rattle.snap_layer.specs.Tree.{Tree}
 use Rattle.snap_record.specs.Labels.{Bytes}
@@ -8,13 +8,18 @@ use Rattle.snap_record.specs.declared.record.Content.{Content}
 use Rattle.snap_record.specs.declared.record.Content.TheVariants.{View, Active, Committed}
 use Rattle.snap_record.specs.declared.record.Record.{Record}
 use Rattle.snap_call.specs.declared.refusal.Refusal.{Refusal}
-use Rattle.snap_call.specs.Good.{AllPairwise, AreApart, HasPlace}
+use Rattle.snap_call.specs.Good.{AllPairwise, AreApart, HasLowSlot}
 use Rattle.snap_call.specs.Records.{active_at, has_slot, is_named, is_slot, record_at}
 use Rattle.snap_call.specs.State.{place_of}
+use Rattle.snap_call.specs.declared.state.State.{State}
 use Rattle.snap_call.proofs.Lists.{record_at-all, some_same}
 use Rattle.snap_book.specs.Slot.{slot_at, slot_if, slot_in, slot_of}
 use Rattle.snap_world.specs.World.{AgreesAt, Fits, HandValue, IsHandOf, WorldValue, hand_at}
-use Rattle.snap_world.specs.Stacks.{IsOver, layers_in, record_in, record_of}
+use Rattle.snap_world.specs.Stacks.{IsOver, layers_in, record_of}
+
+-- the record of the key in the namespace at a place, if there is one
+abbrev record_in : State → Bytes → Option ℕ → Option Record
+record_in s key o = option_and_then (λ place. record_at place key s.records) o
 
 -- a record that is found by its key and is active in the slot is the one that is found in the slot
 pub record_at-active_at : (slot place : ℕ) (key : Bytes) (rs : List Record) (r : Record) → AllPairwise AreApart rs → is_slot slot r ≡ true → record_at place key rs ≡ Some r → active_at slot rs ≡ Some r
@@ -36,7 +41,7 @@ slot_in-is slot id k View e = absurd (cc)
 slot_in-is slot id k (Active s charged) e = eq-eqb s slot (ap slot_from e)
 slot_in-is slot id k (Committed layer usage) e = absurd (cc)
 
-slot_in-low : (slot : ℕ) (c : Content) → has_slot slot c ≡ true → HasPlace c → slot < 64
+slot_in-low : (slot : ℕ) (c : Content) → has_slot slot c ≡ true → HasLowSlot c → slot < 64
 slot_in-low slot View is low = absurd (cc)
 slot_in-low slot (Active s charged) is low = subst (λ (k : ℕ). k < 64) (eqb-true s slot is) low
 slot_in-low slot (Committed layer usage) is low = absurd (cc)
@@ -58,7 +63,7 @@ module _ (w : WorldValue) (fits : Fits w) (slot id : ℕ) where
   stands_if place key None e found = absurd (cc)
   stands_if place key (Some r) e found =
       let is = slot_in-is slot id r.id r.content found in
-      let low = slot_in-low slot r.content is (record_at-all (λ t. HasPlace t.content) place key w.state.records r e fits.good.open_slots) in
+      let low = slot_in-low slot r.content is (record_at-all (λ t. HasLowSlot t.content) place key w.state.records r e fits.good.open_slots) in
       (r, refl, stands_in r is low (record_at-active_at slot place key w.state.records r fits.good.slots is e))
 
   stands_at : (key : Bytes) (o : Option ℕ) → slot_at w.state key o ≡ Ok (slot, id) → (r : Record) × (record_in w.state key o ≡ Some r) × ((h : HandValue) × (hand_at slot w.hands ≡ Some h) × IsHandOf slot w.state.records h r)

@@ -1,5 +1,6 @@
 -- A call on the book is one step of the world.
 use Rattle.std.proofs.Common.{◌≡◌, ◌⊎◌, inl, inr, ℕ, ◌+◌, ◌≤◌, ◌<◌, List, [], ◌∷◌, ◌++◌, length, true, false, Bool, Option, None, Some, refl, sym, ap, ◌∙◌, ⊎_elim, arith}
+use Rattle.std.specs.Option.{option_map_or}
 use Rattle.std.specs.Prelude.{◌↔◌, ◌&&◌, nat_lt, if◌then◌else◌}
 use Rattle.std.proofs.lemmas.Bool.{lt-ltb, le-ltb}
 use Rattle.snap_call.specs.declared.call.Call.{Call}
@@ -17,9 +18,13 @@ use Rattle.snap_world.specs.declared.step.Answer.{Answer}
 use Rattle.snap_world.specs.declared.step.Answer.TheVariants as answers
 use Rattle.snap_world.specs.World.{HandValue, WorldValue, hand_at, with_hand, world_of}
 use Rattle.snap_world.specs.declared.step.Step.TheVariants as steps
-use Rattle.snap_world.specs.Move.{admitted, called, charged, charged_hand, is_full, is_its_session, is_under, is_working, meets, move, on_found, on_hand, recorded}
+use Rattle.snap_world.specs.Move.{admitted, called, charged, charged_hand, is_full, is_its_session, is_under, is_working, meets, move, on_hand, recorded}
 use Rattle.snap_world.proofs.Ends.{Ends, ends}
 use Rattle.snap_world.proofs.Places.{with_hand-twice, with_hand-again}
+
+-- the call on the hand that stands there
+abbrev pub on_found : WorldValue → (HandValue → Bool) → (HandValue → WorldValue × Answer) → Option HandValue → WorldValue × Answer
+on_found w test next o = option_map_or (λ h. if test h then next h else (w, answers.NoHand)) o (w, answers.NoHand)
 
 -- the hand that meets the test
 pub found : (w : WorldValue) (slot : ℕ) (test : HandValue → Bool) (next : HandValue → WorldValue × Answer) (h : HandValue) → hand_at slot w.hands ≡ Some h → test h ≡ true → on_hand w slot test next ≡ next h

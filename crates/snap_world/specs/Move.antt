@@ -1,6 +1,6 @@
 -- What one step answers, and the world after it. The cases of each call stand in the order in which they are tested.
 use Rattle.std.specs.Prelude.{ℕ, ◌+◌, ◌==◌, Bool, true, false, not, ◌&&◌, nat_lt, if◌then◌else◌, List, [], ◌∷◌, ◌++◌, length, Option, None, Some, Ok, Err}
-use Rattle.std.specs.Option.{option_map}
+use Rattle.std.specs.Option.{option_map, option_map_or}
 use Rattle.snap_layer.specs.Edits.{root_only}
 use Rattle.snap_usage.specs.declared.usage.Usage.{Usage}
 use Rattle.snap_usage.specs.Counted.{count_of}
@@ -47,20 +47,20 @@ abbrev pub sealed_hand : ActiveValue → HandValue
 sealed_hand a = record { snapshot = a; sealed = true }
 
 -- a commit takes the hand; where it is refused, the hand stays, sealed
-abbrev pub committed : ActiveValue → Reply → Option HandValue
-committed a (replies.Committed id usage) = None
-committed a reply = Some (sealed_hand a)
+abbrev pub committed_hand : ActiveValue → Reply → Option HandValue
+committed_hand a (replies.Committed id usage) = None
+committed_hand a reply = Some (sealed_hand a)
 
 -- the hand of a new snapshot in the namespace at a place: the layers of its committed ancestors, a layer of a root alone over them, and a share of 1/1
-abbrev pub fresh : Bytes → Bytes → List Record → ℕ → ℕ → ℕ → HandValue
-fresh key parent rs id slot place =
+abbrev pub new_hand : Bytes → Bytes → List Record → ℕ → ℕ → ℕ → HandValue
+new_hand key parent rs id slot place =
     let lowers = layers_of (ancestors place parent rs) in
     record { snapshot = record { namespace = place; key = key; lowers = lowers; layer = root_only (root_mode lowers) 1; share = record { slot = slot; id = id; usage = one } }; sealed = false }
 
 -- the hands after a prepare of the key, on the parent, in the namespace at a place; the records are those before it
-abbrev pub prepared : Option ℕ → Bytes → Bytes → List Record → List (Option HandValue) → Reply → List (Option HandValue)
-prepared place key parent rs hands (replies.Prepared id slot chain) = with_hand slot (option_map (fresh key parent rs id slot) place) hands
-prepared place key parent rs hands reply = hands
+abbrev pub with_prepared : Option ℕ → Bytes → Bytes → List Record → List (Option HandValue) → Reply → List (Option HandValue)
+with_prepared place key parent rs hands (replies.Prepared id slot chain) = with_hand slot (option_map (new_hand key parent rs id slot) place) hands
+with_prepared place key parent rs hands reply = hands
 
 -- ---- calls
 
@@ -70,17 +70,12 @@ is_its_session sessions n calls.Session = n == sessions
 is_its_session sessions n call = nat_lt n sessions
 
 -- the call on the hand of the slot, where one stands there that meets the test
-abbrev pub on_found : WorldValue → (HandValue → Bool) → (HandValue → WorldValue × Answer) → Option HandValue → WorldValue × Answer
-on_found w test next None = (w, answers.NoHand)
-on_found w test next (Some h) = if test h then next h else (w, answers.NoHand)
-
 abbrev pub on_hand : WorldValue → ℕ → (HandValue → Bool) → (HandValue → WorldValue × Answer) → WorldValue × Answer
-on_hand w slot test next = on_found w test next (hand_at slot w.hands)
+on_hand w slot test next = option_map_or (λ h. if test h then next h else (w, answers.NoHand)) (hand_at slot w.hands) (w, answers.NoHand)
 
 -- whether a hand stands there that meets the test
 abbrev pub meets : (HandValue → Bool) → Option HandValue → Bool
-meets test None = false
-meets test (Some h) = test h
+meets test o = option_map_or test o false
 
 -- the hand of the snapshot of this id
 abbrev pub is_under : ℕ → HandValue → Bool
@@ -107,15 +102,12 @@ recorded w n call given hands =
     let after = step w.state call given in
     (record { state = after.0; journal = w.journal ++ entry n call given after.1 ∷ []; limit = w.limit; hands = hands after.1 }, answers.Reply after.1)
 
--- a session; after 65,536 it is refused, without an entry
-abbrev pub opened : WorldValue → ℕ → WorldValue × Answer
-opened w n = if nat_lt w.state.sessions 65536 then recorded w n calls.Session Nothing (λ reply. w.hands) else (w, answers.Reply (replies.Refused NumbersSpent))
-
--- a call in its session
+-- a call in its session; after 65,536 sessions a further one is refused, without an entry
 abbrev pub called : WorldValue → ℕ → Call → WorldValue × Answer
-called w n calls.Session = admitted w 1 w.hands (opened w n)
+called w n calls.Session =
+    admitted w 1 w.hands (if nat_lt w.state.sessions 65536 then recorded w n calls.Session Nothing (λ reply. w.hands) else (w, answers.Reply (replies.Refused NumbersSpent)))
 called w n (calls.Prepare namespace key parent labels) =
-    admitted w 2 w.hands (recorded w n (calls.Prepare namespace key parent labels) Nothing (prepared (place_of namespace w.state.namespaces) key parent w.state.records w.hands))
+    admitted w 2 w.hands (recorded w n (calls.Prepare namespace key parent labels) Nothing (with_prepared (place_of namespace w.state.namespaces) key parent w.state.records w.hands))
 called w n (calls.Charge slot id need want) =
     on_hand w slot (is_working id) (λ h. admitted w 1 w.hands
     (recorded w n (calls.Charge slot id need want) Nothing (λ reply. with_hand slot (charged_hand h reply) w.hands)))
@@ -124,22 +116,21 @@ called w n (calls.Trim slot id) =
     (recorded w n (calls.Trim slot id) (Count (count_of h.snapshot.layer)) (λ reply. with_hand slot (charged_hand h reply) w.hands)))
 called w n (calls.Commit slot id name lease) =
     on_hand w slot (is_under id) (λ h. admitted w 1 (with_hand slot (Some (sealed_hand h.snapshot)) w.hands)
-    (recorded w n (calls.Commit slot id name lease) (Layer h.snapshot.layer) (λ reply. with_hand slot (committed h.snapshot reply) w.hands)))
+    (recorded w n (calls.Commit slot id name lease) (Layer h.snapshot.layer) (λ reply. with_hand slot (committed_hand h.snapshot reply) w.hands)))
 called w n (calls.Discard slot id) =
     on_hand w slot (is_under id) (λ h. recorded w n (calls.Discard slot id) Nothing (λ reply. with_hand slot None w.hands))
-called w n (calls.Stat namespace key) = admitted w 1 w.hands (recorded w n (calls.Stat namespace key) Nothing (λ reply. w.hands))
-called w n (calls.Usage namespace key) = admitted w 1 w.hands (recorded w n (calls.Usage namespace key) Nothing (λ reply. w.hands))
+called w n call = admitted w 1 w.hands (recorded w n call Nothing (λ reply. w.hands))
 
 -- ---- operations
 
 -- the hand's layer becomes the next one; an error leaves the world
-abbrev pub filed : WorldValue → ℕ → HandValue → Outcome → WorldValue × Answer
-filed w slot h (Ok next) =
+abbrev pub with_outcome : WorldValue → ℕ → HandValue → Outcome → WorldValue × Answer
+with_outcome w slot h (Ok next) =
     (record w { hands = with_hand slot (Some (record { snapshot = record { namespace = h.snapshot.namespace; key = h.snapshot.key; lowers = h.snapshot.lowers; layer = next; share = h.snapshot.share }; sealed = h.sealed })) w.hands }, answers.File (Ok tt))
-filed w slot h (Err e) = (w, answers.File (Err e))
+with_outcome w slot h (Err e) = (w, answers.File (Err e))
 
 -- ---- one step
 
 abbrev pub move : WorldValue → Step → WorldValue × Answer
 move w (steps.Locked n call) = if is_its_session w.state.sessions n call then called w n call else (w, answers.NoSession)
-move w (steps.Hand slot op) = on_hand w slot is_unsealed (λ h. filed w slot h (worked op h.snapshot.share.usage h.snapshot.layer h.snapshot.lowers))
+move w (steps.Hand slot op) = on_hand w slot is_unsealed (λ h. with_outcome w slot h (worked op h.snapshot.share.usage h.snapshot.layer h.snapshot.lowers))

@@ -53,5 +53,4 @@ Moves old step answer new = (move old step ≡ (new, answer)) ⊎ IsWant old ste
 abbrev pub Runs : WorldValue → List Step → List Answer → WorldValue → Type 0
 Runs old [] [] new = new ≡ old
 Runs old (s ∷ ss) (a ∷ more) new = (mid : WorldValue) × Moves old s a mid × Fits mid × Runs mid ss more new
-Runs old [] (a ∷ more) new = ⊥
-Runs old (s ∷ ss) [] new = ⊥
+Runs old ss more new = ⊥

@@ -1,5 +1,5 @@
 -- What the open snapshots of a world show: the layers of each, its own over those of its ancestors.
-use Rattle.std.specs.Prelude.{◌≡◌, ℕ, List, ◌∷◌, Option, None, Some, Result, Ok, Err}
+use Rattle.std.specs.Prelude.{◌≡◌, ℕ, List, ◌∷◌, Option, None, Some, IsSomeAnd, option_and_then, Result, Ok, Err}
 use Rattle.snap_layer.specs.Tree.{Tree}
 use Rattle.snap_record.specs.Labels.{Bytes}
 use Rattle.snap_record.specs.declared.record.Record.{Record}
@@ -28,15 +28,10 @@ stack_in hands (Ok found) = stack_at (hand_at found.0 hands)
 abbrev pub stack_of : WorldValue → Bytes → Bytes → Result (List Tree) Refusal
 stack_of w namespace key = stack_in w.hands (slot_of w.state namespace key)
 
-abbrev pub record_in : State → Bytes → Option ℕ → Option Record
-record_in s key None = None
-record_in s key (Some place) = record_at place key s.records
-
 -- the record of this key in the namespace, if there is one
 abbrev pub record_of : State → Bytes → Bytes → Option Record
-record_of s namespace key = record_in s key (place_of namespace s.namespaces)
+record_of s namespace key = option_and_then (λ place. record_at place key s.records) (place_of namespace s.namespaces)
 
 -- there is such a record, and these layers are one over those of its committed ancestors, nearest first
 abbrev pub IsOver : List Record → List Tree → Option Record → Type 0
-IsOver rs layers None = ⊥
-IsOver rs layers (Some r) = (layer : Tree) × (layers ≡ layer ∷ layers_of (ancestors r.namespace r.parent rs))
+IsOver rs layers o = IsSomeAnd o (λ r. (layer : Tree) × (layers ≡ layer ∷ layers_of (ancestors r.namespace r.parent rs)))

@@ -48,9 +48,8 @@ pub record IsHandOf (k : ℕ) (rs : List Record) (h : HandValue) (r : Record) : 
 -- the slot has a hand exactly where it is open
 abbrev pub AgreesAt : ℕ → List Record → Option HandValue → Option Record → Type 0
 AgreesAt slot rs None None = Unit {0}
-AgreesAt slot rs None (Some r) = ⊥
-AgreesAt slot rs (Some h) None = ⊥
 AgreesAt slot rs (Some h) (Some r) = IsHandOf slot rs h r
+AgreesAt slot rs o found = ⊥
 
 -- the state is good, and the hands are those of the open slots
 pub record Fits (w : WorldValue) : Type 0 where

@@ -7,11 +7,11 @@ ghost use Rattle.snap_call.specs.declared.call.Given.TheVariants.{Nothing, Count
 ghost use Rattle.snap_call.specs.declared.refusal.Refusal.TheVariants.{JournalFull};
 ghost use Rattle.snap_call.specs.declared.reply.Reply.TheVariants as replies;
 ghost use Rattle.snap_book.specs.Book.{AnsweredBy, BookValue};
-ghost use Rattle.snap_world.specs.Move.{charged, committed, is_its_session, prepared};
+ghost use Rattle.snap_world.specs.Move.{charged, committed_hand, is_its_session, with_prepared};
 ghost use Rattle.std.specs.Option.{option_map};
 ghost use Rattle.snap_call.specs.declared.entry.Entry.{Entry};
 ghost use Rattle.snap_call.specs.State.{place_of};
-ghost use Rattle.snap_accounts.specs.Entries.{Asks};
+ghost use Rattle.snap_accounts.specs.Entries.{OnlyAsks};
 ghost use Rattle.snap_world.specs.declared.step.Step.TheVariants.{Locked};
 ghost use Rattle.snap_world.specs.World.{Fits, hand_at, with_hand, world_of};
 ghost use Rattle.snap_world.specs.Runs.{DoesCall, Moves};
@@ -119,7 +119,7 @@ impl<N: StoreName> Hands<N> {
     }
 
     fn ask(&mut self, book: &mut Book<N>, session: u64, call: &Call) -> Answer
-        requires { Asks call.now }
+        requires { OnlyAsks call.now }
         ensures { DoesCall (world_of book.old self.old) session call.now result (world_of book.new self.new) }
     {
         if book.is_full() {
@@ -143,7 +143,7 @@ impl<N: StoreName> Hands<N> {
     ) -> Reply
         requires { Fits (world_of book.old self.old) }
         ensures answered { (copy : Option Entry) × AnsweredBy book.old (record book.new { copy = copy }) session (calls.Prepare namespace.now key.now parent.now labels.now) Nothing result }
-        ensures hands { self.new ≡ prepared (place_of namespace.now book.old.state.namespaces) key.now parent.now book.old.state.records self.old result }
+        ensures hands { self.new ≡ with_prepared (place_of namespace.now book.old.state.namespaces) key.now parent.now book.old.state.records self.old result }
         ensures full { (result ≡ replies.Refused JournalFull) ↔ (book.old.limit < length book.old.journal + open_count book.old.state.records + 2) }
     {
         match book.prepare(session, namespace, key, parent, labels) {
@@ -226,7 +226,7 @@ impl<N: StoreName> Hands<N> {
         requires slot { sealed.share.slot ≡ slot }
         requires id { sealed.share.id ≡ id }
         ensures answered { AnsweredBy book.old book.new session (calls.Commit slot id name.now lease.now) (LayerGiven sealed.layer) result }
-        ensures hands { self.new ≡ with_hand slot (committed sealed result) self.old }
+        ensures hands { self.new ≡ with_hand slot (committed_hand sealed result) self.old }
         ensures full { (result ≡ replies.Refused JournalFull) ↔ (book.old.limit ≤ length book.old.journal + open_count book.old.state.records) }
     {
         match book.commit(session, name, lease, sealed) {

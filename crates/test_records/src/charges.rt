@@ -1,6 +1,6 @@
 // The two halves of a slot's charge, which hold the same.
 ghost use Rattle.std.specs.Prelude.{◌≡◌};
-ghost use Rattle.snap_ledger.specs.Halves.{no_usage};
+ghost use Rattle.snap_usage.specs.Counted.{no_usage};
 
 use snap_ledger::{Charge, NewTable, StoreName};
 use snap_usage::Usage;

@@ -10,7 +10,7 @@ use Rattle.std.specs.Prelude.{Option}
 use Rattle.snap_call.specs.declared.state.State.{State}
 use Rattle.snap_call.specs.Good.{Good}
 use Rattle.snap_call.specs.Records.{charge_of, charge_at, active_at, has_key, with_record, without_slot, committed_as, open_count}
-use Rattle.snap_call.specs.State.{charge_with}
+use Rattle.snap_call.proofs.Sums.{charge_with}
 use Rattle.snap_call.proofs.Slots.{charge_at-issued}
 use Rattle.snap_call.proofs.Counts.{open_count-committed, open_count-some}
 use Rattle.snap_call.proofs.Kept.{good_committed}

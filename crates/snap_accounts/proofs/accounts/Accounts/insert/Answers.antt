@@ -1,11 +1,12 @@
 use Rattle.std.proofs.Common.{◌≡◌, ◌<◌, ◌+◌, ℕ, List, length, set, true, refl, sym, ap, ◌∙◌, subst, arith}
 use Rattle.snap_usage.specs.declared.usage.Usage.{Usage}
+use Rattle.snap_usage.specs.Counted.{covers}
 use Rattle.snap_ledger.specs.States.{ChargeState, plus}
 use Rattle.snap_record.specs.declared.record.Record.{Record}
 use Rattle.snap_call.specs.declared.state.State.{State}
 use Rattle.snap_call.specs.Good.{Good}
 use Rattle.snap_call.specs.Records.{charge_of, active_at, has_key, open_count, with_record}
-use Rattle.snap_call.specs.State.{covers, limit_at, is_base, is_too_deep}
+use Rattle.snap_call.specs.State.{limit_at, is_base, is_too_deep}
 use Rattle.snap_call.specs.Step.{new_active, one}
 use Rattle.snap_accounts.proofs.Accounting.{accounts_same}
 use Rattle.snap_accounts.proofs.Prepared.{accounts_prepared, charge_in-free, open-most, open_count-prepared}

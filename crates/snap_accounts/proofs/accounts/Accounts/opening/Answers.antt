@@ -3,8 +3,8 @@ use Rattle.std.specs.Prelude.{slice_get, replicate}
 use Rattle.std.proofs.lemmas.List.{length-replicate, get_or-replicate}
 use Rattle.std.proofs.lemmas.Option.{slice_get-get_or}
 use Rattle.snap_usage.specs.declared.usage.Usage.{Usage}
+use Rattle.snap_usage.specs.Counted.{no_usage}
 use Rattle.snap_ledger.specs.States.{ChargeState, free_row}
-use Rattle.snap_record.specs.Records.{no_usage}
 use Rattle.snap_call.specs.declared.config.Config.{Config}
 use Rattle.snap_call.specs.declared.state.State.{State}
 use Rattle.snap_call.specs.Forms.{is_config}

@@ -7,11 +7,13 @@ use Rattle.snap_record.specs.declared.record.Record.{Record}
 use Rattle.snap_call.specs.declared.state.State.{State}
 use Rattle.snap_call.specs.Good.{Good}
 use Rattle.snap_call.specs.Records.{charge_of, charge_at, active_at, recharged, open_count}
-use Rattle.snap_call.specs.State.{limit_at, charge_with}
+use Rattle.snap_call.specs.State.{limit_at}
+use Rattle.snap_call.specs.Step.{fits as fits_in}
+use Rattle.snap_call.proofs.Sums.{charge_with}
 use Rattle.snap_call.proofs.Slots.{charge_at-issued}
 use Rattle.snap_call.proofs.Counts.{open_count-recharged}
 use Rattle.snap_call.proofs.Kept.{covers-Covers, good_recharged}
-use Rattle.snap_accounts.specs.Totals.{place_if, fits_in}
+use Rattle.snap_accounts.specs.Totals.{place_if}
 use Rattle.snap_accounts.proofs.Accounting.{accounts_recharged}
 use Rattle.snap_accounts.proofs.accounts.Accounts.recharge.Goals as goal
 

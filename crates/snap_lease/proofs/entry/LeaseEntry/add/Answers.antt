@@ -1,5 +1,5 @@
 use Rattle.std.proofs.Common.{◌∙◌, ◌≡◌, false, ap, refl, sym}
-use Rattle.snap_lease.specs.Lease.{does_name, with_name}
+use Rattle.snap_lease.specs.Lease.{does_name, with_lease_name}
 use Rattle.snap_lease.specs.contracts.entry.LeaseEntry.{the_view}
 use Rattle.snap_lease.proofs.LeaseLemmas.{with_name-inserted}
 use Rattle.snap_lease.proofs.entry.LeaseEntry.add.Goals as goal
@@ -9,4 +9,4 @@ returns-clause-ok c =
     let absent : does_name c.args.name.now (the_view c.self.inside) ≡ false = ap (does_name c.args.name.now) c.self.view_is ∙ sym c.does_name.ensures ∙ c.if-does_name.false in
     with_name-inserted c.args.name.now (the_view c.self.inside) c.self.inside.names.keys c.insert.new.self.keys c.in_ok-name.name
     absent refl c.in_ok-name.ensures.ok c.in_ok-insert.ensures.keys
-    ∙ ap (with_name c.args.name.now) c.self.view_is
+    ∙ ap (with_lease_name c.args.name.now) c.self.view_is

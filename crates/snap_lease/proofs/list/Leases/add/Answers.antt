@@ -1,7 +1,7 @@
 use Rattle.std.proofs.Common.{◌∙◌, ◌≡◌, ◌<◌, ℕ, List, Some, true, false, Bool, ap, get_or, length, position, refl, set, subst, sym}
 use Rattle.std.proofs.lemmas.List.Quantifiers.{position-Some}
 use Rattle.std.specs.List.{AllByRecursion}
-use Rattle.snap_lease.specs.Lease.{Lease, does_name, is_lease, with_name, NamesOnce}
+use Rattle.snap_lease.specs.Lease.{Lease, does_name, is_lease, with_lease_name, NamesOnce}
 use Rattle.snap_lease.specs.Leases.{AreDistinct, CountsAdded, lease_names, with_name_added}
 use Rattle.snap_lease.proofs.CountLemmas.{CountsAdded-with_name_added, lease_names-at}
 use Rattle.snap_lease.proofs.ListLemmas.{AreDistinct-with_name_added, NamesOnce-with_name_added, set-with_name_added}
@@ -25,10 +25,10 @@ refused_only_new : (b : Bool) → (b ≡ true → false ≡ true) → b ≡ fals
 refused_only_new true refused = sym (refused refl)
 refused_only_new false refused = refl
 
-written : (ls : List Lease) (namespace lease name : List ℕ) (place : ℕ) (entry new : Lease) → IsAt ls namespace lease place entry → new ≡ with_name name entry
+written : (ls : List Lease) (namespace lease name : List ℕ) (place : ℕ) (entry new : Lease) → IsAt ls namespace lease place entry → new ≡ with_lease_name name entry
     → set ls place new ≡ with_name_added ls namespace lease name
 written ls namespace lease name place entry new at is =
-    ap (set ls place) (is ∙ ap (with_name name) at.entry_is) ∙ set-with_name_added namespace lease name ls place entry at.distinct at.within at.is
+    ap (set ls place) (is ∙ ap (with_lease_name name) at.entry_is) ∙ set-with_name_added namespace lease name ls place entry at.distinct at.within at.is
 
 added : (c : goal.In_ok-add) → IsAt c.self.inside.list.items c.args.namespace.now c.args.lease.now c.in-Some.place c.index_mut-entry.result.now
 added c =
