@@ -7,15 +7,14 @@ use Rattle.std.specs.Cmp.Lexicographic.{slice_cmp}
 use Rattle.serde_json.specs.Data.{Data, null, string, Members, no_members, member, put}
 use Rattle.serde_json.specs.View.{items_of}
 use Rattle.serde_json.specs.Written.{has_float, items_have_float, members_have_float}
-use Rattle.snap_usage.specs.declared.usage.Usage.{Usage}
-use Rattle.snap_record.specs.Labels.{Bytes, Label}
+use Rattle.snap_record.specs.Labels.{Bytes}
 use Rattle.snap_call.specs.declared.refusal.Refusal.{Refusal}
 use Rattle.snap_call.specs.declared.refusal.Refusal.TheVariants as refusals
 use Rattle.snap_script.specs.declared.answer.Shown.{Shown}
 use Rattle.snap_script.specs.declared.answer.Shown.TheVariants as shown
 use Rattle.snap_script.specs.declared.answer.Answer.{Answer}
 use Rattle.snap_script.specs.declared.answer.Answer.TheVariants as answers
-use Rattle.snap_script.specs.Answers.{number_data, usage_data, labels_onto, totals_onto, refusal_data, shown_or_null, answer_data}
+use Rattle.snap_script.specs.Answers.{number_data, usage_data, members_with, shown_data, answer_data}
 
 first_is : (a b : Bool) → a || b ≡ false → a ≡ false
 first_is false b h = refl
@@ -43,15 +42,12 @@ put_has_none : (k : List ℕ) (d : Data) (ms : Members) → has_float d ≡ fals
 put_has_none k d no_members h i = both_are _ _ h refl
 put_has_none k d (member l e ms) h i = put_at (slice_cmp nat_cmp k l) k l d e ms h i (put_has_none k d ms h (second_is (has_float e) _ i))
 
-labels_have_none : (labels : List Label) (found : Members) → members_have_float found ≡ false → members_have_float (labels_onto labels found) ≡ false
-labels_have_none [] found h = h
-labels_have_none (label ∷ labels) found h = labels_have_none labels _ (put_has_none label.0 (string label.1) found refl h)
+members_have_none : {A : Type 0} (value : A → Data) → ((a : A) → has_float (value a) ≡ false) → (entries : List (Bytes × A)) (found : Members) → members_have_float found ≡ false
+    → members_have_float (members_with value entries found) ≡ false
+members_have_none value f [] found h = h
+members_have_none value f (entry ∷ entries) found h = members_have_none value f entries _ (put_has_none entry.0 (value entry.1) found (f entry.1) h)
 
-totals_have_none : (totals : List (Bytes × Usage)) (found : Members) → members_have_float found ≡ false → members_have_float (totals_onto totals found) ≡ false
-totals_have_none [] found h = h
-totals_have_none (total ∷ totals) found h = totals_have_none totals _ (put_has_none total.0 (usage_data total.1) found refl h)
-
-refusal_has_none : (refusal : Refusal) → has_float (refusal_data refusal) ≡ false
+refusal_has_none : (refusal : Refusal) → has_float (answer_data (answers.Refused refusal)) ≡ false
 refusal_has_none (refusals.OverLimit free_blocks free_inodes) = refl
 refusal_has_none refusal = refl
 
@@ -63,7 +59,7 @@ text_or_null : (b : Bool) (text : List ℕ) → has_float (if b then string text
 text_or_null true text = refl
 text_or_null false text = refl
 
-shown_has_none : (o : Option Shown) → has_float (shown_or_null o) ≡ false
+shown_has_none : (o : Option Shown) → has_float (shown_data o) ≡ false
 shown_has_none None = refl
 shown_has_none (Some (shown.Dir mode)) = refl
 shown_has_none (Some (shown.File mode size)) = refl
@@ -72,9 +68,9 @@ shown_has_none (Some (shown.Symlink target)) = both_are _ _ (text_or_null (is_ut
 -- an answer that has a list, labels or totals by the facts above; any other computes
 pub no_float : (answer : Answer) → has_float (answer_data answer) ≡ false
 no_float (answers.Prepared id slot chain) = both_are _ _ (ids_have_none chain) refl
-no_float (answers.Info info) = both_are _ _ (both_are _ _ (labels_have_none info.labels no_members refl) refl) refl
+no_float (answers.Info info) = both_are _ _ (both_are _ _ (members_have_none string (λ text. refl) info.labels no_members refl) refl) refl
 no_float (answers.Seen seen) = both_are _ _ (shown_has_none seen) refl
 no_float (answers.Names names) = both_are _ _ (texts_have_none names) refl
-no_float (answers.Report entries actives records totals) = both_are _ _ (totals_have_none totals no_members refl) refl
+no_float (answers.Report entries actives records totals) = both_are _ _ (members_have_none usage_data (λ usage. refl) totals no_members refl) refl
 no_float (answers.Refused refusal) = refusal_has_none refusal
 no_float answer = refl

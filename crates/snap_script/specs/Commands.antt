@@ -1,11 +1,10 @@
 -- The commands of a script; cited by the public clause of `read_line` through Lines.antt. The fields of a command are
 -- tested in the order in which they stand.
-use Rattle.std.specs.Prelude.{ℕ, List, [], ◌∷◌, Option, None, Result, Ok, Err, codes}
+use Rattle.std.specs.Prelude.{ℕ, List, [], ◌∷◌, Option, Some, None, option_map, Result, Ok, codes}
 use Rattle.std.specs.Map.{lookup}
 use Rattle.std.specs.Str.{bytes_eq}
 use Rattle.serde_json.specs.Data.{Data}
 use Rattle.serde_json.specs.Find.{as_str}
-use Rattle.snap_usage.specs.declared.usage.Usage.{Usage}
 use Rattle.snap_record.specs.Labels.{Bytes}
 use Rattle.snap_script.specs.declared.fault.Field.{Field}
 use Rattle.snap_script.specs.declared.fault.Field.TheVariants as fields
@@ -18,15 +17,9 @@ use Rattle.snap_script.specs.declared.verb.Verb.{Verb}
 use Rattle.snap_script.specs.declared.verb.Verb.TheVariants as verbs
 use Rattle.snap_script.specs.declared.verb.FileVerb.{FileVerb}
 use Rattle.snap_script.specs.declared.verb.FileVerb.TheVariants as file_verbs
-use Rattle.snap_script.specs.declared.command.Lookup.{Lookup}
 use Rattle.snap_script.specs.declared.command.Lookup.TheVariants as lookups
-use Rattle.snap_script.specs.Fields.{required, defaulted, number_of, mode_of, some_text_of, usage_of, labels_of, namespaces_of, content_of}
-
--- what follows a reading that is granted
-infixl 10 ◌>>=◌
-abbrev pub ◌>>=◌ : {A B : Type 0} → Result A Fault → (A → Result B Fault) → Result B Fault
-(Ok a) >>= f = f a
-(Err fault) >>= f = Err fault
+use Rattle.snap_script.specs.Fields.{required, optional, as_natural, as_mode, as_usage, as_labels, as_namespaces, content_of}
+use Rattle.snap_script.specs.Results.{◌>>=◌}
 
 -- a text that must be there
 abbrev pub text : Field → Data → Result Bytes Fault
@@ -34,143 +27,42 @@ text field line = required as_str field line
 
 -- the snapshot that a command names: its namespace and its key
 unfoldable pub named : Data → Result (Bytes × Bytes) Fault
-named line = do
-  namespace ← text fields.Namespace line
-  key ← text fields.Key line
-  Ok (namespace, key)
+named line = do namespace ← text fields.Namespace line; key ← text fields.Key line; Ok (namespace, key)
 
--- open: the directory of the store, its namespaces, and the most entries of its journal. The first id is 1.
+-- the operation of a file command, with the texts of its paths; the mode of a new directory is octal 755 and that of a new file octal 644 where it is absent
+unfoldable pub file_command_of : FileVerb → Data → Result FileCommand Fault
+file_command_of file_verbs.Mkdir line = do Ok (file_commands.Mkdir (← text fields.Path line) (← optional as_mode fields.Mode (Ok 493) line))
+file_command_of file_verbs.Create line = do Ok (file_commands.Create (← text fields.Path line) (← optional as_mode fields.Mode (Ok 420) line))
+file_command_of file_verbs.Write line = do Ok (file_commands.Write (← text fields.Path line) (← optional as_natural fields.Offset (Ok 0) line) (← content_of line))
+file_command_of file_verbs.Truncate line = do Ok (file_commands.Truncate (← text fields.Path line) (← required as_natural fields.Size line))
+file_command_of file_verbs.SetMode line = do Ok (file_commands.SetMode (← text fields.Path line) (← required as_mode fields.Mode line))
+file_command_of file_verbs.Symlink line = do Ok (file_commands.Symlink (← text fields.Path line) (← text fields.Target line))
+file_command_of file_verbs.Link line = do Ok (file_commands.Link (← text fields.From line) (← text fields.To line))
+file_command_of file_verbs.Unlink line = do Ok (file_commands.Unlink (← text fields.Path line))
+file_command_of file_verbs.Rmdir line = do Ok (file_commands.Rmdir (← text fields.Path line))
+file_command_of file_verbs.Rename line = do Ok (file_commands.Rename (← text fields.From line) (← text fields.To line))
+
+-- open: a store by its root, its namespaces and the most entries of its journal. The first id is 1.
 unfoldable pub open_of : Data → Result Command Fault
 open_of line = do
   root ← text fields.Root line
-  namespaces ← required namespaces_of fields.Namespaces line
-  journal ← defaulted 1048576 number_of fields.Journal line
+  namespaces ← required as_namespaces fields.Namespaces line
+  journal ← optional as_natural fields.Journal (Ok 1048576) line
   Ok (commands.Open (record { root = root; namespaces = namespaces; journal = journal; first_id = 1 }))
 
--- prepare: containerd's Prepare
-unfoldable pub prepare_of : Data → Result Command Fault
-prepare_of line = do
-  snapshot ← named line
-  parent ← text fields.Parent line
-  labels ← defaulted [] labels_of fields.Labels line
-  Ok (commands.Prepare snapshot.0 snapshot.1 parent labels)
-
--- charge: where no amount is wanted, the needed one is
-unfoldable pub charge_of : Data → Result Command Fault
-charge_of line = do
-  snapshot ← named line
-  need ← required usage_of fields.Need line
-  want ← defaulted need usage_of fields.Want line
-  Ok (commands.Charge snapshot.0 snapshot.1 need want)
-
--- the commands that have a namespace and a key alone
-unfoldable pub keyed_of : (Bytes → Bytes → Command) → Data → Result Command Fault
-keyed_of command line = do
-  snapshot ← named line
-  Ok (command snapshot.0 snapshot.1)
-
--- commit: containerd's Commit, under a lease where one is named
-unfoldable pub commit_of : Data → Result Command Fault
-commit_of line = do
-  snapshot ← named line
-  name ← text fields.Name line
-  lease ← defaulted None some_text_of fields.Lease line
-  Ok (commands.Commit snapshot.0 snapshot.1 name lease)
-
--- the room that a charge asks for beside what an operation needs
-abbrev pub extra_of : Data → Result Usage Fault
-extra_of line = defaulted (record { blocks = 0; inodes = 0 }) usage_of fields.Extra line
-
--- mkdir, create: a path's text and a mode, octal 755 for a directory and 644 for a file where it is absent
-unfoldable pub made_of : (Bytes → ℕ → FileCommand) → ℕ → Data → Result FileCommand Fault
-made_of operation mode line = do
-  path ← text fields.Path line
-  mode ← defaulted mode mode_of fields.Mode line
-  Ok (operation path mode)
-
--- write: bytes at an offset
-unfoldable pub write_of : Data → Result FileCommand Fault
-write_of line = do
-  path ← text fields.Path line
-  offset ← defaulted 0 number_of fields.Offset line
-  bytes ← content_of line
-  Ok (file_commands.Write path offset bytes)
-
--- truncate: a size in bytes
-unfoldable pub truncate_of : Data → Result FileCommand Fault
-truncate_of line = do
-  path ← text fields.Path line
-  size ← required number_of fields.Size line
-  Ok (file_commands.Truncate path size)
-
--- setmode: a mode
-unfoldable pub set_mode_of : Data → Result FileCommand Fault
-set_mode_of line = do
-  path ← text fields.Path line
-  mode ← required mode_of fields.Mode line
-  Ok (file_commands.SetMode path mode)
-
--- symlink: the bytes of its target
-unfoldable pub symlink_of : Data → Result FileCommand Fault
-symlink_of line = do
-  path ← text fields.Path line
-  target ← text fields.Target line
-  Ok (file_commands.Symlink path target)
-
--- link, rename: two paths' texts
-unfoldable pub paired_of : (Bytes → Bytes → FileCommand) → Data → Result FileCommand Fault
-paired_of operation line = do
-  from ← text fields.From line
-  to ← text fields.To line
-  Ok (operation from to)
-
--- unlink, rmdir: a path's text alone
-unfoldable pub taken_of : (Bytes → FileCommand) → Data → Result FileCommand Fault
-taken_of operation line = do
-  path ← text fields.Path line
-  Ok (operation path)
-
--- the operation of a file command
-unfoldable pub file_command_of : FileVerb → Data → Result FileCommand Fault
-file_command_of file_verbs.Mkdir line = made_of file_commands.Mkdir 493 line
-file_command_of file_verbs.Create line = made_of file_commands.Create 420 line
-file_command_of file_verbs.Write line = write_of line
-file_command_of file_verbs.Truncate line = truncate_of line
-file_command_of file_verbs.SetMode line = set_mode_of line
-file_command_of file_verbs.Symlink line = symlink_of line
-file_command_of file_verbs.Link line = paired_of file_commands.Link line
-file_command_of file_verbs.Unlink line = taken_of file_commands.Unlink line
-file_command_of file_verbs.Rmdir line = taken_of file_commands.Rmdir line
-file_command_of file_verbs.Rename line = paired_of file_commands.Rename line
-
--- a file command: the snapshot, the operation, and the room that a charge asks for beside what the operation needs
-unfoldable pub file_of : FileVerb → Data → Result Command Fault
-file_of verb line = do
-  snapshot ← named line
-  operation ← file_command_of verb line
-  extra ← extra_of line
-  Ok (commands.File snapshot.0 snapshot.1 operation extra)
-
--- look, list, read, resolve: the snapshot, and a path's text
-unfoldable pub lookup_of : Lookup → Data → Result Command Fault
-lookup_of lookup line = do
-  snapshot ← named line
-  path ← text fields.Path line
-  Ok (commands.Lookup snapshot.0 snapshot.1 lookup path)
-
--- the command of a line by its verb
+-- the command of a line by its verb, mostly on a snapshot s; `prepare` and `commit` are containerd's Prepare and Commit, and a charge wants what it needs where it names no other
 unfoldable pub command_of : Verb → Data → Result Command Fault
 command_of verbs.Open line = open_of line
 command_of verbs.Session line = Ok commands.Session
-command_of verbs.Prepare line = prepare_of line
-command_of verbs.Charge line = charge_of line
-command_of verbs.Trim line = keyed_of commands.Trim line
-command_of verbs.Commit line = commit_of line
-command_of verbs.Discard line = keyed_of commands.Discard line
-command_of verbs.Stat line = keyed_of commands.Stat line
-command_of verbs.Usage line = keyed_of commands.Usage line
-command_of (verbs.File verb) line = file_of verb line
-command_of (verbs.Lookup lookup) line = lookup_of lookup line
+command_of verbs.Prepare line = do s ← named line; Ok (commands.Prepare s.0 s.1 (← text fields.Parent line) (← optional as_labels fields.Labels (Ok []) line))
+command_of verbs.Charge line = do s ← named line; need ← required as_usage fields.Need line; Ok (commands.Charge s.0 s.1 need (← optional as_usage fields.Want (Ok need) line))
+command_of verbs.Trim line = do s ← named line; Ok (commands.Trim s.0 s.1)
+command_of verbs.Commit line = do s ← named line; Ok (commands.Commit s.0 s.1 (← text fields.Name line) (← optional (λ d. option_map Some (as_str d)) fields.Lease (Ok None) line))
+command_of verbs.Discard line = do s ← named line; Ok (commands.Discard s.0 s.1)
+command_of verbs.Stat line = do s ← named line; Ok (commands.Stat s.0 s.1)
+command_of verbs.Usage line = do s ← named line; Ok (commands.Usage s.0 s.1)
+command_of (verbs.File verb) line = do s ← named line; Ok (commands.File s.0 s.1 (← file_command_of verb line) (← optional as_usage fields.Extra (Ok (record { blocks = 0; inodes = 0 })) line))
+command_of (verbs.Lookup asked) line = do s ← named line; Ok (commands.Lookup s.0 s.1 asked (← text fields.Path line))
 command_of verbs.Report line = Ok commands.Report
 
 -- the words of the commands

@@ -1,7 +1,7 @@
 -- What a field of a line has to be; cited by the public clause of `read_line` through Lines.antt. The line's value is
 -- the one that serde_json reads.
-use Rattle.std.specs.Prelude.{ℕ, min, ◌&&◌, nat_le, if◌then◌else◌, List, [], ◌∷◌, Option, Some, None, option_map, option_and_then, Result, Ok, replicate}
-use Rattle.std.specs.Option.{ok_or}
+use Rattle.std.specs.Prelude.{ℕ, min, ◌&&◌, nat_le, if◌then◌else◌, List, [], ◌∷◌, Option, Some, None, option_map, option_and_then, Result, Err, replicate}
+use Rattle.std.specs.Option.{ok_or, option_map_or, option_zip}
 use Rattle.serde_json.specs.Data.{Data, Items, no_items, item, Members, no_members, member}
 use Rattle.serde_json.specs.Find.{get, as_number, as_u64, as_str, as_array, as_object}
 use Rattle.snap_usage.specs.declared.usage.Usage.{Usage}
@@ -13,89 +13,70 @@ use Rattle.snap_script.specs.declared.fault.Fault.{Fault}
 use Rattle.snap_script.specs.declared.fault.Fault.TheVariants.{BadField}
 use Rattle.snap_script.specs.Faults.{field_name}
 
--- a field that must be there, of a kind
+-- a field of a kind, or what it is where it is absent; one that is null is there
+abbrev pub optional : {A : Type 0} → (Data → Option A) → Field → Result A Fault → Data → Result A Fault
+optional kind field absent line = option_map_or (λ d. ok_or (kind d) (BadField field)) (get (field_name field) line) absent
+
+-- a field of a kind that must be there
 abbrev pub required : {A : Type 0} → (Data → Option A) → Field → Data → Result A Fault
-required kind field line = ok_or (option_and_then kind (get (field_name field) line)) (BadField field)
-
--- a field of a kind, or the default where it is absent; one that is null is there
-abbrev pub value_or : {A : Type 0} → A → (Data → Option A) → Field → Option Data → Result A Fault
-value_or default kind field None = Ok default
-value_or default kind field (Some d) = ok_or (kind d) (BadField field)
-
-abbrev pub defaulted : {A : Type 0} → A → (Data → Option A) → Field → Data → Result A Fault
-defaulted default kind field line = value_or default kind field (get (field_name field) line)
+required kind field line = optional kind field (Err (BadField field)) line
 
 -- a number: digits alone, below 2^64
-abbrev pub number_of : Data → Option ℕ
-number_of d = option_and_then as_u64 (as_number d)
+abbrev pub as_natural : Data → Option ℕ
+as_natural d = option_and_then as_u64 (as_number d)
 
 -- a mode: a number, and a greater one than 32 bits hold counts as the greatest of these
-abbrev pub mode_of : Data → Option ℕ
-mode_of d = option_map (λ n. min n 4294967295) (number_of d)
+abbrev pub as_mode : Data → Option ℕ
+as_mode d = option_map (λ n. min n 4294967295) (as_natural d)
 
--- a text that is there
-abbrev pub some_text_of : Data → Option (Option Bytes)
-some_text_of d = option_map Some (as_str d)
+-- two numbers
+abbrev pub pair_in : Items → Option (ℕ × ℕ)
+pair_in (item a (item b no_items)) = option_zip (as_natural a) (as_natural b)
+pair_in ds = None
 
 -- a pair of numbers: [number, number]
-abbrev pub both : {A B : Type 0} → Option A → Option B → Option (A × B)
-both (Some a) (Some b) = Some (a, b)
-both (Some a) None = None
-both None b = None
+abbrev pub as_pair : Data → Option (ℕ × ℕ)
+as_pair d = option_and_then pair_in (as_array d)
 
-abbrev pub pair_in : Items → Option (ℕ × ℕ)
-pair_in no_items = None
-pair_in (item a no_items) = None
-pair_in (item a (item b no_items)) = both (number_of a) (number_of b)
-pair_in (item a (item b (item d ds))) = None
-
-abbrev pub pair_of : Data → Option (ℕ × ℕ)
-pair_of d = option_and_then pair_in (as_array d)
-
--- a usage: [blocks, inodes]
+-- blocks, then inodes
 abbrev pub usage_with : ℕ × ℕ → Usage
 usage_with pair = record { blocks = pair.0; inodes = pair.1 }
 
-abbrev pub usage_of : Data → Option Usage
-usage_of d = option_map usage_with (pair_of d)
+-- a usage: [blocks, inodes]
+abbrev pub as_usage : Data → Option Usage
+as_usage d = option_map usage_with (as_pair d)
 
 -- a byte repeated: [byte, number], at most 255 and at most 1,048,576
-abbrev pub repeated : ℕ × ℕ → Option Bytes
-repeated pair = if nat_le pair.0 255 && nat_le pair.1 1048576 then Some (replicate pair.1 pair.0) else None
+abbrev pub as_fill : Data → Option Bytes
+as_fill d = option_and_then (λ pair. if nat_le pair.0 255 && nat_le pair.1 1048576 then Some (replicate pair.1 pair.0) else None) (as_pair d)
 
-abbrev pub fill_of : Data → Option Bytes
-fill_of d = option_and_then repeated (pair_of d)
-
--- labels: an object of texts, in the order of its members
+-- the labels with those of the members, each a text
 abbrev pub labels_with : List Label → Members → Option (List Label)
 labels_with found no_members = Some found
 labels_with found (member key d ms) = option_and_then (λ value. labels_with (with_label found key value) ms) (as_str d)
 
-abbrev pub labels_of : Data → Option (List Label)
-labels_of d = option_and_then (labels_with []) (as_object d)
+-- labels: an object of texts, in the order of its members
+abbrev pub as_labels : Data → Option (List Label)
+as_labels d = option_and_then (labels_with []) (as_object d)
 
--- namespaces: [[name, blocks, inodes], ..]
-abbrev pub namespace_with : Bytes × (ℕ × ℕ) → Namespace
-namespace_with parts = record { name = parts.0; limit = usage_with parts.1 }
-
+-- a name, blocks and inodes
 abbrev pub namespace_in : Items → Option Namespace
+namespace_in (item name ds) = option_map (λ parts. record { name = parts.0; limit = usage_with parts.1 }) (option_zip (as_str name) (pair_in ds))
 namespace_in no_items = None
-namespace_in (item name ds) = option_map namespace_with (both (as_str name) (pair_in ds))
 
-abbrev pub namespace_of : Data → Option Namespace
-namespace_of d = option_and_then namespace_in (as_array d)
+-- a namespace: [name, blocks, inodes]
+abbrev pub as_namespace : Data → Option Namespace
+as_namespace d = option_and_then namespace_in (as_array d)
 
+-- each item a namespace
 abbrev pub namespaces_in : Items → Option (List Namespace)
 namespaces_in no_items = Some []
-namespaces_in (item d ds) = option_and_then (λ n. option_map (λ ns. n ∷ ns) (namespaces_in ds)) (namespace_of d)
+namespaces_in (item d ds) = option_and_then (λ n. option_map (λ ns. n ∷ ns) (namespaces_in ds)) (as_namespace d)
 
-abbrev pub namespaces_of : Data → Option (List Namespace)
-namespaces_of d = option_and_then namespaces_in (as_array d)
+-- namespaces: an array of them
+abbrev pub as_namespaces : Data → Option (List Namespace)
+as_namespaces d = option_and_then namespaces_in (as_array d)
 
 -- the bytes that are written: those of the text, or where there is none the fill
-abbrev pub content_by : Option Data → Data → Result Bytes Fault
-content_by (Some d) line = ok_or (as_str d) (BadField fields.Text)
-content_by None line = required fill_of fields.Fill line
-
 abbrev pub content_of : Data → Result Bytes Fault
-content_of line = content_by (get (field_name fields.Text) line) line
+content_of line = optional as_str fields.Text (required as_fill fields.Fill line) line

@@ -1,4 +1,5 @@
 pub mod Faults
+pub mod Results
 pub mod Fields
 pub mod Commands
 pub mod Operations

@@ -13,21 +13,19 @@ use Rattle.snap_script.specs.declared.line.Line.{Line}
 use Rattle.snap_script.specs.declared.line.Line.TheVariants as lines
 use Rattle.snap_script.specs.declared.verb.Verb.{Verb}
 use Rattle.snap_script.specs.declared.verb.Verb.TheVariants.{Open}
-use Rattle.snap_script.specs.Fields.{defaulted, number_of}
-use Rattle.snap_script.specs.Commands.{◌>>=◌, text, verb_of, command_of}
+use Rattle.snap_script.specs.Fields.{optional, as_natural}
+use Rattle.snap_script.specs.Commands.{text, verb_of, command_of}
+use Rattle.snap_script.specs.Results.{◌>>=◌}
 
--- a space, a tab or a carriage return
-abbrev pub is_space : ℕ → Bool
-is_space byte = byte == 32 || byte == 9 || byte == 13
-
--- nothing but these
+-- nothing but spaces, tabs and carriage returns
 abbrev pub is_empty : List ℕ → Bool
-is_empty = list_all is_space
+is_empty = list_all (λ byte. byte == 32 || byte == 9 || byte == 13)
 
 -- the value of a line: none where its bytes are no UTF-8 or no JSON
-unfoldable pub value_of : List ℕ → Result Data Fault
-value_of bytes = if is_utf8 bytes then ok_or (read bytes) NotJson else Err NotJson
+unfoldable pub json_of : List ℕ → Result Data Fault
+json_of bytes = if is_utf8 bytes then ok_or (read bytes) NotJson else Err NotJson
 
+-- the value, where it is an object
 abbrev pub object_of : Data → Result Data Fault
 object_of line = if is_some (as_object line) then Ok line else Err NotAnObject
 
@@ -42,16 +40,11 @@ allowed true None = Err NoSuchCommand
 -- the command of a line that isn't empty, with its session, 0 where none is named
 unfoldable pub command_line : Bool → List ℕ → Result Line Fault
 command_line opened bytes = do
-  value ← value_of bytes
-  line ← object_of value
-  word ← text fields.Do line
-  verb ← allowed opened (verb_of word)
-  session ← defaulted 0 number_of fields.Session line
-  command ← command_of verb line
-  Ok (lines.Command session command)
+  line ← object_of (← json_of bytes)
+  verb ← allowed opened (verb_of (← text fields.Do line))
+  session ← optional as_natural fields.Session (Ok 0) line
+  Ok (lines.Command session (← command_of verb line))
 
 -- a line, without its line feed: at most 16 MiB
 unfoldable pub line_of : Bool → List ℕ → Result Line Fault
-line_of opened bytes =
-    if nat_lt 16777216 (length bytes) then Err TooLong else
-    (if is_empty bytes then Ok lines.Empty else command_line opened bytes)
+line_of opened bytes = if nat_lt 16777216 (length bytes) then Err TooLong else (if is_empty bytes then Ok lines.Empty else command_line opened bytes)

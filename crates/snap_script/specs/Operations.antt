@@ -7,29 +7,21 @@ use Rattle.snap_upper.specs.declared.op.Op.{Op}
 use Rattle.snap_upper.specs.declared.op.Op.TheVariants as operations
 use Rattle.snap_script.specs.declared.command.FileCommand.{FileCommand}
 use Rattle.snap_script.specs.declared.command.FileCommand.TheVariants as file_commands
+use Rattle.snap_script.specs.Results.{◌>>=◌}
 
 -- the path that a text is
 abbrev pub path_of : List ℕ → Result Names FsError
 path_of text = if is_path text then Ok (path_names text) else Err BadPath
 
--- an operation on the path of a text, where the text is a path
-abbrev pub at_path : (Names → Op) → Result Names FsError → Result Op FsError
-at_path operation (Ok path) = Ok (operation path)
-at_path operation (Err e) = Err e
-
--- an operation on two paths
-abbrev pub at_paths : (Names → Names → Op) → Result Names FsError → Result Names FsError → Result Op FsError
-at_paths operation (Ok from) to = at_path (operation from) to
-at_paths operation (Err e) to = Err e
-
+-- an operation on paths, the first of which is read first
 abbrev pub operation_of : FileCommand → Result Op FsError
-operation_of (file_commands.Mkdir path mode) = at_path (λ names. operations.Mkdir names mode) (path_of path)
-operation_of (file_commands.Create path mode) = at_path (λ names. operations.Create names mode) (path_of path)
-operation_of (file_commands.Write path offset bytes) = at_path (λ names. operations.Write names offset bytes) (path_of path)
-operation_of (file_commands.Truncate path size) = at_path (λ names. operations.Truncate names size) (path_of path)
-operation_of (file_commands.SetMode path mode) = at_path (λ names. operations.SetMode names mode) (path_of path)
-operation_of (file_commands.Symlink path target) = at_path (λ names. operations.Symlink names target) (path_of path)
-operation_of (file_commands.Link from to) = at_paths operations.Link (path_of from) (path_of to)
-operation_of (file_commands.Unlink path) = at_path operations.Unlink (path_of path)
-operation_of (file_commands.Rmdir path) = at_path operations.Rmdir (path_of path)
-operation_of (file_commands.Rename from to) = at_paths operations.Rename (path_of from) (path_of to)
+operation_of (file_commands.Mkdir path mode) = do Ok (operations.Mkdir (← path_of path) mode)
+operation_of (file_commands.Create path mode) = do Ok (operations.Create (← path_of path) mode)
+operation_of (file_commands.Write path offset bytes) = do Ok (operations.Write (← path_of path) offset bytes)
+operation_of (file_commands.Truncate path size) = do Ok (operations.Truncate (← path_of path) size)
+operation_of (file_commands.SetMode path mode) = do Ok (operations.SetMode (← path_of path) mode)
+operation_of (file_commands.Symlink path target) = do Ok (operations.Symlink (← path_of path) target)
+operation_of (file_commands.Link from to) = do Ok (operations.Link (← path_of from) (← path_of to))
+operation_of (file_commands.Unlink path) = do Ok (operations.Unlink (← path_of path))
+operation_of (file_commands.Rmdir path) = do Ok (operations.Rmdir (← path_of path))
+operation_of (file_commands.Rename from to) = do Ok (operations.Rename (← path_of from) (← path_of to))

@@ -1,10 +1,10 @@
 // The fields of a line, each of its kind.
-ghost use Rattle.std.specs.Prelude.{◌≡◌, [], option_map, option_copied, replicate, string_bytes, IfOk};
+ghost use Rattle.std.specs.Prelude.{◌≡◌, [], Some, None, Ok, option_map, replicate, IfOk};
 ghost use Rattle.serde_json.specs.Find.{get, as_str};
 ghost use Rattle.serde_json.specs.View.{view, items_view, members_view};
 ghost use Rattle.snap_script.specs.declared.fault.Field.TheVariants as fields;
 ghost use Rattle.snap_script.specs.Faults.{field_name};
-ghost use Rattle.snap_script.specs.Fields.{required, defaulted, number_of, mode_of, some_text_of, pair_in, pair_of, usage_of, usage_with, labels_with, labels_of, namespace_in, namespace_of, namespaces_in, namespaces_of, repeated, fill_of, content_of};
+ghost use Rattle.snap_script.specs.Fields.{required, optional, as_natural, as_mode, pair_in, as_pair, as_usage, labels_with, as_labels, namespace_in, as_namespace, namespaces_in, as_namespaces, as_fill, content_of};
 ghost use Rattle.snap_script.specs.Commands.{text};
 ghost use Rattle.snap_script.specs.Gives.{Gives, GivesAll};
 
@@ -26,7 +26,7 @@ fn find(field: Field, line: &Value) -> Option<&Value>
 
 /// A number that may be absent.
 pub(crate) fn number_or(default: u64, field: Field, line: &Value) -> Result<u64, Fault>
-    ensures { result ≡ defaulted default number_of field (view line.now) }
+    ensures { result ≡ optional as_natural field (Ok default) (view line.now) }
 {
     match find(field, line) {
         Some(value) => value.as_u64().ok_or(Fault::BadField(field)),
@@ -36,7 +36,7 @@ pub(crate) fn number_or(default: u64, field: Field, line: &Value) -> Result<u64,
 
 /// A number that must be there.
 pub(crate) fn required_number(field: Field, line: &Value) -> Result<u64, Fault>
-    ensures { result ≡ required number_of field (view line.now) }
+    ensures { result ≡ required as_natural field (view line.now) }
 {
     match find(field, line) {
         Some(value) => value.as_u64().ok_or(Fault::BadField(field)),
@@ -45,7 +45,7 @@ pub(crate) fn required_number(field: Field, line: &Value) -> Result<u64, Fault>
 }
 
 fn mode(value: &Value) -> Option<u32>
-    ensures { result ≡ mode_of (view value.now) }
+    ensures { result ≡ as_mode (view value.now) }
 {
     match value.as_u64() {
         Some(number) if number <= u32::MAX as u64 => Some(number as u32),
@@ -56,7 +56,7 @@ fn mode(value: &Value) -> Option<u32>
 
 /// A mode that may be absent.
 pub(crate) fn mode_or(default: u32, line: &Value) -> Result<u32, Fault>
-    ensures { result ≡ defaulted default mode_of fields.Mode (view line.now) }
+    ensures { result ≡ optional as_mode fields.Mode (Ok default) (view line.now) }
 {
     match find(Field::Mode, line) {
         Some(value) => mode(value).ok_or(Fault::BadField(Field::Mode)),
@@ -66,7 +66,7 @@ pub(crate) fn mode_or(default: u32, line: &Value) -> Result<u32, Fault>
 
 /// A mode that must be there.
 pub(crate) fn required_mode(line: &Value) -> Result<u32, Fault>
-    ensures { result ≡ required mode_of fields.Mode (view line.now) }
+    ensures { result ≡ required as_mode fields.Mode (view line.now) }
 {
     match find(Field::Mode, line) {
         Some(value) => mode(value).ok_or(Fault::BadField(Field::Mode)),
@@ -98,7 +98,7 @@ pub(crate) fn optional_text(
     field: Field,
     line: &Value,
 ) -> Result<Option<Text>, ReadError>
-    ensures { Gives (λ t. t) result (defaulted None some_text_of field (view line.now)) }
+    ensures { Gives (λ t. t) result (optional (λ d. option_map Some (as_str d)) field (Ok None) (view line.now)) }
 {
     match find(field, line) {
         Some(value) => {
@@ -122,13 +122,13 @@ fn pair_in(values: &[Value]) -> Option<(u64, u64)>
 
 /// Two numbers in an array.
 fn pair(value: &Value) -> Option<(u64, u64)>
-    ensures { result ≡ pair_of (view value.now) }
+    ensures { result ≡ as_pair (view value.now) }
 {
     pair_in(value.as_array()?.as_slice())
 }
 
 fn usage(value: &Value) -> Option<Usage>
-    ensures { result ≡ usage_of (view value.now) }
+    ensures { result ≡ as_usage (view value.now) }
 {
     let (blocks, inodes) = pair(value)?;
     Some(Usage { blocks, inodes })
@@ -136,7 +136,7 @@ fn usage(value: &Value) -> Option<Usage>
 
 /// A usage that must be there.
 pub(crate) fn required_usage(field: Field, line: &Value) -> Result<Usage, Fault>
-    ensures { result ≡ required usage_of field (view line.now) }
+    ensures { result ≡ required as_usage field (view line.now) }
 {
     match find(field, line) {
         Some(value) => usage(value).ok_or(Fault::BadField(field)),
@@ -146,7 +146,7 @@ pub(crate) fn required_usage(field: Field, line: &Value) -> Result<Usage, Fault>
 
 /// A usage that may be absent.
 pub(crate) fn usage_or(default: Usage, field: Field, line: &Value) -> Result<Usage, Fault>
-    ensures { result ≡ defaulted default usage_of field (view line.now) }
+    ensures { result ≡ optional as_usage field (Ok default) (view line.now) }
 {
     match find(field, line) {
         Some(value) => usage(value).ok_or(Fault::BadField(field)),
@@ -172,7 +172,7 @@ fn labels_in(alloc: Global, members: &Map<String, Value>) -> Result<Option<Label
 
 /// Labels, none where the line has no such field.
 pub(crate) fn labels(alloc: Global, line: &Value) -> Result<Labels, ReadError>
-    ensures { Gives (λ labels. labels) result (defaulted [] labels_of fields.Labels (view line.now)) }
+    ensures { Gives (λ labels. labels) result (optional as_labels fields.Labels (Ok []) (view line.now)) }
 {
     let Some(value) = find(Field::Labels, line) else {
         return Ok(Labels::new(alloc));
@@ -199,7 +199,7 @@ fn namespace_in(alloc: Global, values: &[Value]) -> Result<Option<Namespace>, Al
 }
 
 fn namespace(alloc: Global, value: &Value) -> Result<Option<Namespace>, AllocError>
-    ensures { IfOk result (λ namespace. namespace ≡ namespace_of (view value.now)) }
+    ensures { IfOk result (λ namespace. namespace ≡ as_namespace (view value.now)) }
 {
     match value.as_array() {
         Some(values) => namespace_in(alloc, values.as_slice()),
@@ -223,7 +223,7 @@ fn namespaces_in(alloc: Global, values: &[Value]) -> Result<Option<Sequence<Name
 
 /// The namespaces of a line.
 pub(crate) fn namespaces(alloc: Global, line: &Value) -> Result<Sequence<Namespace>, ReadError>
-    ensures { Gives (λ namespaces. namespaces) result (required namespaces_of fields.Namespaces (view line.now)) }
+    ensures { Gives (λ namespaces. namespaces) result (required as_namespaces fields.Namespaces (view line.now)) }
 {
     let found = find(Field::Namespaces, line).ok_or(Fault::BadField(Field::Namespaces))?;
     let values = found.as_array().ok_or(Fault::BadField(Field::Namespaces))?;
@@ -240,7 +240,7 @@ fn repeated(alloc: Global, byte: u8, number: usize) -> Result<Bytes, AllocError>
 
 /// The bytes of a fill.
 fn fill(alloc: Global, line: &Value) -> Result<Bytes, ReadError>
-    ensures { Gives (λ bytes. bytes) result (required fill_of fields.Fill (view line.now)) }
+    ensures { Gives (λ bytes. bytes) result (required as_fill fields.Fill (view line.now)) }
 {
     let fault = Fault::BadField(Field::Fill);
     let value = find(Field::Fill, line).ok_or(fault)?;

@@ -1,6 +1,6 @@
 ghost use Rattle.std.specs.Prelude.{◌≡◌};
 ghost use Rattle.serde_json.specs.View.{view};
-ghost use Rattle.snap_script.specs.Lines.{is_empty, value_of, object_of, allowed, command_line, line_of};
+ghost use Rattle.snap_script.specs.Lines.{is_empty, json_of, object_of, allowed, command_line, line_of};
 ghost use Rattle.snap_script.specs.Gives.{Gives, GivesAll};
 
 use crate::command::Command;
@@ -34,7 +34,7 @@ fn is_empty(bytes: &[u8]) -> bool
 /// The value that a line is.
 #[tactic(auto, using(crate::proofs::LineValues::not_utf8, crate::proofs::LineValues::not_json, crate::proofs::LineValues::is_json))]
 fn value_of(alloc: Global, bytes: &[u8]) -> Result<Value, ReadError>
-    ensures { Gives view result (value_of bytes.now) }
+    ensures { Gives view result (json_of bytes.now) }
 {
     let Ok(text) = str::from_utf8(bytes) else {
         return Err(ReadError::Fault(Fault::NotJson));

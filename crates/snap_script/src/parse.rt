@@ -1,8 +1,8 @@
 // The commands of lines, read from their values.
 ghost use Rattle.serde_json.specs.View.{view};
-ghost use Rattle.snap_script.specs.declared.command.Command.TheVariants as variants;
-ghost use Rattle.snap_script.specs.declared.command.FileCommand.TheVariants as file_variants;
-ghost use Rattle.snap_script.specs.Commands.{named, open_of, prepare_of, charge_of, keyed_of, commit_of, made_of, write_of, truncate_of, set_mode_of, symlink_of, paired_of, taken_of, file_command_of, file_of, lookup_of, command_of};
+ghost use Rattle.snap_script.specs.declared.verb.Verb.TheVariants as verbs;
+ghost use Rattle.snap_script.specs.declared.verb.FileVerb.TheVariants as file_verbs;
+ghost use Rattle.snap_script.specs.Commands.{named, open_of, file_command_of, command_of};
 ghost use Rattle.snap_script.specs.Gives.{Gives};
 
 use crate::command::{Command, FileCommand, Lookup};
@@ -53,9 +53,9 @@ fn open(alloc: Global, line: &Value) -> Result<Command, ReadError>
     Ok(Command::Open { config })
 }
 
-#[tactic(auto, unfolding(crate::specs::Commands::prepare_of))]
+#[tactic(auto, unfolding(crate::specs::Commands::command_of))]
 fn prepare(alloc: Global, line: &Value) -> Result<Command, ReadError>
-    ensures { Gives (λ c. c) result (prepare_of (view line.now)) }
+    ensures { Gives (λ c. c) result (command_of verbs.Prepare (view line.now)) }
 {
     let (namespace, key) = named(alloc, line)?;
     Ok(Command::Prepare {
@@ -66,9 +66,9 @@ fn prepare(alloc: Global, line: &Value) -> Result<Command, ReadError>
     })
 }
 
-#[tactic(auto, unfolding(crate::specs::Commands::charge_of))]
+#[tactic(auto, unfolding(crate::specs::Commands::command_of))]
 fn charge(alloc: Global, line: &Value) -> Result<Command, ReadError>
-    ensures { Gives (λ c. c) result (charge_of (view line.now)) }
+    ensures { Gives (λ c. c) result (command_of verbs.Charge (view line.now)) }
 {
     let (namespace, key) = named(alloc, line)?;
     let need = required_usage(Field::Need, line)?;
@@ -81,41 +81,41 @@ fn charge(alloc: Global, line: &Value) -> Result<Command, ReadError>
     })
 }
 
-#[tactic(auto, unfolding(crate::specs::Commands::keyed_of))]
+#[tactic(auto, unfolding(crate::specs::Commands::command_of))]
 fn trim(alloc: Global, line: &Value) -> Result<Command, ReadError>
-    ensures { Gives (λ c. c) result (keyed_of variants.Trim (view line.now)) }
+    ensures { Gives (λ c. c) result (command_of verbs.Trim (view line.now)) }
 {
     let (namespace, key) = named(alloc, line)?;
     Ok(Command::Trim { namespace, key })
 }
 
-#[tactic(auto, unfolding(crate::specs::Commands::keyed_of))]
+#[tactic(auto, unfolding(crate::specs::Commands::command_of))]
 fn discard(alloc: Global, line: &Value) -> Result<Command, ReadError>
-    ensures { Gives (λ c. c) result (keyed_of variants.Discard (view line.now)) }
+    ensures { Gives (λ c. c) result (command_of verbs.Discard (view line.now)) }
 {
     let (namespace, key) = named(alloc, line)?;
     Ok(Command::Discard { namespace, key })
 }
 
-#[tactic(auto, unfolding(crate::specs::Commands::keyed_of))]
+#[tactic(auto, unfolding(crate::specs::Commands::command_of))]
 fn stat(alloc: Global, line: &Value) -> Result<Command, ReadError>
-    ensures { Gives (λ c. c) result (keyed_of variants.Stat (view line.now)) }
+    ensures { Gives (λ c. c) result (command_of verbs.Stat (view line.now)) }
 {
     let (namespace, key) = named(alloc, line)?;
     Ok(Command::Stat { namespace, key })
 }
 
-#[tactic(auto, unfolding(crate::specs::Commands::keyed_of))]
+#[tactic(auto, unfolding(crate::specs::Commands::command_of))]
 fn usage(alloc: Global, line: &Value) -> Result<Command, ReadError>
-    ensures { Gives (λ c. c) result (keyed_of variants.Usage (view line.now)) }
+    ensures { Gives (λ c. c) result (command_of verbs.Usage (view line.now)) }
 {
     let (namespace, key) = named(alloc, line)?;
     Ok(Command::Usage { namespace, key })
 }
 
-#[tactic(auto, unfolding(crate::specs::Commands::commit_of))]
+#[tactic(auto, unfolding(crate::specs::Commands::command_of))]
 fn commit(alloc: Global, line: &Value) -> Result<Command, ReadError>
-    ensures { Gives (λ c. c) result (commit_of (view line.now)) }
+    ensures { Gives (λ c. c) result (command_of verbs.Commit (view line.now)) }
 {
     let (namespace, key) = named(alloc, line)?;
     Ok(Command::Commit {
@@ -126,27 +126,27 @@ fn commit(alloc: Global, line: &Value) -> Result<Command, ReadError>
     })
 }
 
-#[tactic(auto, unfolding(crate::specs::Commands::made_of))]
+#[tactic(auto, unfolding(crate::specs::Commands::file_command_of))]
 fn mkdir(alloc: Global, line: &Value) -> Result<FileCommand, ReadError>
-    ensures { Gives (λ c. c) result (made_of file_variants.Mkdir 493 (view line.now)) }
+    ensures { Gives (λ c. c) result (file_command_of file_verbs.Mkdir (view line.now)) }
 {
     let path = text(alloc, Field::Path, line)?;
     let mode = mode_or(DEFAULT_MODE, line)?;
     Ok(FileCommand::Mkdir { path, mode })
 }
 
-#[tactic(auto, unfolding(crate::specs::Commands::made_of))]
+#[tactic(auto, unfolding(crate::specs::Commands::file_command_of))]
 fn create(alloc: Global, line: &Value) -> Result<FileCommand, ReadError>
-    ensures { Gives (λ c. c) result (made_of file_variants.Create 420 (view line.now)) }
+    ensures { Gives (λ c. c) result (file_command_of file_verbs.Create (view line.now)) }
 {
     let path = text(alloc, Field::Path, line)?;
     let mode = mode_or(FILE_MODE, line)?;
     Ok(FileCommand::Create { path, mode })
 }
 
-#[tactic(auto, unfolding(crate::specs::Commands::write_of))]
+#[tactic(auto, unfolding(crate::specs::Commands::file_command_of))]
 fn write(alloc: Global, line: &Value) -> Result<FileCommand, ReadError>
-    ensures { Gives (λ c. c) result (write_of (view line.now)) }
+    ensures { Gives (λ c. c) result (file_command_of file_verbs.Write (view line.now)) }
 {
     Ok(FileCommand::Write {
         path: text(alloc, Field::Path, line)?,
@@ -155,27 +155,27 @@ fn write(alloc: Global, line: &Value) -> Result<FileCommand, ReadError>
     })
 }
 
-#[tactic(auto, unfolding(crate::specs::Commands::truncate_of))]
+#[tactic(auto, unfolding(crate::specs::Commands::file_command_of))]
 fn truncate(alloc: Global, line: &Value) -> Result<FileCommand, ReadError>
-    ensures { Gives (λ c. c) result (truncate_of (view line.now)) }
+    ensures { Gives (λ c. c) result (file_command_of file_verbs.Truncate (view line.now)) }
 {
     let path = text(alloc, Field::Path, line)?;
     let size = required_number(Field::Size, line)?;
     Ok(FileCommand::Truncate { path, size })
 }
 
-#[tactic(auto, unfolding(crate::specs::Commands::set_mode_of))]
+#[tactic(auto, unfolding(crate::specs::Commands::file_command_of))]
 fn set_mode(alloc: Global, line: &Value) -> Result<FileCommand, ReadError>
-    ensures { Gives (λ c. c) result (set_mode_of (view line.now)) }
+    ensures { Gives (λ c. c) result (file_command_of file_verbs.SetMode (view line.now)) }
 {
     let path = text(alloc, Field::Path, line)?;
     let mode = required_mode(line)?;
     Ok(FileCommand::SetMode { path, mode })
 }
 
-#[tactic(auto, unfolding(crate::specs::Commands::symlink_of))]
+#[tactic(auto, unfolding(crate::specs::Commands::file_command_of))]
 fn symlink(alloc: Global, line: &Value) -> Result<FileCommand, ReadError>
-    ensures { Gives (λ c. c) result (symlink_of (view line.now)) }
+    ensures { Gives (λ c. c) result (file_command_of file_verbs.Symlink (view line.now)) }
 {
     let path = text(alloc, Field::Path, line)?;
     let target = lent_text(Field::Target, line)?;
@@ -183,34 +183,34 @@ fn symlink(alloc: Global, line: &Value) -> Result<FileCommand, ReadError>
     Ok(FileCommand::Symlink { path, target })
 }
 
-#[tactic(auto, unfolding(crate::specs::Commands::paired_of))]
+#[tactic(auto, unfolding(crate::specs::Commands::file_command_of))]
 fn link(alloc: Global, line: &Value) -> Result<FileCommand, ReadError>
-    ensures { Gives (λ c. c) result (paired_of file_variants.Link (view line.now)) }
+    ensures { Gives (λ c. c) result (file_command_of file_verbs.Link (view line.now)) }
 {
     let from = text(alloc, Field::From, line)?;
     let to = text(alloc, Field::To, line)?;
     Ok(FileCommand::Link { from, to })
 }
 
-#[tactic(auto, unfolding(crate::specs::Commands::taken_of))]
+#[tactic(auto, unfolding(crate::specs::Commands::file_command_of))]
 fn unlink(alloc: Global, line: &Value) -> Result<FileCommand, ReadError>
-    ensures { Gives (λ c. c) result (taken_of file_variants.Unlink (view line.now)) }
+    ensures { Gives (λ c. c) result (file_command_of file_verbs.Unlink (view line.now)) }
 {
     let path = text(alloc, Field::Path, line)?;
     Ok(FileCommand::Unlink { path })
 }
 
-#[tactic(auto, unfolding(crate::specs::Commands::taken_of))]
+#[tactic(auto, unfolding(crate::specs::Commands::file_command_of))]
 fn rmdir(alloc: Global, line: &Value) -> Result<FileCommand, ReadError>
-    ensures { Gives (λ c. c) result (taken_of file_variants.Rmdir (view line.now)) }
+    ensures { Gives (λ c. c) result (file_command_of file_verbs.Rmdir (view line.now)) }
 {
     let path = text(alloc, Field::Path, line)?;
     Ok(FileCommand::Rmdir { path })
 }
 
-#[tactic(auto, unfolding(crate::specs::Commands::paired_of))]
+#[tactic(auto, unfolding(crate::specs::Commands::file_command_of))]
 fn rename(alloc: Global, line: &Value) -> Result<FileCommand, ReadError>
-    ensures { Gives (λ c. c) result (paired_of file_variants.Rename (view line.now)) }
+    ensures { Gives (λ c. c) result (file_command_of file_verbs.Rename (view line.now)) }
 {
     let from = text(alloc, Field::From, line)?;
     let to = text(alloc, Field::To, line)?;
@@ -236,9 +236,9 @@ fn file_command_of(alloc: Global, verb: FileVerb, line: &Value) -> Result<FileCo
     }
 }
 
-#[tactic(auto, unfolding(crate::specs::Commands::file_of))]
+#[tactic(auto, unfolding(crate::specs::Commands::command_of))]
 fn file(alloc: Global, verb: FileVerb, line: &Value) -> Result<Command, ReadError>
-    ensures { Gives (λ c. c) result (file_of verb (view line.now)) }
+    ensures { Gives (λ c. c) result (command_of (verbs.File verb) (view line.now)) }
 {
     let (namespace, key) = named(alloc, line)?;
     Ok(Command::File {
@@ -249,9 +249,9 @@ fn file(alloc: Global, verb: FileVerb, line: &Value) -> Result<Command, ReadErro
     })
 }
 
-#[tactic(auto, unfolding(crate::specs::Commands::lookup_of))]
+#[tactic(auto, unfolding(crate::specs::Commands::command_of))]
 fn lookup(alloc: Global, lookup: Lookup, line: &Value) -> Result<Command, ReadError>
-    ensures { Gives (λ c. c) result (lookup_of lookup (view line.now)) }
+    ensures { Gives (λ c. c) result (command_of (verbs.Lookup lookup) (view line.now)) }
 {
     let (namespace, key) = named(alloc, line)?;
     Ok(Command::Lookup {

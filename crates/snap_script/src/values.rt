@@ -1,8 +1,9 @@
 // The JSON values of answers.
-ghost use Rattle.std.specs.Prelude.{◌≡◌, codes, IfOk, OnOk, map};
-ghost use Rattle.serde_json.specs.Data.{string, array, put};
+ghost use Rattle.std.specs.Prelude.{◌≡◌, Some, IfOk, OnOk, map};
+ghost use Rattle.serde_json.specs.Data.{string, array, object, no_members, put};
 ghost use Rattle.serde_json.specs.View.{view, items_of, members_view};
-ghost use Rattle.snap_script.specs.Answers.{changed_data, charged_data, committed_data, done_data, error_data, error_name, freed_data, head_data, ids_data, info_data, labels_data, names_data, path_data, prepared_data, refusal_data, refusal_name, report_data, seen_data, session_data, share_data, shown_data, stat_data, text_data, totals_data, usage_data};
+ghost use Rattle.snap_script.specs.declared.answer.Answer.TheVariants as answers;
+ghost use Rattle.snap_script.specs.Answers.{answer_data, error_data, error_name, info_data, members_with, number_data, refusal_name, shown_data, text_data, usage_data};
 
 use crate::answer::Shown;
 use serde_json::{Map, Value, json};
@@ -21,7 +22,7 @@ fn usage_value(alloc: Global, usage: Usage) -> Result<Value, AllocError>
 }
 
 fn ids_value(alloc: Global, ids: &[u32]) -> Result<Value, AllocError>
-    ensures { IfOk result (λ v. view v ≡ ids_data ids.now) }
+    ensures { IfOk result (λ v. view v ≡ array (items_of (map number_data ids.now))) }
 {
     let mut items = Vec::new(alloc);
     for id in ids {
@@ -44,7 +45,7 @@ fn put_label(
 }
 
 fn labels_value(alloc: Global, labels: &Labels) -> Result<Value, AllocError>
-    ensures { IfOk result (λ v. view v ≡ labels_data labels.now) }
+    ensures { IfOk result (λ v. view v ≡ object (members_with string labels.now no_members)) }
 {
     let mut members = Map::new(alloc);
     for (key, value) in labels.iter() {
@@ -67,7 +68,7 @@ fn put_total(
 }
 
 fn totals_value(alloc: Global, totals: &[(Text, Usage)]) -> Result<Value, AllocError>
-    ensures { IfOk result (λ v. view v ≡ totals_data totals.now) }
+    ensures { IfOk result (λ v. view v ≡ object (members_with usage_data totals.now no_members)) }
 {
     let mut members = Map::new(alloc);
     for (name, total) in totals {
@@ -92,13 +93,13 @@ fn info_value(alloc: Global, info: &Info) -> Result<Value, AllocError>
 }
 
 pub(crate) fn done(alloc: Global) -> Result<Value, AllocError>
-    ensures { IfOk result (λ v. view v ≡ done_data) }
+    ensures { IfOk result (λ v. view v ≡ answer_data answers.Done) }
 {
     json!(in alloc; {"ok": true})
 }
 
 pub(crate) fn session(alloc: Global, number: u64) -> Result<Value, AllocError>
-    ensures { IfOk result (λ v. view v ≡ session_data number) }
+    ensures { IfOk result (λ v. view v ≡ answer_data (answers.Session number)) }
 {
     json!(in alloc; {"session": number})
 }
@@ -109,49 +110,49 @@ pub(crate) fn prepared(
     slot: u64,
     chain: &[u32],
 ) -> Result<Value, AllocError>
-    ensures { IfOk result (λ v. view v ≡ prepared_data id slot chain.now) }
+    ensures { IfOk result (λ v. view v ≡ answer_data (answers.Prepared id slot chain.now)) }
 {
     let chain = ids_value(alloc, chain)?;
     json!(in alloc; {"chain": chain, "id": id, "slot": slot})
 }
 
 pub(crate) fn share(alloc: Global, share: Usage) -> Result<Value, AllocError>
-    ensures { IfOk result (λ v. view v ≡ share_data share) }
+    ensures { IfOk result (λ v. view v ≡ answer_data (answers.Share share)) }
 {
     let share = usage_value(alloc, share)?;
     json!(in alloc; {"share": share})
 }
 
 pub(crate) fn committed(alloc: Global, id: u32, usage: Usage) -> Result<Value, AllocError>
-    ensures { IfOk result (λ v. view v ≡ committed_data id usage) }
+    ensures { IfOk result (λ v. view v ≡ answer_data (answers.Committed id usage)) }
 {
     let usage = usage_value(alloc, usage)?;
     json!(in alloc; {"id": id, "usage": usage})
 }
 
 pub(crate) fn freed(alloc: Global, freed: Usage) -> Result<Value, AllocError>
-    ensures { IfOk result (λ v. view v ≡ freed_data freed) }
+    ensures { IfOk result (λ v. view v ≡ answer_data (answers.Freed freed)) }
 {
     let freed = usage_value(alloc, freed)?;
     json!(in alloc; {"freed": freed})
 }
 
 pub(crate) fn info(alloc: Global, info: &Info) -> Result<Value, AllocError>
-    ensures { IfOk result (λ v. view v ≡ stat_data info.now) }
+    ensures { IfOk result (λ v. view v ≡ answer_data (answers.Info info.now)) }
 {
     let info = info_value(alloc, info)?;
     json!(in alloc; {"info": info})
 }
 
 pub(crate) fn usage(alloc: Global, usage: Usage) -> Result<Value, AllocError>
-    ensures { IfOk result (λ v. view v ≡ charged_data usage) }
+    ensures { IfOk result (λ v. view v ≡ answer_data (answers.Usage usage)) }
 {
     let usage = usage_value(alloc, usage)?;
     json!(in alloc; {"usage": usage})
 }
 
 pub(crate) fn changed(alloc: Global, count: Usage, share: Usage) -> Result<Value, AllocError>
-    ensures { IfOk result (λ v. view v ≡ changed_data count share) }
+    ensures { IfOk result (λ v. view v ≡ answer_data (answers.Changed count share)) }
 {
     let count = usage_value(alloc, count)?;
     let share = usage_value(alloc, share)?;
@@ -165,7 +166,7 @@ pub(crate) fn report(
     records: u64,
     totals: &[(Text, Usage)],
 ) -> Result<Value, AllocError>
-    ensures { IfOk result (λ v. view v ≡ report_data entries actives records totals.now) }
+    ensures { IfOk result (λ v. view v ≡ answer_data (answers.Report entries actives records totals.now)) }
 {
     let totals = totals_value(alloc, totals)?;
     json!(in alloc; {"entries": entries, "open": actives, "records": records, "totals": totals})
@@ -183,7 +184,7 @@ fn text_value(alloc: Global, bytes: &[u8]) -> Result<Value, AllocError>
 }
 
 fn shown_value(alloc: Global, shown: &Shown) -> Result<Value, AllocError>
-    ensures { IfOk result (λ v. view v ≡ shown_data shown.now) }
+    ensures { IfOk result (λ v. view v ≡ shown_data (Some shown.now)) }
 {
     match shown {
         Shown::Dir { mode } => json!(in alloc; {"dir": *mode}),
@@ -197,7 +198,7 @@ fn shown_value(alloc: Global, shown: &Shown) -> Result<Value, AllocError>
 
 /// What is seen, or null.
 pub(crate) fn seen(alloc: Global, shown: &Option<Shown>) -> Result<Value, AllocError>
-    ensures { IfOk result (λ v. view v ≡ seen_data shown.now) }
+    ensures { IfOk result (λ v. view v ≡ answer_data (answers.Seen shown.now)) }
 {
     let shown = match shown {
         Some(shown) => shown_value(alloc, shown)?,
@@ -217,7 +218,7 @@ fn names_value(alloc: Global, names: &[Name]) -> Result<Value, AllocError>
 }
 
 pub(crate) fn names(alloc: Global, names: &[Name]) -> Result<Value, AllocError>
-    ensures { IfOk result (λ v. view v ≡ names_data names.now) }
+    ensures { IfOk result (λ v. view v ≡ answer_data (answers.Names names.now)) }
 {
     let names = names_value(alloc, names)?;
     json!(in alloc; {"names": names})
@@ -225,14 +226,14 @@ pub(crate) fn names(alloc: Global, names: &[Name]) -> Result<Value, AllocError>
 
 /// A file's first bytes in lower hexadecimal, and how many it has.
 pub(crate) fn head(alloc: Global, head: &[u8], size: u64) -> Result<Value, AllocError>
-    ensures { IfOk result (λ v. view v ≡ head_data head.now size) }
+    ensures { IfOk result (λ v. view v ≡ answer_data (answers.Head head.now size)) }
 {
     let head = hex::encode(alloc, head)?;
     json!(in alloc; {"head": head.as_str(), "size": size})
 }
 
 pub(crate) fn path(alloc: Global, path: &Path) -> Result<Value, AllocError>
-    ensures { IfOk result (λ v. view v ≡ path_data path.now) }
+    ensures { IfOk result (λ v. view v ≡ answer_data (answers.Path path.now)) }
 {
     json!(in alloc; {"path": path.as_str()})
 }
@@ -293,7 +294,7 @@ pub(crate) fn error(alloc: Global, name: &str, from: &str) -> Result<Value, Allo
 }
 
 pub(crate) fn refused(alloc: Global, refusal: Refusal) -> Result<Value, AllocError>
-    ensures { IfOk result (λ v. view v ≡ refusal_data refusal) }
+    ensures { IfOk result (λ v. view v ≡ answer_data (answers.Refused refusal)) }
 {
     match refusal {
         Refusal::OverLimit {
