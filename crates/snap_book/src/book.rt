@@ -16,7 +16,7 @@ ghost use Rattle.snap_call.specs.Step.{counted, refused, step, IsAllowed};
 ghost use Rattle.std.specs.Option.{option_map};
 ghost use Rattle.snap_book.specs.Slot.{slot_of};
 
-use crate::journal::{Journal, Opening, session_entry, twice};
+use crate::journal::{Journal, Opening, session_entry};
 use snap_accounts::Accounts;
 use snap_call::limits::MAX_SESSIONS;
 use snap_call::{Call, Config, Entry, Given, Refusal, Reply};
@@ -175,22 +175,16 @@ impl<N: StoreName> Book<N> {
     }
 
     // Records a call that leaves the state as it is, but for the number of entries.
-    pub(crate) fn note(
-        &mut self,
-        session: u64,
-        call: Call,
-        given: Given,
-        reply: Reply,
-    ) -> Result<(), Refusal>
-        requires allowed { IsAllowed self.old.state call given }
-        requires same { step self.old.state call given ≡ (counted self.old.state, reply) }
-        ensures noted { OnOk result (Recorded self.old self.new session call given reply) }
+    pub(crate) fn note(&mut self, entry: Entry) -> Result<(), Refusal>
+        requires allowed { IsAllowed self.old.state entry.call entry.given }
+        requires same { step self.old.state entry.call entry.given ≡ (counted self.old.state, entry.reply) }
+        ensures noted { OnOk result (Recorded self.old self.new entry.session entry.call entry.given entry.reply) }
         ensures unchanged { OnErr result (self.new ≡ self.old) }
         ensures err { IfErr result IsUnrecorded }
         ensures full { IsErrOf result JournalFull ↔ (self.old.limit ≤ length self.old.journal + open_count self.old.state.records) }
     {
         self.journal.admit(self.accounts.open_slots(), 1)?;
-        let (entry, copy) = twice(session, call, given, reply)?;
+        let copy = entry.clone()?;
         self.accounts.count_entry();
         self.journal.push(entry, copy);
         Ok(())
@@ -204,7 +198,13 @@ impl<N: StoreName> Book<N> {
         ensures refused { RefusedBy self.old self.new session call given result }
         ensures full { (result ≡ JournalFull) ↔ (self.old.limit ≤ length self.old.journal + open_count self.old.state.records) }
     {
-        match self.note(session, call, given, Reply::Refused(why)) {
+        let entry = Entry {
+            session,
+            call,
+            given,
+            reply: Reply::Refused(why),
+        };
+        match self.note(entry) {
             Ok(()) => why,
             Err(unrecorded) => unrecorded,
         }

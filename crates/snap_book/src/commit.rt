@@ -148,6 +148,62 @@ impl<N: StoreName> Book<N> {
         self.settle(settlement, sealed)
     }
 
+    // Commits a snapshot that its call names, or notes why not.
+    fn commit_or_refuse(
+        &mut self,
+        session: u64,
+        call: Call,
+        layer: Shared,
+        name: &str,
+        lease: &Option<Text>,
+        sealed: Sealed<N>,
+    ) -> Result<Usage, (Refusal, Sealed<N>)>
+        requires call { call ≡ calls.Commit sealed.share.slot sealed.share.id name.now lease.now }
+        requires layer { layer ≡ sealed.layer }
+        requires met { Meets (charge_at sealed.share.slot self.old.state.records) sealed.share }
+        requires allowed { IsAllowed self.old.state call (LayerGiven sealed.layer) }
+        ensures granted { IfOk result (λ usage. Recorded self.old self.new session call (LayerGiven sealed.layer) (Committed sealed.share.id usage)) }
+        ensures count { IfOk result (λ usage. usage ≡ count_of sealed.layer) }
+        ensures refused { IfErr result (λ back. RefusedBy self.old self.new session call (LayerGiven sealed.layer) back.0) }
+        ensures same { IfErr result (λ back. back.1 ≡ sealed) }
+        ensures full { IsRefusedWith result JournalFull → self.old.limit ≤ length self.old.journal + open_count self.old.state.records }
+    {
+        match self.accounts.check_commit(sealed.share.slot(), name, lease) {
+            Ok(()) => self.grant_commit(session, call, layer, name, sealed),
+            Err(why) => {
+                let why = self.refuse(session, call, Given::Layer(layer), why);
+                Err((why, sealed))
+            }
+        }
+    }
+
+    // Commits a snapshot whose slot is charged what it holds, where there is memory for the call.
+    fn commit_met(
+        &mut self,
+        session: u64,
+        name: &str,
+        lease: &Option<Text>,
+        sealed: Sealed<N>,
+    ) -> Result<Usage, (Refusal, Sealed<N>)>
+        requires met { Meets (charge_at sealed.share.slot self.old.state.records) sealed.share }
+        requires covered { IsCovered sealed.share.id (count_of sealed.layer) (active_at sealed.share.slot self.old.state.records) }
+        ensures granted { IfOk result (λ usage. Recorded self.old self.new session (calls.Commit sealed.share.slot sealed.share.id name.now lease.now) (LayerGiven sealed.layer) (Committed sealed.share.id usage)) }
+        ensures count { IfOk result (λ usage. usage ≡ count_of sealed.layer) }
+        ensures refused { IfErr result (λ back. RefusedBy self.old self.new session (calls.Commit sealed.share.slot sealed.share.id name.now lease.now) (LayerGiven sealed.layer) back.0) }
+        ensures same { IfErr result (λ back. back.1 ≡ sealed) }
+        ensures full { IsRefusedWith result JournalFull → self.old.limit ≤ length self.old.journal + open_count self.old.state.records }
+    {
+        let slot = sealed.share.slot();
+        let id = sealed.share.id();
+        let Ok(layer) = sealed.layer.again() else {
+            return Err((Refusal::OutOfMemory, sealed));
+        };
+        let Ok(call) = commit_call(self.alloc, slot, id, name, lease) else {
+            return Err((Refusal::OutOfMemory, sealed));
+        };
+        self.commit_or_refuse(session, call, layer, name, lease, sealed)
+    }
+
     /// Commits the snapshot under the name, with the parent, the id and the labels that it has
     /// (containerd's `Snapshotter.Commit`). Its namespace is charged for the count of its layer, which
     /// is the answer, and no longer for its spare. There are no leases yet.
@@ -176,20 +232,6 @@ impl<N: StoreName> Book<N> {
         if let Err(why) = self.journal.admit(self.accounts.open_slots(), 1) {
             return Err((why, sealed));
         }
-        let slot = sealed.share.slot();
-        let id = sealed.share.id();
-        let Ok(call) = commit_call(self.alloc, slot, id, name, lease) else {
-            return Err((Refusal::OutOfMemory, sealed));
-        };
-        let Ok(layer) = sealed.layer.again() else {
-            return Err((Refusal::OutOfMemory, sealed));
-        };
-        match self.accounts.check_commit(slot, name, lease) {
-            Ok(()) => self.grant_commit(session, call, layer, name, sealed),
-            Err(why) => {
-                let why = self.refuse(session, call, Given::Layer(layer), why);
-                Err((why, sealed))
-            }
-        }
+        self.commit_met(session, name, lease, sealed)
     }
 }

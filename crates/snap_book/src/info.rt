@@ -10,7 +10,7 @@ ghost use Rattle.snap_book.specs.Book.{AnsweredBy};
 
 use crate::book::Book;
 use snap_accounts::Accounts;
-use snap_call::{Call, Given, Refusal, Reply};
+use snap_call::{Call, Entry, Given, Refusal, Reply};
 use snap_ledger::StoreName;
 use std::alloc::AllocError;
 
@@ -39,7 +39,13 @@ impl<N: StoreName> Book<N> {
         ensures answered { AnsweredBy self.old self.new session call Nothing result }
         ensures full { (result ≡ replies.Refused JournalFull) ↔ (self.old.limit ≤ length self.old.journal + open_count self.old.state.records) }
     {
-        match self.note(session, call, Given::Nothing, copy) {
+        let entry = Entry {
+            session,
+            call,
+            given: Given::Nothing,
+            reply: copy,
+        };
+        match self.note(entry) {
             Ok(()) => reply,
             Err(why) => Reply::Refused(why),
         }
