@@ -1,4 +1,5 @@
 -- Which refusals and replies an entry can have, and which calls only ask.
+-- Cited by `Accounts::check_commit`, `Accounts::reply_to`, `Accounts::vacancy` and others.
 use Rattle.snap_call.specs.declared.call.Call.{Call}
 use Rattle.snap_call.specs.declared.call.Call.TheVariants as calls
 use Rattle.snap_call.specs.declared.refusal.Refusal.{Refusal}

@@ -1,4 +1,5 @@
 -- The charges of the 64 slots, in a row.
+-- Cited by invariants and private clauses alone.
 use Rattle.std.specs.Prelude.{◌≡◌, ℕ, ◌<◌, List, length, slice_index_or}
 use Rattle.snap_ledger.specs.States.{ChargeState, free_charge}
 

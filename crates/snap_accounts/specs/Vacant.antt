@@ -1,4 +1,5 @@
 -- Where a new snapshot can go.
+-- Cited by `Accounts::vacancy`, `Accounts::add`.
 use Rattle.std.specs.Prelude.{◌≡◌, ◌<◌, ◌≤◌, true, false, None, length}
 use Rattle.snap_usage.specs.Counted.{covers}
 use Rattle.snap_ledger.specs.States.{plus}

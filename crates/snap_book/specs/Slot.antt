@@ -1,4 +1,5 @@
 -- What is asked of a book without an entry.
+-- Cited by `Book::slot_of`, `replay_within`, `replay` and others.
 use Rattle.std.specs.Prelude.{ℕ, Option, None, Some, Result, Ok, Err}
 use Rattle.snap_record.specs.Labels.{Bytes}
 use Rattle.snap_record.specs.declared.record.Content.{Content}

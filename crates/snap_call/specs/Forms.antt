@@ -1,4 +1,5 @@
 -- The forms that texts, limits and configurations must have.
+-- Cited by `Config::is_valid`, `is_key`, `is_parent` and others.
 use Rattle.std.specs.Prelude.{ℕ, ◌==◌, Bool, true, not, ◌&&◌, nat_le, List, [], ◌∷◌, length, bytes_eq}
 use Rattle.std.specs.List.{list_any, list_all}
 use Rattle.snap_usage.specs.declared.usage.Usage.{Usage}

@@ -1,4 +1,5 @@
 -- What is true of the state whenever no call is under way.
+-- Cited by `State::opening`, `Accounts::state`, `Book::records` and others.
 use Rattle.std.specs.Prelude.{◌≡◌, ◌≢◌, ℕ, ◌<◌, true, false, List, [], ◌∷◌, IsSome, IsSomeAnd, length}
 use Rattle.std.specs.List.{AllByRecursion}
 use Rattle.std.specs.List.Sorted.{IsStrictlySortedBy}

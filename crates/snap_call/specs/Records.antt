@@ -1,4 +1,5 @@
 -- Records as a list, in order of their namespaces' places and of the bytes of their keys.
+-- Cited by `Records::committed_at`, `Records::is_present`, `Records::is_base` and others.
 use Rattle.std.specs.Prelude.{ℕ, zero, suc, ◌+◌, ◌==◌, Bool, true, false, ◌&&◌, if◌then◌else◌, List, [], ◌∷◌, Option, None, Some, find, bytes_eq, option_and_then}
 use Rattle.std.specs.declared.cmp.Ordering.{Ordering}
 use Rattle.std.specs.Ordering.{nat_cmp, ordering_then, is_lt}

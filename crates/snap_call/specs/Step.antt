@@ -1,4 +1,5 @@
 -- What one call answers, and the state after it. The cases of each call stand in the order in which its refusals are tested.
+-- Cited by `State::opening`, `Accounts::count_entry`, `Accounts::charge` and others.
 use Rattle.std.specs.Prelude.{◌≡◌, ℕ, ◌+◌, ◌<◌, Bool, true, false, not, ◌&&◌, nat_le, nat_lt, if◌then◌else◌, List, [], ◌∷◌, Option, None, Some, IsSomeAnd, is_some, max}
 use Rattle.std.specs.Option.{option_map_or}
 use Rattle.snap_layer.specs.Tree.{Tree}

@@ -1,4 +1,5 @@
 -- How much a layer takes: its inodes, and its blocks of 4096 bytes.
+-- Cited by `Layer::add_dir`, `Layer::add_file`, `Layer::add_symlink` and others.
 use Rattle.std.specs.Prelude.{ℕ, ◌+◌, ◌/◌, Bool, ◌&&◌, nat_le, length, count_by}
 use Rattle.std.specs.Map.{values_of}
 use Rattle.std.specs.List.{sum_by}

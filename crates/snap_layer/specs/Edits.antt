@@ -1,4 +1,5 @@
 -- The layer after each edit, and when the edit may be made.
+-- Cited by `Layer::add_dir`, `Layer::add_file`, `Layer::add_symlink` and others.
 use Rattle.std.specs.Prelude.{◌≡◌, ℕ, ◌+◌, Bool, true, false, not, ◌==◌, filter, map, List, [], ◌∷◌, ◌++◌, length, drop, Option, Some, None, IsSome, if◌then◌else◌}
 use Rattle.std.specs.Option.{option_map_or}
 use Rattle.std.specs.Ordering.{nat_cmp}

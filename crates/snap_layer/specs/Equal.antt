@@ -1,4 +1,5 @@
 -- The test of `==`. Two nodes, bodies and layers pass it exactly where they are equal.
+-- Cited by `Layer::eq`, `Layer as PartialEq`, `Layer as Eq` and others.
 use Rattle.std.specs.Prelude.{◌≡◌, ℕ, Bool, true, false, ◌&&◌, ◌==◌, nat_eq, List, refl}
 use Rattle.std.specs.Bool.{Decides, beq}
 use Rattle.std.specs.Cmp.{IsEquivalence, decided, unsigned_Decides, booleans_Decides, first_so, second_so}

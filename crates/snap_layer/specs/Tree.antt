@@ -1,4 +1,5 @@
 -- What a layer holds: its paths, the bodies of its files, and the number of its next file.
+-- Cited by `Layer::add_dir`, `Layer::add_file`, `Layer::add_symlink` and others.
 use Rattle.std.specs.Prelude.{◌≡◌, ℕ, Bool, true, false, ◌==◌, ◌||◌, if◌then◌else◌, List, [], ◌∷◌, ◌++◌, Option, Some, None, option_and_then}
 use Rattle.std.specs.declared.cmp.Ordering.{Ordering}
 use Rattle.std.specs.Ordering.{nat_cmp}

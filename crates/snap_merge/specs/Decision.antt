@@ -1,4 +1,5 @@
 -- What one layer says of a path.
+-- Cited by invariants and private clauses alone.
 use Rattle.std.specs.Prelude.{◌≡◌, Option}
 use Rattle.std.specs.Option.{option_map}
 use Rattle.snap_path.specs.Text.{Names}

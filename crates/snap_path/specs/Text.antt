@@ -1,4 +1,5 @@
 -- The names of a path, and their text.
+-- Cited by `Name::parse`, `Name::as_str`, `Path::parse` and others.
 use Rattle.std.specs.Prelude.{take, slice_get, Option, Some, None, ◌-◌, ◌≡◌, ℕ, ◌≤◌, Bool, not, false, ◌&&◌, ◌==◌, nat_lt, nat_le, List, [], ◌∷◌, ◌++◌, length, true}
 use Rattle.std.specs.List.{list_all, slice_split, starts_with}
 use Rattle.std.specs.Str.{bytes_eq}

@@ -1,4 +1,5 @@
 -- Which snapshots a filter asks for.
+-- Cited by `matches`.
 use Rattle.std.specs.Prelude.{◌≡◌, Option, Some, None, List, All}
 use Rattle.snap_record.specs.Labels.{Bytes, Label, value_of}
 use Rattle.snap_record.specs.declared.info.Info.{Info}

@@ -1,4 +1,5 @@
 -- The status of the program; cited by a private clause alone, since a program has no other.
+-- Cited by invariants and private clauses alone.
 use Rattle.std.specs.Prelude.{ℕ, Result, Ok, Err}
 use Rattle.snap_session.specs.declared.stop.Stop.{Stop}
 use Rattle.snap_session.specs.Words.{status_of}

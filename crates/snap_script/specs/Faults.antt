@@ -1,4 +1,5 @@
 -- What a line's faults are called; cited by the public clauses of `Field` and `Fault`.
+-- Cited by `Field::name`, `Fault as Display`, `read_line` and others.
 use Rattle.std.specs.Prelude.{ℕ, List, ◌++◌, codes}
 use Rattle.snap_script.specs.declared.fault.Field.{Field}
 use Rattle.snap_script.specs.declared.fault.Field.TheVariants as fields

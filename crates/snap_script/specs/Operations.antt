@@ -1,4 +1,5 @@
 -- The operation that a file command asks for; cited by the public clauses of `path_of` and `into_operation`.
+-- Cited by `FileCommand::into_operation`, `path_of`, `replay_within` and others.
 use Rattle.std.specs.Prelude.{List, ℕ, if◌then◌else◌, Result, Ok, Err}
 use Rattle.snap_path.specs.Text.{Names, is_path, path_names}
 use Rattle.snap_merge.specs.declared.error.FsError.{FsError}

@@ -1,4 +1,5 @@
 -- What a command of a script answers, and the store after it; cited by the public clauses of `act` and, through Script.antt, of `replay`.
+-- Cited by `replay_within`, `replay`, `Script::act`.
 use Rattle.std.specs.Prelude.{ℕ, ◌+◌, min, Bool, true, false, List, length, take, Option, None, Some, Result, Ok, Err, if◌then◌else◌}
 use Rattle.std.specs.Option.{option_map}
 use Rattle.snap_path.specs.Text.{Names}

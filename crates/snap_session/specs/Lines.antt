@@ -1,4 +1,5 @@
 -- The lines of a script; cited by the public clauses of `replay` through Script.antt.
+-- Cited by `replay_within`, `replay`.
 use Rattle.std.specs.Prelude.{ℕ, ◌==◌, List, [], ◌∷◌, Bool, not, if◌then◌else◌}
 use Rattle.std.specs.List.{list_all}
 

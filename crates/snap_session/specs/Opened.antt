@@ -1,4 +1,5 @@
 -- The store that a script has opened; the public clauses of `Script` see this value.
+-- Cited by `replay_within`, `replay`, `Script::act`.
 use Rattle.std.specs.Prelude.{ℕ, List, [], Option, None, Some, replicate, map}
 use Rattle.std.specs.Option.{option_map}
 use Rattle.snap_usage.specs.declared.usage.Usage.{Usage}

@@ -1,4 +1,5 @@
 -- What a script answers, line for line, and its first fault; cited by the public clauses of `replay`, and from "on the way" on by private clauses alone.
+-- Cited by `replay_within`, `replay`.
 use Rattle.std.specs.Prelude.{◌≡◌, ℕ, ◌+◌, ◌||◌, List, [], ◌∷◌, ◌++◌, length, Bool, Option, Some, None, is_some, Result, Ok, Err, nat_lt, String, string_bytes, if◌then◌else◌}
 use Rattle.std.specs.Io.KnownBytes.{Appends}
 use Rattle.std.specs.declared.alloc.Global.{Global}

@@ -1,4 +1,5 @@
 -- What is added to a layer, and what it takes.
+-- Cited by invariants and private clauses alone.
 use Rattle.std.specs.Prelude.{◌≡◌, ◌==◌, ◌+◌, [], ◌∷◌, ◌++◌, if◌then◌else◌, ℕ, List, Bool, true, false, length, Option, Some, None, is_some}
 use Rattle.snap_path.specs.Text.{Names, begins}
 use Rattle.snap_layer.specs.declared.node.Body.{Body}

@@ -1,4 +1,5 @@
 -- What an operation does to the layer, once its tests have passed.
+-- Cited by invariants and private clauses alone.
 use Rattle.std.specs.Prelude.{◌≡◌, ◌+◌, ◌≤◌, ℕ, ◌∷◌, ◌++◌, [], Bool, true, false, List, length, Option, Some, None, Ok, is_some}
 use Rattle.snap_layer.specs.Tree.{Tree, at, body}
 use Rattle.snap_layer.specs.Edits.{HasMode, with_mode}

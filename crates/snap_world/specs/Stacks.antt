@@ -1,4 +1,5 @@
 -- What the open snapshots of a world show: the layers of each, its own over those of its ancestors.
+-- Cited by `World::take_step`, `World::run`, `World::stack` and others.
 use Rattle.std.specs.Prelude.{◌≡◌, ℕ, List, ◌∷◌, Option, None, Some, IsSomeAnd, option_and_then, Result, Ok, Err}
 use Rattle.snap_layer.specs.Tree.{Tree}
 use Rattle.snap_record.specs.Labels.{Bytes}
