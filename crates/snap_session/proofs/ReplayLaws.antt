@@ -3,7 +3,7 @@ use Rattle.std.proofs.Common.{◌≡◌, ℕ, List, [], ◌++◌, refl, sym, ap,
 use Rattle.std.specs.Io.KnownBytes.{Appends, Consumes, IsAtEnd, Keeps}
 use Rattle.snap_session.proofs.KnownLaws.{Appends-trans, Appends-kept, Consumes-nil, Consumes-trans}
 use Rattle.snap_session.proofs.ScriptLaws.{goes_none, goes_trans}
-use Rattle.snap_session.specs.Script.{Run, Transcript, start, transcript_on, script, after, Goes, Ends, Tells}
+use Rattle.snap_session.specs.Script.{Run, Transcript, start, transcript_on, script, prepended, Goes, Ends, Tells}
 use Rattle.snap_session.specs.declared.stop.LineFault.{LineFault}
 
 abbrev pub first : Run
@@ -31,7 +31,7 @@ whole xs None c bytes read p q = absurd p
 whole xs (Some ys) None bytes read p q = absurd q
 whole xs (Some ys) (Some zs) bytes read p q = (zs, p ∙ ap (λ l. read ++ l) q, λ e. e)
 
-told : (xs : List ℕ) (x y z : Option (List ℕ)) (w : List ℕ) (t : Transcript) (fault : Option LineFault) → script xs ≡ after w t → Appends x y w → Tells t fault y z → Tells (script xs) fault x z
+told : (xs : List ℕ) (x y z : Option (List ℕ)) (w : List ℕ) (t : Transcript) (fault : Option LineFault) → script xs ≡ prepended w t → Appends x y w → Tells t fault y z → Tells (script xs) fault x z
 told xs x y z w t fault e p h = (
   ap (λ (s : Transcript). s.fault) e ∙ h.0,
   subst (λ (s : Transcript). Appends x z s.text) (sym e) (Appends-trans x y z w t.text p h.1),
@@ -55,7 +55,7 @@ reading_fault None b c x y z s bytes f r h e = tt
 reading_fault (Some xs) b c x y z s bytes f r h e =
     let all = whole xs b c bytes r.read r.consumed h in
     told xs x y z r.goes.0 (record { text = e.0; fault = Some f }) (Some f)
-    (script_is xs ∙ ap (transcript_on first) all.1 ∙ r.goes.2 (bytes ++ all.0) ∙ ap (after r.goes.0) (e.2 all.0)) r.goes.1 (refl, e.1)
+    (script_is xs ∙ ap (transcript_on first) all.1 ∙ r.goes.2 (bytes ++ all.0) ∙ ap (prepended r.goes.0) (e.2 all.0)) r.goes.1 (refl, e.1)
 
 pub tells_kept : (a x y z : Option (List ℕ)) (fault : Option LineFault) → IfSome a (λ bytes. Tells (script bytes) fault x y) → Keeps y z → IfSome a (λ bytes. Tells (script bytes) fault x z)
 tells_kept None x y z fault t k = tt

@@ -1,29 +1,31 @@
 -- How the transcript_from of a script goes on.
 use Rattle.std.proofs.Common.{◌≡◌, ℕ, ◌+◌, ◌<◌, ◌≤◌, List, [], ◌∷◌, ◌++◌, length, take, drop, get_or, Bool, true, false, Result, Ok, Err, refl, sym, ap, ◌∙◌, arith, append_assoc, append-nil, length-append, Option, Some, None, subst, OnOk}
-use Rattle.std.specs.Prelude.{cond, nat_lt, ◌||◌, ◌==◌}
-use Rattle.std.proofs.Math.Bool.{or-true}
+use Rattle.std.specs.Prelude.{cond, is_some, nat_lt, ◌==◌}
 use Rattle.std.proofs.lemmas.Bool.{lt-ltb, le-ltb, eqb-true}
 use Rattle.std.proofs.lemmas.List.{take_more, take-append-drop}
 use Rattle.std.specs.Io.KnownBytes.{Appends, Keeps}
 use mir.Val.{bool_byte}
 use Rattle.snap_session.specs.Opened.{OpenedValue}
+use Rattle.snap_script.specs.declared.line.Line.TheVariants.{Empty}
+use Rattle.snap_script.specs.Results.{◌>>=◌}
+use Rattle.snap_script.specs.Lines.{is_empty, command_line, line_of}
 use Rattle.snap_script.specs.declared.fault.Fault.TheVariants.{TooLong}
 use Rattle.snap_session.proofs.KnownLaws.{Appends-trans, Appends-kept, Appends-nil}
-use Rattle.snap_session.proofs.LineLaws.{line_split, line_last, line_begins, Begins, body_ended, body_open, body_long, open_more}
-use Rattle.snap_session.specs.Lines.{lines_of, is_open, body}
-use Rattle.snap_session.specs.Script.{Run, Place, Transcript, after, transcript_on, transcript_from, effect_of, effect_at, goes_on, place_after, Leads, Goes, Ends, Takes, Tells, is_too_long, max_line, max_bytes, line_in}
+use Rattle.snap_session.proofs.LineLaws.{line_split, line_last, line_begins, Begins, feed_ended, feed_open, feed_long, open_more}
+use Rattle.snap_session.specs.Lines.{lines_of, is_open, without_feed}
+use Rattle.snap_session.specs.Script.{Run, Place, Transcript, prepended, transcript_on, transcript_from, effect_line, effect_of, effect_at, goes_on, place_after, Leads, Goes, Ends, Takes, Tells, max_line, max_bytes, line_in}
 use Rattle.snap_session.specs.declared.stop.LineFault.{LineFault}
 
 pub on_ok : {T E : Type 0} {P Q : Type 0} (r : Result T E) → (P → Q) → OnOk r P → OnOk r Q
 on_ok (Ok x) f p = f p
 on_ok (Err e) f p = tt
 
-after_after : (a b : List ℕ) (s : Transcript) → after a (after b s) ≡ after (a ++ b) s
-after_after a b s = ap (λ t. record { text = t; fault = s.fault }) (sym (append_assoc a b s.text))
+prepended_twice : (a b : List ℕ) (s : Transcript) → prepended a (prepended b s) ≡ prepended (a ++ b) s
+prepended_twice a b s = ap (λ t. record { text = t; fault = s.fault }) (sym (append_assoc a b s.text))
 
 pub leads_trans : (r q s : Run) (a b u v : List ℕ) → Leads r a q u → Leads q b s v → Leads r (a ++ b) s (u ++ v)
 leads_trans r q s a b u v f g rest =
-    ap (transcript_on r) (append_assoc a b rest) ∙ f (b ++ rest) ∙ ap (after u) (g rest) ∙ after_after u v (transcript_on s rest)
+    ap (transcript_on r) (append_assoc a b rest) ∙ f (b ++ rest) ∙ ap (prepended u) (g rest) ∙ prepended_twice u v (transcript_on s rest)
 
 pub goes_none : (r : Run) (x : Option (List ℕ)) → Goes r [] r x x
 goes_none r x = ([], Appends-nil x, λ rest. refl)
@@ -38,7 +40,7 @@ goes_ends r q a b more f x y z g e = (
   Appends-trans x y z g.0 e.0 g.1 e.1,
   λ rest.
       ap (transcript_on r) (append_assoc a (b ++ more) rest ∙ ap (λ l. a ++ l) (append_assoc b more rest))
-      ∙ g.2 (b ++ (more ++ rest)) ∙ ap (after g.0) (e.2 (more ++ rest)),
+      ∙ g.2 (b ++ (more ++ rest)) ∙ ap (prepended g.0) (e.2 (more ++ rest)),
 )
 
 pub goes_kept : (r q : Run) (bytes : List ℕ) (x y z : Option (List ℕ)) → Goes r bytes q x y → Keeps y z → Goes r bytes q x z
@@ -50,32 +52,27 @@ pub length_line : (r : Run) (ended : Bool) → length (line_in r ended) ≡ leng
 length_line r true = length-append r.pending (10 ∷ [])
 length_line r false = omega arith
 
-body_line : (r : Run) (ended : Bool) → is_open r.pending ≡ true → body (line_in r ended) ≡ r.pending
-body_line r true h = body_ended r.pending h
-body_line r false h = body_open r.pending h
+feed_line : (r : Run) (ended : Bool) → is_open r.pending ≡ true → without_feed (line_in r ended) ≡ r.pending
+feed_line r true h = feed_ended r.pending h
+feed_line r false h = feed_open r.pending h
 
 pub effect_over : (r : Run) (ended : Bool) → max_bytes < r.place.bytes + length (line_in r ended) → effect_at r.place (line_in r ended) ≡ Err TooLong
 unfolding effect_at
 effect_over r ended h =
-    let e : is_too_long r.place (line_in r ended) ≡ true =
-    ap (λ t. nat_lt max_line (length (body (line_in r ended))) || t) (lt-ltb max_bytes (r.place.bytes + length (line_in r ended)) h) ∙ or-true _ in
-    ap (λ t. cond t (Err TooLong) (effect_of r.place.store (body (line_in r ended)))) e
+    ap (λ t. cond t (Err TooLong) (effect_of r.place.store (without_feed (line_in r ended)))) (lt-ltb max_bytes (r.place.bytes + length (line_in r ended)) h)
 
-pub effect_fits : (r : Run) (ended : Bool) → is_open r.pending ≡ true → length r.pending ≤ max_line → r.place.bytes + length (line_in r ended) ≤ max_bytes
+pub effect_fits : (r : Run) (ended : Bool) → is_open r.pending ≡ true → r.place.bytes + length (line_in r ended) ≤ max_bytes
     → effect_at r.place (line_in r ended) ≡ effect_of r.place.store r.pending
 unfolding effect_at
-effect_fits r ended o h k =
-    let b = body_line r ended o in
-    let short : nat_lt max_line (length (body (line_in r ended))) ≡ false = ap (λ l. nat_lt max_line (length l)) b ∙ le-ltb max_line (length r.pending) h in
-    let fits : nat_lt max_bytes (r.place.bytes + length (line_in r ended)) ≡ false = le-ltb max_bytes (r.place.bytes + length (line_in r ended)) k in
-    let e : is_too_long r.place (line_in r ended) ≡ false = ap (λ t. t || nat_lt max_bytes (r.place.bytes + length (line_in r ended))) short ∙ fits in
-    ap (λ t. cond t (Err TooLong) (effect_of r.place.store (body (line_in r ended)))) e ∙ ap (effect_of r.place.store) b
+effect_fits r ended o h =
+    ap (λ t. cond t (Err TooLong) (effect_of r.place.store (without_feed (line_in r ended)))) (le-ltb max_bytes (r.place.bytes + length (line_in r ended)) h)
+    ∙ ap (effect_of r.place.store) (feed_line r ended o)
 
 -- a run by its parts
 abbrev pub run_of : ℕ → ℕ → Option OpenedValue → List ℕ → Run
 run_of n b s p = record { place = record { lines = n; bytes = b; store = s }; pending = p }
 
--- the run after a line
+-- the run prepended a line
 pub run_after : (n b k : ℕ) (s t : Option OpenedValue) (p q : List ℕ) (r : Run) (ended : Bool) → run_of n b s p ≡ r
     → k ≡ length (line_in r ended) → q ≡ [] → run_of (n + 1) (b + k) t q ≡ record { place = place_after r.place (line_in r ended) t; pending = [] }
 run_after n b k s t p q r ended e h none =
@@ -89,11 +86,11 @@ line_len r false n k h e = omega arith
 -- ---- what a line does to the transcript_from
 
 story_ok : (r q : Run) (line text rest : List ℕ) → effect_at r.place line ≡ Ok (record { store = q.place.store; text = text })
-    → q ≡ record { place = place_after r.place line q.place.store; pending = [] } → transcript_from r.place (line ∷ lines_of rest) ≡ after text (transcript_on q rest)
+    → q ≡ record { place = place_after r.place line q.place.store; pending = [] } → transcript_from r.place (line ∷ lines_of rest) ≡ prepended text (transcript_on q rest)
 unfolding transcript_on
 story_ok r q line text rest e h =
     ap (λ z. goes_on r.place line z (λ p. transcript_from p (lines_of rest))) e
-    ∙ ap (λ (z : Run). after text (transcript_on z rest)) (sym h)
+    ∙ ap (λ (z : Run). prepended text (transcript_on z rest)) (sym h)
 
 story_err : (r : Run) (line : List ℕ) (lines : List (List ℕ)) (f : LineFault) → effect_at r.place line ≡ Err f.cause → f.line ≡ r.place.lines + 1
     → transcript_from r.place (line ∷ lines) ≡ record { text = []; fault = Some f }
@@ -126,13 +123,21 @@ begins_any : (p rest : List ℕ) → is_open p ≡ true → 0 < length p → Beg
 begins_any [] rest o h = absurd (omega arith)
 begins_any (b ∷ p) rest o h = line_begins b p rest o
 
+long_line : (store : Option OpenedValue) (line : List ℕ) → max_line < length line → effect_of store line ≡ Err TooLong
+unfolding effect_of line_of
+long_line store line h =
+    ap (λ t. cond t (Err TooLong) (cond (is_empty line) (Ok Empty) (command_line (is_some store) line)) >>= (λ l. Ok (effect_line store l))) (lt-ltb max_line (length line) h)
+
+same_branches : {A : Type 0} (b : Bool) (x y : A) → y ≡ x → cond b x y ≡ x
+same_branches true x y e = refl
+same_branches false x y e = e
+
 long_effect : (place : Place) (p more : List ℕ) → is_open p ≡ true → max_line < length p → effect_at place (p ++ more) ≡ Err TooLong
 unfolding effect_at
 long_effect place p more o h =
-    let l = body_long p more o in
-    let e : is_too_long place (p ++ more) ≡ true =
-    ap (λ t. t || nat_lt max_bytes (place.bytes + length (p ++ more))) (lt-ltb max_line (length (body (p ++ more))) (omega arith)) in
-    ap (λ t. cond t (Err TooLong) (effect_of place.store (body (p ++ more)))) e
+    let l = feed_long p more o in
+    same_branches (nat_lt max_bytes (place.bytes + length (p ++ more))) (Err TooLong) (effect_of place.store (without_feed (p ++ more)))
+    (long_line place.store (without_feed (p ++ more)) (omega arith))
 
 pub long_ends : (r : Run) (b : ℕ) (f : LineFault) (x : Option (List ℕ)) → is_open r.pending ≡ true → (b == 10) ≡ false → length r.pending ≡ max_line
     → f ≡ record { line = r.place.lines + 1; cause = TooLong } → Ends r (b ∷ []) f x x
@@ -166,9 +171,9 @@ line_end (b ∷ p) o h = ap (λ l. lines_of (b ∷ l)) (append-nil p) ∙ line_l
 pub end_ok : (r q : Run) (x y : Option (List ℕ)) → is_open r.pending ≡ true → 0 < length r.pending → Takes r (line_in r false) q x y → Tells (transcript_on r []) None x y
 unfolding transcript_on
 end_ok r q x y o h t =
-    let s : transcript_on r [] ≡ after t.0 (transcript_on q []) = ap (transcript_from r.place) (line_end r.pending o h) ∙ story_ok r q r.pending t.0 [] t.1 t.2 in
+    let s : transcript_on r [] ≡ prepended t.0 (transcript_on q []) = ap (transcript_from r.place) (line_end r.pending o h) ∙ story_ok r q r.pending t.0 [] t.1 t.2 in
     let none : transcript_on q [] ≡ record { text = []; fault = None } = ap (λ (z : Run). transcript_on z []) t.2 in
-    let e : transcript_on r [] ≡ record { text = t.0; fault = None } = s ∙ ap (after t.0) none ∙ ap (λ l. record { text = l; fault = None }) (append-nil t.0) in
+    let e : transcript_on r [] ≡ record { text = t.0; fault = None } = s ∙ ap (prepended t.0) none ∙ ap (λ l. record { text = l; fault = None }) (append-nil t.0) in
     (ap (λ (z : Transcript). z.fault) e, subst (λ (z : Transcript). Appends x y z.text) (sym e) t.3)
 
 pub end_err : (r : Run) (f : LineFault) (x : Option (List ℕ)) → is_open r.pending ≡ true → 0 < length r.pending → effect_at r.place (line_in r false) ≡ Err f.cause → f.line ≡ r.place.lines + 1

@@ -1,7 +1,7 @@
 -- What a command of a script answers, and the store after it; cited by the public clauses of `act` and, through Script.antt, of `replay`.
 -- Cited by `replay_within`, `replay`, `Script::act`.
-use Rattle.std.specs.Prelude.{ℕ, ◌+◌, min, Bool, true, false, List, length, take, Option, None, Some, Result, Ok, Err, if◌then◌else◌}
-use Rattle.std.specs.Option.{option_map}
+use Rattle.std.specs.Prelude.{ℕ, ◌+◌, min, Bool, true, false, List, length, map, take, Option, None, Some, Result, Ok, Err, if◌then◌else◌}
+use Rattle.std.specs.Option.{option_map, option_map_or}
 use Rattle.snap_path.specs.Text.{Names}
 use Rattle.snap_layer.specs.Tree.{Tree}
 use Rattle.snap_usage.specs.declared.usage.Usage.{Usage}
@@ -17,7 +17,6 @@ use Rattle.snap_call.specs.declared.call.Call.TheVariants as calls
 use Rattle.snap_call.specs.declared.config.Config.{Config}
 use Rattle.snap_call.specs.declared.refusal.Refusal.{Refusal}
 use Rattle.snap_call.specs.declared.refusal.Refusal.TheVariants.{BadArgument}
-use Rattle.snap_call.specs.declared.reply.Reply.{Reply}
 use Rattle.snap_call.specs.declared.reply.Reply.TheVariants as replies
 use Rattle.snap_call.specs.Forms.{is_config}
 use Rattle.snap_call.specs.Records.{open_count}
@@ -38,35 +37,27 @@ use Rattle.snap_script.specs.declared.command.Command.TheVariants as commands
 use Rattle.snap_script.specs.declared.command.Lookup.{Lookup}
 use Rattle.snap_script.specs.declared.command.Lookup.TheVariants as lookups
 use Rattle.snap_script.specs.Operations.{path_of, operation_of}
-use Rattle.snap_session.specs.Opened.{OpenedValue, fresh, names_of, share_at, count_at, totals_of}
+use Rattle.snap_session.specs.Opened.{OpenedValue, new_world, share_at, count_at, totals_of}
 
 -- ---- one step, and its answer
 
--- the script's answer for a reply; the slot is that of the call, the session the one that was asked for
-abbrev pub told_reply : ℕ → ℕ → WorldValue → Reply → Answer
-told_reply session slot w replies.Opened = answers.Session session
-told_reply session slot w (replies.Prepared id at chain) = answers.Prepared id at chain
-told_reply session slot w (replies.Charged now) = answers.Share now
-told_reply session slot w replies.Trimmed = answers.Share (share_at slot w)
-told_reply session slot w (replies.Committed id usage) = answers.Committed id usage
-told_reply session slot w (replies.Discarded usage) = answers.Freed usage
-told_reply session slot w (replies.Info info) = answers.Info info
-told_reply session slot w (replies.Usage usage) = answers.Usage usage
-told_reply session slot w (replies.Refused why) = answers.Refused why
-
--- and for the outcome of an operation
-abbrev pub told_outcome : ℕ → WorldValue → Result Unit FsError → Answer
-told_outcome slot w (Ok done) = answers.Changed (count_at slot w) (share_at slot w)
-told_outcome slot w (Err e) = answers.Failed e
-
--- the script's answer for that of a step; counts and shares are those after the step
+-- the script's answer for that of a step on the slot; counts and shares are those after the step, a session is the one that was asked for
 abbrev pub told : ℕ → ℕ → WorldValue → StepAnswer → Answer
-told session slot w (step_answers.Reply reply) = told_reply session slot w reply
-told session slot w (step_answers.File outcome) = told_outcome slot w outcome
+told session slot w (step_answers.Reply replies.Opened) = answers.Session session
+told session slot w (step_answers.Reply (replies.Prepared id at chain)) = answers.Prepared id at chain
+told session slot w (step_answers.Reply (replies.Charged now)) = answers.Share now
+told session slot w (step_answers.Reply replies.Trimmed) = answers.Share (share_at slot w)
+told session slot w (step_answers.Reply (replies.Committed id usage)) = answers.Committed id usage
+told session slot w (step_answers.Reply (replies.Discarded usage)) = answers.Freed usage
+told session slot w (step_answers.Reply (replies.Info info)) = answers.Info info
+told session slot w (step_answers.Reply (replies.Usage usage)) = answers.Usage usage
+told session slot w (step_answers.Reply (replies.Refused why)) = answers.Refused why
+told session slot w (step_answers.File (Ok done)) = answers.Changed (count_at slot w) (share_at slot w)
+told session slot w (step_answers.File (Err e)) = answers.Failed e
 told session slot w step_answers.NoSession = answers.NoSession
 told session slot w step_answers.NoHand = answers.NoHand
 
--- after a step
+-- the world after a step, and the answer
 abbrev pub telling : ℕ → ℕ → WorldValue × StepAnswer → WorldValue × Answer
 telling session slot after = (after.0, told session slot after.0 after.1)
 
@@ -77,12 +68,13 @@ stepped session slot step w = telling session slot (move w step)
 -- ---- commands on an active snapshot
 
 -- with the slot and the id of the snapshot, or why there is none; no step is made where there is none
-abbrev pub on_found : WorldValue → (ℕ → ℕ → WorldValue × Answer) → Result (ℕ × ℕ) Refusal → WorldValue × Answer
-on_found w next (Ok found) = next found.0 found.1
-on_found w next (Err why) = (w, answers.Refused why)
+abbrev pub if_found : WorldValue → (ℕ → ℕ → WorldValue × Answer) → Result (ℕ × ℕ) Refusal → WorldValue × Answer
+if_found w next (Ok found) = next found.0 found.1
+if_found w next (Err why) = (w, answers.Refused why)
 
+-- the same by the key of the snapshot
 abbrev pub on_key : WorldValue → Bytes → Bytes → (ℕ → ℕ → WorldValue × Answer) → WorldValue × Answer
-on_key w namespace key next = on_found w next (slot_of w.state namespace key)
+on_key w namespace key next = if_found w next (slot_of w.state namespace key)
 
 -- ---- file commands
 
@@ -90,47 +82,33 @@ on_key w namespace key next = on_found w next (slot_of w.state namespace key)
 abbrev pub more : ℕ → ℕ → ℕ
 more need extra = min (need + min extra 1099511627776) 18446744073709551615
 
+-- more of both quantities
 abbrev pub wanted : Usage → Usage → Usage
 wanted need extra = record { blocks = more need.blocks extra.blocks; inodes = more need.inodes extra.inodes }
 
 -- the charge that an operation needs
-abbrev pub need_by : FsError → Option Usage
-need_by (NeedsCharge need) = Some need
-need_by e = None
-
-abbrev pub need_in : Result Unit FsError → Option Usage
-need_in (Ok done) = None
-need_in (Err e) = need_by e
-
 abbrev pub need_of : StepAnswer → Option Usage
-need_of (step_answers.File outcome) = need_in outcome
+need_of (step_answers.File (Err (NeedsCharge need))) = Some need
 need_of answer = None
 
--- the reply grants a charge
-abbrev pub is_charge : Reply → Bool
-is_charge (replies.Charged now) = true
-is_charge reply = false
-
+-- a charge was granted
 abbrev pub is_charged : StepAnswer → Bool
-is_charged (step_answers.Reply reply) = is_charge reply
+is_charged (step_answers.Reply (replies.Charged now)) = true
 is_charged answer = false
 
 -- after the charge: the operation again, where it was granted
-abbrev pub recharged : ℕ → ℕ → Step → WorldValue × StepAnswer → WorldValue × Answer
-recharged session slot operation after = if is_charged after.1 then stepped session slot operation after.0 else telling session slot after
+abbrev pub retried : ℕ → ℕ → Step → WorldValue × StepAnswer → WorldValue × Answer
+retried session slot operation after = if is_charged after.1 then stepped session slot operation after.0 else telling session slot after
 
 -- after the operation: a charge where one is needed
-abbrev pub charged_for : ℕ → ℕ → ℕ → Step → Usage → WorldValue × StepAnswer → Option Usage → WorldValue × Answer
-charged_for session slot id operation extra after None = telling session slot after
-charged_for session slot id operation extra after (Some need) = recharged session slot operation (move after.0 (Locked session (calls.Charge slot id need (wanted need extra))))
-
-abbrev pub worked : ℕ → ℕ → ℕ → Step → Usage → WorldValue × StepAnswer → WorldValue × Answer
-worked session slot id operation extra after = charged_for session slot id operation extra after (need_of after.1)
+abbrev pub tried : ℕ → ℕ → ℕ → Step → Usage → WorldValue × StepAnswer → WorldValue × Answer
+tried session slot id operation extra after = option_map_or (λ need. retried session slot operation (move after.0 (Locked session (calls.Charge slot id need (wanted need extra)))))
+    (need_of after.1) (telling session slot after)
 
 -- an operation, once its path is read
-unfoldable pub filed : ℕ → ℕ → ℕ → Result Op FsError → Usage → WorldValue → WorldValue × Answer
-filed session slot id (Ok op) extra w = worked session slot id (Hand slot op) extra (move w (Hand slot op))
-filed session slot id (Err e) extra w = (w, answers.Failed e)
+unfoldable pub performed : ℕ → ℕ → ℕ → Result Op FsError → Usage → WorldValue → WorldValue × Answer
+performed session slot id (Ok op) extra w = tried session slot id (Hand slot op) extra (move w (Hand slot op))
+performed session slot id (Err e) extra w = (w, answers.Failed e)
 
 -- ---- what a snapshot shows
 
@@ -140,20 +118,16 @@ shown_of (dir mode) = shown.Dir mode
 shown_of (file mode bytes) = shown.File mode (length bytes)
 shown_of (symlink target) = shown.Symlink target
 
--- the first 16 bytes of a file, and how many it has
-abbrev pub head_of : List ℕ → Answer
-head_of bytes = answers.Head (take 16 bytes) (length bytes)
-
 -- the answer for what was found, or the error
 abbrev pub found_or_failed : {A : Type 0} → (A → Answer) → Result A FsError → Answer
 found_or_failed answer (Ok found) = answer found
 found_or_failed answer (Err e) = answers.Failed e
 
--- what the layers show at a path
+-- what the layers show at a path; of a file that is read the first 16 bytes, and how many it has
 abbrev pub looked_up : Lookup → List Tree → Names → Answer
 looked_up lookups.Look layers path = answers.Seen (option_map shown_of (seen layers path))
 looked_up lookups.List layers path = found_or_failed answers.Names (listing layers path)
-looked_up lookups.Read layers path = found_or_failed head_of (reading layers path)
+looked_up lookups.Read layers path = found_or_failed (λ bytes. answers.Head (take 16 bytes) (length bytes)) (reading layers path)
 looked_up lookups.Resolve layers path = found_or_failed answers.Path (resolution layers path)
 
 -- a lookup in the layers of a snapshot, or why there are none; no step is made
@@ -178,19 +152,15 @@ on_store s n (commands.Commit namespace key name lease) = on_key s.world namespa
 on_store s n (commands.Discard namespace key) = on_key s.world namespace key (λ slot id. stepped n slot (Locked n (calls.Discard slot id)) s.world)
 on_store s n (commands.Stat namespace key) = stepped n 0 (Locked n (calls.Stat namespace key)) s.world
 on_store s n (commands.Usage namespace key) = stepped n 0 (Locked n (calls.Usage namespace key)) s.world
-on_store s n (commands.File namespace key operation extra) = on_key s.world namespace key (λ slot id. filed n slot id (operation_of operation) extra s.world)
+on_store s n (commands.File namespace key operation extra) = on_key s.world namespace key (λ slot id. performed n slot id (operation_of operation) extra s.world)
 on_store s n (commands.Lookup namespace key asked path) = (s.world, lookup asked (path_of path) (stack_of s.world namespace key))
 on_store s n commands.Report = (s.world, report s)
 
 -- ---- opening
 
--- the answer that a session was opened
-abbrev pub is_start : Reply → Bool
-is_start replies.Opened = true
-is_start reply = false
-
+-- a session was opened
 abbrev pub is_started : StepAnswer → Bool
-is_started (step_answers.Reply reply) = is_start reply
+is_started (step_answers.Reply replies.Opened) = true
 is_started answer = false
 
 -- the store stands where its first session was opened
@@ -198,20 +168,17 @@ abbrev pub started : List Bytes → WorldValue × StepAnswer → Option OpenedVa
 started names after = if is_started after.1 then (Some (record { world = after.0; names = names }), answers.Done) else (None, told 0 0 after.0 after.1)
 
 -- a world of the configuration, and its session 0
-abbrev pub opened : Config → Option OpenedValue × Answer
-opened c = if is_config c then started (names_of c.namespaces) (move (fresh c) (Locked 0 calls.Session)) else (None, answers.Refused BadArgument)
+abbrev pub store_opened : Config → Option OpenedValue × Answer
+store_opened c = if is_config c then started (map (λ n. n.name) c.namespaces) (move (new_world c) (Locked 0 calls.Session)) else (None, answers.Refused BadArgument)
 
 -- ---- a command
 
+-- the store that stands has the world after the command
 abbrev pub kept : OpenedValue → WorldValue × Answer → Option OpenedValue × Answer
 kept s after = (Some (record { world = after.0; names = s.names }), after.1)
 
--- without a store no session is open
-abbrev pub on_none : Command → Option OpenedValue × Answer
-on_none (commands.Open config) = opened config
-on_none command = (None, answers.NoSession)
-
--- a command in the session n: the store after it, and the answer
+-- a command in the session n: the store after it, and the answer. Without a store no session is open.
 abbrev pub done : Option OpenedValue → ℕ → Command → Option OpenedValue × Answer
-done None n command = on_none command
+done None n (commands.Open config) = store_opened config
+done None n command = (None, answers.NoSession)
 done (Some s) n command = kept s (on_store s n command)

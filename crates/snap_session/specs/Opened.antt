@@ -1,12 +1,11 @@
 -- The store that a script has opened; the public clauses of `Script` see this value.
 -- Cited by `replay_within`, `replay`, `Script::act`.
-use Rattle.std.specs.Prelude.{ℕ, List, [], Option, None, Some, replicate, map}
+use Rattle.std.specs.Prelude.{ℕ, List, [], None, replicate, map, unwrap_or}
 use Rattle.std.specs.Option.{option_map}
 use Rattle.snap_usage.specs.declared.usage.Usage.{Usage}
 use Rattle.snap_usage.specs.Counted.{count_of, no_usage}
 use Rattle.snap_record.specs.Labels.{Bytes}
 use Rattle.snap_call.specs.declared.config.Config.{Config}
-use Rattle.snap_call.specs.declared.config.Namespace.{Namespace}
 use Rattle.snap_call.specs.Records.{charge_of}
 use Rattle.snap_call.specs.State.{opening, place_of}
 use Rattle.snap_world.specs.World.{WorldValue, hand_at}
@@ -17,27 +16,20 @@ pub record OpenedValue : Type 0 where
   pub names : List Bytes
 
 -- the world that a configuration opens
-abbrev pub fresh : Config → WorldValue
-fresh c = record { state = opening c; journal = []; limit = c.journal; hands = replicate 64 None }
+abbrev pub new_world : Config → WorldValue
+new_world c = record { state = opening c; journal = []; limit = c.journal; hands = replicate 64 None }
 
-abbrev pub names_of : List Namespace → List Bytes
-names_of namespaces = map (λ n. n.name) namespaces
-
--- an amount that there may be
-abbrev pub amount : Option Usage → Usage
-amount None = no_usage
-amount (Some usage) = usage
-
--- what the snapshot in the slot is charged, and what its layer takes
+-- what the snapshot in the slot is charged; nothing where there is none
 abbrev pub share_at : ℕ → WorldValue → Usage
-share_at slot w = amount (option_map (λ h. h.snapshot.share.usage) (hand_at slot w.hands))
+share_at slot w = unwrap_or (option_map (λ h. h.snapshot.share.usage) (hand_at slot w.hands)) no_usage
 
+-- what its layer takes
 abbrev pub count_at : ℕ → WorldValue → Usage
-count_at slot w = amount (option_map (λ h. count_of h.snapshot.layer) (hand_at slot w.hands))
+count_at slot w = unwrap_or (option_map (λ h. count_of h.snapshot.layer) (hand_at slot w.hands)) no_usage
 
 -- what the namespace of this name is charged
 abbrev pub total_of : WorldValue → Bytes → Usage
-total_of w name = amount (option_map (λ place. charge_of place w.state.records) (place_of name w.state.namespaces))
+total_of w name = unwrap_or (option_map (λ place. charge_of place w.state.records) (place_of name w.state.namespaces)) no_usage
 
 -- each name with its total
 abbrev pub totals_of : WorldValue → List Bytes → List (Bytes × Usage)

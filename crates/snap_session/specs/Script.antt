@@ -1,6 +1,6 @@
 -- What a script answers, line for line, and its first fault; cited by the public clauses of `replay`, and from "on the way" on by private clauses alone.
 -- Cited by `replay_within`, `replay`.
-use Rattle.std.specs.Prelude.{◌≡◌, ℕ, ◌+◌, ◌||◌, List, [], ◌∷◌, ◌++◌, length, Bool, Option, Some, None, is_some, Result, Ok, Err, nat_lt, String, string_bytes, if◌then◌else◌}
+use Rattle.std.specs.Prelude.{◌≡◌, ℕ, ◌+◌, List, [], ◌∷◌, ◌++◌, length, Bool, Option, Some, None, is_some, Result, Ok, Err, nat_lt, String, string_bytes, if◌then◌else◌}
 use Rattle.std.specs.Io.KnownBytes.{Appends}
 use Rattle.std.specs.declared.alloc.Global.{Global}
 use Rattle.snap_script.specs.declared.answer.Answer.{Answer}
@@ -8,17 +8,15 @@ use Rattle.snap_script.specs.declared.fault.Fault.{Fault}
 use Rattle.snap_script.specs.declared.fault.Fault.TheVariants.{TooLong}
 use Rattle.snap_script.specs.declared.line.Line.{Line}
 use Rattle.snap_script.specs.declared.line.Line.TheVariants.{Empty, Command}
+use Rattle.snap_script.specs.Results.{◌>>=◌}
 use Rattle.snap_script.specs.Answers.{answer_line}
 use Rattle.snap_script.specs.Lines.{line_of}
 use Rattle.snap_session.specs.Opened.{OpenedValue}
 use Rattle.snap_session.specs.Commands.{done}
-use Rattle.snap_session.specs.Lines.{lines_of, body}
+use Rattle.snap_session.specs.Lines.{lines_of, without_feed}
 use Rattle.snap_session.specs.declared.stop.LineFault.{LineFault}
 
--- a line has at most 16 MiB without its line feed, and all lines have at most 1 GiB with them
-abbrev pub max_line : ℕ
-max_line = 16777216
-
+-- all lines have at most 1 GiB, with their line feeds
 abbrev pub max_bytes : ℕ
 max_bytes = 1073741824
 
@@ -28,6 +26,7 @@ pub record Place : Type 0 where
   pub bytes : ℕ
   pub store : Option OpenedValue
 
+-- before the first line
 abbrev pub start : Place
 start = record { lines = 0; bytes = 0; store = None }
 
@@ -36,46 +35,40 @@ pub record Transcript : Type 0 where
   pub text : List ℕ
   pub fault : Option LineFault
 
-abbrev pub after : List ℕ → Transcript → Transcript
-after text s = record { text = text ++ s.text; fault = s.fault }
+-- a text before a transcript
+abbrev pub prepended : List ℕ → Transcript → Transcript
+prepended text s = record { text = text ++ s.text; fault = s.fault }
 
 -- the store after a line, and the text of the line's answer
 pub record Effect : Type 0 where
   pub store : Option OpenedValue
   pub text : List ℕ
 
+-- the effect of a command, from the store after it and the answer
 abbrev pub effect_done : Option OpenedValue × Answer → Effect
 effect_done after = record { store = after.0; text = answer_line after.1 }
 
-abbrev pub effect_line : Option OpenedValue → Result Line Fault → Result Effect Fault
-effect_line store (Ok Empty) = Ok (record { store = store; text = [] })
-effect_line store (Ok (Command session command)) = Ok (effect_done (done store session command))
-effect_line store (Err fault) = Err fault
+-- an empty line does nothing, any other its command
+abbrev pub effect_line : Option OpenedValue → Line → Effect
+effect_line store Empty = record { store = store; text = [] }
+effect_line store (Command session command) = effect_done (done store session command)
 
--- what the bytes of a line do: an empty line nothing, any other its command
+-- what the bytes of a line do
 unfoldable pub effect_of : Option OpenedValue → List ℕ → Result Effect Fault
-effect_of store bytes = effect_line store (line_of (is_some store) bytes)
+effect_of store bytes = do Ok (effect_line store (← line_of (is_some store) bytes))
 
-abbrev pub is_too_long : Place → List ℕ → Bool
-is_too_long p line = nat_lt max_line (length (body line)) || nat_lt max_bytes (p.bytes + length line)
-
+-- what a line does, with its line feed
 unfoldable pub effect_at : Place → List ℕ → Result Effect Fault
-effect_at p line = if is_too_long p line then Err TooLong else effect_of p.store (body line)
+effect_at p line = if nat_lt max_bytes (p.bytes + length line) then Err TooLong else effect_of p.store (without_feed line)
 
--- the bytes of an answer that there may be
-abbrev pub bytes_of : Option (String Global) → List ℕ
-bytes_of None = []
-bytes_of (Some s) = string_bytes s
-
+-- the place after a line that leaves this store
 abbrev pub place_after : Place → List ℕ → Option OpenedValue → Place
 place_after p line store = record { lines = p.lines + 1; bytes = p.bytes + length line; store = store }
 
-abbrev pub failed : Place → Fault → Transcript
-failed p c = record { text = []; fault = Some (record { line = p.lines + 1; cause = c }) }
-
+-- after a line: a fault, which has the number of the line, ends it
 abbrev pub goes_on : Place → List ℕ → Result Effect Fault → (Place → Transcript) → Transcript
-goes_on p line (Err c) more = failed p c
-goes_on p line (Ok e) more = after e.text (more (place_after p line e.store))
+goes_on p line (Err c) more = record { text = []; fault = Some (record { line = p.lines + 1; cause = c }) }
+goes_on p line (Ok e) more = prepended e.text (more (place_after p line e.store))
 
 -- the transcript of the lines that are left
 abbrev pub transcript_from : Place → List (List ℕ) → Transcript
@@ -92,6 +85,15 @@ Tells s fault before behind = (s.fault ≡ fault) × Appends before behind s.tex
 
 -- ---- on the way
 
+-- a line has at most 16 MiB, without its line feed
+abbrev pub max_line : ℕ
+max_line = 16777216
+
+-- the bytes of an answer that there may be
+abbrev pub answer_bytes : Option (String Global) → List ℕ
+answer_bytes None = []
+answer_bytes (Some s) = string_bytes s
+
 -- a place within a line, of which pending has come
 pub record Run : Type 0 where
   pub place : Place
@@ -102,7 +104,7 @@ transcript_on r rest = transcript_from r.place (lines_of (r.pending ++ rest))
 
 -- bytes lead from r to q, and this is written on the way
 abbrev pub Leads : Run → List ℕ → Run → List ℕ → Type 0
-Leads r bytes q written = (rest : List ℕ) → transcript_on r (bytes ++ rest) ≡ after written (transcript_on q rest)
+Leads r bytes q written = (rest : List ℕ) → transcript_on r (bytes ++ rest) ≡ prepended written (transcript_on q rest)
 
 -- bytes lead to a fault
 abbrev pub Faults : Run → List ℕ → LineFault → List ℕ → Type 0

@@ -10,11 +10,11 @@ use Rattle.snap_session.specs.declared.stop.Stop.TheVariants.{Line, InputFailed,
 abbrev pub line_words : LineFault → List ℕ
 line_words f = codes "line " ++ (decimal f.line ++ (codes ": " ++ fault_words f.cause))
 
-abbrev pub words_of : Stop → List ℕ
-words_of (Line f) = line_words f
-words_of InputFailed = codes "input failed"
-words_of OutputFailed = codes "output failed"
-words_of OutOfMemory = codes "want of memory"
+abbrev pub stop_words : Stop → List ℕ
+stop_words (Line f) = line_words f
+stop_words InputFailed = codes "input failed"
+stop_words OutputFailed = codes "output failed"
+stop_words OutOfMemory = codes "want of memory"
 
 abbrev pub status_of : Stop → ℕ
 status_of (Line f) = 2

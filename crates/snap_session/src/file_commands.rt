@@ -1,9 +1,10 @@
 // File commands, with the charge that they need.
-ghost use Rattle.std.specs.Prelude.{◌≡◌, IfOk};
+ghost use Rattle.std.specs.Prelude.{◌≡◌, Err, IfOk};
 ghost use Rattle.snap_world.specs.declared.step.Step.TheVariants.{Hand};
+ghost use Rattle.snap_world.specs.declared.step.Answer.TheVariants as step_answers;
 ghost use Rattle.snap_world.specs.Move.{move};
 ghost use Rattle.snap_script.specs.Operations.{operation_of};
-ghost use Rattle.snap_session.specs.Commands.{on_key, more, wanted, need_by, need_of, is_charged, recharged, worked, filed};
+ghost use Rattle.snap_session.specs.Commands.{on_key, more, wanted, need_of, is_charged, retried, tried, performed};
 
 use crate::calls::found;
 use crate::step::{stepped, take_step, told};
@@ -36,7 +37,7 @@ fn wanted(need: Usage, extra: Usage) -> Usage
 }
 
 fn need_by(error: FsError) -> Option<Usage>
-    ensures { result ≡ need_by error }
+    ensures { result ≡ need_of (step_answers.File (Err error)) }
 {
     match error {
         FsError::NeedsCharge(need) => Some(need),
@@ -64,14 +65,14 @@ fn is_charged(answer: &StepAnswer) -> bool
 }
 
 // The charge, and the operation again where it was granted.
-fn recharged<N: StoreName>(
+fn retried<N: StoreName>(
     world: &mut World<N>,
     n: u64,
     slot: u64,
     charge: &Step,
     operation: &Step,
 ) -> Result<Answer, NoMemory>
-    ensures { IfOk result (λ answer. recharged n slot operation.now (move world.old charge.now) ≡ (world.new, answer)) }
+    ensures { IfOk result (λ answer. retried n slot operation.now (move world.old charge.now) ≡ (world.new, answer)) }
 {
     let answer = take_step(world, charge)?;
     if is_charged(&answer) {
@@ -81,7 +82,7 @@ fn recharged<N: StoreName>(
 }
 
 // The operation, with a charge where one is needed.
-fn worked<N: StoreName>(
+fn tried<N: StoreName>(
     world: &mut World<N>,
     n: u64,
     slot: u64,
@@ -89,7 +90,7 @@ fn worked<N: StoreName>(
     operation: &Step,
     extra: Usage,
 ) -> Result<Answer, NoMemory>
-    ensures { IfOk result (λ answer. worked n slot id operation.now extra (move world.old operation.now) ≡ (world.new, answer)) }
+    ensures { IfOk result (λ answer. tried n slot id operation.now extra (move world.old operation.now) ≡ (world.new, answer)) }
 {
     let answer = take_step(world, operation)?;
     let Some(need) = need_of(&answer) else {
@@ -101,11 +102,11 @@ fn worked<N: StoreName>(
         need,
         want: wanted(need, extra),
     };
-    recharged(world, n, slot, &Step::Locked(n, call), operation)
+    retried(world, n, slot, &Step::Locked(n, call), operation)
 }
 
 // The same of an operation without its step. The step is made and dropped here alone, which keeps the proof
-// of `worked` small.
+// of `tried` small.
 fn operated<N: StoreName>(
     world: &mut World<N>,
     n: u64,
@@ -114,14 +115,14 @@ fn operated<N: StoreName>(
     op: Op,
     extra: Usage,
 ) -> Result<Answer, NoMemory>
-    ensures { IfOk result (λ answer. worked n slot id (Hand slot op) extra (move world.old (Hand slot op)) ≡ (world.new, answer)) }
+    ensures { IfOk result (λ answer. tried n slot id (Hand slot op) extra (move world.old (Hand slot op)) ≡ (world.new, answer)) }
 {
     let operation = Step::Hand(slot, op);
-    worked(world, n, slot, id, &operation, extra)
+    tried(world, n, slot, id, &operation, extra)
 }
 
-#[tactic(auto, unfolding(crate::specs::Commands::filed))]
-fn filed<N: StoreName>(
+#[tactic(auto, unfolding(crate::specs::Commands::performed))]
+fn performed<N: StoreName>(
     alloc: Global,
     world: &mut World<N>,
     n: u64,
@@ -130,7 +131,7 @@ fn filed<N: StoreName>(
     operation: FileCommand,
     extra: Usage,
 ) -> Result<Answer, NoMemory>
-    ensures { IfOk result (λ answer. filed n slot id (operation_of operation) extra world.old ≡ (world.new, answer)) }
+    ensures { IfOk result (λ answer. performed n slot id (operation_of operation) extra world.old ≡ (world.new, answer)) }
 {
     match operation.into_operation(alloc) {
         Ok(op) => operated(world, n, slot, id, op, extra),
@@ -148,10 +149,10 @@ pub(crate) fn file<N: StoreName>(
     operation: FileCommand,
     extra: Usage,
 ) -> Result<Answer, NoMemory>
-    ensures { IfOk result (λ answer. on_key world.old namespace key (λ slot id. filed n slot id (operation_of operation) extra world.old) ≡ (world.new, answer)) }
+    ensures { IfOk result (λ answer. on_key world.old namespace key (λ slot id. performed n slot id (operation_of operation) extra world.old) ≡ (world.new, answer)) }
 {
     match found(world, namespace, key) {
-        Ok((slot, id)) => filed(alloc, world, n, slot, id, operation, extra),
+        Ok((slot, id)) => performed(alloc, world, n, slot, id, operation, extra),
         Err(why) => Ok(Answer::Refused(why)),
     }
 }

@@ -1,10 +1,11 @@
 // What a snapshot shows at a path.
-ghost use Rattle.std.specs.Prelude.{◌≡◌, IfOk};
+ghost use Rattle.std.specs.Prelude.{◌≡◌, IfOk, length, take};
 ghost use Rattle.snap_merge.specs.Objects.{object};
 ghost use Rattle.snap_script.specs.declared.command.Lookup.TheVariants as lookups;
+ghost use Rattle.snap_script.specs.declared.answer.Answer.TheVariants as answers;
 ghost use Rattle.snap_script.specs.Operations.{path_of};
 ghost use Rattle.snap_world.specs.Stacks.{stack_of};
-ghost use Rattle.snap_session.specs.Commands.{shown_of, head_of, looked_up, lookup};
+ghost use Rattle.snap_session.specs.Commands.{shown_of, looked_up, lookup};
 
 use snap_layer::Bytes;
 use snap_ledger::StoreName;
@@ -55,7 +56,7 @@ fn list(alloc: Global, stack: &Stack<'_>, path: &Path) -> Result<Answer, NoMemor
 
 // The file's first bytes, and how many it has.
 fn head_of(alloc: Global, bytes: &[u8]) -> Result<Answer, AllocError>
-    ensures { IfOk result (λ answer. answer ≡ head_of bytes.now) }
+    ensures { IfOk result (λ answer. answer ≡ answers.Head (take 16 bytes.now) (length bytes.now)) }
 {
     let first = &bytes[..HEAD_BYTES.min(bytes.len())];
     Ok(Answer::Head {

@@ -1,6 +1,6 @@
 // The store that a script has opened.
-ghost use Rattle.std.specs.Prelude.{◌≡◌, IfOk, Some};
-ghost use Rattle.snap_session.specs.Opened.{names_of, total_of, totals_of};
+ghost use Rattle.std.specs.Prelude.{◌≡◌, IfOk, Some, map};
+ghost use Rattle.snap_session.specs.Opened.{total_of, totals_of};
 ghost use Rattle.snap_session.specs.Commands.{kept, on_store, report};
 
 use crate::calls::{charge, commit, discard, session, trim};
@@ -33,7 +33,7 @@ impl<N: StoreName> Model for Opened<N> {
 
 // The names of the namespaces, in their order.
 pub(crate) fn names_of(alloc: Global, namespaces: &[Namespace]) -> Result<Sequence<Text>, NoMemory>
-    ensures { IfOk result (λ names. names ≡ names_of namespaces.now) }
+    ensures { IfOk result (λ names. names ≡ map (λ n. n.name) namespaces.now) }
 {
     let mut names = Sequence::new(alloc);
     for namespace in namespaces {

@@ -1,7 +1,7 @@
 // The lines of an input, one after another.
 ghost use Rattle.std.specs.Prelude.{Some, None, ◌≡◌, ◌<◌, ◌≤◌, ◌+◌, ℕ, [], ◌∷◌, ◌++◌, length, true, false, Ok, Err, OnOk, IfOk, if◌then◌else◌, string_bytes};
 ghost use Rattle.std.specs.Io.KnownBytes.{Appends};
-ghost use Rattle.snap_session.specs.Script.{Run, start, Takes, Goes, Ends, Tells, line_in, transcript_on, effect_of, effect_at, bytes_of, max_bytes};
+ghost use Rattle.snap_session.specs.Script.{Run, start, Takes, Goes, Ends, Tells, line_in, transcript_on, effect_of, effect_at, answer_bytes, max_bytes};
 ghost use Rattle.snap_session.specs.declared.stop.LineFault.{LineFault};
 
 use crate::script::Script;
@@ -31,7 +31,7 @@ fn effect_of<N: StoreName>(
     bytes: &[u8],
 ) -> Result<Option<String>, Stop>
     requires { lines ≤ max_bytes }
-    ensures ok { IfOk result (λ said. effect_of script.old bytes.now ≡ Ok (record { store = script.new; text = bytes_of said })) }
+    ensures ok { IfOk result (λ said. effect_of script.old bytes.now ≡ Ok (record { store = script.new; text = answer_bytes said })) }
     ensures fault { (f : LineFault) → result ≡ Err (Stop.Line f)
         → (effect_of script.old bytes.now ≡ Err f.cause) × (f.line ≡ lines + 1) }
 {
@@ -57,7 +57,7 @@ fn effect_of<N: StoreName>(
 }
 
 fn write_answer<W: Write>(output: &mut W, answer: Option<String>) -> Result<(), Stop>
-    ensures ok { OnOk result (Appends (W.contents output.old) (W.contents output.new) (bytes_of answer)) }
+    ensures ok { OnOk result (Appends (W.contents output.old) (W.contents output.new) (answer_bytes answer)) }
     ensures err { (f : LineFault) → result ≡ Err (Stop.Line f) → ⊥ }
 {
     match answer {

@@ -1,6 +1,7 @@
 ghost use Rattle.std.specs.Prelude.{◌≡◌, IfOk, None, true, is_some};
 ghost use Rattle.snap_call.specs.Forms.{is_config};
-ghost use Rattle.snap_session.specs.Commands.{is_start, is_started, opened, done};
+ghost use Rattle.snap_world.specs.declared.step.Answer.TheVariants as step_answers;
+ghost use Rattle.snap_session.specs.Commands.{is_started, store_opened, done};
 
 use crate::opened::{Opened, names_of};
 use crate::step::{take_step, told};
@@ -33,7 +34,7 @@ impl<N: StoreName> Model for Script<N> {
 }
 
 fn is_start(reply: &Reply) -> bool
-    ensures { result ≡ is_start reply.now }
+    ensures { result ≡ is_started (step_answers.Reply reply.now) }
 {
     match reply {
         Reply::Opened => true,
@@ -74,7 +75,7 @@ impl<N: StoreName> Script<N> {
     fn start(&mut self, config: Config) -> Result<Answer, NoMemory>
         requires valid { is_config config ≡ true }
         requires none { self.old ≡ None }
-        ensures { IfOk result (λ answer. opened config ≡ (self.new, answer)) }
+        ensures { IfOk result (λ answer. store_opened config ≡ (self.new, answer)) }
     {
         let names = names_of(self.alloc, config.namespaces.as_slice())?;
         let table = self.table.take().ok_or(NoMemory)?;
@@ -92,7 +93,7 @@ impl<N: StoreName> Script<N> {
     // The first command.
     fn open(&mut self, config: Config) -> Result<Answer, NoMemory>
         requires { self.old ≡ None }
-        ensures { IfOk result (λ answer. opened config ≡ (self.new, answer)) }
+        ensures { IfOk result (λ answer. store_opened config ≡ (self.new, answer)) }
     {
         if !config.is_valid() {
             return Ok(Answer::Refused(Refusal::BadArgument));

@@ -1,10 +1,11 @@
 // One step of the world, and what a script says of it.
 ghost use Rattle.std.specs.Prelude.{◌≡◌, IfOk};
 ghost use Rattle.snap_world.specs.declared.step.Step.TheVariants.{Locked};
+ghost use Rattle.snap_world.specs.declared.step.Answer.TheVariants as step_answers;
 ghost use Rattle.snap_world.specs.Move.{move};
 ghost use Rattle.snap_session.specs.Opened.{share_at, count_at};
 ghost use Rattle.snap_session.specs.Wanting.{is_error_want, is_memory, is_want};
-ghost use Rattle.snap_session.specs.Commands.{told, told_reply, told_outcome, stepped};
+ghost use Rattle.snap_session.specs.Commands.{told, stepped};
 
 use snap_call::{Call, Refusal, Reply};
 use snap_ledger::StoreName;
@@ -76,7 +77,7 @@ pub(crate) fn take_step<N: StoreName>(
 }
 
 fn told_reply<N: StoreName>(session: u64, slot: u64, world: &World<N>, reply: Reply) -> Answer
-    ensures { result ≡ told_reply session slot world.now reply }
+    ensures { result ≡ told session slot world.now (step_answers.Reply reply) }
 {
     match reply {
         Reply::Opened => Answer::Session(session),
@@ -92,7 +93,7 @@ fn told_reply<N: StoreName>(session: u64, slot: u64, world: &World<N>, reply: Re
 }
 
 fn told_outcome<N: StoreName>(slot: u64, world: &World<N>, outcome: Result<(), FsError>) -> Answer
-    ensures { result ≡ told_outcome slot world.now outcome }
+    ensures { result ≡ told 0 slot world.now (step_answers.File outcome) }
 {
     match outcome {
         Ok(()) => Answer::Changed {

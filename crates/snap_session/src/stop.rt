@@ -52,9 +52,9 @@ impl Stop {
 /// The words for it; a width or a precision has no effect.
 impl fmt::Display for Stop {
     ghost use Rattle.std.specs.Prelude.{Some};
-    ghost use Rattle.snap_session.specs.Words.{words_of};
+    ghost use Rattle.snap_session.specs.Words.{stop_words};
 
-    ghost output = { λ s. Some (words_of s) };
+    ghost output = { λ s. Some (stop_words s) };
 
     fn fmt<W: fmt::Write>(&self, f: &mut fmt::Formatter<W>) -> fmt::Result {
         match self {

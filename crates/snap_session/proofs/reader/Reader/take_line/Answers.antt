@@ -1,8 +1,8 @@
-use Rattle.std.proofs.Common.{◌≡◌, ◌+◌, ◌≤◌, length, true, Err, refl, sym, ap, ◌∙◌, arith, subst}
+use Rattle.std.proofs.Common.{◌≡◌, ◌+◌, length, true, Err, refl, sym, ap, ◌∙◌, arith, subst}
 use Rattle.std.proofs.lemmas.Result.{err_from_is_err_and}
 use Rattle.snap_script.specs.declared.fault.Fault.TheVariants.{TooLong}
 use Rattle.snap_session.specs.Lines.{is_open}
-use Rattle.snap_session.specs.Script.{Run, bytes_of, effect_of, max_line}
+use Rattle.snap_session.specs.Script.{Run, answer_bytes, effect_of}
 use Rattle.snap_session.specs.declared.stop.LineFault.{LineFault}
 use Rattle.snap_session.proofs.ScriptLaws.{effect_over, effect_fits, run_after, line_len}
 use Rattle.snap_session.proofs.reader.Reader.take_line.Goals as goal
@@ -27,10 +27,9 @@ returns-in_err-answer-clause-fault g c = λ f e.
     let len = line_len c.args.self.now c.args.ended (length c.as_slice-line.result.now) c.from.result pending c.from.ensures in
     let bytes = ap (λ (z : Run). z.place.bytes) c.self.view_is in
     let no_feed = subst (λ (z : Run). is_open z.pending ≡ true) c.self.view_is c.self.invariant.3 in
-    let short = subst (λ (z : Run). length z.pending ≤ max_line) c.self.view_is c.self.invariant.2 in
     let effect : effect_of c.args.self.now.place.store c.args.self.now.pending ≡ effect_of c.self.inside.script c.as_slice-line.result.now =
     sym (ap (λ (z : Run). effect_of z.place.store z.pending) c.self.view_is) ∙ ap (effect_of c.self.inside.script) (sym c.as_slice-line.ensures.value) in (
-      effect_fits c.args.self.now c.args.ended no_feed short (omega arith) ∙ effect ∙ known.0,
+      effect_fits c.args.self.now c.args.ended no_feed (omega arith) ∙ effect ∙ known.0,
       known.1 ∙ ap (λ (z : Run). z.place.lines + 1) c.self.view_is,
       refl,
     )
@@ -41,11 +40,10 @@ returns-clause-ok g c =
     let len = line_len c.args.self.now c.args.ended (length c.as_slice-line.result.now) c.from.result pending c.from.ensures in
     let bytes = ap (λ (z : Run). z.place.bytes) c.self.view_is in
     let no_feed = subst (λ (z : Run). is_open z.pending ≡ true) c.self.view_is c.self.invariant.3 in
-    let short = subst (λ (z : Run). length z.pending ≤ max_line) c.self.view_is c.self.invariant.2 in
     let effect : effect_of c.args.self.now.place.store c.args.self.now.pending ≡ effect_of c.self.inside.script c.as_slice-line.result.now =
     sym (ap (λ (z : Run). effect_of z.place.store z.pending) c.self.view_is) ∙ ap (effect_of c.self.inside.script) (sym c.as_slice-line.ensures.value) in (
-      bytes_of c.in_ok-answer.answer,
-      effect_fits c.args.self.now c.args.ended no_feed short (omega arith) ∙ effect ∙ c.in_ok-answer.ensures.ok,
+      answer_bytes c.in_ok-answer.answer,
+      effect_fits c.args.self.now c.args.ended no_feed (omega arith) ∙ effect ∙ c.in_ok-answer.ensures.ok,
       run_after _ _ _ _ _ _ _ _ _ c.self.view_is len c.clear.ensures.items,
       c.in_ok-write_answer.ensures.ok,
     )
