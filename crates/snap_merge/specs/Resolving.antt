@@ -65,9 +65,8 @@ resolution s p = way (following 40 s) s [] p
 
 -- a symlink
 abbrev pub is_symlink : Object → Bool
-is_symlink (dir mode) = false
-is_symlink (file mode bytes) = false
 is_symlink (symlink target) = true
+is_symlink other = false
 
 -- nothing is an error, a symlink none, since its target says where the way goes on, and anything else leaves the later one
 abbrev pub met : Option Object → Option FsError → Option FsError
