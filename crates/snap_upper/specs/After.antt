@@ -188,14 +188,6 @@ is_late (Some e) = false
 
 -- the names of a directory are listed, which takes memory: of one that is removed, or whose place another takes, where no test before that fails
 abbrev pub lists_names : Op → List Tree → Bool
-lists_names (Mkdir path mode) s = false
-lists_names (Create path mode) s = false
-lists_names (Write path offset bytes) s = false
-lists_names (Truncate path size) s = false
-lists_names (SetMode path mode) s = false
-lists_names (Symlink path target) s = false
-lists_names (Link from to) s = false
-lists_names (Unlink path) s = false
 lists_names (Rmdir path) s = is_shown_dir (seen s path) && is_late (first_error (tests (Rmdir path) s))
-lists_names (Rename from to) [] = false
 lists_names (Rename from to) (u ∷ lowers) = not (is_same_name u from to) && is_shown_dir (seen (u ∷ lowers) to) && is_late (first_error (tests (Rename from to) (u ∷ lowers)))
+lists_names other s = false
