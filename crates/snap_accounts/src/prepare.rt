@@ -1,10 +1,10 @@
 // A new snapshot.
-ghost use Rattle.std.specs.Prelude.{◌≡◌, ◌<◌, ◌≤◌, ◌+◌, ◌^◌, length, true, false, None, Some, IfOk, OnOk, OnErr, IfErr};
+ghost use Rattle.std.specs.Prelude.{◌≡◌, ◌<◌, ◌≤◌, ◌+◌, ◌^◌, length, true, None, Some, IfOk, OnOk, OnErr, IfErr, Ok, Err};
 ghost use Rattle.snap_usage.specs.Counted.{covers as covers_of};
 ghost use Rattle.snap_ledger.specs.States.{plus};
 ghost use Rattle.snap_call.specs.Records.{charge_of, active_at, lowest_free, has_key, open_count};
 ghost use Rattle.snap_call.specs.State.{limit_at, place_of, is_base, is_too_deep};
-ghost use Rattle.snap_call.specs.Step.{prepare, prepare_at, prepare_slot, prepared, new_active, no_more, one, refused};
+ghost use Rattle.snap_call.specs.Step.{prepare, prepared, new_active, one, refused, place_on, place_for, slot_for};
 ghost use Rattle.snap_accounts.specs.Entries.{IsRecorded};
 ghost use Rattle.snap_accounts.specs.Vacant.{IsVacant};
 
@@ -36,23 +36,17 @@ fn one() -> Usage
     }
 }
 
-fn has_none(labels: &Labels) -> bool
-    ensures { result ≡ no_more labels.now }
-{
-    labels.is_empty()
-}
-
 impl<N: StoreName> Accounts<N> {
     // The slot of a new snapshot in the namespace at a place, or the first refusal.
-    fn slot_in(&self, place: usize, key: &str, parent: &str) -> Result<u64, Refusal>
+    fn slot_for(&self, place: usize) -> Result<u64, Refusal>
         requires { place < length self.now.namespaces }
-        ensures ok { IfOk result (λ slot. prepare_slot self.now place key.now parent.now (lowest_free 64 self.now.records) ≡ prepared self.now place key.now parent.now slot) }
+        ensures ok { IfOk result (λ slot. slot_for self.now place ≡ Ok slot) }
         ensures low { IfOk result (λ slot. slot < 64) }
         ensures free { IfOk result (λ slot. active_at slot self.now.records ≡ None) }
         ensures fits { IfOk result (λ slot. covers_of (limit_at place self.now.namespaces) (plus (charge_of place self.now.records) one) ≡ true) }
         ensures numbers { IfOk result (λ slot. self.now.next_id ≤ 4294967295) }
         ensures recorded { IfErr result IsRecorded }
-        ensures refused { IfErr result (λ why. prepare_slot self.now place key.now parent.now (lowest_free 64 self.now.records) ≡ refused self.now why) }
+        ensures refused { IfErr result (λ why. slot_for self.now place ≡ Err why) }
     {
         let Some(slot) = self.state.records.lowest_free() else {
             return Err(Refusal::TooManyActives);
@@ -66,14 +60,11 @@ impl<N: StoreName> Accounts<N> {
         Ok(slot)
     }
 
-    // Why there can be no snapshot of this key on the parent.
-    fn check_parent(&self, place: usize, key: &str, parent: &str) -> Result<(), Refusal>
-        ensures ok { OnOk result (prepare_at self.now key.now parent.now place ≡ prepare_slot self.now place key.now parent.now (lowest_free 64 self.now.records)) }
-        ensures new { OnOk result (has_key place key.now self.now.records ≡ false) }
-        ensures base { OnOk result (is_base place parent.now self.now.records ≡ true) }
-        ensures deep { OnOk result (is_too_deep place parent.now self.now.records ≡ false) }
+    // The place, where a snapshot of this key can stand on the parent there, or the first refusal.
+    fn place_on(&self, place: usize, key: &str, parent: &str) -> Result<usize, Refusal>
+        ensures ok { IfOk result (λ p. place_on place key.now parent.now self.now.records ≡ Ok p) }
         ensures recorded { IfErr result IsRecorded }
-        ensures refused { IfErr result (λ why. prepare_at self.now key.now parent.now place ≡ refused self.now why) }
+        ensures refused { IfErr result (λ why. place_on place key.now parent.now self.now.records ≡ Err why) }
     {
         let records = &self.state.records;
         if !records.is_present(place, parent) {
@@ -88,18 +79,40 @@ impl<N: StoreName> Accounts<N> {
         if records.is_too_deep(place, parent) {
             return Err(Refusal::TooDeep);
         }
-        Ok(())
+        Ok(place)
+    }
+
+    // The place of the namespace of a new snapshot, or the first refusal.
+    fn place_for(
+        &self,
+        namespace: &str,
+        key: &str,
+        parent: &str,
+        labels: &Labels,
+    ) -> Result<usize, Refusal>
+        ensures ok { IfOk result (λ place. place_for self.now namespace.now key.now parent.now labels.now ≡ Ok place) }
+        ensures recorded { IfErr result IsRecorded }
+        ensures refused { IfErr result (λ why. place_for self.now namespace.now key.now parent.now labels.now ≡ Err why) }
+    {
+        if !(is_key(key) && is_parent(parent) && labels.are_valid()) {
+            return Err(Refusal::BadArgument);
+        }
+        let Some(place) = self.state.place_of(namespace) else {
+            return Err(Refusal::NoNamespace);
+        };
+        self.place_on(place, key, parent)
     }
 
     /// Where a new snapshot of this key and parent goes: the place of its namespace and the lowest free
     /// slot.
     ///
-    /// The refusals, in this order: `BadArgument` for a key or a parent that has not its form, or for
-    /// labels; `NoNamespace`; `NotFound` where the namespace has no snapshot of the parent's name;
-    /// `AlreadyExists` where it has one of the key; `NotCommitted` where the parent is not committed;
-    /// `TooDeep` where the snapshot would have more than 64 committed ancestors; `TooManyActives` where
-    /// all 64 slots are open; `OverLimit` with what is free, where 1/1 does not fit; `NumbersSpent` after
-    /// the id 4,294,967,295. Takes no memory. The cost grows with the records times the ancestors.
+    /// The refusals, in this order: `BadArgument` for a key, a parent or labels that have not their form,
+    /// or for more than 64 labels; `NoNamespace`; `NotFound` where the namespace has no snapshot of the
+    /// parent's name; `AlreadyExists` where it has one of the key; `NotCommitted` where the parent is not
+    /// committed; `TooDeep` where the snapshot would have more than 64 committed ancestors;
+    /// `TooManyActives` where all 64 slots are open; `OverLimit` with what is free, where 1/1 does not
+    /// fit; `NumbersSpent` after the id 4,294,967,295. Takes no memory. The cost grows with the records
+    /// times the ancestors, and with the number of labels.
     pub fn vacancy(
         &self,
         namespace: &str,
@@ -107,20 +120,14 @@ impl<N: StoreName> Accounts<N> {
         parent: &str,
         labels: &Labels,
     ) -> Result<Vacancy, Refusal>
-        ensures ok { IfOk result (λ v. prepare self.now namespace.now key.now parent.now labels.now ≡ prepared self.now v.place key.now parent.now v.slot) }
+        ensures ok { IfOk result (λ v. prepare self.now namespace.now key.now parent.now labels.now ≡ prepared self.now v.place key.now parent.now labels.now v.slot) }
         ensures named { IfOk result (λ v. place_of namespace.now self.now.namespaces ≡ Some v.place) }
         ensures vacant { IfOk result (λ v. IsVacant self.now v key.now parent.now) }
         ensures recorded { IfErr result IsRecorded }
         ensures refused { IfErr result (λ why. prepare self.now namespace.now key.now parent.now labels.now ≡ refused self.now why) }
     {
-        if !(is_key(key) && is_parent(parent) && has_none(labels)) {
-            return Err(Refusal::BadArgument);
-        }
-        let Some(place) = self.state.place_of(namespace) else {
-            return Err(Refusal::NoNamespace);
-        };
-        self.check_parent(place, key, parent)?;
-        let slot = self.slot_in(place, key, parent)?;
+        let place = self.place_for(namespace, key, parent, labels)?;
+        let slot = self.slot_for(place)?;
         Ok(Vacancy { place, slot })
     }
 
@@ -131,10 +138,11 @@ impl<N: StoreName> Accounts<N> {
         vacancy: Vacancy,
         key: &str,
         parent: &str,
+        labels: &Labels,
     ) -> Result<Record, AllocError>
         requires numbers { self.now.next_id ≤ 4294967295 }
         requires entries { self.now.entries < 2 ^ 63 }
-        ensures { IfOk result (λ r. r ≡ new_active self.now vacancy.place key.now parent.now vacancy.slot) }
+        ensures { IfOk result (λ r. r ≡ new_active self.now vacancy.place key.now parent.now labels.now vacancy.slot) }
     {
         let number = self.state.entries + 1;
         Ok(Record {
@@ -142,7 +150,7 @@ impl<N: StoreName> Accounts<N> {
             key: Text::copy_of(alloc, key)?,
             parent: Text::copy_of(alloc, parent)?,
             id: self.state.next_id as u32,
-            labels: Labels::new(alloc),
+            labels: labels.clone()?,
             created: number,
             updated: number,
             content: Content::Active {
@@ -156,8 +164,8 @@ impl<N: StoreName> Accounts<N> {
     fn insert(&mut self, vacancy: Vacancy, added: Record) -> Result<Share<N>, AllocError>
         requires vacant { IsVacant self.old vacancy added.key added.parent }
         requires entries { self.old.entries < 2 ^ 63 }
-        requires added { added ≡ new_active self.old vacancy.place added.key added.parent vacancy.slot }
-        ensures added { OnOk result (self.new ≡ (prepared self.old vacancy.place added.key added.parent vacancy.slot).0) }
+        requires added { added ≡ new_active self.old vacancy.place added.key added.parent added.labels vacancy.slot }
+        ensures added { OnOk result (self.new ≡ (prepared self.old vacancy.place added.key added.parent added.labels vacancy.slot).0) }
         ensures share { IfOk result (λ s. s ≡ record { slot = vacancy.slot; id = self.old.next_id; usage = one }) }
         ensures open { OnOk result (open_count self.new.records ≡ open_count self.old.records + 1) }
         ensures err { OnErr result (self.new ≡ self.old) }
@@ -175,26 +183,27 @@ impl<N: StoreName> Accounts<N> {
         Ok(self.slots.issue(slot, id, one()))
     }
 
-    /// Adds an active snapshot, charged 1/1 for its root, and counts an entry. The answer is the share of
-    /// its slot. [`Accounts::vacancy`] is the test of the condition.
+    /// Adds an active snapshot with these labels, charged 1/1 for its root, and counts an entry. The answer
+    /// is the share of its slot. [`Accounts::vacancy`] is the test of the condition.
     ///
     /// Takes memory for the record; where that is refused, nothing changes. The cost grows with the
-    /// records and the texts.
+    /// records, the texts and the labels.
     pub fn add(
         &mut self,
         alloc: Global,
         vacancy: Vacancy,
         key: &str,
         parent: &str,
+        labels: &Labels,
     ) -> Result<Share<N>, AllocError>
         requires vacant { IsVacant self.old vacancy key.now parent.now }
         requires entries { self.old.entries < 2 ^ 63 }
-        ensures added { OnOk result (self.new ≡ (prepared self.old vacancy.place key.now parent.now vacancy.slot).0) }
+        ensures added { OnOk result (self.new ≡ (prepared self.old vacancy.place key.now parent.now labels.now vacancy.slot).0) }
         ensures share { IfOk result (λ s. s ≡ record { slot = vacancy.slot; id = self.old.next_id; usage = one }) }
         ensures open { OnOk result (open_count self.new.records ≡ open_count self.old.records + 1) }
         ensures err { OnErr result (self.new ≡ self.old) }
     {
-        let added = self.new_record(alloc, vacancy, key, parent)?;
+        let added = self.new_record(alloc, vacancy, key, parent, labels)?;
         self.insert(vacancy, added)
     }
 }

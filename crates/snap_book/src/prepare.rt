@@ -162,13 +162,14 @@ impl<N: StoreName> Book<N> {
         vacancy: Vacancy,
         key: &str,
         parent: &str,
+        labels: &Labels,
         entry: Entry,
         copy: Entry,
     ) -> Result<Share<N>, Refusal>
         requires vacant { IsVacant self.old.state vacancy key.now parent.now }
         requires copy { copy ≡ entry }
         requires allowed { IsAllowed self.old.state entry.call entry.given }
-        requires granted { step self.old.state entry.call entry.given ≡ ((prepared self.old.state vacancy.place key.now parent.now vacancy.slot).0, entry.reply) }
+        requires granted { step self.old.state entry.call entry.given ≡ ((prepared self.old.state vacancy.place key.now parent.now labels.now vacancy.slot).0, entry.reply) }
         ensures granted { OnOk result (Recorded self.old self.new entry.session entry.call entry.given entry.reply) }
         ensures share { IfOk result (λ s. s ≡ record { slot = vacancy.slot; id = self.old.state.next_id; usage = one }) }
         ensures unchanged { OnErr result (self.new ≡ self.old) }
@@ -178,7 +179,7 @@ impl<N: StoreName> Book<N> {
         if let Err(why) = self.journal.admit(self.accounts.open_slots(), 2) {
             return Err(why);
         }
-        let share = self.accounts.add(self.alloc, vacancy, key, parent)?;
+        let share = self.accounts.add(self.alloc, vacancy, key, parent, labels)?;
         self.journal.push(entry, copy);
         Ok(share)
     }
@@ -191,10 +192,11 @@ impl<N: StoreName> Book<N> {
         vacancy: Vacancy,
         key: &str,
         parent: &str,
+        labels: &Labels,
     ) -> Result<Active<N>, Refusal>
         requires vacant { IsVacant self.old.state vacancy key.now parent.now }
         requires allowed { IsAllowed self.old.state call Nothing }
-        requires granted { step self.old.state call Nothing ≡ prepared self.old.state vacancy.place key.now parent.now vacancy.slot }
+        requires granted { step self.old.state call Nothing ≡ prepared self.old.state vacancy.place key.now parent.now labels.now vacancy.slot }
         ensures granted { IfOk result (λ a. Recorded self.old self.new session call Nothing (Prepared a.share.id a.share.slot (ids_of (ancestors vacancy.place parent.now self.old.state.records)))) }
         ensures active { IfOk result (λ a. a ≡ record { namespace = vacancy.place; key = key.now; lowers = layers_of (ancestors vacancy.place parent.now self.old.state.records); layer = root_only (root_mode (layers_of (ancestors vacancy.place parent.now self.old.state.records))) 1; share = record { slot = vacancy.slot; id = self.old.state.next_id; usage = one } }) }
         ensures unchanged { OnErr result (self.new ≡ self.old) }
@@ -204,24 +206,25 @@ impl<N: StoreName> Book<N> {
         let state = self.accounts.state();
         let addition = addition_of(state, self.alloc, session, call, vacancy, key, parent)?;
         let Addition { entry, copy, upper } = addition;
-        let share = self.add(vacancy, key, parent, entry, copy)?;
+        let share = self.add(vacancy, key, parent, labels, entry, copy)?;
         Ok(Active::fresh(self.alloc, vacancy.place, upper, share))
     }
 
     /// Makes an active snapshot in the lowest free slot, and charges its namespace 1/1 for the layer's
     /// root (containerd's `Snapshotter.Prepare`). The parent is the empty text, or the name of a
     /// committed snapshot of the same namespace. The new layer's root has the permission bits of the
-    /// parent's root, or 755 in octal without a parent (our choice). There may be no labels.
+    /// parent's root, or 755 in octal without a parent (our choice). The snapshot has these labels.
     ///
     /// `JournalFull` where an entry for the call and one for the snapshot's end are not left, and then
     /// `OutOfMemory` where memory for the entry is refused. Then, in this order: `BadArgument` for a
-    /// key or a parent that has not its form, or for labels; `NoNamespace`; `NotFound` where the
-    /// namespace has no snapshot of the parent's name; `AlreadyExists` where it has one of the key;
-    /// `NotCommitted` where the parent is not committed; `TooDeep` where the snapshot would have more
-    /// than 64 committed ancestors; `TooManyActives` where all 64 slots are open; `OverLimit` with what
-    /// is free; `NumbersSpent` after the id 4,294,967,295. At last `OutOfMemory` where memory for the
-    /// snapshot is refused. `JournalFull` and `OutOfMemory` leave the book as it was, the others all
-    /// but the journal. Its cost grows with the records times the ancestors, and with the texts.
+    /// key, a parent or labels that have not their form, or for more than 64 labels; `NoNamespace`;
+    /// `NotFound` where the namespace has no snapshot of the parent's name; `AlreadyExists` where it has
+    /// one of the key; `NotCommitted` where the parent is not committed; `TooDeep` where the snapshot
+    /// would have more than 64 committed ancestors; `TooManyActives` where all 64 slots are open;
+    /// `OverLimit` with what is free; `NumbersSpent` after the id 4,294,967,295. At last `OutOfMemory`
+    /// where memory for the snapshot is refused. `JournalFull` and `OutOfMemory` leave the book as it
+    /// was, the others all but the journal. Its cost grows with the records times the ancestors, and with
+    /// the texts and the labels.
     pub fn prepare(
         &mut self,
         session: u64,
@@ -243,7 +246,7 @@ impl<N: StoreName> Book<N> {
         self.journal.admit(self.accounts.open_slots(), 2)?;
         let call = prepare_call(self.alloc, namespace, key, parent, labels)?;
         match self.accounts.vacancy(namespace, key, parent, labels) {
-            Ok(vacancy) => self.grant(session, call, vacancy, key, parent),
+            Ok(vacancy) => self.grant(session, call, vacancy, key, parent, labels),
             Err(why) => Err(self.refuse(session, call, Given::Nothing, why)),
         }
     }

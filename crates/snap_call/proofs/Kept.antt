@@ -3,8 +3,8 @@ use Rattle.std.proofs.Common.{◌≡◌, ◌≢◌, ℕ, zero, suc, ◌+◌, ◌
 use Rattle.std.specs.List.{AllByRecursion, list_all}
 use Rattle.std.specs.List.Sorted.{IsStrictlySortedBy}
 use Rattle.std.specs.Option.{option_map_or, is_some}
-use Rattle.std.specs.Prelude.{if◌then◌else◌, ◌&&◌, not, nat_lt, nat_le}
-use Rattle.std.proofs.lemmas.Bool.{and_parts, eqb-true, false_from_ne_true, cases_eq, leb-true, not-false}
+use Rattle.std.specs.Prelude.{if◌then◌else◌, ◌&&◌, nat_lt, nat_le, Result, Ok, Err}
+use Rattle.std.proofs.lemmas.Bool.{and_parts, eqb-true, false_from_ne_true, cases_eq, leb-true}
 use Rattle.std.proofs.lemmas.List.Quantifiers.{position-Some}
 use Rattle.snap_layer.specs.Tree.{Tree}
 use Rattle.snap_usage.specs.declared.usage.Usage.{Usage}
@@ -28,17 +28,18 @@ use Rattle.snap_call.specs.declared.refusal.Refusal.{Refusal}
 use Rattle.snap_call.specs.declared.refusal.Refusal.TheVariants.{NoNamespace}
 use Rattle.snap_call.specs.declared.reply.Reply.{Reply}
 use Rattle.snap_call.specs.declared.state.State.{State}
-use Rattle.snap_call.specs.Forms.{has_name, is_limit, is_namespace, is_text, have_distinct_names, is_config, is_key, is_parent}
-use Rattle.snap_call.specs.Records.{has_key, has_slot, is_slot, record_at, active_at, charge_of, with_record, without_slot, recharged, committed_as, lowest_free}
-use Rattle.snap_call.specs.State.{opening, place_of, limit_at, is_present, is_base, is_too_deep}
+use Rattle.snap_call.specs.Forms.{has_name, is_limit, is_namespace, is_text, have_distinct_names, is_config, is_key}
+use Rattle.snap_call.specs.Records.{has_key, has_slot, is_slot, record_at, active_at, charge_of, with_record, without_slot, recharged, committed_as}
+use Rattle.snap_call.specs.State.{opening, place_of, limit_at, is_base, is_too_deep}
 use Rattle.snap_call.specs.Good.{IsGuarding, IsCounted, HasLowSlot, AreApart, Good}
-use Rattle.snap_call.specs.Step.{counted, refused, session, one, no_more, new_active, prepared, prepare_slot, prepare_at, prepare_in, prepare, greater, fits, charge_to, charge, trim, committed, commit_as, commit, discard, ask_record, ask, step, IsCovered, IsAllowed}
+use Rattle.snap_call.specs.Step.{counted, refused, session, one, new_active, prepared, prepare_at, prepare, greater, fits, charge_to, charge, trim, committed, commit_as, commit, discard, ask_record, ask, step, IsCovered, IsAllowed, place_for, slot_for, unless_refused}
 use Rattle.snap_call.specs.Journal.{Replays}
 use Rattle.snap_call.proofs.Lists.{all-map, find-none, same_slot, active_at-all, all-with_record, pairwise-with_record, all-without_slot, pairwise-without_slot, all-beside, all-recharged, pairwise-recharged}
 use Rattle.snap_call.proofs.Ordered.{sorted-with_record, sorted-without_slot, sorted-recharged, has_key-without_slot}
 use Rattle.snap_call.proofs.Chains.{HasParent, chain, Keeps, Keeps-after, Keeps-with_record, Keeps-without_slot, Keeps-recharged, keeps-HasParent, keeps-IsGuarding, keeps-some_chain, chain-found}
 use Rattle.snap_call.proofs.Sums.{charge_with, charge_of-with_record_own, charge_of-with_record_other, charge_of-covers, charge_of-without_slot_own, charge_of-without_slot_other, charge_of-recharged_own, charge_of-recharged_other, charge_of-committed_own, charge_of-committed_other}
 use Rattle.snap_call.proofs.Lowest.{lowest_free-Some}
+use Rattle.snap_call.proofs.Places.{IsPlace, place_for-Ok, slot_for-Ok}
 
 -- ---- a limit
 
@@ -108,10 +109,10 @@ good_counted s good = good_counters s s.sessions (s.entries + 1) good
 
 -- ---- a new active snapshot
 
-pub good_prepared : (s : State) (place : ℕ) (key parent : Bytes) (slot : ℕ) → Good s → place < length s.namespaces → has_key place key s.records ≡ false
+pub good_prepared : (s : State) (place : ℕ) (key parent : Bytes) (labels : List Label) (slot : ℕ) → Good s → place < length s.namespaces → has_key place key s.records ≡ false
     → is_base place parent s.records ≡ true → is_too_deep place parent s.records ≡ false → slot < 64 → active_at slot s.records ≡ None
-    → Covers (limit_at place s.namespaces) (plus (charge_of place s.records) one) → Good (prepared s place key parent slot).0
-good_prepared s place key parent slot good low free base deep few none room = record {
+    → Covers (limit_at place s.namespaces) (plus (charge_of place s.records) one) → Good (prepared s place key parent labels slot).0
+good_prepared s place key parent labels slot good low free base deep few none room = record {
   root = good.root;
   parents = stand_parents ns rs ts keeps ts (all-with_record r (HasParent rs) rs base good.parents);
   leased = stand_leases ns rs ts keeps s.leases good.leased;
@@ -142,7 +143,7 @@ good_prepared s place key parent slot good low free base deep few none room = re
     rs = s.records
 
     r : Record
-    r = new_active s place key parent slot
+    r = new_active s place key parent labels slot
 
     ts : List Record
     ts = with_record r rs
@@ -313,31 +314,21 @@ good_session s good = either (nat_lt s.sessions 65536) _ _ (λ e. good_counters 
 pub place_of-below : (name : Bytes) (ns : List Namespace) (place : ℕ) → place_of name ns ≡ Some place → place < length ns
 place_of-below name ns place e = (position-Some (has_name name) ns place (record { name = []; limit = no_usage }) e).0
 
-good_prepare_slot : (s : State) (place : ℕ) (key parent : Bytes) → Good s → place < length s.namespaces → has_key place key s.records ≡ false → is_base place parent s.records ≡ true → is_too_deep place parent s.records ≡ false
-    → (o : Option ℕ) → lowest_free 64 s.records ≡ o → Good (prepare_slot s place key parent o).0
-good_prepare_slot s place key parent good low free base deep None e = good_counted s good
-good_prepare_slot s place key parent good low free base deep (Some slot) e =
-    either (covers (limit_at place s.namespaces) (plus (charge_of place s.records) one)) _ _
-    (λ room. either (nat_le s.next_id 4294967295) _ _
-    (λ few. let h = lowest_free-Some s.records slot e in good_prepared s place key parent slot good low free base deep h.0 h.1 (covers-Covers _ _ room))
-    (λ spent. good_counted s good))
-    (λ over. good_counted s good)
+good_unless_refused : (s : State) → Good s → (r : Result ℕ Refusal) (next : ℕ → State × Reply) → ((n : ℕ) → r ≡ Ok n → Good (next n).0) → Good (unless_refused s r next).0
+good_unless_refused s good (Ok n) next h = h n refl
+good_unless_refused s good (Err why) next h = good_counted s good
 
-good_prepare_at : (s : State) (key parent : Bytes) (place : ℕ) → Good s → place < length s.namespaces → Good (prepare_at s key parent place).0
-good_prepare_at s key parent place good low =
-    either (not (is_present place parent s.records)) _ _ (λ missing. good_counted s good)
-    (λ present. either (has_key place key s.records) _ _ (λ taken. good_counted s good)
-    (λ free. either (not (is_base place parent s.records)) _ _ (λ active. good_counted s good)
-    (λ base. either (is_too_deep place parent s.records) _ _ (λ deep. good_counted s good)
-    (λ found. good_prepare_slot s place key parent good low free (not-false (is_base place parent s.records) base) found (lowest_free 64 s.records) refl))))
-
-good_prepare_in : (s : State) (key parent : Bytes) → Good s → (o : Option ℕ) → ((place : ℕ) → o ≡ Some place → place < length s.namespaces) → Good (prepare_in s key parent o).0
-good_prepare_in s key parent good None low = good_counted s good
-good_prepare_in s key parent good (Some place) low = good_prepare_at s key parent place good (low place refl)
+good_prepare_at : (s : State) (namespace key parent : Bytes) (labels : List Label) (place : ℕ) → Good s → IsPlace s namespace key parent place → Good (prepare_at s key parent labels place).0
+good_prepare_at s namespace key parent labels place good is =
+    good_unless_refused s good (slot_for s place) (prepared s place key parent labels) (λ slot e.
+    let found = slot_for-Ok s place slot e in
+    let free = lowest_free-Some s.records slot found.lowest in
+    good_prepared s place key parent labels slot good (place_of-below namespace s.namespaces place is.named) is.free is.base is.deep free.0 free.1 (covers-Covers _ _ found.room))
 
 pub good_prepare : (s : State) (namespace key parent : Bytes) (labels : List Label) → Good s → Good (prepare s namespace key parent labels).0
 good_prepare s namespace key parent labels good =
-    either (is_key key && is_parent parent && no_more labels) _ _ (λ e. good_prepare_in s key parent good (place_of namespace s.namespaces) (place_of-below namespace s.namespaces)) (λ e. good_counted s good)
+    good_unless_refused s good (place_for s namespace key parent labels) (prepare_at s key parent labels)
+    (λ place e. good_prepare_at s namespace key parent labels place good (place_for-Ok s namespace key parent labels place e))
 
 -- the choice was tested
 good_charge_to : (s : State) (slot : ℕ) (r : Record) → Good s → active_at slot s.records ≡ Some r → (a b : Bool) (needed wanted : Usage) → fits s r.namespace (usage_of r.content) wanted ≡ a → fits s r.namespace (usage_of r.content) needed ≡ b

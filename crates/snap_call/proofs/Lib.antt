@@ -4,6 +4,7 @@ pub mod Chains
 pub mod Sums
 pub mod Lowest
 pub mod Slots
+pub mod Places
 mod CodeLemmas
 pub mod Kept
 pub mod Counts

@@ -2,11 +2,9 @@
 use Rattle.std.proofs.Common.{◌≡◌, ◌≢◌, ℕ, ◌+◌, ◌<◌, List, [], ◌∷◌, ◌++◌, length, Bool, true, false, Some, None, eq-eqb, refl, sym, ap, ◌∙◌, subst, ⊎_elim, arith}
 use Rattle.std.proofs.lemmas.Bool.Decides.{eqb_tells, nat_tests}
 use Rattle.std.specs.Option.{option_map_or, is_some}
-use Rattle.std.specs.Prelude.{◌==◌, ◌&&◌, not, nat_le, nat_lt, if◌then◌else◌, Option}
+use Rattle.std.specs.Prelude.{◌==◌, ◌&&◌, nat_lt, if◌then◌else◌, Option, Result, Ok, Err}
 use Rattle.snap_layer.specs.Tree.{Tree}
 use Rattle.snap_usage.specs.declared.usage.Usage.{Usage}
-use Rattle.snap_usage.specs.Counted.{covers}
-use Rattle.snap_ledger.specs.States.{plus}
 use Rattle.snap_record.specs.Labels.{Bytes, Label}
 use Rattle.snap_record.specs.Records.{usage_of, info_of}
 use Rattle.snap_record.specs.declared.record.Record.{Record}
@@ -16,14 +14,14 @@ use Rattle.snap_call.specs.declared.call.Given.{Given}
 use Rattle.snap_call.specs.declared.call.Given.TheVariants.{Nothing, Count, Layer}
 use Rattle.snap_call.specs.declared.entry.Entry.{Entry}
 use Rattle.snap_call.specs.declared.refusal.Refusal.{Refusal}
-use Rattle.snap_call.specs.declared.refusal.Refusal.TheVariants.{BadArgument, NoNamespace, NotFound, AlreadyExists, NotCommitted, NotActive, NoLease, TooDeep, TooManyActives, NumbersSpent}
+use Rattle.snap_call.specs.declared.refusal.Refusal.TheVariants.{BadArgument, NoNamespace, NotFound, AlreadyExists, NotActive, NoLease, NumbersSpent}
 use Rattle.snap_call.specs.declared.reply.Reply.{Reply}
 use Rattle.snap_call.specs.declared.reply.Reply.TheVariants.{Opened, Info, Usage as UsageReply, Refused}
 use Rattle.snap_call.specs.declared.state.State.{State}
-use Rattle.snap_call.specs.Forms.{is_key, is_parent}
-use Rattle.snap_call.specs.Records.{record_at, has_key, active_at, charge_of, lowest_free}
-use Rattle.snap_call.specs.State.{place_of, limit_at, over_limit, is_present, is_base, is_too_deep}
-use Rattle.snap_call.specs.Step.{refused, session, one, no_more, prepared, prepare_slot, prepare_at, prepare_in, prepare, granted, charge_to, charge, trim, committed, commit_as, commit, discard, ask_record, ask, step, IsAllowed}
+use Rattle.snap_call.specs.Forms.{is_key}
+use Rattle.snap_call.specs.Records.{record_at, has_key, active_at}
+use Rattle.snap_call.specs.State.{place_of, over_limit}
+use Rattle.snap_call.specs.Step.{refused, session, one, prepared, prepare_at, prepare, granted, charge_to, charge, trim, committed, commit_as, commit, discard, ask_record, ask, step, IsAllowed, place_for, slot_for, unless_refused}
 use Rattle.snap_call.specs.Journal.{Replays, own}
 
 -- what no step changes
@@ -47,27 +45,15 @@ either s false p q h k = k
 refusing : (s : State) (why : Refusal) → IsNext s (refused s why).0
 refusing s why = one_more s (refused s why).0 refl refl refl refl
 
-preparing_slot : (s : State) (place : ℕ) (key parent : Bytes) (o : Option ℕ) → IsNext s (prepare_slot s place key parent o).0
-preparing_slot s place key parent None = refusing s TooManyActives
-preparing_slot s place key parent (Some slot) =
-    either s (covers (limit_at place s.namespaces) (plus (charge_of place s.records) one)) _ _
-    (either s (nat_le s.next_id 4294967295) _ _ (one_more s (prepared s place key parent slot).0 refl refl refl refl) (refusing s NumbersSpent))
-    (refusing s (over_limit s place))
+unless_refusing : (s : State) (r : Result ℕ Refusal) (next : ℕ → State × Reply) → ((n : ℕ) → IsNext s (next n).0) → IsNext s (unless_refused s r next).0
+unless_refusing s (Ok n) next h = h n
+unless_refusing s (Err why) next h = refusing s why
 
-preparing_at : (s : State) (key parent : Bytes) (place : ℕ) → IsNext s (prepare_at s key parent place).0
-preparing_at s key parent place =
-    either s (not (is_present place parent s.records)) _ _ (refusing s NotFound)
-    (either s (has_key place key s.records) _ _ (refusing s AlreadyExists)
-    (either s (not (is_base place parent s.records)) _ _ (refusing s NotCommitted)
-    (either s (is_too_deep place parent s.records) _ _ (refusing s TooDeep)
-    (preparing_slot s place key parent (lowest_free 64 s.records)))))
-
-preparing_in : (s : State) (key parent : Bytes) (o : Option ℕ) → IsNext s (prepare_in s key parent o).0
-preparing_in s key parent None = refusing s NoNamespace
-preparing_in s key parent (Some place) = preparing_at s key parent place
+preparing_at : (s : State) (key parent : Bytes) (labels : List Label) (place : ℕ) → IsNext s (prepare_at s key parent labels place).0
+preparing_at s key parent labels place = unless_refusing s (slot_for s place) (prepared s place key parent labels) (λ slot. one_more s (prepared s place key parent labels slot).0 refl refl refl refl)
 
 preparing : (s : State) (namespace key parent : Bytes) (labels : List Label) → IsNext s (prepare s namespace key parent labels).0
-preparing s namespace key parent labels = either s (is_key key && is_parent parent && no_more labels) _ _ (preparing_in s key parent (place_of namespace s.namespaces)) (refusing s BadArgument)
+preparing s namespace key parent labels = unless_refusing s (place_for s namespace key parent labels) (prepare_at s key parent labels) (preparing_at s key parent labels)
 
 charging_to : (s : State) (slot : ℕ) (r : Record) (o : Option Usage) → IsNext s (charge_to s slot r o).0
 charging_to s slot r (Some to) = one_more s _ refl refl refl refl

@@ -1,12 +1,12 @@
 -- What one call answers, and the state after it. The cases of each call stand in the order in which its refusals are tested.
 -- Cited by `State::opening`, `Accounts::count_entry`, `Accounts::charge` and others.
-use Rattle.std.specs.Prelude.{◌≡◌, ℕ, ◌+◌, ◌<◌, Bool, true, false, not, ◌&&◌, nat_le, nat_lt, if◌then◌else◌, List, [], ◌∷◌, Option, None, Some, IsSomeAnd, is_some, max}
+use Rattle.std.specs.Prelude.{◌≡◌, ℕ, ◌+◌, ◌<◌, Bool, true, not, ◌&&◌, nat_le, nat_lt, if◌then◌else◌, List, Option, None, Some, IsSomeAnd, is_some, max, Result, Ok, Err}
 use Rattle.std.specs.Option.{option_map_or}
 use Rattle.snap_layer.specs.Tree.{Tree}
 use Rattle.snap_usage.specs.declared.usage.Usage.{Usage}
 use Rattle.snap_usage.specs.Counted.{count_of, Covers, covers}
 use Rattle.snap_ledger.specs.States.{plus, minus}
-use Rattle.snap_record.specs.Labels.{Bytes, Label}
+use Rattle.snap_record.specs.Labels.{Bytes, Label, are_labels}
 use Rattle.snap_record.specs.Records.{usage_of, info_of}
 use Rattle.snap_record.specs.declared.record.Content.TheVariants.{Active}
 use Rattle.snap_record.specs.declared.record.Record.{Record}
@@ -35,45 +35,57 @@ refused s why = (counted s, Refused why)
 abbrev pub session : State → State × Reply
 session s = if nat_lt s.sessions 65536 then (record s { sessions = s.sessions + 1; entries = s.entries + 1 }, Opened) else (s, Refused NumbersSpent)
 
--- Prepare: a new active snapshot, in the lowest free slot, charged 1/1 for its root. The reply has the ids of its committed ancestors, nearest first. Labels are refused.
+-- what follows at a place or a slot that was found, or the refusal of it
+abbrev pub unless_refused : State → Result ℕ Refusal → (ℕ → State × Reply) → State × Reply
+unless_refused s (Ok found) next = next found
+unless_refused s (Err why) next = refused s why
+
+-- A new snapshot: the place of its namespace, or the first refusal of its key and its parent there
+abbrev pub place_on : ℕ → Bytes → Bytes → List Record → Result ℕ Refusal
+place_on place key parent rs =
+    if not (is_present place parent rs) then Err NotFound else
+    if has_key place key rs then Err AlreadyExists else
+    if not (is_base place parent rs) then Err NotCommitted else
+    if is_too_deep place parent rs then Err TooDeep else
+    Ok place
+
+abbrev pub place_in : Option ℕ → Bytes → Bytes → List Record → Result ℕ Refusal
+place_in None key parent rs = Err NoNamespace
+place_in (Some place) key parent rs = place_on place key parent rs
+
+abbrev pub place_for : State → Bytes → Bytes → Bytes → List Label → Result ℕ Refusal
+place_for s namespace key parent labels =
+    if is_key key && is_parent parent && are_labels labels then place_in (place_of namespace s.namespaces) key parent s.records else Err BadArgument
+
+-- Prepare: a new active snapshot, in the lowest free slot, charged 1/1 for its root. The reply has the ids of its committed ancestors, nearest first.
 abbrev pub one : Usage
 one = record { blocks = 1; inodes = 1 }
 
-abbrev pub no_more : {X : Type 0} → List X → Bool
-no_more [] = true
-no_more (x ∷ xs) = false
+-- its slot, or the first refusal of one
+abbrev pub slot_in : State → ℕ → Option ℕ → Result ℕ Refusal
+slot_in s place None = Err TooManyActives
+slot_in s place (Some slot) =
+    if covers (limit_at place s.namespaces) (plus (charge_of place s.records) one)
+    then if nat_le s.next_id 4294967295 then Ok slot else Err NumbersSpent
+    else Err (over_limit s place)
 
-abbrev pub new_active : State → ℕ → Bytes → Bytes → ℕ → Record
-new_active s place key parent slot = record { namespace = place; key = key; parent = parent; id = s.next_id; labels = []; created = s.entries + 1; updated = s.entries + 1; content = Active slot one }
+abbrev pub slot_for : State → ℕ → Result ℕ Refusal
+slot_for s place = slot_in s place (lowest_free 64 s.records)
 
-abbrev pub prepared : State → ℕ → Bytes → Bytes → ℕ → State × Reply
-prepared s place key parent slot = (
-  record s { records = with_record (new_active s place key parent slot) s.records; next_id = s.next_id + 1; entries = s.entries + 1 },
+abbrev pub new_active : State → ℕ → Bytes → Bytes → List Label → ℕ → Record
+new_active s place key parent labels slot = record { namespace = place; key = key; parent = parent; id = s.next_id; labels = labels; created = s.entries + 1; updated = s.entries + 1; content = Active slot one }
+
+abbrev pub prepared : State → ℕ → Bytes → Bytes → List Label → ℕ → State × Reply
+prepared s place key parent labels slot = (
+  record s { records = with_record (new_active s place key parent labels slot) s.records; next_id = s.next_id + 1; entries = s.entries + 1 },
   Prepared s.next_id slot (ids_of (ancestors place parent s.records)),
 )
 
-abbrev pub prepare_slot : State → ℕ → Bytes → Bytes → Option ℕ → State × Reply
-prepare_slot s place key parent None = refused s TooManyActives
-prepare_slot s place key parent (Some slot) =
-    if covers (limit_at place s.namespaces) (plus (charge_of place s.records) one)
-    then if nat_le s.next_id 4294967295 then prepared s place key parent slot else refused s NumbersSpent
-    else refused s (over_limit s place)
-
-abbrev pub prepare_at : State → Bytes → Bytes → ℕ → State × Reply
-prepare_at s key parent place =
-    if not (is_present place parent s.records) then refused s NotFound else
-    if has_key place key s.records then refused s AlreadyExists else
-    if not (is_base place parent s.records) then refused s NotCommitted else
-    if is_too_deep place parent s.records then refused s TooDeep else
-    prepare_slot s place key parent (lowest_free 64 s.records)
-
-abbrev pub prepare_in : State → Bytes → Bytes → Option ℕ → State × Reply
-prepare_in s key parent None = refused s NoNamespace
-prepare_in s key parent (Some place) = prepare_at s key parent place
+abbrev pub prepare_at : State → Bytes → Bytes → List Label → ℕ → State × Reply
+prepare_at s key parent labels place = unless_refused s (slot_for s place) (prepared s place key parent labels)
 
 abbrev pub prepare : State → Bytes → Bytes → Bytes → List Label → State × Reply
-prepare s namespace key parent labels =
-    if is_key key && is_parent parent && no_more labels then prepare_in s key parent (place_of namespace s.namespaces) else refused s BadArgument
+prepare s namespace key parent labels = unless_refused s (place_for s namespace key parent labels) (prepare_at s key parent labels)
 
 -- Charge: the greater in each quantity
 abbrev pub greater : Usage → Usage → Usage

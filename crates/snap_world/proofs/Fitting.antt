@@ -1,6 +1,6 @@
 -- Each step keeps the hands those of the open slots.
 use Rattle.std.proofs.Common.{◌≡◌, ◌≢◌, inl, inr, ℕ, ◌+◌, ◌≤◌, ◌<◌, List, length, true, false, Bool, Option, None, Some, eqb, refl, sym, ap, ◌∙◌, subst, ⊎_elim, arith, length-set}
-use Rattle.std.specs.Prelude.{if◌then◌else◌, ◌&&◌, not, nat_lt, nat_le, max, Ok, Err, IsSome}
+use Rattle.std.specs.Prelude.{if◌then◌else◌, ◌&&◌, nat_lt, max, Result, Ok, Err, IsSome}
 use Rattle.std.specs.List.{AllByRecursion}
 use Rattle.std.proofs.Math.Nat.{le-max_left}
 use Rattle.std.proofs.lemmas.Bool.{ltb-true}
@@ -17,6 +17,7 @@ use Rattle.snap_call.specs.declared.call.Call.TheVariants as calls
 use Rattle.snap_call.specs.declared.call.Given.{Given}
 use Rattle.snap_call.specs.declared.call.Given.TheVariants.{Nothing, Count, Layer}
 use Rattle.snap_call.specs.declared.refusal.Refusal.TheVariants.{NumbersSpent, NoNamespace, NoLease}
+use Rattle.snap_call.specs.declared.refusal.Refusal.{Refusal}
 use Rattle.snap_call.specs.declared.reply.Reply.{Reply}
 use Rattle.snap_call.specs.declared.reply.Reply.TheVariants as replies
 use Rattle.snap_call.specs.declared.state.State.{State}
@@ -24,12 +25,13 @@ use Rattle.snap_call.specs.Good.{Good}
 use Rattle.snap_call.specs.Records.{active_at, charge_of, has_key, is_slot, lowest_free, recharged, record_at, with_record, without_slot, committed_as}
 use Rattle.snap_call.specs.Forms.{is_key, is_parent}
 use Rattle.snap_call.specs.State.{ancestors, is_base, is_present, is_too_deep, layers_of, limit_at, over_limit, place_of}
-use Rattle.snap_call.specs.Step.{IsAllowed, IsCovered, IsOpen, ask, ask_record, charge, charge_to, commit_as, committed as committed_state, discard, greater, new_active, no_more, one, prepare_at, prepare_in, prepare_slot, prepared as prepared_state, refused, session, step, trim}
+use Rattle.snap_call.specs.Step.{IsAllowed, IsCovered, IsOpen, ask, ask_record, charge, charge_to, commit_as, committed as committed_state, discard, greater, new_active, one, prepare_at, prepared as prepared_state, refused, session, step, trim, place_for, slot_for, unless_refused}
 use Rattle.snap_call.proofs.Chains.{chain, Keeps, Keeps-after, Keeps-recharged, Keeps-with_record, Keeps-without_slot, chain-found, keeps-ancestors}
 use Rattle.snap_call.proofs.Kept.{covers-Covers, good_step}
 use Rattle.snap_call.proofs.Lists.{active_at-all}
 use Rattle.snap_call.proofs.Ordered.{has_key-without_slot}
 use Rattle.snap_call.proofs.Lowest.{lowest_free-Some}
+use Rattle.snap_call.proofs.Places.{IsPlace, IsSlotFor, place_for-Ok, slot_for-Ok}
 use Rattle.snap_call.proofs.Slots.{Active-is_slot, is_slot-other, active_at-with_record_own, active_at-with_record_other, active_at-without_slot_own, active_at-without_slot_other, active_at-recharged_own, active_at-recharged_other, active_at-committed_own, active_at-committed_other}
 use Rattle.std.specs.Option.{option_map, option_map_or, is_some}
 use Rattle.snap_merge.specs.declared.error.FsError.TheVariants.{NeedsCharge}
@@ -197,49 +199,39 @@ left_ask s hands answer namespace key agree = cases_if (Left (λ reply. hands)) 
 left_session : (s : State) (hands : List (Option HandValue)) → AgreeAll hands s.records → Left (λ reply. hands) (session s)
 left_session s hands agree = cases_if (Left (λ reply. hands)) (nat_lt s.sessions 65536) _ _ (λ e. agree) (λ e. agree)
 
-left_room : (s : State) (place : ℕ) (key parent : Bytes) (slot : ℕ) (hands : List (Option HandValue)) → Good s → AgreeAll hands s.records → length hands ≡ 64 → has_key place key s.records ≡ false → is_too_deep place parent s.records ≡ false
-    → lowest_free 64 s.records ≡ Some slot → (room few : Bool)
-    → Left (with_prepared (Some place) key parent s.records hands) (if room then if few then prepared_state s place key parent slot else refused s NumbersSpent else refused s (over_limit s place))
-left_room s place key parent slot hands good agree places free deep e true true =
-    let lowest = lowest_free-Some s.records slot e in
-    let new : Record = new_active s place key parent slot in
+left_room : (s : State) (namespace key parent : Bytes) (labels : List Label) (place slot : ℕ) (hands : List (Option HandValue)) → Good s → AgreeAll hands s.records → length hands ≡ 64 → IsPlace s namespace key parent place → IsSlotFor s place slot
+    → Left (with_prepared (Some place) key parent s.records hands) (prepared_state s place key parent labels slot)
+left_room s namespace key parent labels place slot hands good agree places is found =
+    let lowest = lowest_free-Some s.records slot found.lowest in
+    let new : Record = new_active s place key parent labels slot in
     let ts : List Record = with_record new s.records in
-    let keeps : Keeps s.records ts = Keeps-with_record new s.records free in
+    let keeps : Keeps s.records ts = Keeps-with_record new s.records is.free in
     let own : is_slot slot new ≡ true = Active-is_slot slot one new refl in
     let low : slot < length hands = (let p = lowest.0 in omega (arith, places)) in
     let hand : HandValue = new_hand key parent s.records s.next_id slot place in
-    let same : layers_of (ancestors place parent s.records) ≡ layers_of (ancestors place parent ts) = ap layers_of (sym (keeps-ancestors s.records ts keeps place parent (chain-found s.records place parent deep))) in
+    let same : layers_of (ancestors place parent s.records) ≡ layers_of (ancestors place parent ts) = ap layers_of (sym (keeps-ancestors s.records ts keeps place parent (chain-found s.records place parent is.deep))) in
     agree_set s.records ts good.chains keeps slot (Some hand) hands agree low
     (subst (λ (x : Option Record). AgreesAt slot ts (Some hand) x) (sym (active_at-with_record_own slot new s.records own lowest.1))
     (record { namespace = refl; key = refl; lowers = same; slot = refl; id = refl; usage = refl; covers = record { blocks = omega arith; inodes = omega arith } }))
     (λ k ne. active_at-with_record_other k new s.records (is_slot-other slot k new ne own))
-left_room s place key parent slot hands good agree places free deep e true false = agree
-left_room s place key parent slot hands good agree places free deep e false few = agree
 
-left_prepare_slot : (s : State) (place : ℕ) (key parent : Bytes) (hands : List (Option HandValue)) → Good s → AgreeAll hands s.records → length hands ≡ 64 → has_key place key s.records ≡ false → is_too_deep place parent s.records ≡ false
-    → (o : Option ℕ) → lowest_free 64 s.records ≡ o → Left (with_prepared (Some place) key parent s.records hands) (prepare_slot s place key parent o)
-left_prepare_slot s place key parent hands good agree places free deep None e = agree
-left_prepare_slot s place key parent hands good agree places free deep (Some slot) e =
-    left_room s place key parent slot hands good agree places free deep e (covers (limit_at place s.namespaces) (plus (charge_of place s.records) one)) (nat_le s.next_id 4294967295)
+left_unless_refused : (s : State) (f : Reply → List (Option HandValue)) (r : Result ℕ Refusal) (next : ℕ → State × Reply) → ((why : Refusal) → Left f (refused s why)) → ((n : ℕ) → r ≡ Ok n → Left f (next n)) → Left f (unless_refused s r next)
+left_unless_refused s f (Ok n) next bad good = good n refl
+left_unless_refused s f (Err why) next bad good = bad why
 
-left_prepare_at : (s : State) (key parent : Bytes) (place : ℕ) (hands : List (Option HandValue)) → Good s → AgreeAll hands s.records → length hands ≡ 64 → Left (with_prepared (Some place) key parent s.records hands) (prepare_at s key parent place)
-left_prepare_at s key parent place hands good agree places =
-    let f : Reply → List (Option HandValue) = with_prepared (Some place) key parent s.records hands in
-    cases_if (Left f) (not (is_present place parent s.records)) _ _ (λ missing. agree)
-    (λ present. cases_if (Left f) (has_key place key s.records) _ _ (λ taken. agree)
-    (λ free. cases_if (Left f) (not (is_base place parent s.records)) _ _ (λ active. agree)
-    (λ base. cases_if (Left f) (is_too_deep place parent s.records) _ _ (λ deep. agree)
-    (λ deep. left_prepare_slot s place key parent hands good agree places free deep (lowest_free 64 s.records) refl))))
-
-left_prepare_in : (s : State) (key parent : Bytes) (hands : List (Option HandValue)) → Good s → AgreeAll hands s.records → length hands ≡ 64 → (o : Option ℕ) → Left (with_prepared o key parent s.records hands) (prepare_in s key parent o)
-left_prepare_in s key parent hands good agree places None = agree
-left_prepare_in s key parent hands good agree places (Some place) = left_prepare_at s key parent place hands good agree places
+left_prepare_at : (s : State) (namespace key parent : Bytes) (labels : List Label) (place : ℕ) (hands : List (Option HandValue)) → Good s → AgreeAll hands s.records → length hands ≡ 64 → IsPlace s namespace key parent place
+    → Left (with_prepared (Some place) key parent s.records hands) (prepare_at s key parent labels place)
+left_prepare_at s namespace key parent labels place hands good agree places is =
+    left_unless_refused s (with_prepared (Some place) key parent s.records hands) (slot_for s place) (prepared_state s place key parent labels) (λ why. agree)
+    (λ slot e. left_room s namespace key parent labels place slot hands good agree places is (slot_for-Ok s place slot e))
 
 left_prepare : (s : State) (namespace key parent : Bytes) (labels : List Label) (hands : List (Option HandValue)) → Good s → AgreeAll hands s.records → length hands ≡ 64
     → Left (with_prepared (place_of namespace s.namespaces) key parent s.records hands) (step s (calls.Prepare namespace key parent labels) Nothing)
 left_prepare s namespace key parent labels hands good agree places =
-    cases_if (Left (with_prepared (place_of namespace s.namespaces) key parent s.records hands)) (is_key key && is_parent parent && no_more labels) _ _
-    (λ formed. left_prepare_in s key parent hands good agree places (place_of namespace s.namespaces)) (λ bad. agree)
+    left_unless_refused s (with_prepared (place_of namespace s.namespaces) key parent s.records hands) (place_for s namespace key parent labels) (prepare_at s key parent labels) (λ why. agree)
+    (λ place e.
+    let is = place_for-Ok s namespace key parent labels place e in
+    subst (λ (o : Option ℕ). Left (with_prepared o key parent s.records hands) (prepare_at s key parent labels place)) (sym is.named) (left_prepare_at s namespace key parent labels place hands good agree places is))
 
 -- ---- steps
 

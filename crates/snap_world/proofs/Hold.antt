@@ -1,20 +1,19 @@
 -- What a world that fits says of one slot.
-use Rattle.std.proofs.Common.{◌≡◌, ℕ, ◌<◌, List, true, false, Bool, Option, None, Some, refl, ap, subst}
-use Rattle.std.specs.Prelude.{if◌then◌else◌, not}
+use Rattle.std.proofs.Common.{◌≡◌, ℕ, ◌<◌, List, true, Option, None, Some, refl, ap, ◌∙◌, subst}
+use Rattle.std.specs.Prelude.{Result, Ok, Err}
 use Rattle.std.proofs.lemmas.Bool.{eqb-true}
 use Rattle.snap_record.specs.Labels.{Bytes, Label}
 use Rattle.snap_record.specs.declared.record.Record.{Record}
 use Rattle.snap_call.specs.declared.call.Call.TheVariants as calls
 use Rattle.snap_call.specs.declared.call.Given.TheVariants.{Nothing}
-use Rattle.snap_call.specs.declared.refusal.Refusal.TheVariants.{NumbersSpent, BadArgument, NotFound, AlreadyExists, NotCommitted, TooDeep}
 use Rattle.snap_call.specs.declared.refusal.Refusal.{Refusal}
 use Rattle.snap_call.specs.declared.reply.Reply.{Reply}
 use Rattle.snap_call.specs.declared.reply.Reply.TheVariants.{Prepared}
 use Rattle.snap_call.specs.declared.state.State.{State}
-use Rattle.snap_call.specs.Records.{active_at, has_key, lowest_free}
-use Rattle.snap_call.specs.State.{place_of, over_limit, is_present, is_base, is_too_deep}
-use Rattle.snap_call.specs.Step.{step, prepare_slot, prepare_at, prepare_in, prepared, refused}
+use Rattle.snap_call.specs.Records.{active_at, lowest_free}
+use Rattle.snap_call.specs.Step.{step, place_for, prepare_at, prepared, slot_for, unless_refused}
 use Rattle.snap_call.proofs.Lowest.{lowest_free-Some}
+use Rattle.snap_call.proofs.Places.{slot_for-Ok}
 use Rattle.snap_world.specs.World.{HandValue, WorldValue, Fits, IsHandOf, AgreesAt, hand_at}
 use Rattle.snap_world.specs.Move.{is_under}
 
@@ -43,39 +42,18 @@ free w slot fits low e = free_if slot w.state.records (hand_at slot w.hands) (su
 
 -- a granted prepare takes the lowest free slot
 
-slot_if : (s : State) (place : ℕ) (key parent : Bytes) (id slot k : ℕ) (chain : List ℕ) (fits few : Bool)
-    → Prepared id slot chain ≡ (if fits then if few then prepared s place key parent k else refused s NumbersSpent else refused s (over_limit s place)).1 → k ≡ slot
-slot_if s place key parent id slot k chain true true e = cc
-slot_if s place key parent id slot k chain true false e = absurd (cc)
-slot_if s place key parent id slot k chain false few e = absurd (cc)
-
-slot_taken : (s : State) (place : ℕ) (key parent : Bytes) (id slot : ℕ) (chain : List ℕ) (o : Option ℕ) → Prepared id slot chain ≡ (prepare_slot s place key parent o).1 → o ≡ Some slot
-slot_taken s place key parent id slot chain None e = absurd (cc)
-slot_taken s place key parent id slot chain (Some k) e = ap (λ (n : ℕ). Some n) (slot_if s place key parent id slot k chain _ _ e)
-
--- a reply that is no refusal comes from the tests that were passed
-past_test : (s : State) (id slot : ℕ) (chain : List ℕ) (b : Bool) (why : Refusal) (next : State × Reply) → Prepared id slot chain ≡ (if b then refused s why else next).1 → Prepared id slot chain ≡ next.1
-past_test s id slot chain true why next e = absurd (cc)
-past_test s id slot chain false why next e = e
-
-slot_at : (s : State) (key parent : Bytes) (place id slot : ℕ) (chain : List ℕ) → Prepared id slot chain ≡ (prepare_at s key parent place).1 → lowest_free 64 s.records ≡ Some slot
-slot_at s key parent place id slot chain e =
-    slot_taken s place key parent id slot chain (lowest_free 64 s.records)
-    (past_test s id slot chain (is_too_deep place parent s.records) TooDeep _
-    (past_test s id slot chain (not (is_base place parent s.records)) NotCommitted _
-    (past_test s id slot chain (has_key place key s.records) AlreadyExists _
-    (past_test s id slot chain (not (is_present place parent s.records)) NotFound _ e))))
-
-slot_named : (s : State) (key parent : Bytes) (id slot : ℕ) (chain : List ℕ) (o : Option ℕ) → Prepared id slot chain ≡ (prepare_in s key parent o).1 → lowest_free 64 s.records ≡ Some slot
-slot_named s key parent id slot chain None e = absurd (cc)
-slot_named s key parent id slot chain (Some place) e = slot_at s key parent place id slot chain e
-
-slot_formed : (s : State) (key parent : Bytes) (id slot : ℕ) (chain : List ℕ) (o : Option ℕ) (formed : Bool) → Prepared id slot chain ≡ (if formed then prepare_in s key parent o else refused s BadArgument).1 → lowest_free 64 s.records ≡ Some slot
-slot_formed s key parent id slot chain o true e = slot_named s key parent id slot chain o e
-slot_formed s key parent id slot chain o false e = absurd (cc)
+-- a reply that is no refusal comes from what was found
+past_refusal : (s : State) (id slot : ℕ) (chain : List ℕ) (r : Result ℕ Refusal) (next : ℕ → State × Reply) → Prepared id slot chain ≡ (unless_refused s r next).1 → (n : ℕ) × (r ≡ Ok n) × (Prepared id slot chain ≡ (next n).1)
+past_refusal s id slot chain (Ok n) next e = (n, refl, e)
+past_refusal s id slot chain (Err why) next e = absurd (cc)
 
 pub prepared_slot : (s : State) (namespace key parent : Bytes) (labels : List Label) (id slot : ℕ) (chain : List ℕ) → Prepared id slot chain ≡ (step s (calls.Prepare namespace key parent labels) Nothing).1 → lowest_free 64 s.records ≡ Some slot
-prepared_slot s namespace key parent labels id slot chain e = slot_formed s key parent id slot chain (place_of namespace s.namespaces) _ e
+prepared_slot s namespace key parent labels id slot chain e =
+    let at = past_refusal s id slot chain (place_for s namespace key parent labels) (prepare_at s key parent labels) e in
+    let in_slot = past_refusal s id slot chain (slot_for s at.0) (prepared s at.0 key parent labels) at.2 in
+    let last : Prepared id slot chain ≡ (prepared s at.0 key parent labels in_slot.0).1 = in_slot.2 in
+    let same : in_slot.0 ≡ slot = cc in
+    (slot_for-Ok s at.0 in_slot.0 in_slot.1).lowest ∙ ap (λ (n : ℕ). Some n) same
 
 -- where no hand stands
 pub prepared_free : (w : WorldValue) (namespace key parent : Bytes) (labels : List Label) (id slot : ℕ) (chain : List ℕ) → Fits w → Prepared id slot chain ≡ (step w.state (calls.Prepare namespace key parent labels) Nothing).1 → hand_at slot w.hands ≡ None

@@ -41,12 +41,13 @@ invariant_of-self-2 g c =
     let slot = c.args.vacancy.slot in
     let key = c.args.added.key in
     let parent = c.args.added.parent in
+    let labels = c.args.added.labels in
     let view : s ≡ c.args.self.now = c.self.view_is in
-    let made : c.args.added ≡ new_active s place key parent slot = c.requires.added ∙ ap (λ (u : State). new_active u place key parent slot) (sym view) in
-    let is : c.insert.new.self ≡ with_record (new_active s place key parent slot) s.records = c.in-Ok.ensures.ok ∙ ap (λ (r : Record). with_record r s.records) made in
+    let made : c.args.added ≡ new_active s place key parent labels slot = c.requires.added ∙ ap (λ (u : State). new_active u place key parent labels slot) (sym view) in
+    let is : c.insert.new.self ≡ with_record (new_active s place key parent labels slot) s.records = c.in-Ok.ensures.ok ∙ ap (λ (r : Record). with_record r s.records) made in
     let total : c.total.result ≡ charge_of place s.records = c.total.ensures.total ∙ ap (λ (u : State). charge_of place u.records) (sym view) in
     let after : c.sum-after.result ≡ plus (charge_of place s.records) one = c.sum-after.ensures ∙ (λ i. plus (total i) (c.one.ensures i)) in
-    accounts_prepared s c.self.inside.totals c.set.new.self c.self.inside.slots c.issue.new.self c.self.inside.opened place slot key parent c.insert.new.self c.self.invariant
+    accounts_prepared s c.self.inside.totals c.set.new.self c.self.inside.slots c.issue.new.self c.self.inside.opened place slot key parent labels c.insert.new.self c.self.invariant
     (subst (λ (u : State). place < length u.namespaces) (sym view) c.requires.vacant.place)
     (ap (λ (u : State). has_key place key u.records) view ∙ c.requires.vacant.new)
     (ap (λ (u : State). is_base place parent u.records) view ∙ c.requires.vacant.base)
@@ -65,7 +66,8 @@ returns-clause-open g c =
     let slot = c.args.vacancy.slot in
     let key = c.args.added.key in
     let parent = c.args.added.parent in
+    let labels = c.args.added.labels in
     let view : s ≡ c.args.self.now = c.self.view_is in
-    let made : c.args.added ≡ new_active s place key parent slot = c.requires.added ∙ ap (λ (u : State). new_active u place key parent slot) (sym view) in
-    let is : c.insert.new.self ≡ with_record (new_active s place key parent slot) s.records = c.in-Ok.ensures.ok ∙ ap (λ (r : Record). with_record r s.records) made in
-    open_count-prepared s place key parent slot c.insert.new.self is ∙ ap (λ (u : State). open_count u.records + 1) view
+    let made : c.args.added ≡ new_active s place key parent labels slot = c.requires.added ∙ ap (λ (u : State). new_active u place key parent labels slot) (sym view) in
+    let is : c.insert.new.self ≡ with_record (new_active s place key parent labels slot) s.records = c.in-Ok.ensures.ok ∙ ap (λ (r : Record). with_record r s.records) made in
+    open_count-prepared s place key parent labels slot c.insert.new.self is ∙ ap (λ (u : State). open_count u.records + 1) view

@@ -17,9 +17,10 @@ invariant_of-self-2 g c =
     let slot = c.args.vacancy.slot in
     let key = c.args.key.now in
     let parent = c.args.parent.now in
+    let labels = c.args.labels.now in
     let allowed : IsAllowed s e.call e.given = subst (λ (b : BookValue). IsAllowed b.state e.call e.given) (sym c.self.view_is) c.requires.allowed in
-    let granted : step s e.call e.given ≡ ((prepared s place key parent slot).0, e.reply) =
-    subst (λ (b : BookValue). step b.state e.call e.given ≡ ((prepared b.state place key parent slot).0, e.reply)) (sym c.self.view_is) c.requires.granted in
+    let granted : step s e.call e.given ≡ ((prepared s place key parent labels slot).0, e.reply) =
+    subst (λ (b : BookValue). step b.state e.call e.given ≡ ((prepared b.state place key parent labels slot).0, e.reply)) (sym c.self.view_is) c.requires.granted in
     let moved : step s e.call e.given ≡ (c.add.new.self, e.reply) = granted ∙ (λ i. (sym c.in_ok-share.ensures.added i, e.reply)) in
     kept_push _ _ _ _ _ e _ c.self.invariant c.in_default.ensures.same c.push.ensures.entry refl allowed moved
     (omega (arith, c.in_ok-share.ensures.open, c.open_slots.ensures, c.in_default.ensures.below))
@@ -33,8 +34,9 @@ returns-clause-granted g c =
     let slot = c.args.vacancy.slot in
     let key = c.args.key.now in
     let parent = c.args.parent.now in
+    let labels = c.args.labels.now in
     let allowed : IsAllowed s e.call e.given = subst (λ (b : BookValue). IsAllowed b.state e.call e.given) (sym c.self.view_is) c.requires.allowed in
-    let granted : step s e.call e.given ≡ ((prepared s place key parent slot).0, e.reply) =
-    subst (λ (b : BookValue). step b.state e.call e.given ≡ ((prepared b.state place key parent slot).0, e.reply)) (sym c.self.view_is) c.requires.granted in
+    let granted : step s e.call e.given ≡ ((prepared s place key parent labels slot).0, e.reply) =
+    subst (λ (b : BookValue). step b.state e.call e.given ≡ ((prepared b.state place key parent labels slot).0, e.reply)) (sym c.self.view_is) c.requires.granted in
     let moved : step s e.call e.given ≡ (c.add.new.self, e.reply) = granted ∙ (λ i. (sym c.in_ok-share.ensures.added i, e.reply)) in
     recorded_push _ _ _ c.self.inside.journal _ _ e _ c.self.view_is c.in_default.ensures.same c.push.ensures.entry refl allowed moved

@@ -26,7 +26,7 @@ add-requires-clause-granted g c =
     let parent = c.args.parent.now in
     let same = c.state-state.ensures.same ∙ ap (λ (b : BookValue). b.state) c.self.view_is in
     let is = c.in_ok-addition.ensures.entry ∙ ap (λ (u : State). entry c.args.session c.args.call Nothing (Prepared u.next_id v.slot (ids_of (ancestors v.place parent u.records)))) same in
-    subst (λ (e : Entry). step s e.call e.given ≡ ((prepared s v.place key parent v.slot).0, e.reply)) (sym is) c.requires.granted
+    subst (λ (e : Entry). step s e.call e.given ≡ ((prepared s v.place key parent c.args.labels.now v.slot).0, e.reply)) (sym is) c.requires.granted
 
 pub returns-clause-active : goal.returns-clause-active
 returns-clause-active g c =

@@ -2,7 +2,7 @@ use Rattle.std.proofs.Common.{sym, ap, ◌∙◌}
 use Rattle.snap_call.specs.declared.state.State.{State}
 use Rattle.snap_call.specs.Records.{active_at}
 use Rattle.snap_call.proofs.Lowest.{lowest_free-Some}
-use Rattle.snap_accounts.proofs.accounts.Accounts.slot_in.Goals as goal
+use Rattle.snap_accounts.proofs.accounts.Accounts.slot_for.Goals as goal
 
 pub returns-clause-low : goal.returns-clause-low
 returns-clause-low g c = (lowest_free-Some c.self.inside.state.records c.in-Some.slot (sym c.lowest_free.ensures ∙ c.in-Some.is)).0
