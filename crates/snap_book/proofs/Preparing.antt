@@ -31,3 +31,15 @@ lowers_as (Ok a) mid old place parent key layer share same active =
     let at : a.namespace ≡ place = ap (λ (v : ActiveValue). v.namespace) active in
     ap (λ (v : ActiveValue). v.lowers) active ∙ ap (λ (b : BookValue). layers_of (ancestors place parent b.state.records)) same
     ∙ ap (λ (p : ℕ). layers_of (ancestors p parent old.state.records)) (sym at)
+
+-- what is granted at the state that the call began at, for the call as its texts say it
+pub granted_at : (r : Result ActiveValue Refusal) (mid old new : BookValue) (n : ℕ) (call k : Call) (parent : Bytes) → mid ≡ old → call ≡ k
+    → IfOk r (λ a. Recorded mid new n call Nothing (Prepared a.share.id a.share.slot (ids_of (ancestors a.namespace parent mid.state.records))))
+    → IfOk r (λ a. Recorded old new n k Nothing (Prepared a.share.id a.share.slot (ids_of (ancestors a.namespace parent old.state.records))))
+granted_at r mid old new n call k parent same is granted =
+    subst (λ (x : Call). IfOk r (λ a. Recorded old new n x Nothing (Prepared a.share.id a.share.slot (ids_of (ancestors a.namespace parent old.state.records))))) is
+    (subst (λ (b : BookValue). IfOk r (λ a. Recorded b new n call Nothing (Prepared a.share.id a.share.slot (ids_of (ancestors a.namespace parent b.state.records))))) same granted)
+
+pub lowers_at : (r : Result ActiveValue Refusal) (mid old : BookValue) (parent : Bytes) → mid ≡ old
+    → IfOk r (λ a. a.lowers ≡ layers_of (ancestors a.namespace parent mid.state.records)) → IfOk r (λ a. a.lowers ≡ layers_of (ancestors a.namespace parent old.state.records))
+lowers_at r mid old parent same lowers = subst (λ (b : BookValue). IfOk r (λ a. a.lowers ≡ layers_of (ancestors a.namespace parent b.state.records))) same lowers

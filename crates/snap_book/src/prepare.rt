@@ -210,6 +210,32 @@ impl<N: StoreName> Book<N> {
         Ok(Active::fresh(self.alloc, vacancy.place, upper, share))
     }
 
+    // Makes the snapshot that the call asks for, or notes why not.
+    fn prepare_or_refuse(
+        &mut self,
+        session: u64,
+        call: Call,
+        namespace: &str,
+        key: &str,
+        parent: &str,
+        labels: &Labels,
+    ) -> Result<Active<N>, Refusal>
+        requires { call ≡ calls.Prepare namespace.now key.now parent.now labels.now }
+        ensures granted { IfOk result (λ a. Recorded self.old self.new session call Nothing (Prepared a.share.id a.share.slot (ids_of (ancestors a.namespace parent.now self.old.state.records)))) }
+        ensures namespace { IfOk result (λ a. place_of namespace.now self.old.state.namespaces ≡ Some a.namespace) }
+        ensures key { IfOk result (λ a. a.key ≡ key.now) }
+        ensures lowers { IfOk result (λ a. a.lowers ≡ layers_of (ancestors a.namespace parent.now self.old.state.records)) }
+        ensures layer { IfOk result (λ a. a.layer ≡ root_only (root_mode a.lowers) 1) }
+        ensures usage { IfOk result (λ a. a.share.usage ≡ one) }
+        ensures refused { IfErr result (λ why. RefusedBy self.old self.new session call Nothing why) }
+        ensures full { IsErrOf result JournalFull → self.old.limit < length self.old.journal + open_count self.old.state.records + 2 }
+    {
+        match self.accounts.vacancy(namespace, key, parent, labels) {
+            Ok(vacancy) => self.grant(session, call, vacancy, key, parent, labels),
+            Err(why) => Err(self.refuse(session, call, Given::Nothing, why)),
+        }
+    }
+
     /// Makes an active snapshot in the lowest free slot, and charges its namespace 1/1 for the layer's
     /// root (containerd's `Snapshotter.Prepare`). The parent is the empty text, or the name of a
     /// committed snapshot of the same namespace. The new layer's root has the permission bits of the
@@ -245,9 +271,6 @@ impl<N: StoreName> Book<N> {
     {
         self.journal.admit(self.accounts.open_slots(), 2)?;
         let call = prepare_call(self.alloc, namespace, key, parent, labels)?;
-        match self.accounts.vacancy(namespace, key, parent, labels) {
-            Ok(vacancy) => self.grant(session, call, vacancy, key, parent, labels),
-            Err(why) => Err(self.refuse(session, call, Given::Nothing, why)),
-        }
+        self.prepare_or_refuse(session, call, namespace, key, parent, labels)
     }
 }
