@@ -11,7 +11,7 @@ use Rattle.snap_book.proofs.book.Book.open_session.Goals as goal
 pub invariant_of-self-2 : goal.invariant_of-self-2
 invariant_of-self-2 g c =
     let s = c.self.inside.accounts in
-    let few : s.sessions < 65536 = subst (λ (u : State). u.sessions < 65536) c.state.ensures.same c.if-number-ge65536.false in
+    let few : s.sessions < 65536 = subst (λ (u : State). u.sessions < 65536) c.state.ensures.same c.if-number-ge-MAX_SESSIONS.false in
     let same = ap (λ (u : State). open_count u.records) c.open_session.ensures in
     kept_push _ _ _ _ _ (entry c.state.result.now.sessions calls.Session Nothing Opened) _ c.self.invariant c.in_ok-admit.ensures.same c.push.ensures.entry c.session_entry.ensures
     few
