@@ -2,3 +2,4 @@ pub mod Rows
 pub mod Accounting
 pub mod Prepared
 pub mod Commits
+pub mod Found

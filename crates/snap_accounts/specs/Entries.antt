@@ -26,4 +26,5 @@ IsInEntry reply = Unit {0}
 abbrev pub OnlyAsks : Call → Type 0
 OnlyAsks (calls.Stat namespace key) = Unit {0}
 OnlyAsks (calls.Usage namespace key) = Unit {0}
+OnlyAsks (calls.Mounts namespace key) = Unit {0}
 OnlyAsks call = ⊥

@@ -1,8 +1,11 @@
 // What is asked of a snapshot.
-ghost use Rattle.std.specs.Prelude.{◌≡◌, IfOk, IfErr};
+ghost use Rattle.std.specs.Prelude.{◌≡◌, ◌≢◌, IfOk, IfErr, false};
 ghost use Rattle.snap_record.specs.Records.{info_of, usage_of};
 ghost use Rattle.snap_record.specs.declared.record.Record.{Record};
-ghost use Rattle.snap_call.specs.Step.{ask, counted, refused, step};
+ghost use Rattle.snap_record.specs.declared.kind.Kind.TheVariants.{Committed};
+ghost use Rattle.snap_mount.specs.Mounts.{mounts_of};
+ghost use Rattle.snap_call.specs.State.{ancestors, ids_of, is_too_deep};
+ghost use Rattle.snap_call.specs.Step.{ask, counted, mounts, refused, step};
 ghost use Rattle.snap_call.specs.declared.call.Given.TheVariants.{Nothing};
 ghost use Rattle.snap_call.specs.declared.reply.Reply.{Reply};
 ghost use Rattle.snap_call.specs.declared.reply.Reply.TheVariants as replies;
@@ -11,13 +14,15 @@ ghost use Rattle.snap_accounts.specs.Entries.{OnlyAsks, IsInEntry, IsRecorded};
 use crate::accounts::Accounts;
 use snap_call::{Call, Refusal, Reply, is_key};
 use snap_ledger::StoreName;
-use snap_record::Record;
-use std::alloc::AllocError;
+use snap_mount::{Mount, mounts_of};
+use snap_record::{Content, Kind, Record, Sequence};
+use std::alloc::{AllocError, Global};
 
 impl<N: StoreName> Accounts<N> {
     // The snapshot of the namespace that has this key.
     fn find(&self, namespace: &str, key: &str) -> Result<&Record, Refusal>
         ensures found { IfOk result (λ r. (f : Record → Reply) → ask self.now f namespace.now key.now ≡ (counted self.now, f r.now)) }
+        ensures deep { IfOk result (λ r. is_too_deep r.now.namespace r.now.parent self.now.records ≡ false) }
         ensures recorded { IfErr result IsRecorded }
         ensures refused { IfErr result (λ why. (f : Record → Reply) → ask self.now f namespace.now key.now ≡ refused self.now why) }
     {
@@ -56,13 +61,62 @@ impl<N: StoreName> Accounts<N> {
         }
     }
 
-    /// The reply to a call that asks: the info of a snapshot, or what it is charged, in blocks of 4096
-    /// bytes and inodes; or the first refusal of `BadArgument` for a key that has not its form,
-    /// `NoNamespace`, `NotFound`.
+    // The mounts that show a snapshot of this kind.
+    fn mounts_as(
+        &self,
+        alloc: Global,
+        kind: Kind,
+        snapshot: &Record,
+    ) -> Result<Sequence<Mount>, AllocError>
+        requires mounted { kind ≢ Committed }
+        requires deep { is_too_deep snapshot.now.namespace snapshot.now.parent self.now.records ≡ false }
+        ensures { IfOk result (λ m. m ≡ mounts_of self.now.root kind snapshot.now.id (ids_of (ancestors snapshot.now.namespace snapshot.now.parent self.now.records))) }
+    {
+        let state = self.state();
+        let parent = snapshot.parent.as_str();
+        let parents = state.records.chain_ids(alloc, snapshot.namespace, parent)?;
+        let root = state.root.as_str();
+        mounts_of(alloc, root, kind, snapshot.id, parents.as_slice())
+    }
+
+    // The reply with the mounts that show a snapshot, or why it has none.
+    fn mounts_or_why(&self, alloc: Global, snapshot: &Record) -> Result<Reply, AllocError>
+        requires { is_too_deep snapshot.now.namespace snapshot.now.parent self.now.records ≡ false }
+        ensures reply { IfOk result (λ r. r ≡ mounts self.now snapshot.now) }
+        ensures recorded { IfOk result IsInEntry }
+    {
+        match &snapshot.content {
+            Content::View => {
+                let mounts = self.mounts_as(alloc, Kind::View, snapshot)?;
+                Ok(Reply::Mounts(mounts))
+            }
+            Content::Active { .. } => {
+                let mounts = self.mounts_as(alloc, Kind::Active, snapshot)?;
+                Ok(Reply::Mounts(mounts))
+            }
+            Content::Committed { .. } => Ok(Reply::Refused(Refusal::NotActive)),
+        }
+    }
+
+    // The reply with the mounts that show it.
+    fn mounts(&self, alloc: Global, namespace: &str, key: &str) -> Result<Reply, AllocError>
+        ensures reply { IfOk result (λ r. ask self.now (mounts self.now) namespace.now key.now ≡ (counted self.now, r)) }
+        ensures recorded { IfOk result IsInEntry }
+    {
+        match self.find(namespace, key) {
+            Ok(record) => self.mounts_or_why(alloc, record),
+            Err(why) => Ok(Reply::Refused(why)),
+        }
+    }
+
+    /// The reply to a call that asks: the info of a snapshot, what it is charged, in blocks of 4096
+    /// bytes and inodes, or the mounts that show it; or the first refusal of `BadArgument` for a key
+    /// that has not its form, `NoNamespace`, `NotFound`, and `NotActive` for the mounts of a committed
+    /// one.
     ///
-    /// Takes memory for an info. The cost grows with the records, and with the texts and labels of the
-    /// one that is found.
-    pub fn reply_to(&self, call: &Call) -> Result<Reply, AllocError>
+    /// Takes memory for an info and for mounts. The cost grows with the records, and with the texts and
+    /// labels of the one that is found; that of mounts with the records times the ancestors.
+    pub fn reply_to(&self, alloc: Global, call: &Call) -> Result<Reply, AllocError>
         requires { OnlyAsks call.now }
         ensures reply { IfOk result (λ r. step self.now call.now Nothing ≡ (counted self.now, r)) }
         ensures recorded { IfOk result IsInEntry }
@@ -70,6 +124,7 @@ impl<N: StoreName> Accounts<N> {
         match call {
             Call::Stat { namespace, key } => self.stat(namespace.as_str(), key.as_str()),
             Call::Usage { namespace, key } => Ok(self.usage(namespace.as_str(), key.as_str())),
+            Call::Mounts { namespace, key } => self.mounts(alloc, namespace.as_str(), key.as_str()),
             _ => Err(AllocError),
         }
     }

@@ -1,4 +1,4 @@
-// Stat and Usage.
+// Stat, Usage and Mounts.
 ghost use Rattle.std.specs.Prelude.{◌≡◌, ◌≤◌, ◌+◌, ◌↔◌, length, IfOk};
 ghost use Rattle.snap_call.specs.Records.{open_count};
 ghost use Rattle.snap_call.specs.Step.{counted, step};
@@ -12,10 +12,11 @@ use crate::book::Book;
 use snap_accounts::Accounts;
 use snap_call::{Call, Entry, Given, Refusal, Reply};
 use snap_ledger::StoreName;
-use std::alloc::AllocError;
+use std::alloc::{AllocError, Global};
 
 // The reply to a call that asks, and its copy.
 fn reply_twice<N: StoreName>(
+    alloc: Global,
     accounts: &Accounts<N>,
     call: &Call,
 ) -> Result<(Reply, Reply), AllocError>
@@ -24,7 +25,7 @@ fn reply_twice<N: StoreName>(
     ensures copy { IfOk result (λ p. p.1 ≡ p.0) }
     ensures recorded { IfOk result (λ p. IsInEntry p.0) }
 {
-    let reply = accounts.reply_to(call)?;
+    let reply = accounts.reply_to(alloc, call)?;
     let copy = reply.clone()?;
     Ok((reply, copy))
 }
@@ -51,13 +52,15 @@ impl<N: StoreName> Book<N> {
         }
     }
 
-    /// Answers `Stat` or `Usage` (containerd's `Snapshotter.Stat` and `Snapshotter.Usage`): the info of
-    /// a snapshot, or what it is charged, in blocks of 4096 bytes and inodes.
+    /// Answers `Stat`, `Usage` or `Mounts` (containerd's `Snapshotter.Stat`, `Snapshotter.Usage` and
+    /// `Snapshotter.Mounts`): the info of a snapshot, what it is charged, in blocks of 4096 bytes and
+    /// inodes, or the mounts that show it.
     ///
     /// `JournalFull` where each further entry is kept for an open snapshot's end, and then
     /// `OutOfMemory` where memory for the entry or the reply is refused; these two are not recorded.
-    /// Then, in this order, `BadArgument` for a key that has not its form, `NoNamespace`, `NotFound`.
-    /// Its cost grows with the records, and with the texts and labels of the one that is found.
+    /// Then, in this order, `BadArgument` for a key that has not its form, `NoNamespace`, `NotFound`, and
+    /// `NotActive` for the mounts of a committed snapshot. Its cost grows with the records, and with the
+    /// texts and labels of the one that is found; that of mounts with the records times the ancestors.
     pub fn do_call(&mut self, session: u64, call: Call) -> Reply
         requires { OnlyAsks call }
         ensures answered { AnsweredBy self.old self.new session call Nothing result }
@@ -66,7 +69,7 @@ impl<N: StoreName> Book<N> {
         if let Err(why) = self.journal.admit(self.accounts.open_slots(), 1) {
             return Reply::Refused(why);
         }
-        match reply_twice(&self.accounts, &call) {
+        match reply_twice(self.alloc, &self.accounts, &call) {
             Ok((reply, copy)) => self.note_reply(session, call, reply, copy),
             Err(_) => Reply::Refused(Refusal::OutOfMemory),
         }

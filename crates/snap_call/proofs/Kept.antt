@@ -388,6 +388,7 @@ good_step s (calls.Commit slot id name lease) given good h = good_commit s slot 
 good_step s (calls.Discard slot id) given good h = good_discard s slot good (active_at slot s.records) refl
 good_step s (calls.Stat namespace key) given good h = good_ask s _ namespace key good
 good_step s (calls.Usage namespace key) given good h = good_ask s _ namespace key good
+good_step s (calls.Mounts namespace key) given good h = good_ask s _ namespace key good
 
 -- ---- a store that is opened
 

@@ -21,7 +21,7 @@ use Rattle.snap_call.specs.declared.state.State.{State}
 use Rattle.snap_call.specs.Forms.{is_key}
 use Rattle.snap_call.specs.Records.{record_at, has_key, active_at}
 use Rattle.snap_call.specs.State.{place_of, over_limit}
-use Rattle.snap_call.specs.Step.{refused, session, one, prepared, prepare_at, prepare, granted, charge_to, charge, trim, committed, commit_as, commit, discard, ask_record, ask, step, IsAllowed, place_for, slot_for, unless_refused}
+use Rattle.snap_call.specs.Step.{refused, session, one, prepared, prepare_at, prepare, granted, charge_to, charge, trim, committed, commit_as, commit, discard, ask_record, ask, step, IsAllowed, place_for, slot_for, unless_refused, mounts}
 use Rattle.snap_call.specs.Journal.{Replays, own}
 
 -- what no step changes
@@ -122,6 +122,7 @@ step-same s (calls.Commit slot id name lease) given = (committing s slot name le
 step-same s (calls.Discard slot id) given = (discarding s slot (active_at slot s.records)).same
 step-same s (calls.Stat namespace key) given = (asking s (λ r. Info (info_of r)) namespace key).same
 step-same s (calls.Usage namespace key) given = (asking s (λ r. UsageReply (usage_of r.content)) namespace key).same
+step-same s (calls.Mounts namespace key) given = (asking s (mounts s) namespace key).same
 
 -- each allowed call is one entry
 pub step-entries : (s : State) (call : Call) (given : Given) → IsAllowed s call given → (step s call given).0.entries ≡ s.entries + 1
@@ -133,6 +134,7 @@ step-entries s (calls.Commit slot id name lease) given h = (committing s slot na
 step-entries s (calls.Discard slot id) given h = (discarding s slot (active_at slot s.records)).entries
 step-entries s (calls.Stat namespace key) given h = (asking s (λ r. Info (info_of r)) namespace key).entries
 step-entries s (calls.Usage namespace key) given h = (asking s (λ r. UsageReply (usage_of r.content)) namespace key).entries
+step-entries s (calls.Mounts namespace key) given h = (asking s (mounts s) namespace key).entries
 
 -- over a whole journal
 pub Replays-same : (s : State) (j : List Entry) (t : State) → Replays s j t → IsSameStore s t

@@ -7,9 +7,12 @@ use Rattle.snap_usage.specs.declared.usage.Usage.{Usage}
 use Rattle.snap_usage.specs.Counted.{count_of, Covers, covers}
 use Rattle.snap_ledger.specs.States.{plus, minus}
 use Rattle.snap_record.specs.Labels.{Bytes, Label, are_labels}
-use Rattle.snap_record.specs.Records.{usage_of, info_of}
+use Rattle.snap_record.specs.Records.{usage_of, info_of, kind_of}
+use Rattle.snap_record.specs.declared.kind.Kind.{Kind}
+use Rattle.snap_record.specs.declared.kind.Kind.TheVariants as kinds
 use Rattle.snap_record.specs.declared.record.Content.TheVariants.{Active}
 use Rattle.snap_record.specs.declared.record.Record.{Record}
+use Rattle.snap_mount.specs.Mounts.{mounts_of}
 use Rattle.snap_call.specs.declared.call.Call.{Call}
 use Rattle.snap_call.specs.declared.call.Call.TheVariants as calls
 use Rattle.snap_call.specs.declared.call.Given.{Given}
@@ -17,7 +20,7 @@ use Rattle.snap_call.specs.declared.call.Given.TheVariants.{Count, Layer}
 use Rattle.snap_call.specs.declared.refusal.Refusal.{Refusal}
 use Rattle.snap_call.specs.declared.refusal.Refusal.TheVariants.{BadArgument, NoNamespace, NotFound, AlreadyExists, NotCommitted, NotActive, NoLease, TooDeep, TooManyActives, NumbersSpent}
 use Rattle.snap_call.specs.declared.reply.Reply.{Reply}
-use Rattle.snap_call.specs.declared.reply.Reply.TheVariants.{Opened, Prepared, Charged, Trimmed, Committed, Discarded, Info, Usage as UsageReply, Refused}
+use Rattle.snap_call.specs.declared.reply.Reply.TheVariants.{Opened, Prepared, Charged, Trimmed, Committed, Discarded, Info, Usage as UsageReply, Mounts as MountsReply, Refused}
 use Rattle.snap_call.specs.declared.state.State.{State}
 use Rattle.snap_call.specs.Forms.{is_key, is_parent}
 use Rattle.snap_call.specs.Records.{record_at, has_key, active_at, charge_of, with_record, without_slot, recharged, committed_as, lowest_free}
@@ -136,7 +139,7 @@ abbrev pub discard : State → ℕ → Option Record → State × Reply
 discard s slot (Some r) = (record s { records = without_slot slot s.records; entries = s.entries + 1 }, Discarded (usage_of r.content))
 discard s slot None = refused s NotActive
 
--- Stat, Usage: what is asked of a record
+-- Stat, Usage, Mounts: what is asked of a record
 abbrev pub ask_record : State → (Record → Reply) → Option Record → State × Reply
 ask_record s answer None = refused s NotFound
 ask_record s answer (Some r) = (counted s, answer r)
@@ -146,6 +149,14 @@ ask s answer namespace key =
     if is_key key
     then option_map_or (λ place. ask_record s answer (record_at place key s.records)) (place_of namespace s.namespaces) (refused s NoNamespace)
     else refused s BadArgument
+
+-- Mounts: the mounts that show a snapshot over its committed ancestors; a committed one is not mounted (containerd's Snapshotter.Mounts)
+abbrev pub shown : State → Record → Kind → Reply
+shown s r kinds.Committed = Refused NotActive
+shown s r kind = MountsReply (mounts_of s.root kind r.id (ids_of (ancestors r.namespace r.parent s.records)))
+
+abbrev pub mounts : State → Record → Reply
+mounts s r = shown s r (kind_of r.content)
 
 -- one call: the state after it, and its reply
 abbrev pub step : State → Call → Given → State × Reply
@@ -157,6 +168,7 @@ step s (calls.Commit slot id name lease) given = commit s slot name lease given
 step s (calls.Discard slot id) given = discard s slot (active_at slot s.records)
 step s (calls.Stat namespace key) given = ask s (λ r. Info (info_of r)) namespace key
 step s (calls.Usage namespace key) given = ask s (λ r. UsageReply (usage_of r.content)) namespace key
+step s (calls.Mounts namespace key) given = ask s (mounts s) namespace key
 
 -- the slot is open under the id
 abbrev pub IsOpen : ℕ → Option Record → Type 0

@@ -52,6 +52,11 @@ pub enum Call {
         namespace: Text,
         key: Text,
     },
+    /// Asks for the mounts that show a snapshot (containerd's `Mounts`).
+    Mounts {
+        namespace: Text,
+        key: Text,
+    },
 }
 
 /// What the value handed in adds to a call.
@@ -93,6 +98,10 @@ impl Drop for Call {
                 key: _,
             } => {}
             Call::Usage {
+                namespace: _,
+                key: _,
+            } => {}
+            Call::Mounts {
                 namespace: _,
                 key: _,
             } => {}
@@ -155,6 +164,10 @@ impl Clone for Call {
             Call::Usage { namespace, key } => {
                 let (namespace, key) = clone_both(namespace, key)?;
                 Ok(Call::Usage { namespace, key })
+            }
+            Call::Mounts { namespace, key } => {
+                let (namespace, key) = clone_both(namespace, key)?;
+                Ok(Call::Mounts { namespace, key })
             }
         }
     }

@@ -87,6 +87,43 @@ impl Records {
         !self.has_chain(MAX_ANCESTORS, place, parent)
     }
 
+    // Puts the ancestors' ids last.
+    fn put_ids(
+        &self,
+        most: u64,
+        place: usize,
+        parent: &str,
+        ids: &mut Sequence<u32>,
+    ) -> Result<(), AllocError>
+        requires { IsSome (chain_from most self.now place parent.now) }
+        ensures { OnOk result (ids.new ≡ ids.old ++ ids_of (unwrap_or (chain_from most self.now place parent.now) [])) }
+    {
+        if parent.is_empty() || most == 0 {
+            return Ok(());
+        }
+        let Some(ancestor) = self.committed_at(place, parent) else {
+            return Ok(());
+        };
+        ids.push(ancestor.id)?;
+        self.put_ids(most - 1, place, ancestor.parent.as_str(), ids)
+    }
+
+    /// The ids of the committed ancestors of a snapshot on the parent, nearest first. It searches the
+    /// records once for each.
+    pub fn chain_ids(
+        &self,
+        alloc: Global,
+        place: usize,
+        parent: &str,
+    ) -> Result<Sequence<u32>, AllocError>
+        requires { is_too_deep place parent.now self.now ≡ false }
+        ensures { IfOk result (λ ids. ids ≡ ids_of (ancestors place parent.now self.now)) }
+    {
+        let mut ids = Sequence::new(alloc);
+        self.put_ids(MAX_ANCESTORS, place, parent, &mut ids)?;
+        Ok(ids)
+    }
+
     // Puts the ancestors last.
     fn put_chain(
         &self,

@@ -1,6 +1,7 @@
 ghost use Rattle.std.specs.Prelude.{◌≡◌};
 
 use crate::refusal::Refusal;
+use snap_mount::Mount;
 use snap_record::{Info, Sequence};
 use snap_usage::Usage;
 use std::alloc::AllocError;
@@ -29,6 +30,7 @@ pub enum Reply {
     Discarded(Usage),
     Info(Info),
     Usage(Usage),
+    Mounts(Sequence<Mount>),
     Refused(Refusal),
 }
 
@@ -53,6 +55,7 @@ impl Clone for Reply {
             Reply::Discarded(usage) => Reply::Discarded(*usage),
             Reply::Info(info) => Reply::Info(info.clone()?),
             Reply::Usage(usage) => Reply::Usage(*usage),
+            Reply::Mounts(mounts) => Reply::Mounts(mounts.clone()?),
             Reply::Refused(refusal) => Reply::Refused(*refusal),
         })
     }

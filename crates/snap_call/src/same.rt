@@ -4,6 +4,7 @@ ghost use Rattle.snap_call.specs.declared.call.Call.TheVariants as calls;
 
 use crate::call::{Call, Given};
 use crate::reply::Reply;
+use snap_mount::Mount;
 use snap_record::{Info, Labels, Sequence, Text};
 use snap_usage::Usage;
 
@@ -39,6 +40,12 @@ pub(crate) fn is_same_info(a: &Info, b: &Info) -> bool
         && a.created == b.created
         && a.updated == b.updated
         && a.id == b.id
+}
+
+pub(crate) fn is_same_mounts(a: &Sequence<Mount>, b: &Sequence<Mount>) -> bool
+    ensures { IsTrue result ↔ (a.now ≡ b.now) }
+{
+    *a == *b
 }
 
 pub(crate) fn is_same_given(a: &Given, b: &Given) -> bool
@@ -79,6 +86,7 @@ pub(crate) fn is_same_call(a: &Call, b: &Call) -> bool
         Call::Discard { slot, id } => is_discard(b, *slot, *id),
         Call::Stat { namespace, key } => is_stat(b, namespace, key),
         Call::Usage { namespace, key } => is_usage(b, namespace, key),
+        Call::Mounts { namespace, key } => is_mounts(b, namespace, key),
     }
 }
 
@@ -175,6 +183,18 @@ fn is_usage(call: &Call, namespace: &Text, key: &Text) -> bool
     }
 }
 
+fn is_mounts(call: &Call, namespace: &Text, key: &Text) -> bool
+    ensures { IsTrue result ↔ (calls.Mounts namespace.now key.now ≡ call.now) }
+{
+    match call {
+        Call::Mounts {
+            namespace: n,
+            key: k,
+        } => *namespace == *n && *key == *k,
+        _ => false,
+    }
+}
+
 pub(crate) fn is_same_reply(a: &Reply, b: &Reply) -> bool
     ensures { IsTrue result ↔ (a.now ≡ b.now) }
 {
@@ -196,6 +216,7 @@ pub(crate) fn is_same_reply(a: &Reply, b: &Reply) -> bool
         (Reply::Discarded(a), Reply::Discarded(b)) => *a == *b,
         (Reply::Info(a), Reply::Info(b)) => is_same_info(a, b),
         (Reply::Usage(a), Reply::Usage(b)) => *a == *b,
+        (Reply::Mounts(a), Reply::Mounts(b)) => is_same_mounts(a, b),
         (Reply::Refused(a), Reply::Refused(b)) => *a == *b,
         _ => false,
     }

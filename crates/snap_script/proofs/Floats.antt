@@ -8,13 +8,14 @@ use Rattle.serde_json.specs.Data.{Data, null, string, Members, no_members, membe
 use Rattle.serde_json.specs.View.{items_of}
 use Rattle.serde_json.specs.Written.{has_float, items_have_float, members_have_float}
 use Rattle.snap_record.specs.Labels.{Bytes}
+use Rattle.snap_mount.specs.declared.mount.Mount.{Mount}
 use Rattle.snap_call.specs.declared.refusal.Refusal.{Refusal}
 use Rattle.snap_call.specs.declared.refusal.Refusal.TheVariants as refusals
 use Rattle.snap_script.specs.declared.answer.Shown.{Shown}
 use Rattle.snap_script.specs.declared.answer.Shown.TheVariants as shown
 use Rattle.snap_script.specs.declared.answer.Answer.{Answer}
 use Rattle.snap_script.specs.declared.answer.Answer.TheVariants as answers
-use Rattle.snap_script.specs.Answers.{number_data, usage_data, members_with, shown_data, answer_data}
+use Rattle.snap_script.specs.Answers.{number_data, usage_data, members_with, shown_data, answer_data, mount_data}
 
 first_is : (a b : Bool) → a || b ≡ false → a ≡ false
 first_is false b h = refl
@@ -55,6 +56,10 @@ texts_have_none : (texts : List (List ℕ)) → items_have_float (items_of (map 
 texts_have_none [] = refl
 texts_have_none (text ∷ texts) = texts_have_none texts
 
+mounts_have_none : (mounts : List Mount) → items_have_float (items_of (map mount_data mounts)) ≡ false
+mounts_have_none [] = refl
+mounts_have_none (mount ∷ mounts) = both_are _ _ (both_are _ _ (texts_have_none mount.options) refl) (mounts_have_none mounts)
+
 text_or_null : (b : Bool) (text : List ℕ) → has_float (if b then string text else null) ≡ false
 text_or_null true text = refl
 text_or_null false text = refl
@@ -69,6 +74,7 @@ shown_has_none (Some (shown.Symlink target)) = both_are _ _ (text_or_null (is_ut
 pub no_float : (answer : Answer) → has_float (answer_data answer) ≡ false
 no_float (answers.Prepared id slot chain) = both_are _ _ (ids_have_none chain) refl
 no_float (answers.Info info) = both_are _ _ (both_are _ _ (members_have_none string (λ text. refl) info.labels no_members refl) refl) refl
+no_float (answers.Mounts mounts) = both_are _ _ (mounts_have_none mounts) refl
 no_float (answers.Seen seen) = both_are _ _ (shown_has_none seen) refl
 no_float (answers.Names names) = both_are _ _ (texts_have_none names) refl
 no_float (answers.Report entries actives records totals) = both_are _ _ (members_have_none usage_data (λ usage. refl) totals no_members refl) refl

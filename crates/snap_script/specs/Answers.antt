@@ -11,6 +11,8 @@ use Rattle.snap_usage.specs.declared.usage.Usage.{Usage}
 use Rattle.snap_record.specs.Labels.{Bytes}
 use Rattle.snap_record.specs.Kinds.{kind_word}
 use Rattle.snap_record.specs.declared.info.Info.{Info}
+use Rattle.snap_mount.specs.declared.mount.Mount.{Mount}
+use Rattle.snap_mount.specs.Mounts.{mount_kind_word}
 use Rattle.snap_call.specs.declared.refusal.Refusal.{Refusal}
 use Rattle.snap_call.specs.declared.refusal.Refusal.TheVariants as refusals
 use Rattle.snap_merge.specs.declared.error.FsError.{FsError}
@@ -86,6 +88,12 @@ info_data info = object
     (member (codes "parent") (string info.parent)
     (only (codes "updated") (number_data info.updated))))))))
 
+-- a mount: its options in their order, its source, and its kind's word
+abbrev pub mount_data : Mount → Data
+mount_data mount = object
+    (member (codes "options") (array (items_of (map string mount.options)))
+    (member (codes "source") (string mount.source) (only (codes "type") (string (mount_kind_word mount.kind)))))
+
 -- an error, and where it comes from
 abbrev pub error_data : List ℕ → List ℕ → Data
 error_data name from = object (member (codes "error") (string name) (only (codes "from") (string from)))
@@ -113,6 +121,7 @@ answer_data (answers.Committed id usage) = object (member (codes "id") (number_d
 answer_data (answers.Freed freed) = object (only (codes "freed") (usage_data freed))
 answer_data (answers.Info info) = object (only (codes "info") (info_data info))
 answer_data (answers.Usage usage) = object (only (codes "usage") (usage_data usage))
+answer_data (answers.Mounts mounts) = object (only (codes "mounts") (array (items_of (map mount_data mounts))))
 answer_data (answers.Changed count share) = object (member (codes "count") (usage_data count) (only (codes "share") (usage_data share)))
 answer_data (answers.Seen seen) = object (only (codes "seen") (shown_data seen))
 answer_data (answers.Names names) = object (only (codes "names") (array (items_of (map string names))))

@@ -62,6 +62,7 @@ command_of verbs.Commit line = do s ← named line; Ok (commands.Commit s.0 s.1 
 command_of verbs.Discard line = do s ← named line; Ok (commands.Discard s.0 s.1)
 command_of verbs.Stat line = do s ← named line; Ok (commands.Stat s.0 s.1)
 command_of verbs.Usage line = do s ← named line; Ok (commands.Usage s.0 s.1)
+command_of verbs.Mounts line = do s ← named line; Ok (commands.Mounts s.0 s.1)
 command_of (verbs.File verb) line = do s ← named line; Ok (commands.File s.0 s.1 (← file_command_of verb line) (← optional as_usage fields.Extra (Ok (record { blocks = 0; inodes = 0 })) line))
 command_of (verbs.Lookup asked) line = do s ← named line; Ok (commands.Lookup s.0 s.1 asked (← text fields.Path line))
 command_of verbs.Report line = Ok commands.Report
@@ -78,6 +79,7 @@ words =
     ∷ (codes "discard", verbs.Discard)
     ∷ (codes "stat", verbs.Stat)
     ∷ (codes "usage", verbs.Usage)
+    ∷ (codes "mounts", verbs.Mounts)
     ∷ (codes "mkdir", verbs.File file_verbs.Mkdir)
     ∷ (codes "create", verbs.File file_verbs.Create)
     ∷ (codes "write", verbs.File file_verbs.Write)

@@ -3,13 +3,14 @@ ghost use Rattle.serde_json.specs.View.{view};
 ghost use Rattle.snap_script.specs.Answers.{answer_data, answer_line};
 
 use crate::values::{
-    changed, committed, done, error, error_name, freed, head, info, names, path, prepared, refused,
-    report, seen, session, share, usage,
+    changed, committed, done, error, error_name, freed, head, info, mounts, names, path, prepared,
+    refused, report, seen, session, share, usage,
 };
 use serde_json::Value;
 use snap_call::Refusal;
 use snap_layer::Bytes;
 use snap_merge::FsError;
+use snap_mount::Mount;
 use snap_path::{Name, Path};
 use snap_record::{Info, Sequence, Text};
 use snap_usage::Usage;
@@ -53,6 +54,9 @@ pub enum Answer {
     Info(Info),
     /// What a snapshot is charged: `{"usage":[4,3]}`.
     Usage(Usage),
+    /// The mounts that show a snapshot:
+    /// `{"mounts":[{"options":["rw","rbind"],"source":"/r/snapshots/1/fs","type":"bind"}]}`.
+    Mounts(Sequence<Mount>),
     /// The layer's count and the snapshot's charge after a file command:
     /// `{"count":[2,2],"share":[2,2]}`.
     Changed {
@@ -103,6 +107,7 @@ impl Answer {
             Answer::Freed(amount) => freed(alloc, *amount),
             Answer::Info(own) => info(alloc, own),
             Answer::Usage(amount) => usage(alloc, *amount),
+            Answer::Mounts(own) => mounts(alloc, own.as_slice()),
             Answer::Changed { count, share } => changed(alloc, *count, *share),
             Answer::Seen(shown) => seen(alloc, shown),
             Answer::Names(own) => names(alloc, own.as_slice()),

@@ -60,6 +60,11 @@ pub enum Command {
         namespace: Text,
         key: Text,
     },
+    /// Asks for the mounts that show a snapshot (containerd's `Mounts`).
+    Mounts {
+        namespace: Text,
+        key: Text,
+    },
     /// Changes a file or a directory of an active snapshot. Where its charge doesn't cover what is
     /// needed, so much is charged and, if the limit covers it, the extra amount too.
     File {

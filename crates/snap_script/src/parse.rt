@@ -114,6 +114,14 @@ fn usage(alloc: Global, line: &Value) -> Result<Command, ReadError>
 }
 
 #[tactic(auto, unfolding(crate::specs::Commands::command_of))]
+fn mounts(alloc: Global, line: &Value) -> Result<Command, ReadError>
+    ensures { Gives (λ c. c) result (command_of verbs.Mounts (view line.now)) }
+{
+    let (namespace, key) = named(alloc, line)?;
+    Ok(Command::Mounts { namespace, key })
+}
+
+#[tactic(auto, unfolding(crate::specs::Commands::command_of))]
 fn commit(alloc: Global, line: &Value) -> Result<Command, ReadError>
     ensures { Gives (λ c. c) result (command_of verbs.Commit (view line.now)) }
 {
@@ -277,6 +285,7 @@ pub(crate) fn command_of(alloc: Global, verb: Verb, line: &Value) -> Result<Comm
         Verb::Discard => discard(alloc, line),
         Verb::Stat => stat(alloc, line),
         Verb::Usage => usage(alloc, line),
+        Verb::Mounts => mounts(alloc, line),
         Verb::File(verb) => file(alloc, verb, line),
         Verb::Lookup(own) => lookup(alloc, own, line),
         Verb::Report => Ok(Command::Report),

@@ -2,13 +2,14 @@
 ghost use Rattle.std.specs.Prelude.{◌≡◌, Some, IfOk, OnOk, map};
 ghost use Rattle.serde_json.specs.Data.{string, array, object, no_members, put};
 ghost use Rattle.serde_json.specs.View.{view, items_of, members_view};
+ghost use Rattle.snap_script.specs.Answers.{answer_data, error_data, error_name, info_data, members_with, number_data, refusal_name, shown_data, text_data, usage_data, mount_data};
 ghost use Rattle.snap_script.specs.declared.answer.Answer.TheVariants as answers;
-ghost use Rattle.snap_script.specs.Answers.{answer_data, error_data, error_name, info_data, members_with, number_data, refusal_name, shown_data, text_data, usage_data};
 
 use crate::answer::Shown;
 use serde_json::{Map, Value, json};
 use snap_call::Refusal;
 use snap_merge::FsError;
+use snap_mount::Mount;
 use snap_path::{Name, Path};
 use snap_record::{Info, Labels, Text};
 use snap_usage::Usage;
@@ -27,6 +28,16 @@ fn ids_value(alloc: Global, ids: &[u32]) -> Result<Value, AllocError>
     let mut items = Vec::new(alloc);
     for id in ids {
         items.push(Value::from(*id))?;
+    }
+    Ok(Value::Array(items))
+}
+
+fn texts_value(alloc: Global, texts: &[Text]) -> Result<Value, AllocError>
+    ensures { IfOk result (λ v. view v ≡ array (items_of (map string texts.now))) }
+{
+    let mut items = Vec::new(alloc);
+    for text in texts {
+        items.push(Value::try_from_str(alloc, text.as_str())?)?;
     }
     Ok(Value::Array(items))
 }
@@ -92,6 +103,27 @@ fn info_value(alloc: Global, info: &Info) -> Result<Value, AllocError>
     })
 }
 
+fn mount_value(alloc: Global, mount: &Mount) -> Result<Value, AllocError>
+    ensures { IfOk result (λ v. view v ≡ mount_data mount.now) }
+{
+    let options = texts_value(alloc, mount.options.as_slice())?;
+    json!(in alloc; {
+        "options": options,
+        "source": mount.source.as_str(),
+        "type": mount.kind.as_str()
+    })
+}
+
+fn mounts_value(alloc: Global, mounts: &[Mount]) -> Result<Value, AllocError>
+    ensures { IfOk result (λ v. view v ≡ array (items_of (map mount_data mounts.now))) }
+{
+    let mut items = Vec::new(alloc);
+    for mount in mounts {
+        items.push(mount_value(alloc, mount)?)?;
+    }
+    Ok(Value::Array(items))
+}
+
 pub(crate) fn done(alloc: Global) -> Result<Value, AllocError>
     ensures { IfOk result (λ v. view v ≡ answer_data answers.Done) }
 {
@@ -149,6 +181,13 @@ pub(crate) fn usage(alloc: Global, usage: Usage) -> Result<Value, AllocError>
 {
     let usage = usage_value(alloc, usage)?;
     json!(in alloc; {"usage": usage})
+}
+
+pub(crate) fn mounts(alloc: Global, mounts: &[Mount]) -> Result<Value, AllocError>
+    ensures { IfOk result (λ v. view v ≡ answer_data (answers.Mounts mounts.now)) }
+{
+    let mounts = mounts_value(alloc, mounts)?;
+    json!(in alloc; {"mounts": mounts})
 }
 
 pub(crate) fn changed(alloc: Global, count: Usage, share: Usage) -> Result<Value, AllocError>

@@ -17,6 +17,7 @@ pub(crate) enum Verb {
     Discard,
     Stat,
     Usage,
+    Mounts,
     File(FileVerb),
     Lookup(Lookup),
     Report,
@@ -38,7 +39,7 @@ pub(crate) enum FileVerb {
 }
 
 /// The words of the commands.
-const WORDS: [(&str, Verb); 24] = [
+const WORDS: [(&str, Verb); 25] = [
     ("open", Verb::Open),
     ("session", Verb::Session),
     ("prepare", Verb::Prepare),
@@ -48,6 +49,7 @@ const WORDS: [(&str, Verb); 24] = [
     ("discard", Verb::Discard),
     ("stat", Verb::Stat),
     ("usage", Verb::Usage),
+    ("mounts", Verb::Mounts),
     ("mkdir", Verb::File(FileVerb::Mkdir)),
     ("create", Verb::File(FileVerb::Create)),
     ("write", Verb::File(FileVerb::Write)),

@@ -123,6 +123,7 @@ fn on_store<N: StoreName>(
         Command::Discard { namespace, key } => discard(world, n, namespace, key),
         Command::Stat { namespace, key } => called(world, n, 0, Call::Stat { namespace, key }),
         Command::Usage { namespace, key } => called(world, n, 0, Call::Usage { namespace, key }),
+        Command::Mounts { namespace, key } => called(world, n, 0, Call::Mounts { namespace, key }),
         Command::File {
             namespace,
             key,

@@ -88,6 +88,7 @@ fn told_reply<N: StoreName>(session: u64, slot: u64, world: &World<N>, reply: Re
         Reply::Discarded(usage) => Answer::Freed(usage),
         Reply::Info(info) => Answer::Info(info),
         Reply::Usage(usage) => Answer::Usage(usage),
+        Reply::Mounts(mounts) => Answer::Mounts(mounts),
         Reply::Refused(why) => Answer::Refused(why),
     }
 }

@@ -107,6 +107,9 @@ asks_does old new hands n call reply asks answered full = at call asks answered
     at (calls.Usage namespace key) a h =
         ⊎_elim (λ e. inl e) (λ e. inr (ap answers.Reply e.0, (e.1, ap (λ (b : BookValue). world_of b hands) e.2)))
         (admits old new hands hands hands 1 n (calls.Usage namespace key) Nothing (λ r. hands) reply (ends old new n (calls.Usage namespace key) Nothing reply h) full_here refl refl)
+    at (calls.Mounts namespace key) a h =
+        ⊎_elim (λ e. inl e) (λ e. inr (ap answers.Reply e.0, (e.1, ap (λ (b : BookValue). world_of b hands) e.2)))
+        (admits old new hands hands hands 1 n (calls.Mounts namespace key) Nothing (λ r. hands) reply (ends old new n (calls.Mounts namespace key) Nothing reply h) full_here refl refl)
     at call a h = absurd a
 
 -- a call that asks, where the journal is full
@@ -119,6 +122,7 @@ asks_in_vain w n call asks full = at call asks
     at : (call : Call) → OnlyAsks call → DoesCall w n call (answers.Reply (Refused JournalFull)) w
     at (calls.Stat namespace key) a = inl (ap (λ (b : Bool). if b then (w, answers.Reply (Refused JournalFull)) else recorded w n (calls.Stat namespace key) Nothing (λ reply. w.hands)) no_room)
     at (calls.Usage namespace key) a = inl (ap (λ (b : Bool). if b then (w, answers.Reply (Refused JournalFull)) else recorded w n (calls.Usage namespace key) Nothing (λ reply. w.hands)) no_room)
+    at (calls.Mounts namespace key) a = inl (ap (λ (b : Bool). if b then (w, answers.Reply (Refused JournalFull)) else recorded w n (calls.Mounts namespace key) Nothing (λ reply. w.hands)) no_room)
     at call a = absurd a
 
 -- a call that asks wants memory only where the journal has room
@@ -131,6 +135,7 @@ asks_left w call asks room = at call asks
     at : (call : Call) → OnlyAsks call → IsLeft w call w
     at (calls.Stat namespace key) a = (free, refl)
     at (calls.Usage namespace key) a = (free, refl)
+    at (calls.Mounts namespace key) a = (free, refl)
     at call a = absurd a
 
 pub prepare_does : (old new : BookValue) (hands after : List (Option HandValue)) (n : ℕ) (namespace key parent : Bytes) (labels : List Label) (reply : Reply) → AnsweredBy old new n (calls.Prepare namespace key parent labels) Nothing reply

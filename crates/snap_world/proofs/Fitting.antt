@@ -24,8 +24,8 @@ use Rattle.snap_call.specs.declared.state.State.{State}
 use Rattle.snap_call.specs.Good.{Good}
 use Rattle.snap_call.specs.Records.{active_at, charge_of, has_key, is_slot, lowest_free, recharged, record_at, with_record, without_slot, committed_as}
 use Rattle.snap_call.specs.Forms.{is_key, is_parent}
-use Rattle.snap_call.specs.State.{ancestors, is_base, is_present, is_too_deep, layers_of, limit_at, over_limit, place_of}
-use Rattle.snap_call.specs.Step.{IsAllowed, IsCovered, IsOpen, ask, ask_record, charge, charge_to, commit_as, committed as committed_state, discard, greater, new_active, one, prepare_at, prepared as prepared_state, refused, session, step, trim, place_for, slot_for, unless_refused}
+use Rattle.snap_call.specs.State.{ancestors, layers_of, place_of}
+use Rattle.snap_call.specs.Step.{IsAllowed, IsCovered, IsOpen, ask, ask_record, charge, charge_to, commit_as, committed as committed_state, discard, greater, new_active, one, prepare_at, prepared as prepared_state, refused, session, step, trim, place_for, slot_for, unless_refused, mounts}
 use Rattle.snap_call.proofs.Chains.{chain, Keeps, Keeps-after, Keeps-recharged, Keeps-with_record, Keeps-without_slot, chain-found, keeps-ancestors}
 use Rattle.snap_call.proofs.Kept.{covers-Covers, good_step}
 use Rattle.snap_call.proofs.Lists.{active_at-all}
@@ -288,6 +288,7 @@ fits_called w n (calls.Prepare namespace key parent labels) fit =
     places (replies.Discarded usage) = fit.places
     places (replies.Info info) = fit.places
     places (replies.Usage usage) = fit.places
+    places (replies.Mounts own) = fit.places
     places (replies.Refused why) = fit.places
 fits_called w n (calls.Charge slot id need want) fit =
     fits_on_hand w slot (is_working id) _ fit
@@ -317,6 +318,9 @@ fits_called w n (calls.Stat namespace key) fit =
 fits_called w n (calls.Usage namespace key) fit =
     fits_admitted w 1 w.hands _ fit
     (fits_recorded w n (calls.Usage namespace key) Nothing (λ reply. w.hands) fit tt (λ r. fit.places) (left_ask w.state w.hands (λ r. replies.Usage (usage_of r.content)) namespace key fit.hands))
+fits_called w n (calls.Mounts namespace key) fit =
+    fits_admitted w 1 w.hands _ fit
+    (fits_recorded w n (calls.Mounts namespace key) Nothing (λ reply. w.hands) fit tt (λ r. fit.places) (left_ask w.state w.hands (mounts w.state) namespace key fit.hands))
 
 -- an operation under the share leaves a layer that the share covers
 within : (share : Usage) (o : Outcome) (next : Tree) → within_share share o ≡ Ok next → Covers share (count_of next)

@@ -309,6 +309,10 @@ impl<N: StoreName> Hands<N> {
                 namespace: _,
                 key: _,
             } => self.ask(book, session, call),
+            Call::Mounts {
+                namespace: _,
+                key: _,
+            } => self.ask(book, session, call),
         }
     }
 
