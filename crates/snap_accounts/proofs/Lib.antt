@@ -2,4 +2,5 @@ pub mod Rows
 pub mod Accounting
 pub mod Prepared
 pub mod Commits
+pub mod Changes
 pub mod Found

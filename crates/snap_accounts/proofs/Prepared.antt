@@ -16,11 +16,11 @@ use Rattle.snap_call.specs.Step.{new_active, one, place_for, place_on, slot_for}
 use Rattle.snap_call.proofs.Counts.{open_count-with_active, open_count-most}
 use Rattle.snap_call.proofs.Kept.{covers-Covers, good_prepared, place_of-below}
 use Rattle.snap_call.proofs.Lowest.{lowest_free-Some}
-use Rattle.snap_call.proofs.Places.{place_for-Ok, slot_for-Ok}
+use Rattle.snap_call.proofs.Places.{IsPlace, place_for-Ok, slot_for-Ok}
 use Rattle.snap_call.proofs.Slots.{Active-is_slot, charge_at-None}
 use Rattle.snap_accounts.specs.Accounts.{AreAccounts}
 use Rattle.snap_accounts.specs.Slots.{charge_in}
-use Rattle.snap_accounts.specs.Vacant.{IsVacant}
+use Rattle.snap_accounts.specs.Vacant.{IsSite, IsVacant}
 use Rattle.snap_accounts.proofs.Accounting.{accounts_added, charge_in-at}
 
 -- a new snapshot is in its slot
@@ -71,19 +71,14 @@ module _ (rs : List Record) (key parent : Bytes) (place : ℕ) (present : is_pre
 
 -- ---- a place and a slot
 
+-- a place that was found, where an id is left
+pub site : (s : State) (namespace key parent : Bytes) (place : ℕ) → IsPlace s namespace key parent place → s.next_id ≤ 4294967295 → IsSite s place key parent
+site s namespace key parent place is few = record { inside = place_of-below namespace s.namespaces place is.named; new = is.free; base = is.base; deep = is.deep; numbers = few }
+
 -- where both were found, a snapshot can be added there
 pub vacant : (s : State) (namespace key parent : Bytes) (labels : List Label) (place slot : ℕ) → place_for s namespace key parent labels ≡ Ok place → slot_for s place ≡ Ok slot → IsVacant s (record { place = place; slot = slot }) key parent
 vacant s namespace key parent labels place slot e f =
     let is = place_for-Ok s namespace key parent labels place e in
     let found = slot_for-Ok s place slot f in
     let free = lowest_free-Some s.records slot found.lowest in
-    record {
-      place = place_of-below namespace s.namespaces place is.named;
-      new = is.free;
-      base = is.base;
-      deep = is.deep;
-      low = free.0;
-      free = free.1;
-      fits = found.room;
-      numbers = leb-true s.next_id 4294967295 found.few;
-    }
+    record { site = site s namespace key parent place is (leb-true s.next_id 4294967295 found.few); low = free.0; free = free.1; fits = found.room }

@@ -1,5 +1,5 @@
--- Which refusals and replies an entry can have, and which calls only ask.
--- Cited by `Accounts::check_commit`, `Accounts::reply_to`, `Accounts::vacancy` and others.
+-- Which refusals and replies an entry can have, and which calls are plain.
+-- Cited by `Accounts::plan`, `Accounts::check_commit`, `Accounts::vacancy` and others.
 use Rattle.snap_call.specs.declared.call.Call.{Call}
 use Rattle.snap_call.specs.declared.call.Call.TheVariants as calls
 use Rattle.snap_call.specs.declared.refusal.Refusal.{Refusal}
@@ -22,9 +22,12 @@ abbrev pub IsInEntry : Reply → Type 0
 IsInEntry (Refused why) = IsRecorded why
 IsInEntry reply = Unit {0}
 
--- a call that asks, and changes nothing but the journal
-abbrev pub OnlyAsks : Call → Type 0
-OnlyAsks (calls.Stat namespace key) = Unit {0}
-OnlyAsks (calls.Usage namespace key) = Unit {0}
-OnlyAsks (calls.Mounts namespace key) = Unit {0}
-OnlyAsks call = ⊥
+-- a call that takes no snapshot out of its writer's hands, and puts none into them
+abbrev pub IsPlain : Call → Type 0
+IsPlain (calls.Stat namespace key) = Unit {0}
+IsPlain (calls.Usage namespace key) = Unit {0}
+IsPlain (calls.Mounts namespace key) = Unit {0}
+IsPlain (calls.View namespace key parent labels) = Unit {0}
+IsPlain (calls.Update namespace key labels paths) = Unit {0}
+IsPlain (calls.Walk namespace after most asked) = Unit {0}
+IsPlain call = ⊥

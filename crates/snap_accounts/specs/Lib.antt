@@ -4,3 +4,4 @@ pub mod Accounts
 pub mod Charged
 pub mod Vacant
 pub mod Entries
+pub mod Changes

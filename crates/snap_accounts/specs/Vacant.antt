@@ -1,6 +1,6 @@
 -- Where a new snapshot can go.
--- Cited by `Accounts::vacancy`, `Accounts::add`.
-use Rattle.std.specs.Prelude.{◌≡◌, ◌<◌, ◌≤◌, true, false, None, length}
+-- Cited by `Accounts::plan`, `Accounts::carry_out`, `Accounts::vacancy` and others.
+use Rattle.std.specs.Prelude.{◌≡◌, ℕ, ◌<◌, ◌≤◌, true, false, None, length}
 use Rattle.snap_usage.specs.Counted.{covers}
 use Rattle.snap_ledger.specs.States.{plus}
 use Rattle.snap_record.specs.Labels.{Bytes}
@@ -10,13 +10,17 @@ use Rattle.snap_call.specs.State.{limit_at, is_base, is_too_deep}
 use Rattle.snap_call.specs.Step.{one}
 use Rattle.snap_accounts.specs.declared.prepare.Vacancy.{Vacancy}
 
--- a snapshot of this key and parent can be added there: the namespace is one of the store's, has no snapshot of the key and the parent as a base that is not too deep, its limit covers 1/1 more, the slot is free, and an id is left
+-- a snapshot of this key and parent can be added there: the namespace is one of the store's, has no snapshot of the key and the parent as a base that is not too deep, and an id is left
+pub record IsSite (s : State) (place : ℕ) (key parent : Bytes) : Type 0 where
+  pub inside : place < length s.namespaces
+  pub new : has_key place key s.records ≡ false
+  pub base : is_base place parent s.records ≡ true
+  pub deep : is_too_deep place parent s.records ≡ false
+  pub numbers : s.next_id ≤ 4294967295
+
+-- an active one can be: its slot is free too, and its namespace's limit covers 1/1 more
 pub record IsVacant (s : State) (v : Vacancy) (key parent : Bytes) : Type 0 where
-  pub place : v.place < length s.namespaces
-  pub new : has_key v.place key s.records ≡ false
-  pub base : is_base v.place parent s.records ≡ true
-  pub deep : is_too_deep v.place parent s.records ≡ false
+  pub site : IsSite s v.place key parent
   pub low : v.slot < 64
   pub free : active_at v.slot s.records ≡ None
   pub fits : covers (limit_at v.place s.namespaces) (plus (charge_of v.place s.records) one) ≡ true
-  pub numbers : s.next_id ≤ 4294967295

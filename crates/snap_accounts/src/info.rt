@@ -5,17 +5,16 @@ ghost use Rattle.snap_record.specs.declared.record.Record.{Record};
 ghost use Rattle.snap_record.specs.declared.kind.Kind.TheVariants.{Committed};
 ghost use Rattle.snap_mount.specs.Mounts.{mounts_of};
 ghost use Rattle.snap_call.specs.State.{ancestors, ids_of, is_too_deep};
-ghost use Rattle.snap_call.specs.Step.{ask, counted, mounts, refused, step};
-ghost use Rattle.snap_call.specs.declared.call.Given.TheVariants.{Nothing};
+ghost use Rattle.snap_call.specs.Step.{ask, counted, mounts, refused, walk};
 ghost use Rattle.snap_call.specs.declared.reply.Reply.{Reply};
 ghost use Rattle.snap_call.specs.declared.reply.Reply.TheVariants as replies;
-ghost use Rattle.snap_accounts.specs.Entries.{OnlyAsks, IsInEntry, IsRecorded};
+ghost use Rattle.snap_accounts.specs.Entries.{IsInEntry, IsRecorded};
 
 use crate::accounts::Accounts;
-use snap_call::{Call, Refusal, Reply, is_key};
+use snap_call::{Refusal, Reply, is_key, is_page, is_start};
 use snap_ledger::StoreName;
 use snap_mount::{Mount, mounts_of};
-use snap_record::{Content, Kind, Record, Sequence};
+use snap_record::{Content, Filter, Kind, Record, Sequence};
 use std::alloc::{AllocError, Global};
 
 impl<N: StoreName> Accounts<N> {
@@ -40,7 +39,7 @@ impl<N: StoreName> Accounts<N> {
     }
 
     // The reply with its info.
-    fn stat(&self, namespace: &str, key: &str) -> Result<Reply, AllocError>
+    pub(crate) fn stat(&self, namespace: &str, key: &str) -> Result<Reply, AllocError>
         ensures reply { IfOk result (λ r. ask self.now (λ x. replies.Info (info_of x)) namespace.now key.now ≡ (counted self.now, r)) }
         ensures recorded { IfOk result IsInEntry }
     {
@@ -51,7 +50,7 @@ impl<N: StoreName> Accounts<N> {
     }
 
     // The reply with what it is charged.
-    fn usage(&self, namespace: &str, key: &str) -> Reply
+    pub(crate) fn usage(&self, namespace: &str, key: &str) -> Reply
         ensures reply { ask self.now (λ x. replies.Usage (usage_of x.content)) namespace.now key.now ≡ (counted self.now, result) }
         ensures recorded { IsInEntry result }
     {
@@ -99,7 +98,12 @@ impl<N: StoreName> Accounts<N> {
     }
 
     // The reply with the mounts that show it.
-    fn mounts(&self, alloc: Global, namespace: &str, key: &str) -> Result<Reply, AllocError>
+    pub(crate) fn mounts(
+        &self,
+        alloc: Global,
+        namespace: &str,
+        key: &str,
+    ) -> Result<Reply, AllocError>
         ensures reply { IfOk result (λ r. ask self.now (mounts self.now) namespace.now key.now ≡ (counted self.now, r)) }
         ensures recorded { IfOk result IsInEntry }
     {
@@ -109,23 +113,28 @@ impl<N: StoreName> Accounts<N> {
         }
     }
 
-    /// The reply to a call that asks: the info of a snapshot, what it is charged, in blocks of 4096
-    /// bytes and inodes, or the mounts that show it; or the first refusal of `BadArgument` for a key
-    /// that has not its form, `NoNamespace`, `NotFound`, and `NotActive` for the mounts of a committed
-    /// one.
-    ///
-    /// Takes memory for an info and for mounts. The cost grows with the records, and with the texts and
-    /// labels of the one that is found; that of mounts with the records times the ancestors.
-    pub fn reply_to(&self, alloc: Global, call: &Call) -> Result<Reply, AllocError>
-        requires { OnlyAsks call.now }
-        ensures reply { IfOk result (λ r. step self.now call.now Nothing ≡ (counted self.now, r)) }
+    // The reply with a page of infos.
+    pub(crate) fn walk(
+        &self,
+        alloc: Global,
+        namespace: &str,
+        after: &str,
+        most: u64,
+        asked: &Filter,
+    ) -> Result<Reply, AllocError>
+        ensures reply { IfOk result (λ r. walk self.now namespace.now after.now most asked.now ≡ (counted self.now, r)) }
         ensures recorded { IfOk result IsInEntry }
     {
-        match call {
-            Call::Stat { namespace, key } => self.stat(namespace.as_str(), key.as_str()),
-            Call::Usage { namespace, key } => Ok(self.usage(namespace.as_str(), key.as_str())),
-            Call::Mounts { namespace, key } => self.mounts(alloc, namespace.as_str(), key.as_str()),
-            _ => Err(AllocError),
+        if !(is_start(after) && is_page(most)) {
+            return Ok(Reply::Refused(Refusal::BadArgument));
         }
+        let state = self.state();
+        let Some(place) = state.place_of(namespace) else {
+            return Ok(Reply::Refused(Refusal::NoNamespace));
+        };
+        let infos = state
+            .records
+            .page(alloc, place, after, most as usize, asked)?;
+        Ok(Reply::Page(infos))
     }
 }

@@ -8,6 +8,7 @@
 #![tactic(auto)]
 
 mod accounts;
+mod change;
 mod charge;
 mod commit;
 mod info;
@@ -15,4 +16,5 @@ mod prepare;
 mod slots;
 
 pub use accounts::Accounts;
+pub use change::Change;
 pub use prepare::Vacancy;

@@ -4,7 +4,7 @@ ghost use Rattle.snap_usage.specs.Counted.{covers as covers_of};
 ghost use Rattle.snap_ledger.specs.States.{plus};
 ghost use Rattle.snap_call.specs.Records.{charge_of, active_at, lowest_free, has_key, open_count};
 ghost use Rattle.snap_call.specs.State.{limit_at, place_of, is_base, is_too_deep};
-ghost use Rattle.snap_call.specs.Step.{prepare, prepared, new_active, one, refused, place_on, place_for, slot_for};
+ghost use Rattle.snap_call.specs.Step.{prepare, prepared, new_active, new_record, one, refused, place_on, place_for, slot_for};
 ghost use Rattle.snap_accounts.specs.Entries.{IsRecorded};
 ghost use Rattle.snap_accounts.specs.Vacant.{IsVacant};
 
@@ -83,7 +83,7 @@ impl<N: StoreName> Accounts<N> {
     }
 
     // The place of the namespace of a new snapshot, or the first refusal.
-    fn place_for(
+    pub(crate) fn place_for(
         &self,
         namespace: &str,
         key: &str,
@@ -132,31 +132,29 @@ impl<N: StoreName> Accounts<N> {
     }
 
     // The record of a new snapshot.
-    fn new_record(
+    pub(crate) fn new_record(
         &self,
         alloc: Global,
-        vacancy: Vacancy,
+        place: usize,
         key: &str,
         parent: &str,
         labels: &Labels,
+        content: Content,
     ) -> Result<Record, AllocError>
         requires numbers { self.now.next_id ≤ 4294967295 }
         requires entries { self.now.entries < 2 ^ 63 }
-        ensures { IfOk result (λ r. r ≡ new_active self.now vacancy.place key.now parent.now labels.now vacancy.slot) }
+        ensures { IfOk result (λ r. r ≡ new_record self.now place key.now parent.now labels.now content) }
     {
         let number = self.state.entries + 1;
         Ok(Record {
-            namespace: vacancy.place,
+            namespace: place,
             key: Text::copy_of(alloc, key)?,
             parent: Text::copy_of(alloc, parent)?,
             id: self.state.next_id as u32,
             labels: labels.clone()?,
             created: number,
             updated: number,
-            content: Content::Active {
-                slot: vacancy.slot,
-                charged: one(),
-            },
+            content,
         })
     }
 
@@ -203,7 +201,11 @@ impl<N: StoreName> Accounts<N> {
         ensures open { OnOk result (open_count self.new.records ≡ open_count self.old.records + 1) }
         ensures err { OnErr result (self.new ≡ self.old) }
     {
-        let added = self.new_record(alloc, vacancy, key, parent, labels)?;
+        let content = Content::Active {
+            slot: vacancy.slot,
+            charged: one(),
+        };
+        let added = self.new_record(alloc, vacancy.place, key, parent, labels, content)?;
         self.insert(vacancy, added)
     }
 }

@@ -11,13 +11,14 @@ ghost use Rattle.snap_book.specs.Book.{IsLast, IsOpening, Recorded, RefusedBy};
 ghost use Rattle.snap_call.specs.Forms.{is_config};
 ghost use Rattle.snap_call.specs.State.{opening, place_of};
 ghost use Rattle.snap_call.specs.Totals.{counts_and_shares};
+ghost use Rattle.snap_accounts.specs.Changes.{CanChange, changed};
 ghost use Rattle.snap_accounts.specs.Entries.{IsUnrecorded, IsRecorded};
 ghost use Rattle.snap_call.specs.Step.{counted, refused, step, IsAllowed};
 ghost use Rattle.std.specs.Option.{option_map};
 ghost use Rattle.snap_book.specs.Slot.{slot_of};
 
 use crate::journal::{Journal, Opening, session_entry};
-use snap_accounts::Accounts;
+use snap_accounts::{Accounts, Change};
 use snap_call::limits::MAX_SESSIONS;
 use snap_call::{Call, Config, Entry, Given, Refusal, Reply};
 use snap_ledger::{NewTable, StoreName};
@@ -174,6 +175,23 @@ impl<N: StoreName> Book<N> {
         self.journal.is_full(self.accounts.open_slots(), 1)
     }
 
+    // Makes a change and records the call that makes it.
+    pub(crate) fn note_change(&mut self, entry: Entry, change: Change) -> Result<(), Refusal>
+        requires allowed { IsAllowed self.old.state entry.call entry.given }
+        requires possible { CanChange self.old.state change }
+        requires changed { step self.old.state entry.call entry.given ≡ (changed self.old.state change, entry.reply) }
+        ensures noted { OnOk result (Recorded self.old self.new entry.session entry.call entry.given entry.reply) }
+        ensures unchanged { OnErr result (self.new ≡ self.old) }
+        ensures err { IfErr result IsUnrecorded }
+        ensures full { IsErrOf result JournalFull ↔ (self.old.limit ≤ length self.old.journal + open_count self.old.state.records) }
+    {
+        self.journal.admit(self.accounts.open_slots(), 1)?;
+        let copy = entry.clone()?;
+        self.accounts.carry_out(change)?;
+        self.journal.push(entry, copy);
+        Ok(())
+    }
+
     // Records a call that leaves the state as it is, but for the number of entries.
     pub(crate) fn note(&mut self, entry: Entry) -> Result<(), Refusal>
         requires allowed { IsAllowed self.old.state entry.call entry.given }
@@ -183,11 +201,7 @@ impl<N: StoreName> Book<N> {
         ensures err { IfErr result IsUnrecorded }
         ensures full { IsErrOf result JournalFull ↔ (self.old.limit ≤ length self.old.journal + open_count self.old.state.records) }
     {
-        self.journal.admit(self.accounts.open_slots(), 1)?;
-        let copy = entry.clone()?;
-        self.accounts.count_entry();
-        self.journal.push(entry, copy);
-        Ok(())
+        self.note_change(entry, Change::Nothing)
     }
 
     // Records a call that is refused. The answer is the refusal, or why there is no entry.

@@ -20,8 +20,8 @@ mod book;
 mod charge;
 mod commit;
 mod files;
-mod info;
 mod journal;
+mod plain;
 mod prepare;
 
 pub use active::{Active, Held, Sealed};

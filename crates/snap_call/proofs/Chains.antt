@@ -22,7 +22,7 @@ abbrev pub HasParent : List Record → Record → Type 0
 HasParent rs r = is_base r.namespace r.parent rs ≡ true
 
 -- the names are those of committed records of the namespace, if there is one
-abbrev NamesStand : List Record → Option ℕ → List Bytes → Type 0
+abbrev pub NamesStand : List Record → Option ℕ → List Bytes → Type 0
 NamesStand rs o names = IsSomeAnd o (λ place. AllByRecursion (λ name. IsSome (committed_at place name rs)) names)
 
 -- the committed ancestors of a snapshot
@@ -30,7 +30,7 @@ abbrev pub chain : List Record → Record → Option (List Record)
 chain rs r = chain_from 64 rs r.namespace r.parent
 
 -- the record before those of the next chain
-abbrev chain_over : Option Record → (Record → Option (List Record)) → Option (List Record)
+abbrev pub chain_over : Option Record → (Record → Option (List Record)) → Option (List Record)
 chain_over o next = option_and_then (λ r. option_map (λ above. r ∷ above) (next r)) o
 
 -- each committed record of the one list is that of its key in the other

@@ -7,9 +7,10 @@ use Rattle.std.specs.List.{position_from, insert, remove}
 use Rattle.snap_layer.specs.Tree.{Tree}
 use Rattle.snap_usage.specs.declared.usage.Usage.{Usage}
 use Rattle.snap_usage.specs.Counted.{count_of}
+use Rattle.snap_record.specs.Labels.{Bytes, Label}
 use Rattle.snap_record.specs.declared.record.Record.{Record}
 use Rattle.snap_record.specs.declared.record.Content.TheVariants.{Active, Committed}
-use Rattle.snap_call.specs.Records.{is_later, is_slot, active_at, with_record, without_slot, recharged, committed_as}
+use Rattle.snap_call.specs.Records.{is_later, is_named, is_slot, active_at, with_record, without_slot, recharged, relabelled, with_labels, committed_as}
 
 -- an insertion before the first record that comes later
 with_record_found : (r : Record) (rs : List Record) (i : ℕ) (d : Record) → i < length rs → is_later r (get_or rs i d) ≡ true → ((k : ℕ) → k < i → is_later r (get_or rs k d) ≡ false) → insert rs i r ≡ with_record r rs
@@ -84,6 +85,31 @@ recharged-Some slot to rs i r e at =
 
 pub recharged-None : (slot : ℕ) (to : Usage) (rs : List Record) → position (is_slot slot) rs ≡ None → rs ≡ recharged slot to rs
 recharged-None slot to rs e = recharged_absent slot to 0 rs (sym (position_from-zero (is_slot slot) rs) ∙ e)
+
+-- the record at the place of a key gets the labels
+relabelled_found : (place : ℕ) (key : Bytes) (labels : List Label) (number : ℕ) (rs : List Record) (i : ℕ) (d : Record) → i < length rs → is_named place key (get_or rs i d) ≡ true → ((k : ℕ) → k < i → is_named place key (get_or rs k d) ≡ false)
+    → set rs i (with_labels labels number (get_or rs i d)) ≡ relabelled place key labels number rs
+relabelled_found place key labels number [] i d lt here before = absurd (omega arith)
+relabelled_found place key labels number (r ∷ rs) zero d lt here before = rw here refl
+relabelled_found place key labels number (r ∷ rs) (suc i) d lt here before =
+    let no : is_named place key r ≡ false = before 0 (omega arith) in
+    rw no (ap (λ l. r ∷ l) (relabelled_found place key labels number rs i d (omega arith) here (λ k h. before (suc k) (omega arith))))
+
+relabelled_absent : (place : ℕ) (key : Bytes) (labels : List Label) (number i : ℕ) (rs : List Record) → position_from (is_named place key) i rs ≡ None → rs ≡ relabelled place key labels number rs
+relabelled_absent place key labels number i [] e = refl
+relabelled_absent place key labels number i (r ∷ rs) e = at (is_named place key r) refl (relabelled_absent place key labels number (i + 1) rs)
+  where
+    at : (b : Bool) → is_named place key r ≡ b → (position_from (is_named place key) (i + 1) rs ≡ None → rs ≡ relabelled place key labels number rs) → r ∷ rs ≡ relabelled place key labels number (r ∷ rs)
+    at true is next = let f = rw is at e in absurd (cc)
+    at false is next = let f = rw is at e in rw is (ap (λ l. r ∷ l) (next f))
+
+pub relabelled-Some : (place : ℕ) (key : Bytes) (labels : List Label) (number : ℕ) (rs : List Record) (i : ℕ) (r : Record) → position (is_named place key) rs ≡ Some i → r ≡ get_or rs i r → set rs i (with_labels labels number r) ≡ relabelled place key labels number rs
+relabelled-Some place key labels number rs i r e at =
+    let f = position-Some (is_named place key) rs i r e in
+    ap (λ (x : Record). set rs i (with_labels labels number x)) at ∙ relabelled_found place key labels number rs i r f.0 f.1 f.2
+
+pub relabelled-None : (place : ℕ) (key : Bytes) (labels : List Label) (number : ℕ) (rs : List Record) → position (is_named place key) rs ≡ None → rs ≡ relabelled place key labels number rs
+relabelled-None place key labels number rs e = relabelled_absent place key labels number 0 rs (sym (position_from-zero (is_named place key) rs) ∙ e)
 
 -- a record that is taken and put back as a committed one
 pub committed_back : (name : List ℕ) (layer : Tree) (number : ℕ) (r : Record) (u : Usage) (slot : ℕ) (rs ts : List Record) → u ≡ count_of layer → ts ≡ without_slot slot rs

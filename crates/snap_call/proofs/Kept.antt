@@ -13,6 +13,8 @@ use Rattle.snap_ledger.specs.States.{plus, minus}
 use Rattle.snap_lease.specs.Lease.{Lease}
 use Rattle.snap_record.specs.Labels.{Bytes, Label}
 use Rattle.snap_record.specs.Records.{usage_of}
+use Rattle.snap_record.specs.Updates.{is_granted, is_well_formed, updated as labels_after}
+use Rattle.snap_record.specs.declared.filter.Filter.{Filter}
 use Rattle.snap_record.specs.declared.record.Content.{Content}
 use Rattle.snap_record.specs.declared.record.Content.TheVariants.{View, Active, Committed}
 use Rattle.snap_record.specs.declared.record.Record.{Record}
@@ -28,16 +30,17 @@ use Rattle.snap_call.specs.declared.refusal.Refusal.{Refusal}
 use Rattle.snap_call.specs.declared.refusal.Refusal.TheVariants.{NoNamespace}
 use Rattle.snap_call.specs.declared.reply.Reply.{Reply}
 use Rattle.snap_call.specs.declared.state.State.{State}
-use Rattle.snap_call.specs.Forms.{has_name, is_limit, is_namespace, is_text, have_distinct_names, is_config, is_key}
-use Rattle.snap_call.specs.Records.{has_key, has_slot, is_slot, record_at, active_at, charge_of, with_record, without_slot, recharged, committed_as}
+use Rattle.snap_call.specs.Forms.{has_name, is_limit, is_namespace, is_text, have_distinct_names, is_config, is_key, is_page, is_start}
+use Rattle.snap_call.specs.Records.{has_key, has_slot, is_slot, record_at, active_at, charge_of, with_record, without_slot, recharged, relabelled, committed_as}
 use Rattle.snap_call.specs.State.{opening, place_of, limit_at, is_base, is_too_deep}
 use Rattle.snap_call.specs.Good.{IsGuarding, IsCounted, HasLowSlot, AreApart, Good}
-use Rattle.snap_call.specs.Step.{counted, refused, session, one, new_active, prepared, prepare_at, prepare, greater, fits, charge_to, charge, trim, committed, commit_as, commit, discard, ask_record, ask, step, IsCovered, IsAllowed, place_for, slot_for, unless_refused}
+use Rattle.snap_call.specs.Step.{counted, refused, session, one, new_active, prepared, prepare_at, prepare, greater, fits, charge_to, charge, trim, committed, commit_as, commit, discard, ask_record, ask, step, IsCovered, IsAllowed, place_for, slot_for, unless_refused, added, new_view, viewed, view_at, view, update_record, update_at, update, walk_at, walk}
 use Rattle.snap_call.specs.Journal.{Replays}
 use Rattle.snap_call.proofs.Lists.{all-map, find-none, same_slot, active_at-all, all-with_record, pairwise-with_record, all-without_slot, pairwise-without_slot, all-beside, all-recharged, pairwise-recharged}
 use Rattle.snap_call.proofs.Ordered.{sorted-with_record, sorted-without_slot, sorted-recharged, has_key-without_slot}
 use Rattle.snap_call.proofs.Chains.{HasParent, chain, Keeps, Keeps-after, Keeps-with_record, Keeps-without_slot, Keeps-recharged, keeps-HasParent, keeps-IsGuarding, keeps-some_chain, chain-found}
 use Rattle.snap_call.proofs.Sums.{charge_with, charge_of-with_record_own, charge_of-with_record_other, charge_of-covers, charge_of-without_slot_own, charge_of-without_slot_other, charge_of-recharged_own, charge_of-recharged_other, charge_of-committed_own, charge_of-committed_other}
+use Rattle.snap_call.proofs.Alike.{AreAlike, bare-relabelled, all-relabelled, pairwise-relabelled, sorted-relabelled, alike-HasParent, alike-IsGuarding, alike-charge_of, alike-some_chain}
 use Rattle.snap_call.proofs.Lowest.{lowest_free-Some}
 use Rattle.snap_call.proofs.Places.{IsPlace, place_for-Ok, slot_for-Ok}
 
@@ -107,33 +110,32 @@ good_counters s m n good = record {
 pub good_counted : (s : State) → Good s → Good (counted s)
 good_counted s good = good_counters s s.sessions (s.entries + 1) good
 
--- ---- a new active snapshot
+-- ---- a new snapshot
 
-pub good_prepared : (s : State) (place : ℕ) (key parent : Bytes) (labels : List Label) (slot : ℕ) → Good s → place < length s.namespaces → has_key place key s.records ≡ false
-    → is_base place parent s.records ≡ true → is_too_deep place parent s.records ≡ false → slot < 64 → active_at slot s.records ≡ None
-    → Covers (limit_at place s.namespaces) (plus (charge_of place s.records) one) → Good (prepared s place key parent labels slot).0
-good_prepared s place key parent labels slot good low free base deep few none room = record {
+-- of a free key, on a base that is there, with the next id, in no slot of another, and within the limit
+good_added : (s : State) (r : Record) → Good s → r.namespace < length s.namespaces → has_key r.namespace r.key s.records ≡ false
+    → is_base r.namespace r.parent s.records ≡ true → is_too_deep r.namespace r.parent s.records ≡ false → r.id ≡ s.next_id → IsCounted r.content → HasLowSlot r.content
+    → AllByRecursion (AreApart r) s.records → AllByRecursion (λ t. AreApart t r) s.records
+    → Covers (limit_at r.namespace s.namespaces) (plus (charge_of r.namespace s.records) (usage_of r.content)) → Good (added s r)
+good_added s r good low free base deep next count few apart beside room = record {
   root = good.root;
   parents = stand_parents ns rs ts keeps ts (all-with_record r (HasParent rs) rs base good.parents);
   leased = stand_leases ns rs ts keeps s.leases good.leased;
   named_once = good.named_once;
-  counted = all-with_record r (λ t. IsCounted t.content) rs tt good.counted;
-  within = within_after ns rs ts place good.within (subst (λ (u : Usage). Covers (limit_at place ns) u) (sym (charge_of-with_record_own r rs)) room) (λ p apart. charge_of-with_record_other p r rs apart);
+  counted = all-with_record r (λ t. IsCounted t.content) rs count good.counted;
+  within = within_after ns rs ts r.namespace good.within (subst (λ (u : Usage). Covers (limit_at r.namespace ns) u) (sym (charge_of-with_record_own r rs)) room) (λ p apart. charge_of-with_record_other p r rs apart);
   limits = good.limits;
   distinct = good.distinct;
   placed = all-with_record r (λ t. t.namespace < length ns) rs low good.placed;
   sorted = sorted-with_record r rs free good.sorted;
   ids = pairwise-with_record r (λ t u. t.id ≢ u.id) rs
-      (all-map (λ t. t.id < s.next_id) (λ t. s.next_id ≢ t.id) (λ t h. omega (arith, h)) rs good.numbered)
-      (all-map (λ t. t.id < s.next_id) (λ t. t.id ≢ s.next_id) (λ t h. omega (arith, h)) rs good.numbered)
+      (all-map (λ t. t.id < s.next_id) (λ t. r.id ≢ t.id) (λ t h. omega (arith, h, next)) rs good.numbered)
+      (all-map (λ t. t.id < s.next_id) (λ t. t.id ≢ r.id) (λ t h. omega (arith, h, next)) rs good.numbered)
       good.ids;
-  numbered = all-with_record r (λ t. t.id < s.next_id + 1) rs (omega arith) (all-map (λ t. t.id < s.next_id) (λ t. t.id < s.next_id + 1) (λ t h. omega (arith, h)) rs good.numbered);
-  slots = pairwise-with_record r AreApart rs
-      (all-map (λ t. is_slot slot t ≡ false) (AreApart r) (λ t out k is. subst (λ (n : ℕ). is_slot n t ≡ false) (eqb-true slot k is) out) rs empty)
-      (all-map (λ t. is_slot slot t ≡ false) (λ t. AreApart t r) (λ t out k is. apart_other slot k one t.content out is) rs empty)
-      good.slots;
+  numbered = all-with_record r (λ t. t.id < s.next_id + 1) rs (omega (arith, next)) (all-map (λ t. t.id < s.next_id) (λ t. t.id < s.next_id + 1) (λ t h. omega (arith, h)) rs good.numbered);
+  slots = pairwise-with_record r AreApart rs apart beside good.slots;
   open_slots = all-with_record r (λ t. HasLowSlot t.content) rs few good.open_slots;
-  chains = stand_chains ns rs ts keeps ts (all-with_record r (λ t. IsSome (chain rs t)) rs (chain-found rs place parent deep) good.chains);
+  chains = stand_chains ns rs ts keeps ts (all-with_record r (λ t. IsSome (chain rs t)) rs (chain-found rs r.namespace r.parent deep) good.chains);
 }
   where
     ns : List Namespace
@@ -142,17 +144,43 @@ good_prepared s place key parent labels slot good low free base deep few none ro
     rs : List Record
     rs = s.records
 
-    r : Record
-    r = new_active s place key parent labels slot
-
     ts : List Record
     ts = with_record r rs
 
     keeps : Keeps rs ts
     keeps = Keeps-with_record r rs free
 
-    empty : AllByRecursion (λ t. is_slot slot t ≡ false) rs
-    empty = find-none (is_slot slot) rs none
+pub good_prepared : (s : State) (place : ℕ) (key parent : Bytes) (labels : List Label) (slot : ℕ) → Good s → place < length s.namespaces → has_key place key s.records ≡ false
+    → is_base place parent s.records ≡ true → is_too_deep place parent s.records ≡ false → slot < 64 → active_at slot s.records ≡ None
+    → Covers (limit_at place s.namespaces) (plus (charge_of place s.records) one) → Good (prepared s place key parent labels slot).0
+good_prepared s place key parent labels slot good low free base deep few none room =
+    good_added s r good low free base deep refl tt few
+    (all-map (λ t. is_slot slot t ≡ false) (AreApart r) (λ t out k is. subst (λ (n : ℕ). is_slot n t ≡ false) (eqb-true slot k is) out) s.records empty)
+    (all-map (λ t. is_slot slot t ≡ false) (λ t. AreApart t r) (λ t out k is. apart_other slot k one t.content out is) s.records empty)
+    room
+  where
+    r : Record
+    r = new_active s place key parent labels slot
+
+    empty : AllByRecursion (λ t. is_slot slot t ≡ false) s.records
+    empty = find-none (is_slot slot) s.records none
+
+-- no amount more is within the limit
+nothing_more : (limit total : Usage) → Covers limit total → Covers limit (plus total no_usage)
+nothing_more limit total a = record { blocks = omega (arith, a.blocks); inodes = omega (arith, a.inodes) }
+
+-- a view is in no slot, and is charged nothing
+pub good_view_added : (s : State) (r : Record) → Good s → r.content ≡ View → r.id ≡ s.next_id → r.namespace < length s.namespaces → has_key r.namespace r.key s.records ≡ false
+    → is_base r.namespace r.parent s.records ≡ true → is_too_deep r.namespace r.parent s.records ≡ false → Good (added s r)
+good_view_added s r good is next low free base deep =
+    good_added s r good low free base deep next (subst IsCounted (sym is) tt) (subst HasLowSlot (sym is) tt)
+    (all-map (λ t. HasLowSlot t.content) (AreApart r) (λ t h k held. absurd (true≢false (sym held ∙ ap (has_slot k) is))) s.records good.open_slots)
+    (all-map (λ t. HasLowSlot t.content) (λ t. AreApart t r) (λ t h k held. ap (has_slot k) is) s.records good.open_slots)
+    (subst (λ (u : Usage). Covers (limit_at r.namespace s.namespaces) (plus (charge_of r.namespace s.records) u)) (sym (ap usage_of is)) (nothing_more (limit_at r.namespace s.namespaces) (charge_of r.namespace s.records) (good.within r.namespace low)))
+
+pub good_viewed : (s : State) (place : ℕ) (key parent : Bytes) (labels : List Label) → Good s → place < length s.namespaces → has_key place key s.records ≡ false
+    → is_base place parent s.records ≡ true → is_too_deep place parent s.records ≡ false → Good (viewed s place key parent labels).0
+good_viewed s place key parent labels good low free base deep = good_view_added s (new_view s place key parent labels) good refl refl low free base deep
 
 -- ---- an active snapshot charged anew
 
@@ -297,6 +325,42 @@ good_committed s slot name layer r good e free less = record {
     places : AllByRecursion (λ t. HasLowSlot t.content) us
     places = all-without_slot slot (λ t. HasLowSlot t.content) rs good.open_slots
 
+-- ---- a snapshot with other labels
+
+pub good_relabelled : (s : State) (place : ℕ) (key : Bytes) (labels : List Label) → Good s → Good (record s { records = relabelled place key labels (s.entries + 1) s.records; entries = s.entries + 1 })
+good_relabelled s place key labels good = record {
+  root = good.root;
+  parents = all-relabelled place key labels n (HasParent ts) rs (λ t h. h) (all-map (HasParent rs) (HasParent ts) (alike-HasParent rs ts alike) rs good.parents);
+  leased = all-map (IsGuarding ns rs) (IsGuarding ns ts) (alike-IsGuarding rs ts alike ns) s.leases good.leased;
+  named_once = good.named_once;
+  counted = all-relabelled place key labels n (λ t. IsCounted t.content) rs (λ t h. h) good.counted;
+  within = λ p low. subst (λ (u : Usage). Covers (limit_at p ns) u) (sym (alike-charge_of rs ts alike p)) (good.within p low);
+  limits = good.limits;
+  distinct = good.distinct;
+  placed = all-relabelled place key labels n (λ t. t.namespace < length ns) rs (λ t h. h) good.placed;
+  sorted = sorted-relabelled place key labels n rs good.sorted;
+  ids = pairwise-relabelled place key labels n (λ t u. t.id ≢ u.id) rs (λ t u h. h) (λ t u h. h) good.ids;
+  numbered = all-relabelled place key labels n (λ t. t.id < s.next_id) rs (λ t h. h) good.numbered;
+  slots = pairwise-relabelled place key labels n AreApart rs (λ t u h. h) (λ t u h. h) good.slots;
+  open_slots = all-relabelled place key labels n (λ t. HasLowSlot t.content) rs (λ t h. h) good.open_slots;
+  chains = all-relabelled place key labels n (λ t. IsSome (chain ts t)) rs (λ t h. h) (all-map (λ t. IsSome (chain rs t)) (λ t. IsSome (chain ts t)) (alike-some_chain rs ts alike) rs good.chains);
+}
+  where
+    ns : List Namespace
+    ns = s.namespaces
+
+    rs : List Record
+    rs = s.records
+
+    n : ℕ
+    n = s.entries + 1
+
+    ts : List Record
+    ts = relabelled place key labels n rs
+
+    alike : AreAlike rs ts
+    alike = bare-relabelled place key labels n rs
+
 -- ---- one call
 
 -- a test chooses one of two outcomes
@@ -329,6 +393,17 @@ pub good_prepare : (s : State) (namespace key parent : Bytes) (labels : List Lab
 good_prepare s namespace key parent labels good =
     good_unless_refused s good (place_for s namespace key parent labels) (prepare_at s key parent labels)
     (λ place e. good_prepare_at s namespace key parent labels place good (place_for-Ok s namespace key parent labels place e))
+
+good_view_at : (s : State) (namespace key parent : Bytes) (labels : List Label) (place : ℕ) → Good s → IsPlace s namespace key parent place → Good (view_at s key parent labels place).0
+good_view_at s namespace key parent labels place good is =
+    either (nat_le s.next_id 4294967295) _ _
+    (λ few. good_viewed s place key parent labels good (place_of-below namespace s.namespaces place is.named) is.free is.base is.deep)
+    (λ spent. good_counted s good)
+
+pub good_view : (s : State) (namespace key parent : Bytes) (labels : List Label) → Good s → Good (view s namespace key parent labels).0
+good_view s namespace key parent labels good =
+    good_unless_refused s good (place_for s namespace key parent labels) (view_at s key parent labels)
+    (λ place e. good_view_at s namespace key parent labels place good (place_for-Ok s namespace key parent labels place e))
 
 -- the choice was tested
 good_charge_to : (s : State) (slot : ℕ) (r : Record) → Good s → active_at slot s.records ≡ Some r → (a b : Bool) (needed wanted : Usage) → fits s r.namespace (usage_of r.content) wanted ≡ a → fits s r.namespace (usage_of r.content) needed ≡ b
@@ -378,6 +453,27 @@ good_ask_in s answer key good (Some place) = good_ask_record s answer good (reco
 pub good_ask : (s : State) (answer : Record → Reply) (namespace key : Bytes) → Good s → Good (ask s answer namespace key).0
 good_ask s answer namespace key good = either (is_key key) _ _ (λ e. good_ask_in s answer key good (place_of namespace s.namespaces)) (λ e. good_counted s good)
 
+good_update_record : (s : State) (place : ℕ) (key : Bytes) (given : List Label) (paths : List Bytes) → Good s → (o : Option Record) → Good (update_record s place key given paths o).0
+good_update_record s place key given paths good None = good_counted s good
+good_update_record s place key given paths good (Some r) =
+    either (is_granted r.labels given paths) _ _ (λ e. good_relabelled s place key (labels_after r.labels given paths) good) (λ e. good_counted s good)
+
+good_update_at : (s : State) (key : Bytes) (given : List Label) (paths : List Bytes) → Good s → (o : Option ℕ) → Good (update_at s key given paths o).0
+good_update_at s key given paths good None = good_counted s good
+good_update_at s key given paths good (Some place) = good_update_record s place key given paths good (record_at place key s.records)
+
+pub good_update : (s : State) (namespace key : Bytes) (given : List Label) (paths : List Bytes) → Good s → Good (update s namespace key given paths).0
+good_update s namespace key given paths good =
+    either (is_key key && is_well_formed given paths) _ _ (λ e. good_update_at s key given paths good (place_of namespace s.namespaces)) (λ e. good_counted s good)
+
+good_walk_at : (s : State) (after : Bytes) (most : ℕ) (asked : Filter) → Good s → (o : Option ℕ) → Good (walk_at s after most asked o).0
+good_walk_at s after most asked good None = good_counted s good
+good_walk_at s after most asked good (Some place) = good_counted s good
+
+pub good_walk : (s : State) (namespace after : Bytes) (most : ℕ) (asked : Filter) → Good s → Good (walk s namespace after most asked).0
+good_walk s namespace after most asked good =
+    either (is_start after && is_page most) _ _ (λ e. good_walk_at s after most asked good (place_of namespace s.namespaces)) (λ e. good_counted s good)
+
 -- each call keeps what is true of the state
 pub good_step : (s : State) (call : Call) (given : Given) → Good s → IsAllowed s call given → Good (step s call given).0
 good_step s calls.Session given good h = good_session s good
@@ -389,6 +485,9 @@ good_step s (calls.Discard slot id) given good h = good_discard s slot good (act
 good_step s (calls.Stat namespace key) given good h = good_ask s _ namespace key good
 good_step s (calls.Usage namespace key) given good h = good_ask s _ namespace key good
 good_step s (calls.Mounts namespace key) given good h = good_ask s _ namespace key good
+good_step s (calls.View namespace key parent labels) given good h = good_view s namespace key parent labels good
+good_step s (calls.Update namespace key labels paths) given good h = good_update s namespace key labels paths good
+good_step s (calls.Walk namespace after most asked) given good h = good_walk s namespace after most asked good
 
 -- ---- a store that is opened
 

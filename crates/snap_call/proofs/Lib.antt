@@ -2,10 +2,12 @@ pub mod Lists
 pub mod Ordered
 pub mod Chains
 pub mod Sums
+pub mod Alike
 pub mod Lowest
 pub mod Slots
 pub mod Places
 mod CodeLemmas
+mod Equal
 pub mod Kept
 pub mod Counts
 pub mod Replaying

@@ -102,7 +102,7 @@ pub record_at-all : (P : Record → Type 0) (place : ℕ) (key : Bytes) (rs : Li
 record_at-all P place key rs r e all = find-all P (is_named place key) rs r e all
 
 -- the committed record of a key is the record of that key
-abbrev if_committed : Record → Option Record
+abbrev pub if_committed : Record → Option Record
 if_committed r = if is_committed r.content then Some r else None
 
 pub committed-parts : (o : Option Record) (r : Record) → option_and_then if_committed o ≡ Some r → (o ≡ Some r) × (is_committed r.content ≡ true)

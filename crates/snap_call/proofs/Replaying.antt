@@ -2,11 +2,13 @@
 use Rattle.std.proofs.Common.{◌≡◌, ◌≢◌, ℕ, ◌+◌, ◌<◌, List, [], ◌∷◌, ◌++◌, length, Bool, true, false, Some, None, eq-eqb, refl, sym, ap, ◌∙◌, subst, ⊎_elim, arith}
 use Rattle.std.proofs.lemmas.Bool.Decides.{eqb_tells, nat_tests}
 use Rattle.std.specs.Option.{option_map_or, is_some}
-use Rattle.std.specs.Prelude.{◌==◌, ◌&&◌, nat_lt, if◌then◌else◌, Option, Result, Ok, Err}
+use Rattle.std.specs.Prelude.{◌==◌, ◌&&◌, nat_le, nat_lt, if◌then◌else◌, Option, Result, Ok, Err}
 use Rattle.snap_layer.specs.Tree.{Tree}
 use Rattle.snap_usage.specs.declared.usage.Usage.{Usage}
 use Rattle.snap_record.specs.Labels.{Bytes, Label}
 use Rattle.snap_record.specs.Records.{usage_of, info_of}
+use Rattle.snap_record.specs.Updates.{is_granted, is_well_formed, updated as labels_after}
+use Rattle.snap_record.specs.declared.filter.Filter.{Filter}
 use Rattle.snap_record.specs.declared.record.Record.{Record}
 use Rattle.snap_call.specs.declared.call.Call.{Call}
 use Rattle.snap_call.specs.declared.call.Call.TheVariants as calls
@@ -18,10 +20,10 @@ use Rattle.snap_call.specs.declared.refusal.Refusal.TheVariants.{BadArgument, No
 use Rattle.snap_call.specs.declared.reply.Reply.{Reply}
 use Rattle.snap_call.specs.declared.reply.Reply.TheVariants.{Opened, Info, Usage as UsageReply, Refused}
 use Rattle.snap_call.specs.declared.state.State.{State}
-use Rattle.snap_call.specs.Forms.{is_key}
+use Rattle.snap_call.specs.Forms.{is_key, is_page, is_start}
 use Rattle.snap_call.specs.Records.{record_at, has_key, active_at}
 use Rattle.snap_call.specs.State.{place_of, over_limit}
-use Rattle.snap_call.specs.Step.{refused, session, one, prepared, prepare_at, prepare, granted, charge_to, charge, trim, committed, commit_as, commit, discard, ask_record, ask, step, IsAllowed, place_for, slot_for, unless_refused, mounts}
+use Rattle.snap_call.specs.Step.{refused, session, one, prepared, prepare_at, prepare, granted, charge_to, charge, trim, committed, commit_as, commit, discard, ask_record, ask, step, IsAllowed, place_for, slot_for, unless_refused, mounts, viewed, view_at, view, relabel, update_record, update_at, update, walk_at, walk}
 use Rattle.snap_call.specs.Journal.{Replays, own}
 
 -- what no step changes
@@ -54,6 +56,12 @@ preparing_at s key parent labels place = unless_refusing s (slot_for s place) (p
 
 preparing : (s : State) (namespace key parent : Bytes) (labels : List Label) → IsNext s (prepare s namespace key parent labels).0
 preparing s namespace key parent labels = unless_refusing s (place_for s namespace key parent labels) (prepare_at s key parent labels) (preparing_at s key parent labels)
+
+viewing_at : (s : State) (key parent : Bytes) (labels : List Label) (place : ℕ) → IsNext s (view_at s key parent labels place).0
+viewing_at s key parent labels place = either s (nat_le s.next_id 4294967295) _ _ (one_more s (viewed s place key parent labels).0 refl refl refl refl) (refusing s NumbersSpent)
+
+viewing : (s : State) (namespace key parent : Bytes) (labels : List Label) → IsNext s (view s namespace key parent labels).0
+viewing s namespace key parent labels = unless_refusing s (place_for s namespace key parent labels) (view_at s key parent labels) (viewing_at s key parent labels)
 
 charging_to : (s : State) (slot : ℕ) (r : Record) (o : Option Usage) → IsNext s (charge_to s slot r o).0
 charging_to s slot r (Some to) = one_more s _ refl refl refl refl
@@ -97,6 +105,25 @@ asking_in s answer key (Some place) = asking_record s answer (record_at place ke
 asking : (s : State) (answer : Record → Reply) (namespace key : Bytes) → IsNext s (ask s answer namespace key).0
 asking s answer namespace key = either s (is_key key) _ _ (asking_in s answer key (place_of namespace s.namespaces)) (refusing s BadArgument)
 
+updating_record : (s : State) (place : ℕ) (key : Bytes) (given : List Label) (paths : List Bytes) (o : Option Record) → IsNext s (update_record s place key given paths o).0
+updating_record s place key given paths None = refusing s NotFound
+updating_record s place key given paths (Some r) =
+    either s (is_granted r.labels given paths) _ _ (one_more s (relabel s place key (labels_after r.labels given paths) r).0 refl refl refl refl) (refusing s BadArgument)
+
+updating_at : (s : State) (key : Bytes) (given : List Label) (paths : List Bytes) (o : Option ℕ) → IsNext s (update_at s key given paths o).0
+updating_at s key given paths None = refusing s NoNamespace
+updating_at s key given paths (Some place) = updating_record s place key given paths (record_at place key s.records)
+
+updating : (s : State) (namespace key : Bytes) (given : List Label) (paths : List Bytes) → IsNext s (update s namespace key given paths).0
+updating s namespace key given paths = either s (is_key key && is_well_formed given paths) _ _ (updating_at s key given paths (place_of namespace s.namespaces)) (refusing s BadArgument)
+
+walking_at : (s : State) (after : Bytes) (most : ℕ) (asked : Filter) (o : Option ℕ) → IsNext s (walk_at s after most asked o).0
+walking_at s after most asked None = refusing s NoNamespace
+walking_at s after most asked (Some place) = one_more s _ refl refl refl refl
+
+walking : (s : State) (namespace after : Bytes) (most : ℕ) (asked : Filter) → IsNext s (walk s namespace after most asked).0
+walking s namespace after most asked = either s (is_start after && is_page most) _ _ (walking_at s after most asked (place_of namespace s.namespaces)) (refusing s BadArgument)
+
 -- a session is counted where one is left
 abbrev opened : State → Bool → State × Reply
 opened s b = if b then (record s { sessions = s.sessions + 1; entries = s.entries + 1 }, Opened) else (s, Refused NumbersSpent)
@@ -123,6 +150,9 @@ step-same s (calls.Discard slot id) given = (discarding s slot (active_at slot s
 step-same s (calls.Stat namespace key) given = (asking s (λ r. Info (info_of r)) namespace key).same
 step-same s (calls.Usage namespace key) given = (asking s (λ r. UsageReply (usage_of r.content)) namespace key).same
 step-same s (calls.Mounts namespace key) given = (asking s (mounts s) namespace key).same
+step-same s (calls.View namespace key parent labels) given = (viewing s namespace key parent labels).same
+step-same s (calls.Update namespace key labels paths) given = (updating s namespace key labels paths).same
+step-same s (calls.Walk namespace after most asked) given = (walking s namespace after most asked).same
 
 -- each allowed call is one entry
 pub step-entries : (s : State) (call : Call) (given : Given) → IsAllowed s call given → (step s call given).0.entries ≡ s.entries + 1
@@ -135,6 +165,9 @@ step-entries s (calls.Discard slot id) given h = (discarding s slot (active_at s
 step-entries s (calls.Stat namespace key) given h = (asking s (λ r. Info (info_of r)) namespace key).entries
 step-entries s (calls.Usage namespace key) given h = (asking s (λ r. UsageReply (usage_of r.content)) namespace key).entries
 step-entries s (calls.Mounts namespace key) given h = (asking s (mounts s) namespace key).entries
+step-entries s (calls.View namespace key parent labels) given h = (viewing s namespace key parent labels).entries
+step-entries s (calls.Update namespace key labels paths) given h = (updating s namespace key labels paths).entries
+step-entries s (calls.Walk namespace after most asked) given h = (walking s namespace after most asked).entries
 
 -- over a whole journal
 pub Replays-same : (s : State) (j : List Entry) (t : State) → Replays s j t → IsSameStore s t

@@ -21,6 +21,14 @@ abbrev pub is_parent : Bytes → Bool
 is_parent [] = true
 is_parent (b ∷ bs) = is_key (b ∷ bs)
 
+-- the size of a page: 1 to 64 infos
+abbrev pub is_page : ℕ → Bool
+is_page most = nat_le 1 most && nat_le most 64
+
+-- what a walk begins after: a text of at most 1024 bytes
+abbrev pub is_start : Bytes → Bool
+is_start bs = nat_le (length bs) 1024
+
 -- a limit of a namespace: at most 2^40 blocks and 2^40 inodes
 abbrev pub is_limit : Usage → Bool
 is_limit u = nat_le u.blocks 1099511627776 && nat_le u.inodes 1099511627776

@@ -1,6 +1,6 @@
 -- Records as a list, in order of their namespaces' places and of the bytes of their keys.
 -- Cited by `Records::committed_at`, `Records::is_present`, `Records::is_base` and others.
-use Rattle.std.specs.Prelude.{ℕ, zero, suc, ◌+◌, ◌==◌, Bool, true, false, ◌&&◌, if◌then◌else◌, List, [], ◌∷◌, Option, None, Some, find, bytes_eq, option_and_then}
+use Rattle.std.specs.Prelude.{ℕ, zero, suc, ◌+◌, ◌==◌, Bool, true, false, ◌&&◌, if◌then◌else◌, List, [], ◌∷◌, map, filter, take, Option, None, Some, find, bytes_eq, option_and_then}
 use Rattle.std.specs.declared.cmp.Ordering.{Ordering}
 use Rattle.std.specs.Ordering.{nat_cmp, ordering_then, is_lt}
 use Rattle.std.specs.Cmp.Lexicographic.{slice_cmp}
@@ -10,8 +10,11 @@ use Rattle.snap_layer.specs.Tree.{Tree}
 use Rattle.snap_usage.specs.declared.usage.Usage.{Usage}
 use Rattle.snap_usage.specs.Counted.{count_of, no_usage}
 use Rattle.snap_ledger.specs.States.{ChargeState, free_charge, plus}
-use Rattle.snap_record.specs.Labels.{Bytes}
-use Rattle.snap_record.specs.Records.{usage_of}
+use Rattle.snap_record.specs.Filters.{is_match}
+use Rattle.snap_record.specs.Labels.{Bytes, Label}
+use Rattle.snap_record.specs.Records.{info_of, usage_of}
+use Rattle.snap_record.specs.declared.filter.Filter.{Filter}
+use Rattle.snap_record.specs.declared.info.Info.{Info}
 use Rattle.snap_record.specs.declared.record.Content.{Content}
 use Rattle.snap_record.specs.declared.record.Content.TheVariants.{Active, Committed}
 use Rattle.snap_record.specs.declared.record.Record.{Record}
@@ -93,6 +96,23 @@ without_slot slot (r ∷ rs) = if is_slot slot r then rs else r ∷ without_slot
 abbrev pub recharged : ℕ → Usage → List Record → List Record
 recharged slot to [] = []
 recharged slot to (r ∷ rs) = if is_slot slot r then record r { content = Active slot to } ∷ rs else r ∷ recharged slot to rs
+
+-- a record with these labels, as the entry of this number leaves it
+abbrev pub with_labels : List Label → ℕ → Record → Record
+with_labels labels number r = record r { labels = labels; updated = number }
+
+-- the records after that of the key in the namespace has these labels
+abbrev pub relabelled : ℕ → Bytes → List Label → ℕ → List Record → List Record
+relabelled place key labels number [] = []
+relabelled place key labels number (r ∷ rs) = if is_named place key r then with_labels labels number r ∷ rs else r ∷ relabelled place key labels number rs
+
+-- a record of the namespace at the place, whose key comes after this text, and that has every part of the filter
+abbrev pub is_walked : ℕ → Bytes → Filter → Record → Bool
+is_walked place after asked r = (r.namespace == place) && is_lt (slice_cmp nat_cmp after r.key) && is_match (info_of r) asked
+
+-- the infos of the first so many of these, in the order of their keys
+abbrev pub page : ℕ → Bytes → ℕ → Filter → List Record → List Info
+page place after most asked rs = map info_of (take most (filter (is_walked place after asked) rs))
 
 -- a record as it is once it is committed under a name, by the entry of this number
 abbrev pub committed_as : Bytes → Tree → ℕ → Record → Record

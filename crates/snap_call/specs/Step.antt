@@ -1,5 +1,5 @@
 -- What one call answers, and the state after it. The cases of each call stand in the order in which its refusals are tested.
--- Cited by `State::opening`, `Accounts::count_entry`, `Accounts::charge` and others.
+-- Cited by `State::opening`, `Accounts::count_entry`, `Accounts::plan` and others.
 use Rattle.std.specs.Prelude.{◌≡◌, ℕ, ◌+◌, ◌<◌, Bool, true, not, ◌&&◌, nat_le, nat_lt, if◌then◌else◌, List, Option, None, Some, IsSomeAnd, is_some, max, Result, Ok, Err}
 use Rattle.std.specs.Option.{option_map_or}
 use Rattle.snap_layer.specs.Tree.{Tree}
@@ -8,9 +8,12 @@ use Rattle.snap_usage.specs.Counted.{count_of, Covers, covers}
 use Rattle.snap_ledger.specs.States.{plus, minus}
 use Rattle.snap_record.specs.Labels.{Bytes, Label, are_labels}
 use Rattle.snap_record.specs.Records.{usage_of, info_of, kind_of}
+use Rattle.snap_record.specs.Updates.{is_granted, is_well_formed, updated as labels_after}
+use Rattle.snap_record.specs.declared.filter.Filter.{Filter}
 use Rattle.snap_record.specs.declared.kind.Kind.{Kind}
 use Rattle.snap_record.specs.declared.kind.Kind.TheVariants as kinds
-use Rattle.snap_record.specs.declared.record.Content.TheVariants.{Active}
+use Rattle.snap_record.specs.declared.record.Content.{Content}
+use Rattle.snap_record.specs.declared.record.Content.TheVariants.{View, Active}
 use Rattle.snap_record.specs.declared.record.Record.{Record}
 use Rattle.snap_mount.specs.Mounts.{mounts_of}
 use Rattle.snap_call.specs.declared.call.Call.{Call}
@@ -20,10 +23,10 @@ use Rattle.snap_call.specs.declared.call.Given.TheVariants.{Count, Layer}
 use Rattle.snap_call.specs.declared.refusal.Refusal.{Refusal}
 use Rattle.snap_call.specs.declared.refusal.Refusal.TheVariants.{BadArgument, NoNamespace, NotFound, AlreadyExists, NotCommitted, NotActive, NoLease, TooDeep, TooManyActives, NumbersSpent}
 use Rattle.snap_call.specs.declared.reply.Reply.{Reply}
-use Rattle.snap_call.specs.declared.reply.Reply.TheVariants.{Opened, Prepared, Charged, Trimmed, Committed, Discarded, Info, Usage as UsageReply, Mounts as MountsReply, Refused}
+use Rattle.snap_call.specs.declared.reply.Reply.TheVariants.{Opened, Prepared, Viewed, Charged, Trimmed, Committed, Discarded, Info, Page, Usage as UsageReply, Mounts as MountsReply, Refused}
 use Rattle.snap_call.specs.declared.state.State.{State}
-use Rattle.snap_call.specs.Forms.{is_key, is_parent}
-use Rattle.snap_call.specs.Records.{record_at, has_key, active_at, charge_of, with_record, without_slot, recharged, committed_as, lowest_free}
+use Rattle.snap_call.specs.Forms.{is_key, is_parent, is_page, is_start}
+use Rattle.snap_call.specs.Records.{record_at, has_key, active_at, charge_of, with_record, without_slot, recharged, relabelled, with_labels, page, committed_as, lowest_free}
 use Rattle.snap_call.specs.State.{place_of, limit_at, over_limit, is_present, is_base, is_too_deep, ancestors, ids_of}
 
 -- one entry more
@@ -60,6 +63,14 @@ abbrev pub place_for : State → Bytes → Bytes → Bytes → List Label → Re
 place_for s namespace key parent labels =
     if is_key key && is_parent parent && are_labels labels then place_in (place_of namespace s.namespaces) key parent s.records else Err BadArgument
 
+-- a new snapshot, made by this entry
+abbrev pub new_record : State → ℕ → Bytes → Bytes → List Label → Content → Record
+new_record s place key parent labels content = record { namespace = place; key = key; parent = parent; id = s.next_id; labels = labels; created = s.entries + 1; updated = s.entries + 1; content = content }
+
+-- the state with it
+abbrev pub added : State → Record → State
+added s r = record s { records = with_record r s.records; next_id = s.next_id + 1; entries = s.entries + 1 }
+
 -- Prepare: a new active snapshot, in the lowest free slot, charged 1/1 for its root. The reply has the ids of its committed ancestors, nearest first.
 abbrev pub one : Usage
 one = record { blocks = 1; inodes = 1 }
@@ -76,11 +87,11 @@ abbrev pub slot_for : State → ℕ → Result ℕ Refusal
 slot_for s place = slot_in s place (lowest_free 64 s.records)
 
 abbrev pub new_active : State → ℕ → Bytes → Bytes → List Label → ℕ → Record
-new_active s place key parent labels slot = record { namespace = place; key = key; parent = parent; id = s.next_id; labels = labels; created = s.entries + 1; updated = s.entries + 1; content = Active slot one }
+new_active s place key parent labels slot = new_record s place key parent labels (Active slot one)
 
 abbrev pub prepared : State → ℕ → Bytes → Bytes → List Label → ℕ → State × Reply
 prepared s place key parent labels slot = (
-  record s { records = with_record (new_active s place key parent labels slot) s.records; next_id = s.next_id + 1; entries = s.entries + 1 },
+  added s (new_active s place key parent labels slot),
   Prepared s.next_id slot (ids_of (ancestors place parent s.records)),
 )
 
@@ -89,6 +100,19 @@ prepare_at s key parent labels place = unless_refused s (slot_for s place) (prep
 
 abbrev pub prepare : State → Bytes → Bytes → Bytes → List Label → State × Reply
 prepare s namespace key parent labels = unless_refused s (place_for s namespace key parent labels) (prepare_at s key parent labels)
+
+-- View: a new snapshot that nothing is written to, without a slot and without a charge (containerd's Snapshotter.View). The reply has the ids of its committed ancestors, nearest first.
+abbrev pub new_view : State → ℕ → Bytes → Bytes → List Label → Record
+new_view s place key parent labels = new_record s place key parent labels View
+
+abbrev pub viewed : State → ℕ → Bytes → Bytes → List Label → State × Reply
+viewed s place key parent labels = (added s (new_view s place key parent labels), Viewed s.next_id (ids_of (ancestors place parent s.records)))
+
+abbrev pub view_at : State → Bytes → Bytes → List Label → ℕ → State × Reply
+view_at s key parent labels place = if nat_le s.next_id 4294967295 then viewed s place key parent labels else refused s NumbersSpent
+
+abbrev pub view : State → Bytes → Bytes → Bytes → List Label → State × Reply
+view s namespace key parent labels = unless_refused s (place_for s namespace key parent labels) (view_at s key parent labels)
 
 -- Charge: the greater in each quantity
 abbrev pub greater : Usage → Usage → Usage
@@ -158,6 +182,32 @@ shown s r kind = MountsReply (mounts_of s.root kind r.id (ids_of (ancestors r.na
 abbrev pub mounts : State → Record → Reply
 mounts s r = shown s r (kind_of r.content)
 
+-- Update: labels by field paths (containerd's Snapshotter.Update). The reply is the info with the labels after it; a result of more than 64 labels is refused.
+abbrev pub relabelled_at : State → ℕ → Bytes → List Label → State
+relabelled_at s place key labels = record s { records = relabelled place key labels (s.entries + 1) s.records; entries = s.entries + 1 }
+
+abbrev pub relabel : State → ℕ → Bytes → List Label → Record → State × Reply
+relabel s place key labels r = (relabelled_at s place key labels, Info (info_of (with_labels labels (s.entries + 1) r)))
+
+abbrev pub update_record : State → ℕ → Bytes → List Label → List Bytes → Option Record → State × Reply
+update_record s place key given paths None = refused s NotFound
+update_record s place key given paths (Some r) = if is_granted r.labels given paths then relabel s place key (labels_after r.labels given paths) r else refused s BadArgument
+
+abbrev pub update_at : State → Bytes → List Label → List Bytes → Option ℕ → State × Reply
+update_at s key given paths None = refused s NoNamespace
+update_at s key given paths (Some place) = update_record s place key given paths (record_at place key s.records)
+
+abbrev pub update : State → Bytes → Bytes → List Label → List Bytes → State × Reply
+update s namespace key given paths = if is_key key && is_well_formed given paths then update_at s key given paths (place_of namespace s.namespaces) else refused s BadArgument
+
+-- Walk: the infos of the snapshots of a namespace that come after a key and have every part of a filter, at most so many (containerd's Snapshotter.Walk, page by page)
+abbrev pub walk_at : State → Bytes → ℕ → Filter → Option ℕ → State × Reply
+walk_at s after most asked None = refused s NoNamespace
+walk_at s after most asked (Some place) = (counted s, Page (page place after most asked s.records))
+
+abbrev pub walk : State → Bytes → Bytes → ℕ → Filter → State × Reply
+walk s namespace after most asked = if is_start after && is_page most then walk_at s after most asked (place_of namespace s.namespaces) else refused s BadArgument
+
 -- one call: the state after it, and its reply
 abbrev pub step : State → Call → Given → State × Reply
 step s calls.Session given = session s
@@ -169,6 +219,9 @@ step s (calls.Discard slot id) given = discard s slot (active_at slot s.records)
 step s (calls.Stat namespace key) given = ask s (λ r. Info (info_of r)) namespace key
 step s (calls.Usage namespace key) given = ask s (λ r. UsageReply (usage_of r.content)) namespace key
 step s (calls.Mounts namespace key) given = ask s (mounts s) namespace key
+step s (calls.View namespace key parent labels) given = view s namespace key parent labels
+step s (calls.Update namespace key labels paths) given = update s namespace key labels paths
+step s (calls.Walk namespace after most asked) given = walk s namespace after most asked
 
 -- the slot is open under the id
 abbrev pub IsOpen : ℕ → Option Record → Type 0

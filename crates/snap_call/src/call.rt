@@ -1,8 +1,8 @@
 ghost use Rattle.std.specs.Prelude.{◌≡◌, IfOk};
-ghost use Rattle.snap_call.specs.declared.call.Call.TheVariants.{Prepare, Commit};
+ghost use Rattle.snap_call.specs.declared.call.Call.TheVariants.{Prepare, Commit, View, Update, Walk};
 
 use snap_layer::Shared;
-use snap_record::{Labels, Text};
+use snap_record::{Filter, Labels, Sequence, Text};
 use snap_usage::Usage;
 use std::alloc::AllocError;
 
@@ -57,6 +57,28 @@ pub enum Call {
         namespace: Text,
         key: Text,
     },
+    /// Makes a view on a parent, the empty text for none (containerd's `View`).
+    View {
+        namespace: Text,
+        key: Text,
+        parent: Text,
+        labels: Labels,
+    },
+    /// Changes a snapshot's labels by field paths (containerd's `Update`).
+    Update {
+        namespace: Text,
+        key: Text,
+        labels: Labels,
+        paths: Sequence<Text>,
+    },
+    /// Asks for the infos of the snapshots of a namespace whose keys come after a text and that have
+    /// every part of a filter, at most so many (containerd's `Walk`).
+    Walk {
+        namespace: Text,
+        after: Text,
+        most: u64,
+        asked: Filter,
+    },
 }
 
 /// What the value handed in adds to a call.
@@ -104,6 +126,24 @@ impl Drop for Call {
             Call::Mounts {
                 namespace: _,
                 key: _,
+            } => {}
+            Call::View {
+                namespace: _,
+                key: _,
+                parent: _,
+                labels: _,
+            } => {}
+            Call::Update {
+                namespace: _,
+                key: _,
+                labels: _,
+                paths: _,
+            } => {}
+            Call::Walk {
+                namespace: _,
+                after: _,
+                most: _,
+                asked: _,
             } => {}
         }
     }
@@ -169,6 +209,24 @@ impl Clone for Call {
                 let (namespace, key) = clone_both(namespace, key)?;
                 Ok(Call::Mounts { namespace, key })
             }
+            Call::View {
+                namespace,
+                key,
+                parent,
+                labels,
+            } => clone_view(namespace, key, parent, labels),
+            Call::Update {
+                namespace,
+                key,
+                labels,
+                paths,
+            } => clone_update(namespace, key, labels, paths),
+            Call::Walk {
+                namespace,
+                after,
+                most,
+                asked,
+            } => clone_walk(namespace, after, *most, asked),
         }
     }
 }
@@ -193,6 +251,52 @@ fn clone_prepare(
         key,
         parent: parent.clone()?,
         labels: labels.clone()?,
+    })
+}
+
+fn clone_view(
+    namespace: &Text,
+    key: &Text,
+    parent: &Text,
+    labels: &Labels,
+) -> Result<Call, AllocError>
+    ensures { IfOk result (λ call. call ≡ View namespace.now key.now parent.now labels.now) }
+{
+    let (namespace, key) = clone_both(namespace, key)?;
+    Ok(Call::View {
+        namespace,
+        key,
+        parent: parent.clone()?,
+        labels: labels.clone()?,
+    })
+}
+
+fn clone_update(
+    namespace: &Text,
+    key: &Text,
+    labels: &Labels,
+    paths: &Sequence<Text>,
+) -> Result<Call, AllocError>
+    ensures { IfOk result (λ call. call ≡ Update namespace.now key.now labels.now paths.now) }
+{
+    let (namespace, key) = clone_both(namespace, key)?;
+    Ok(Call::Update {
+        namespace,
+        key,
+        labels: labels.clone()?,
+        paths: paths.clone()?,
+    })
+}
+
+fn clone_walk(namespace: &Text, after: &Text, most: u64, asked: &Filter) -> Result<Call, AllocError>
+    ensures { IfOk result (λ call. call ≡ Walk namespace.now after.now most asked.now) }
+{
+    let (namespace, after) = clone_both(namespace, after)?;
+    Ok(Call::Walk {
+        namespace,
+        after,
+        most,
+        asked: asked.clone()?,
     })
 }
 

@@ -1,9 +1,9 @@
 ghost use Rattle.std.specs.Prelude.{◌≡◌, ◌==◌};
 ghost use Rattle.std.specs.List.{list_any, list_all};
-ghost use Rattle.snap_call.specs.Forms.{is_text, is_key, is_parent, is_limit, is_namespace, has_name, have_distinct_names};
+ghost use Rattle.snap_call.specs.Forms.{is_text, is_key, is_parent, is_page, is_start, is_limit, is_namespace, has_name, have_distinct_names};
 
 use crate::config::Namespace;
-use crate::limits::{MAX_KEY_BYTES, MAX_LIMIT, MAX_NAMESPACE_BYTES};
+use crate::limits::{MAX_KEY_BYTES, MAX_LIMIT, MAX_NAMESPACE_BYTES, MAX_PAGE};
 use snap_usage::Usage;
 
 /// Whether the text has 1 to so many bytes, none of them NUL.
@@ -34,6 +34,20 @@ pub fn is_parent(text: &str) -> bool
     ensures { result ≡ is_parent text.now }
 {
     text.is_empty() || is_key(text)
+}
+
+/// Whether so many infos can be asked for with one walk: 1 to 64. Takes no memory.
+pub fn is_page(most: u64) -> bool
+    ensures { result ≡ is_page most }
+{
+    1 <= most && most <= MAX_PAGE
+}
+
+/// Whether a walk can begin after the text: at most 1024 bytes. Takes no memory.
+pub fn is_start(text: &str) -> bool
+    ensures { result ≡ is_start text.now }
+{
+    text.len() <= MAX_KEY_BYTES
 }
 
 /// Whether the usage can be a namespace's limit: at most 2^40 blocks and 2^40 inodes.

@@ -21,7 +21,7 @@ pub use call::{Call, Given};
 pub use chain::Chain;
 pub use config::{Config, Namespace};
 pub use entry::Entry;
-pub use forms::{is_key, is_limit, is_parent};
+pub use forms::{is_key, is_limit, is_page, is_parent, is_start};
 pub use records::Records;
 pub use refusal::Refusal;
 pub use reply::Reply;

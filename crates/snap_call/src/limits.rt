@@ -16,6 +16,9 @@ pub const MAX_LIMIT: u64 = 1_099_511_627_776;
 /// The most committed ancestors of a snapshot.
 pub const MAX_ANCESTORS: u64 = 64;
 
+/// The most infos that one walk answers.
+pub const MAX_PAGE: u64 = 64;
+
 /// The most entries of a journal.
 pub const MAX_JOURNAL: u64 = 1_048_576;
 

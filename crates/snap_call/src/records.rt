@@ -1,14 +1,14 @@
-ghost use Rattle.std.specs.Prelude.{◌≡◌, ◌<◌, ◌≤◌, [], length, position, option_copied, OnOk, OnErr, OnSome, IfErr, MatchOption, IsTrue, ◌↔◌, vec_len, vec_capacity};
+ghost use Rattle.std.specs.Prelude.{◌≡◌, ◌<◌, ◌≤◌, [], length, position, option_copied, OnOk, OnErr, OnSome, IfErr, IfOk, MatchOption, IsTrue, ◌↔◌, vec_len, vec_capacity};
 ghost use Rattle.std.specs.Ordering.{is_lt};
 ghost use Rattle.std.specs.List.{insert, list_any};
 ghost use Rattle.snap_usage.specs.Counted.{count_of};
-ghost use Rattle.snap_call.specs.Records.{record_at, record_cmp, has_key, is_named, is_slot, is_later, active_at, with_record, without_slot, recharged, committed_as, lowest_free};
+ghost use Rattle.snap_call.specs.Records.{record_at, record_cmp, has_key, is_named, is_slot, is_later, active_at, with_record, without_slot, recharged, relabelled, is_walked, page, committed_as, lowest_free};
 
 use snap_layer::Shared;
 use snap_ledger::MAX_SLOTS;
-use snap_record::{Content, Record, Text};
+use snap_record::{Content, Filter, Info, Labels, Record, Sequence, Text};
 use snap_usage::{Usage, count};
-use std::alloc::{AllocFailed, Global};
+use std::alloc::{AllocError, AllocFailed, Global};
 use std::cmp::Ordering;
 use std::marker::Model;
 
@@ -135,6 +135,41 @@ impl Records {
         record.content = Content::Active { slot, charged: to };
     }
 
+    /// Gives the record of the key in the namespace at the place these labels, as the journal entry of
+    /// this number leaves it. Where there is none, the records are as they were. Takes no memory.
+    pub fn relabel(&mut self, place: usize, key: &str, labels: Labels, number: u64)
+        ensures { self.new ≡ relabelled place key.now labels number self.old }
+    {
+        let Some(at) = place_of_key(&self.list, place, key) else {
+            return;
+        };
+        let record = &mut self.list[at];
+        record.labels = labels;
+        record.updated = number;
+    }
+
+    /// The infos of the records of the namespace at the place whose keys come after the text and that
+    /// have every part of the filter: the first so many of them, in the order of their keys. The cost
+    /// grows with the records and with the texts and labels of the infos.
+    pub fn page(
+        &self,
+        alloc: Global,
+        place: usize,
+        after: &str,
+        most: usize,
+        asked: &Filter,
+    ) -> Result<Sequence<Info>, AllocError>
+        ensures { IfOk result (λ infos. infos ≡ page place after.now most asked.now self.now) }
+    {
+        let mut infos = Sequence::new(alloc);
+        for record in &self.list {
+            if infos.len() < most && is_walked(record, place, after, asked) {
+                infos.push(record.info()?)?;
+            }
+        }
+        Ok(infos)
+    }
+
     /// Makes the active record of a slot a committed one: it has the name, the layer with its count
     /// and the number of the journal entry, and stands where the name has its place. Where the slot
     /// is not open, the records are as they were.
@@ -196,6 +231,16 @@ fn is_named(snapshot: &Record, place: usize, key: &str) -> bool
     snapshot.namespace == place && snapshot.key.as_str() == key
 }
 
+/// Whether the record is one of the namespace at this place, has a key that comes after the text, and
+/// has every part of the filter.
+fn is_walked(snapshot: &Record, place: usize, after: &str, asked: &Filter) -> bool
+    ensures { result ≡ is_walked place after.now asked.now snapshot.now }
+{
+    snapshot.namespace == place
+        && after.cmp(snapshot.key.as_str()).is_lt()
+        && snapshot.matches(asked)
+}
+
 /// Whether the record is active in the slot.
 fn is_slot(snapshot: &Record, slot: u64) -> bool
     ensures { result ≡ is_slot slot snapshot.now }
@@ -223,6 +268,14 @@ fn place_for(list: &[Record], snapshot: &Record) -> usize
         Some(place) => place,
         None => list.len(),
     }
+}
+
+/// Where the record of the key in the namespace at the place stands.
+fn place_of_key(list: &[Record], place: usize, key: &str) -> Option<usize>
+    ensures { result ≡ position (is_named place key.now) list.now }
+{
+    list.iter()
+        .position(|snapshot| is_named(snapshot, place, key))
 }
 
 /// Where the record of the slot stands.

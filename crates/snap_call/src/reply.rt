@@ -16,6 +16,11 @@ pub enum Reply {
         slot: u64,
         chain: Sequence<u32>,
     },
+    /// The view's id, and the ids of its ancestors, nearest first.
+    Viewed {
+        id: u32,
+        chain: Sequence<u32>,
+    },
     /// The charged amount afterwards.
     Charged {
         now: Usage,
@@ -31,6 +36,8 @@ pub enum Reply {
     Info(Info),
     Usage(Usage),
     Mounts(Sequence<Mount>),
+    /// The infos of a walk, in the order of their keys.
+    Page(Sequence<Info>),
     Refused(Refusal),
 }
 
@@ -46,6 +53,10 @@ impl Clone for Reply {
                 slot: *slot,
                 chain: chain.clone()?,
             },
+            Reply::Viewed { id, chain } => Reply::Viewed {
+                id: *id,
+                chain: chain.clone()?,
+            },
             Reply::Charged { now } => Reply::Charged { now: *now },
             Reply::Trimmed => Reply::Trimmed,
             Reply::Committed { id, usage } => Reply::Committed {
@@ -56,6 +67,7 @@ impl Clone for Reply {
             Reply::Info(info) => Reply::Info(info.clone()?),
             Reply::Usage(usage) => Reply::Usage(*usage),
             Reply::Mounts(mounts) => Reply::Mounts(mounts.clone()?),
+            Reply::Page(infos) => Reply::Page(infos.clone()?),
             Reply::Refused(refusal) => Reply::Refused(*refusal),
         })
     }

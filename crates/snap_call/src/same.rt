@@ -5,7 +5,7 @@ ghost use Rattle.snap_call.specs.declared.call.Call.TheVariants as calls;
 use crate::call::{Call, Given};
 use crate::reply::Reply;
 use snap_mount::Mount;
-use snap_record::{Info, Labels, Sequence, Text};
+use snap_record::{Filter, Info, Labels, Sequence, Text};
 use snap_usage::Usage;
 
 pub(crate) fn is_same_labels(a: &Labels, b: &Labels) -> bool
@@ -43,6 +43,24 @@ pub(crate) fn is_same_info(a: &Info, b: &Info) -> bool
 }
 
 pub(crate) fn is_same_mounts(a: &Sequence<Mount>, b: &Sequence<Mount>) -> bool
+    ensures { IsTrue result ↔ (a.now ≡ b.now) }
+{
+    *a == *b
+}
+
+pub(crate) fn is_same_infos(a: &Sequence<Info>, b: &Sequence<Info>) -> bool
+    ensures { IsTrue result ↔ (a.now ≡ b.now) }
+{
+    *a == *b
+}
+
+pub(crate) fn is_same_filter(a: &Filter, b: &Filter) -> bool
+    ensures { IsTrue result ↔ (a.now ≡ b.now) }
+{
+    *a == *b
+}
+
+pub(crate) fn is_same_paths(a: &Sequence<Text>, b: &Sequence<Text>) -> bool
     ensures { IsTrue result ↔ (a.now ≡ b.now) }
 {
     *a == *b
@@ -87,6 +105,24 @@ pub(crate) fn is_same_call(a: &Call, b: &Call) -> bool
         Call::Stat { namespace, key } => is_stat(b, namespace, key),
         Call::Usage { namespace, key } => is_usage(b, namespace, key),
         Call::Mounts { namespace, key } => is_mounts(b, namespace, key),
+        Call::View {
+            namespace,
+            key,
+            parent,
+            labels,
+        } => is_view(b, namespace, key, parent, labels),
+        Call::Update {
+            namespace,
+            key,
+            labels,
+            paths,
+        } => is_update(b, namespace, key, labels, paths),
+        Call::Walk {
+            namespace,
+            after,
+            most,
+            asked,
+        } => is_walk(b, namespace, after, *most, asked),
     }
 }
 
@@ -195,6 +231,54 @@ fn is_mounts(call: &Call, namespace: &Text, key: &Text) -> bool
     }
 }
 
+fn is_view(call: &Call, namespace: &Text, key: &Text, parent: &Text, labels: &Labels) -> bool
+    ensures { IsTrue result ↔ (calls.View namespace.now key.now parent.now labels.now ≡ call.now) }
+{
+    match call {
+        Call::View {
+            namespace: n,
+            key: k,
+            parent: p,
+            labels: l,
+        } => *namespace == *n && *key == *k && *parent == *p && is_same_labels(labels, l),
+        _ => false,
+    }
+}
+
+fn is_update(
+    call: &Call,
+    namespace: &Text,
+    key: &Text,
+    labels: &Labels,
+    paths: &Sequence<Text>,
+) -> bool
+    ensures { IsTrue result ↔ (calls.Update namespace.now key.now labels.now paths.now ≡ call.now) }
+{
+    match call {
+        Call::Update {
+            namespace: n,
+            key: k,
+            labels: l,
+            paths: p,
+        } => *namespace == *n && *key == *k && is_same_labels(labels, l) && is_same_paths(paths, p),
+        _ => false,
+    }
+}
+
+fn is_walk(call: &Call, namespace: &Text, after: &Text, most: u64, asked: &Filter) -> bool
+    ensures { IsTrue result ↔ (calls.Walk namespace.now after.now most asked.now ≡ call.now) }
+{
+    match call {
+        Call::Walk {
+            namespace: n,
+            after: a,
+            most: m,
+            asked: f,
+        } => *namespace == *n && *after == *a && most == *m && is_same_filter(asked, f),
+        _ => false,
+    }
+}
+
 pub(crate) fn is_same_reply(a: &Reply, b: &Reply) -> bool
     ensures { IsTrue result ↔ (a.now ≡ b.now) }
 {
@@ -208,6 +292,9 @@ pub(crate) fn is_same_reply(a: &Reply, b: &Reply) -> bool
                 chain: c,
             },
         ) => *id == *i && *slot == *s && is_same_chain(chain, c),
+        (Reply::Viewed { id, chain }, Reply::Viewed { id: i, chain: c }) => {
+            *id == *i && is_same_chain(chain, c)
+        }
         (Reply::Charged { now: a }, Reply::Charged { now: b }) => *a == *b,
         (Reply::Trimmed, Reply::Trimmed) => true,
         (Reply::Committed { id, usage }, Reply::Committed { id: i, usage: u }) => {
@@ -217,6 +304,7 @@ pub(crate) fn is_same_reply(a: &Reply, b: &Reply) -> bool
         (Reply::Info(a), Reply::Info(b)) => is_same_info(a, b),
         (Reply::Usage(a), Reply::Usage(b)) => *a == *b,
         (Reply::Mounts(a), Reply::Mounts(b)) => is_same_mounts(a, b),
+        (Reply::Page(a), Reply::Page(b)) => is_same_infos(a, b),
         (Reply::Refused(a), Reply::Refused(b)) => *a == *b,
         _ => false,
     }

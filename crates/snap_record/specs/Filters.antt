@@ -1,27 +1,35 @@
 -- Which snapshots a filter asks for.
--- Cited by `matches`.
-use Rattle.std.specs.Prelude.{◌≡◌, Option, Some, None, List, All}
+-- Cited by `Record::matches`, `matches`, `Accounts::plan` and others.
+use Rattle.std.specs.Prelude.{Bool, true, false, ◌&&◌, Option, Some, None, List, bytes_eq}
+use Rattle.std.specs.List.{list_all}
+use Rattle.std.specs.Option.{option_map_or}
 use Rattle.snap_record.specs.Labels.{Bytes, Label, value_of}
 use Rattle.snap_record.specs.declared.info.Info.{Info}
+use Rattle.snap_record.specs.declared.kind.Kind.{Kind}
+use Rattle.snap_record.specs.declared.kind.Kind.TheVariants.{View, Active, Committed}
 use Rattle.snap_record.specs.declared.filter.Filter.{Filter}
 use Rattle.snap_record.specs.declared.filter.LabelFilter.{LabelFilter}
 
--- a part that is given asks for this value
-abbrev pub Asks : {A : Type 0} → Option A → A → Type 0
-Asks None value = Unit {0}
-Asks (Some wanted) value = wanted ≡ value
+-- a text that is given is this one; a part that isn't given asks for nothing
+abbrev pub is_text_asked : Option Bytes → Bytes → Bool
+is_text_asked part text = option_map_or (bytes_eq text) part true
+
+-- the two kinds are the same
+abbrev pub is_same_kind : Kind → Kind → Bool
+is_same_kind View View = true
+is_same_kind Active Active = true
+is_same_kind Committed Committed = true
+is_same_kind kind other = false
+
+-- a kind that is given is this one
+abbrev pub is_kind_asked : Option Kind → Kind → Bool
+is_kind_asked part kind = option_map_or (is_same_kind kind) part true
 
 -- the label is there, with the value that is asked for, if one is
-abbrev pub HasValue : Option Bytes → Option Bytes → Type 0
-HasValue None wanted = ⊥
-HasValue (Some value) wanted = Asks wanted value
+abbrev pub has_label : List Label → LabelFilter → Bool
+has_label labels filter = option_map_or (is_text_asked filter.value) (value_of labels filter.key) false
 
-abbrev pub HasLabel : List Label → LabelFilter → Type 0
-HasLabel labels filter = HasValue (value_of labels filter.key) filter.value
-
--- the snapshot has every part of the filter
-pub record Matches (info : Info) (filter : Filter) : Type 0 where
-  pub name : Asks filter.name info.name
-  pub parent : Asks filter.parent info.parent
-  pub kind : Asks filter.kind info.kind
-  pub labels : All (HasLabel info.labels) filter.labels
+-- the snapshot has every part of the filter (containerd's filters of Snapshotter.Walk, in this form by choice)
+abbrev pub is_match : Info → Filter → Bool
+is_match info filter =
+    is_text_asked filter.name info.name && is_text_asked filter.parent info.parent && is_kind_asked filter.kind info.kind && list_all (has_label info.labels) filter.labels

@@ -1,5 +1,5 @@
 -- Labels as a list of pairs with distinct keys.
--- Cited by `matches`, `Labels::insert`, `Labels::remove` and others.
+-- Cited by `Record::matches`, `matches`, `Labels::insert` and others.
 use Rattle.std.specs.Prelude.{ℕ, ◌+◌, Bool, ◌&&◌, nat_le, nat_lt, List, length, Option, bytes_eq}
 use Rattle.std.specs.List.{list_all, list_any, IsDistinct}
 use Rattle.std.specs.Map.{lookup, keys_of, remove_entry}

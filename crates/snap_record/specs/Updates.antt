@@ -1,5 +1,5 @@
 -- What an update makes of labels.
--- Cited by `update_labels`, `is_well_formed`.
+-- Cited by `update_labels`, `is_well_formed`, `updated_labels` and others.
 use Rattle.std.specs.Prelude.{Bool, true, false, ◌&&◌, ◌||◌, nat_eq, nat_le, nat_lt, List, [], ◌∷◌, ◌++◌, length, drop, Option, Some, None, is_some, option_map, filter_map, codes, bytes_eq, if◌then◌else◌}
 use Rattle.std.specs.List.{list_all, list_any, starts_with}
 use Rattle.std.specs.Option.{option_map_or}

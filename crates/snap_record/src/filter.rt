@@ -1,10 +1,12 @@
-ghost use Rattle.std.specs.Prelude.{◌≡◌, ◌↔◌, IsTrue, Option, All};
-ghost use Rattle.snap_record.specs.Filters.{Matches, Asks, HasLabel};
-ghost use Rattle.snap_record.specs.Labels.{value_of};
+ghost use Rattle.std.specs.Prelude.{◌≡◌};
+ghost use Rattle.std.specs.List.{list_all};
+ghost use Rattle.snap_record.specs.Filters.{has_label, is_kind_asked, is_match, is_same_kind, is_text_asked};
+ghost use Rattle.snap_record.specs.Records.{info_of};
 
 use crate::info::Info;
 use crate::kind::Kind;
 use crate::labels::Labels;
+use crate::record::Record;
 use crate::sequence::Sequence;
 use crate::text::Text;
 use std::alloc::AllocError;
@@ -59,7 +61,7 @@ impl Clone for Filter {
 /// Whether the snapshot has every part of the filter. Takes no memory. Its cost grows with the
 /// filter's labels and with the bytes that are compared.
 pub fn matches(info: &Info, filter: &Filter) -> bool
-    ensures { IsTrue result ↔ Matches info.now filter.now }
+    ensures { result ≡ is_match info.now filter.now }
 {
     asks_text(&filter.name, &info.name)
         && asks_text(&filter.parent, &info.parent)
@@ -67,32 +69,56 @@ pub fn matches(info: &Info, filter: &Filter) -> bool
         && has_labels(&info.labels, filter.labels.as_slice())
 }
 
+impl Record {
+    /// Whether the snapshot has every part of the filter, as [`matches`] tells it of the snapshot's
+    /// info. Takes no memory: no info is made. Its cost is that of [`matches`].
+    pub fn matches(&self, filter: &Filter) -> bool
+        ensures { result ≡ is_match (info_of self.now) filter.now }
+    {
+        asks_text(&filter.name, &self.key)
+            && asks_text(&filter.parent, &self.parent)
+            && asks_kind(&filter.kind, self.content.kind())
+            && has_labels(&self.labels, filter.labels.as_slice())
+    }
+}
+
 fn asks_text(part: &Option<Text>, text: &Text) -> bool
-    ensures { IsTrue result ↔ Asks part.now text.now }
+    ensures { result ≡ is_text_asked part.now text.now }
 {
     match part {
         None => true,
-        Some(wanted) => *wanted == *text,
+        Some(wanted) => text.as_str() == wanted.as_str(),
     }
 }
 
 fn asks_kind(part: &Option<Kind>, kind: Kind) -> bool
-    ensures { IsTrue result ↔ Asks part.now kind }
+    ensures { result ≡ is_kind_asked part.now kind }
 {
     match part {
         None => true,
-        Some(wanted) => *wanted == kind,
+        Some(wanted) => is_same_kind(kind, *wanted),
+    }
+}
+
+fn is_same_kind(a: Kind, b: Kind) -> bool
+    ensures { result ≡ is_same_kind a b }
+{
+    match (a, b) {
+        (Kind::View, Kind::View) => true,
+        (Kind::Active, Kind::Active) => true,
+        (Kind::Committed, Kind::Committed) => true,
+        _ => false,
     }
 }
 
 fn has_labels(labels: &Labels, filters: &[LabelFilter]) -> bool
-    ensures { IsTrue result ↔ All (HasLabel labels.now) filters.now }
+    ensures { result ≡ list_all (has_label labels.now) filters.now }
 {
     filters.iter().all(|filter| has_label(labels, filter))
 }
 
 fn has_label(labels: &Labels, filter: &LabelFilter) -> bool
-    ensures { IsTrue result ↔ HasLabel labels.now filter.now }
+    ensures { result ≡ has_label labels.now filter.now }
 {
     match labels.get(&filter.key) {
         None => false,

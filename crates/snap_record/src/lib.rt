@@ -19,4 +19,4 @@ pub use labels::{Labels, MAX_LABEL_BYTES, MAX_LABELS};
 pub use record::{Content, Record};
 pub use sequence::Sequence;
 pub use text::Text;
-pub use update::{is_well_formed, update_labels};
+pub use update::{is_well_formed, update_labels, updated_labels};

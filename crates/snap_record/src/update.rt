@@ -24,10 +24,7 @@ pub fn update_labels(labels: &mut Labels, given: &Labels, paths: &[Text]) -> Res
         ↔ (is_granted labels.old given.now paths.now ≡ false) }
     ensures err { OnErr result (labels.new ≡ labels.old) }
 {
-    if !is_granted(labels, given, paths) {
-        return Err(LabelsError::BadLabels);
-    }
-    *labels = updated(labels, given, paths)?;
+    *labels = updated_labels(labels, given, paths)?;
     Ok(())
 }
 
@@ -154,6 +151,23 @@ fn updated(labels: &Labels, given: &Labels, paths: &[Text]) -> Result<Labels, Al
     } else {
         with_named(labels, given, paths)
     }
+}
+
+/// The labels that [`update_labels`] makes of these, which stay as they are. The errors and the cost
+/// are its.
+pub fn updated_labels(
+    labels: &Labels,
+    given: &Labels,
+    paths: &[Text],
+) -> Result<Labels, LabelsError>
+    ensures ok { IfOk result (λ next. next ≡ updated labels.now given.now paths.now) }
+    ensures bad { IsErrOf result LabelsError.BadLabels
+        ↔ (is_granted labels.now given.now paths.now ≡ false) }
+{
+    if !is_granted(labels, given, paths) {
+        return Err(LabelsError::BadLabels);
+    }
+    Ok(updated(labels, given, paths)?)
 }
 
 fn with_named(labels: &Labels, given: &Labels, paths: &[Text]) -> Result<Labels, AllocError>

@@ -8,6 +8,7 @@ use Rattle.serde_json.specs.Data.{Data, null, string, Members, no_members, membe
 use Rattle.serde_json.specs.View.{items_of}
 use Rattle.serde_json.specs.Written.{has_float, items_have_float, members_have_float}
 use Rattle.snap_record.specs.Labels.{Bytes}
+use Rattle.snap_record.specs.declared.info.Info.{Info}
 use Rattle.snap_mount.specs.declared.mount.Mount.{Mount}
 use Rattle.snap_call.specs.declared.refusal.Refusal.{Refusal}
 use Rattle.snap_call.specs.declared.refusal.Refusal.TheVariants as refusals
@@ -15,7 +16,7 @@ use Rattle.snap_script.specs.declared.answer.Shown.{Shown}
 use Rattle.snap_script.specs.declared.answer.Shown.TheVariants as shown
 use Rattle.snap_script.specs.declared.answer.Answer.{Answer}
 use Rattle.snap_script.specs.declared.answer.Answer.TheVariants as answers
-use Rattle.snap_script.specs.Answers.{number_data, usage_data, members_with, shown_data, answer_data, mount_data}
+use Rattle.snap_script.specs.Answers.{number_data, usage_data, members_with, shown_data, answer_data, info_data, mount_data}
 
 first_is : (a b : Bool) → a || b ≡ false → a ≡ false
 first_is false b h = refl
@@ -60,6 +61,13 @@ mounts_have_none : (mounts : List Mount) → items_have_float (items_of (map mou
 mounts_have_none [] = refl
 mounts_have_none (mount ∷ mounts) = both_are _ _ (both_are _ _ (texts_have_none mount.options) refl) (mounts_have_none mounts)
 
+info_has_none : (info : Info) → has_float (info_data info) ≡ false
+info_has_none info = both_are _ _ (members_have_none string (λ text. refl) info.labels no_members refl) refl
+
+infos_have_none : (infos : List Info) → items_have_float (items_of (map info_data infos)) ≡ false
+infos_have_none [] = refl
+infos_have_none (info ∷ infos) = both_are _ _ (info_has_none info) (infos_have_none infos)
+
 text_or_null : (b : Bool) (text : List ℕ) → has_float (if b then string text else null) ≡ false
 text_or_null true text = refl
 text_or_null false text = refl
@@ -73,7 +81,9 @@ shown_has_none (Some (shown.Symlink target)) = both_are _ _ (text_or_null (is_ut
 -- an answer that has a list, labels or totals by the facts above; any other computes
 pub no_float : (answer : Answer) → has_float (answer_data answer) ≡ false
 no_float (answers.Prepared id slot chain) = both_are _ _ (ids_have_none chain) refl
-no_float (answers.Info info) = both_are _ _ (both_are _ _ (members_have_none string (λ text. refl) info.labels no_members refl) refl) refl
+no_float (answers.Viewed id chain) = both_are _ _ (ids_have_none chain) refl
+no_float (answers.Info info) = both_are _ _ (info_has_none info) refl
+no_float (answers.Infos infos) = both_are _ _ (infos_have_none infos) refl
 no_float (answers.Mounts mounts) = both_are _ _ (mounts_have_none mounts) refl
 no_float (answers.Seen seen) = both_are _ _ (shown_has_none seen) refl
 no_float (answers.Names names) = both_are _ _ (texts_have_none names) refl

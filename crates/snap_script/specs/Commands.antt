@@ -1,12 +1,13 @@
 -- The commands of a script; cited by the public clause of `read_line` through Lines.antt. The fields of a command are
 -- tested in the order in which they stand.
 -- Cited by `read_line`, `replay_within`, `replay`.
-use Rattle.std.specs.Prelude.{ℕ, List, [], ◌∷◌, Option, Some, None, option_map, Result, Ok, codes}
+use Rattle.std.specs.Prelude.{ℕ, List, [], ◌∷◌, Option, Result, Ok, codes}
 use Rattle.std.specs.Map.{lookup}
 use Rattle.std.specs.Str.{bytes_eq}
 use Rattle.serde_json.specs.Data.{Data}
 use Rattle.serde_json.specs.Find.{as_str}
 use Rattle.snap_record.specs.Labels.{Bytes}
+use Rattle.snap_record.specs.declared.filter.Filter.{Filter}
 use Rattle.snap_script.specs.declared.fault.Field.{Field}
 use Rattle.snap_script.specs.declared.fault.Field.TheVariants as fields
 use Rattle.snap_script.specs.declared.fault.Fault.{Fault}
@@ -19,7 +20,7 @@ use Rattle.snap_script.specs.declared.verb.Verb.TheVariants as verbs
 use Rattle.snap_script.specs.declared.verb.FileVerb.{FileVerb}
 use Rattle.snap_script.specs.declared.verb.FileVerb.TheVariants as file_verbs
 use Rattle.snap_script.specs.declared.command.Lookup.TheVariants as lookups
-use Rattle.snap_script.specs.Fields.{required, optional, as_natural, as_mode, as_usage, as_labels, as_namespaces, content_of}
+use Rattle.snap_script.specs.Fields.{required, optional, given, as_natural, as_mode, as_usage, as_texts, as_kind, as_labels, as_label_filters, as_namespaces, content_of}
 use Rattle.snap_script.specs.Results.{◌>>=◌}
 
 -- a text that must be there
@@ -51,18 +52,30 @@ open_of line = do
   journal ← optional as_natural fields.Journal (Ok 1048576) line
   Ok (commands.Open (record { root = root; namespaces = namespaces; journal = journal; first_id = 1 }))
 
--- the command of a line by its verb, mostly on a snapshot s; `prepare` and `commit` are containerd's Prepare and Commit, and a charge wants what it needs where it names no other
+-- the filter of a walk: each part that is there is asked for
+unfoldable pub filter_of : Data → Result Filter Fault
+filter_of line = do
+  name ← given as_str fields.Name line
+  parent ← given as_str fields.Parent line
+  kind ← given as_kind fields.Kind line
+  labels ← optional as_label_filters fields.Labels (Ok []) line
+  Ok (record { name = name; parent = parent; kind = kind; labels = labels })
+
+-- the command of a line by its verb, mostly on a snapshot s; `prepare`, `view`, `commit`, `update` and `walk` are containerd's calls of these names, and a charge wants what it needs where it names no other
 unfoldable pub command_of : Verb → Data → Result Command Fault
 command_of verbs.Open line = open_of line
 command_of verbs.Session line = Ok commands.Session
 command_of verbs.Prepare line = do s ← named line; Ok (commands.Prepare s.0 s.1 (← text fields.Parent line) (← optional as_labels fields.Labels (Ok []) line))
+command_of verbs.View line = do s ← named line; Ok (commands.View s.0 s.1 (← text fields.Parent line) (← optional as_labels fields.Labels (Ok []) line))
 command_of verbs.Charge line = do s ← named line; need ← required as_usage fields.Need line; Ok (commands.Charge s.0 s.1 need (← optional as_usage fields.Want (Ok need) line))
 command_of verbs.Trim line = do s ← named line; Ok (commands.Trim s.0 s.1)
-command_of verbs.Commit line = do s ← named line; Ok (commands.Commit s.0 s.1 (← text fields.Name line) (← optional (λ d. option_map Some (as_str d)) fields.Lease (Ok None) line))
+command_of verbs.Commit line = do s ← named line; Ok (commands.Commit s.0 s.1 (← text fields.Name line) (← given as_str fields.Lease line))
 command_of verbs.Discard line = do s ← named line; Ok (commands.Discard s.0 s.1)
 command_of verbs.Stat line = do s ← named line; Ok (commands.Stat s.0 s.1)
+command_of verbs.Update line = do s ← named line; Ok (commands.Update s.0 s.1 (← required as_labels fields.Labels line) (← optional as_texts fields.Paths (Ok []) line))
 command_of verbs.Usage line = do s ← named line; Ok (commands.Usage s.0 s.1)
 command_of verbs.Mounts line = do s ← named line; Ok (commands.Mounts s.0 s.1)
+command_of verbs.Walk line = do Ok (commands.Walk (← text fields.Namespace line) (← optional as_str fields.After (Ok []) line) (← optional as_natural fields.Most (Ok 64) line) (← filter_of line))
 command_of (verbs.File verb) line = do s ← named line; Ok (commands.File s.0 s.1 (← file_command_of verb line) (← optional as_usage fields.Extra (Ok (record { blocks = 0; inodes = 0 })) line))
 command_of (verbs.Lookup asked) line = do s ← named line; Ok (commands.Lookup s.0 s.1 asked (← text fields.Path line))
 command_of verbs.Report line = Ok commands.Report
@@ -73,13 +86,16 @@ words =
     (codes "open", verbs.Open)
     ∷ (codes "session", verbs.Session)
     ∷ (codes "prepare", verbs.Prepare)
+    ∷ (codes "view", verbs.View)
     ∷ (codes "charge", verbs.Charge)
     ∷ (codes "trim", verbs.Trim)
     ∷ (codes "commit", verbs.Commit)
     ∷ (codes "discard", verbs.Discard)
     ∷ (codes "stat", verbs.Stat)
+    ∷ (codes "update", verbs.Update)
     ∷ (codes "usage", verbs.Usage)
     ∷ (codes "mounts", verbs.Mounts)
+    ∷ (codes "walk", verbs.Walk)
     ∷ (codes "mkdir", verbs.File file_verbs.Mkdir)
     ∷ (codes "create", verbs.File file_verbs.Create)
     ∷ (codes "write", verbs.File file_verbs.Write)

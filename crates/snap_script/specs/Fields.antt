@@ -1,12 +1,16 @@
 -- What a field of a line has to be; cited by the public clause of `read_line` through Lines.antt. The line's value is
 -- the one that serde_json reads.
 -- Cited by `read_line`, `replay_within`, `replay`.
-use Rattle.std.specs.Prelude.{ℕ, min, ◌&&◌, nat_le, if◌then◌else◌, List, [], ◌∷◌, Option, Some, None, option_map, option_and_then, Result, Err, replicate}
+use Rattle.std.specs.Prelude.{ℕ, min, ◌&&◌, nat_le, if◌then◌else◌, List, [], ◌∷◌, Option, Some, None, option_map, option_and_then, Result, Ok, Err, replicate, codes}
 use Rattle.std.specs.Option.{ok_or, option_map_or, option_zip}
-use Rattle.serde_json.specs.Data.{Data, Items, no_items, item, Members, no_members, member}
+use Rattle.std.specs.Str.{bytes_eq}
+use Rattle.serde_json.specs.Data.{Data, null, Items, no_items, item, Members, no_members, member}
 use Rattle.serde_json.specs.Find.{get, as_number, as_u64, as_str, as_array, as_object}
 use Rattle.snap_usage.specs.declared.usage.Usage.{Usage}
 use Rattle.snap_record.specs.Labels.{Bytes, Label, with_label}
+use Rattle.snap_record.specs.declared.filter.LabelFilter.{LabelFilter}
+use Rattle.snap_record.specs.declared.kind.Kind.{Kind}
+use Rattle.snap_record.specs.declared.kind.Kind.TheVariants as kinds
 use Rattle.snap_call.specs.declared.config.Namespace.{Namespace}
 use Rattle.snap_script.specs.declared.fault.Field.{Field}
 use Rattle.snap_script.specs.declared.fault.Field.TheVariants as fields
@@ -21,6 +25,10 @@ optional kind field absent line = option_map_or (λ d. ok_or (kind d) (BadField 
 -- a field of a kind that must be there
 abbrev pub required : {A : Type 0} → (Data → Option A) → Field → Data → Result A Fault
 required kind field line = optional kind field (Err (BadField field)) line
+
+-- a field of a kind, or nothing where it is absent
+abbrev pub given : {A : Type 0} → (Data → Option A) → Field → Data → Result (Option A) Fault
+given kind field line = optional (λ d. option_map Some (kind d)) field (Ok None) line
 
 -- a number: digits alone, below 2^64
 abbrev pub as_natural : Data → Option ℕ
@@ -51,6 +59,26 @@ as_usage d = option_map usage_with (as_pair d)
 abbrev pub as_fill : Data → Option Bytes
 as_fill d = option_and_then (λ pair. if nat_le pair.0 255 && nat_le pair.1 1048576 then Some (replicate pair.1 pair.0) else None) (as_pair d)
 
+-- each item a text
+abbrev pub texts_in : Items → Option (List Bytes)
+texts_in no_items = Some []
+texts_in (item d ds) = option_and_then (λ t. option_map (λ ts. t ∷ ts) (texts_in ds)) (as_str d)
+
+-- texts: an array of them
+abbrev pub as_texts : Data → Option (List Bytes)
+as_texts d = option_and_then texts_in (as_array d)
+
+-- the kind of a snapshot that has the word
+abbrev pub kind_named : Bytes → Option Kind
+kind_named word =
+    if bytes_eq word (codes "View") then Some kinds.View
+    else (if bytes_eq word (codes "Active") then Some kinds.Active
+    else (if bytes_eq word (codes "Committed") then Some kinds.Committed else None))
+
+-- a kind of snapshot: its word
+abbrev pub as_kind : Data → Option Kind
+as_kind d = option_and_then kind_named (as_str d)
+
 -- the labels with those of the members, each a text
 abbrev pub labels_with : List Label → Members → Option (List Label)
 labels_with found no_members = Some found
@@ -59,6 +87,20 @@ labels_with found (member key d ms) = option_and_then (λ value. labels_with (wi
 -- labels: an object of texts, in the order of its members
 abbrev pub as_labels : Data → Option (List Label)
 as_labels d = option_and_then (labels_with []) (as_object d)
+
+-- a label that is asked for: with the text as its value, or with any value where null stands for it
+abbrev pub label_filter : Bytes → Data → Option LabelFilter
+label_filter key null = Some (record { key = key; value = None })
+label_filter key d = option_map (λ text. record { key = key; value = Some text }) (as_str d)
+
+-- each member a label that is asked for
+abbrev pub label_filters_in : Members → Option (List LabelFilter)
+label_filters_in no_members = Some []
+label_filters_in (member key d ms) = option_and_then (λ f. option_map (λ fs. f ∷ fs) (label_filters_in ms)) (label_filter key d)
+
+-- labels that are asked for: an object of texts and nulls, in the order of its members
+abbrev pub as_label_filters : Data → Option (List LabelFilter)
+as_label_filters d = option_and_then label_filters_in (as_object d)
 
 -- a name, blocks and inodes
 abbrev pub namespace_in : Items → Option Namespace

@@ -3,8 +3,8 @@ ghost use Rattle.serde_json.specs.View.{view};
 ghost use Rattle.snap_script.specs.Answers.{answer_data, answer_line};
 
 use crate::values::{
-    changed, committed, done, error, error_name, freed, head, info, mounts, names, path, prepared,
-    refused, report, seen, session, share, usage,
+    changed, committed, done, error, error_name, freed, head, info, infos, mounts, names, path,
+    prepared, refused, report, seen, session, share, usage, viewed,
 };
 use serde_json::Value;
 use snap_call::Refusal;
@@ -41,6 +41,11 @@ pub enum Answer {
         slot: u64,
         chain: Sequence<u32>,
     },
+    /// The view's id, and its ancestors' ids, nearest first: `{"chain":[1],"id":2}`.
+    Viewed {
+        id: u32,
+        chain: Sequence<u32>,
+    },
     /// What the snapshot is charged after a charge or a trim: `{"share":[2,2]}`.
     Share(Usage),
     /// The committed snapshot's id and usage: `{"id":1,"usage":[4,3]}`.
@@ -57,6 +62,8 @@ pub enum Answer {
     /// The mounts that show a snapshot:
     /// `{"mounts":[{"options":["rw","rbind"],"source":"/r/snapshots/1/fs","type":"bind"}]}`.
     Mounts(Sequence<Mount>),
+    /// The infos of the snapshots that a walk gives: `{"infos":[{..},{..}]}`.
+    Infos(Sequence<Info>),
     /// The layer's count and the snapshot's charge after a file command:
     /// `{"count":[2,2],"share":[2,2]}`.
     Changed {
@@ -102,12 +109,14 @@ impl Answer {
             Answer::Done => done(alloc),
             Answer::Session(number) => session(alloc, *number),
             Answer::Prepared { id, slot, chain } => prepared(alloc, *id, *slot, chain.as_slice()),
+            Answer::Viewed { id, chain } => viewed(alloc, *id, chain.as_slice()),
             Answer::Share(amount) => share(alloc, *amount),
             Answer::Committed { id, usage } => committed(alloc, *id, *usage),
             Answer::Freed(amount) => freed(alloc, *amount),
             Answer::Info(own) => info(alloc, own),
             Answer::Usage(amount) => usage(alloc, *amount),
             Answer::Mounts(own) => mounts(alloc, own.as_slice()),
+            Answer::Infos(own) => infos(alloc, own.as_slice()),
             Answer::Changed { count, share } => changed(alloc, *count, *share),
             Answer::Seen(shown) => seen(alloc, shown),
             Answer::Names(own) => names(alloc, own.as_slice()),

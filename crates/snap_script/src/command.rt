@@ -5,7 +5,7 @@ use snap_call::Config;
 use snap_layer::Bytes;
 use snap_merge::FsError;
 use snap_path::Path;
-use snap_record::{Labels, Text};
+use snap_record::{Filter, Labels, Sequence, Text};
 use snap_upper::Op;
 use snap_usage::Usage;
 use std::alloc::Global;
@@ -21,6 +21,13 @@ pub enum Command {
     Session,
     /// Makes an active snapshot on a parent, the empty text for none (containerd's `Prepare`).
     Prepare {
+        namespace: Text,
+        key: Text,
+        parent: Text,
+        labels: Labels,
+    },
+    /// Makes a view of a parent, the empty text for none (containerd's `View`).
+    View {
         namespace: Text,
         key: Text,
         parent: Text,
@@ -55,6 +62,13 @@ pub enum Command {
         namespace: Text,
         key: Text,
     },
+    /// Replaces a snapshot's labels, or those that the paths name (containerd's `Update`).
+    Update {
+        namespace: Text,
+        key: Text,
+        labels: Labels,
+        paths: Sequence<Text>,
+    },
     /// Asks what a snapshot is charged (containerd's `Usage`).
     Usage {
         namespace: Text,
@@ -64,6 +78,14 @@ pub enum Command {
     Mounts {
         namespace: Text,
         key: Text,
+    },
+    /// Asks for the snapshots of a namespace that have every part of the filter, in byte order of
+    /// their keys: those greater than `after`, at most so many (containerd's `Walk`).
+    Walk {
+        namespace: Text,
+        after: Text,
+        most: u64,
+        filter: Filter,
     },
     /// Changes a file or a directory of an active snapshot. Where its charge doesn't cover what is
     /// needed, so much is charged and, if the limit covers it, the extra amount too.

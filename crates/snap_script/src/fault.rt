@@ -20,6 +20,13 @@ pub enum Field {
     Key,
     Parent,
     Labels,
+    /// The paths of the labels that an update changes.
+    Paths,
+    /// The key after which a walk begins.
+    After,
+    /// `max`, the most snapshots that a walk gives.
+    Most,
+    Kind,
     Need,
     Want,
     Name,
@@ -77,6 +84,10 @@ impl Field {
             Field::Key => "key",
             Field::Parent => "parent",
             Field::Labels => "labels",
+            Field::Paths => "paths",
+            Field::After => "after",
+            Field::Most => "max",
+            Field::Kind => "kind",
             Field::Need => "need",
             Field::Want => "want",
             Field::Name => "name",

@@ -4,7 +4,7 @@ ghost use Rattle.serde_json.specs.Find.{get, as_str};
 ghost use Rattle.serde_json.specs.View.{view, items_view, members_view};
 ghost use Rattle.snap_script.specs.declared.fault.Field.TheVariants as fields;
 ghost use Rattle.snap_script.specs.Faults.{field_name};
-ghost use Rattle.snap_script.specs.Fields.{required, optional, as_natural, as_mode, pair_in, as_pair, as_usage, labels_with, as_labels, namespace_in, as_namespace, namespaces_in, as_namespaces, as_fill, content_of};
+ghost use Rattle.snap_script.specs.Fields.{required, optional, given, as_natural, as_mode, pair_in, as_pair, as_usage, texts_in, as_texts, kind_named, as_kind, labels_with, as_labels, label_filter, label_filters_in, as_label_filters, namespace_in, as_namespace, namespaces_in, as_namespaces, as_fill, content_of};
 ghost use Rattle.snap_script.specs.Commands.{text};
 ghost use Rattle.snap_script.specs.Gives.{Gives, GivesAll};
 
@@ -13,7 +13,7 @@ use serde_json::{Map, Value};
 use snap_call::Namespace;
 use snap_layer::Bytes;
 use snap_path::limits::MAX_FILE_BYTES;
-use snap_record::{Labels, Sequence, Text};
+use snap_record::{Kind, LabelFilter, Labels, Sequence, Text};
 use snap_usage::Usage;
 use std::alloc::{AllocError, Global};
 
@@ -98,12 +98,74 @@ pub(crate) fn optional_text(
     field: Field,
     line: &Value,
 ) -> Result<Option<Text>, ReadError>
-    ensures { Gives (λ t. t) result (optional (λ d. option_map Some (as_str d)) field (Ok None) (view line.now)) }
+    ensures { Gives (λ t. t) result (given as_str field (view line.now)) }
 {
     match find(field, line) {
         Some(value) => {
             let text = value.as_str().ok_or(Fault::BadField(field))?;
             Ok(Some(Text::copy_of(alloc, text)?))
+        }
+        None => Ok(None),
+    }
+}
+
+/// A text, the empty one where it is absent.
+pub(crate) fn text_or_empty(alloc: Global, field: Field, line: &Value) -> Result<Text, ReadError>
+    ensures { Gives (λ t. t) result (optional as_str field (Ok []) (view line.now)) }
+{
+    match find(field, line) {
+        Some(_) => text(alloc, field, line),
+        None => Ok(Text::new(alloc)),
+    }
+}
+
+/// The texts of an array, where each item is one.
+fn texts_in(alloc: Global, values: &[Value]) -> Result<Option<Sequence<Text>>, AllocError>
+    ensures { IfOk result (λ texts. texts ≡ texts_in (items_view values.now)) }
+{
+    let mut texts = Sequence::new(alloc);
+    for value in values {
+        let Some(text) = value.as_str() else {
+            return Ok(None);
+        };
+        texts.push(Text::copy_of(alloc, text)?)?;
+    }
+    Ok(Some(texts))
+}
+
+/// The paths of an update, none where the line has no such field.
+pub(crate) fn paths(alloc: Global, line: &Value) -> Result<Sequence<Text>, ReadError>
+    ensures { Gives (λ paths. paths) result (optional as_texts fields.Paths (Ok []) (view line.now)) }
+{
+    let Some(value) = find(Field::Paths, line) else {
+        return Ok(Sequence::new(alloc));
+    };
+    let values = value.as_array().ok_or(Fault::BadField(Field::Paths))?;
+    let paths = texts_in(alloc, values.as_slice())?;
+    Ok(paths.ok_or(Fault::BadField(Field::Paths))?)
+}
+
+/// The kind that has the word.
+fn kind_named(word: &str) -> Option<Kind>
+    ensures { result ≡ kind_named word.now }
+{
+    match word {
+        "View" => Some(Kind::View),
+        "Active" => Some(Kind::Active),
+        "Committed" => Some(Kind::Committed),
+        _ => None,
+    }
+}
+
+/// A kind that may be absent.
+pub(crate) fn optional_kind(line: &Value) -> Result<Option<Kind>, Fault>
+    ensures { result ≡ given as_kind fields.Kind (view line.now) }
+{
+    let fault = Fault::BadField(Field::Kind);
+    match find(Field::Kind, line) {
+        Some(value) => {
+            let word = value.as_str().ok_or(fault)?;
+            Ok(Some(kind_named(word).ok_or(fault)?))
         }
         None => Ok(None),
     }
@@ -170,16 +232,66 @@ fn labels_in(alloc: Global, members: &Map<String, Value>) -> Result<Option<Label
     Ok(Some(labels))
 }
 
+/// Labels that must be there.
+pub(crate) fn required_labels(alloc: Global, line: &Value) -> Result<Labels, ReadError>
+    ensures { Gives (λ labels. labels) result (required as_labels fields.Labels (view line.now)) }
+{
+    let found = find(Field::Labels, line).ok_or(Fault::BadField(Field::Labels))?;
+    let members = found.as_object().ok_or(Fault::BadField(Field::Labels))?;
+    let labels = labels_in(alloc, members)?;
+    Ok(labels.ok_or(Fault::BadField(Field::Labels))?)
+}
+
 /// Labels, none where the line has no such field.
 pub(crate) fn labels(alloc: Global, line: &Value) -> Result<Labels, ReadError>
     ensures { Gives (λ labels. labels) result (optional as_labels fields.Labels (Ok []) (view line.now)) }
 {
+    match find(Field::Labels, line) {
+        Some(_) => required_labels(alloc, line),
+        None => Ok(Labels::new(alloc)),
+    }
+}
+
+/// A label that is asked for: with the text as its value, or with any value where null stands for it.
+fn label_filter(alloc: Global, key: &str, value: &Value) -> Result<Option<LabelFilter>, AllocError>
+    ensures { IfOk result (λ filter. filter ≡ label_filter key.now (view value.now)) }
+{
+    let value = match value {
+        Value::Null => None,
+        Value::String(text) => Some(Text::copy_of(alloc, text.as_str())?),
+        _ => return Ok(None),
+    };
+    let key = Text::copy_of(alloc, key)?;
+    Ok(Some(LabelFilter { key, value }))
+}
+
+/// The labels that an object's members ask for, where each is a text or null.
+fn label_filters_in(
+    alloc: Global,
+    members: &Map<String, Value>,
+) -> Result<Option<Sequence<LabelFilter>>, AllocError>
+    ensures { IfOk result (λ filters. filters ≡ label_filters_in (members_view members.now.entries)) }
+{
+    let mut filters = Sequence::new(alloc);
+    for (key, value) in members.iter() {
+        let Some(filter) = label_filter(alloc, key.as_str(), value)? else {
+            return Ok(None);
+        };
+        filters.push(filter)?;
+    }
+    Ok(Some(filters))
+}
+
+/// The labels that are asked for, none where the line has no such field.
+pub(crate) fn label_filters(alloc: Global, line: &Value) -> Result<Sequence<LabelFilter>, ReadError>
+    ensures { Gives (λ filters. filters) result (optional as_label_filters fields.Labels (Ok []) (view line.now)) }
+{
     let Some(value) = find(Field::Labels, line) else {
-        return Ok(Labels::new(alloc));
+        return Ok(Sequence::new(alloc));
     };
     let members = value.as_object().ok_or(Fault::BadField(Field::Labels))?;
-    let labels = labels_in(alloc, members)?;
-    Ok(labels.ok_or(Fault::BadField(Field::Labels))?)
+    let filters = label_filters_in(alloc, members)?;
+    Ok(filters.ok_or(Fault::BadField(Field::Labels))?)
 }
 
 /// A namespace: a name, blocks and inodes.

@@ -2,14 +2,15 @@
 ghost use Rattle.serde_json.specs.View.{view};
 ghost use Rattle.snap_script.specs.declared.verb.Verb.TheVariants as verbs;
 ghost use Rattle.snap_script.specs.declared.verb.FileVerb.TheVariants as file_verbs;
-ghost use Rattle.snap_script.specs.Commands.{named, open_of, file_command_of, command_of};
+ghost use Rattle.snap_script.specs.Commands.{named, open_of, filter_of, file_command_of, command_of};
 ghost use Rattle.snap_script.specs.Gives.{Gives};
 
 use crate::command::{Command, FileCommand, Lookup};
 use crate::fault::{Field, ReadError};
 use crate::fields::{
-    content, labels, lent_text, mode_or, namespaces, number_or, optional_text, required_mode,
-    required_number, required_usage, text, usage_or,
+    content, label_filters, labels, lent_text, mode_or, namespaces, number_or, optional_kind,
+    optional_text, paths, required_labels, required_mode, required_number, required_usage, text,
+    text_or_empty, usage_or,
 };
 use crate::verb::{FileVerb, Verb};
 use serde_json::Value;
@@ -17,7 +18,7 @@ use snap_call::Config;
 use snap_call::limits::MAX_JOURNAL;
 use snap_layer::Bytes;
 use snap_path::limits::DEFAULT_MODE;
-use snap_record::Text;
+use snap_record::{Filter, Text};
 use snap_usage::Usage;
 use std::alloc::Global;
 
@@ -26,6 +27,9 @@ const FIRST_ID: u32 = 1;
 
 /// The mode of a new file, where the line has none.
 const FILE_MODE: u32 = 0o644;
+
+/// How many snapshots a walk gives at most, where the line doesn't say.
+const PAGE: u64 = 64;
 
 /// The namespace and the key of the snapshot that a command names.
 #[tactic(auto, unfolding(crate::specs::Commands::named))]
@@ -63,6 +67,21 @@ fn prepare(alloc: Global, line: &Value) -> Result<Command, ReadError>
         key,
         parent: text(alloc, Field::Parent, line)?,
         labels: labels(alloc, line)?,
+    })
+}
+
+#[tactic(auto, unfolding(crate::specs::Commands::command_of))]
+fn view(alloc: Global, line: &Value) -> Result<Command, ReadError>
+    ensures { Gives (λ c. c) result (command_of verbs.View (view line.now)) }
+{
+    let (namespace, key) = named(alloc, line)?;
+    let parent = text(alloc, Field::Parent, line)?;
+    let labels = labels(alloc, line)?;
+    Ok(Command::View {
+        namespace,
+        key,
+        parent,
+        labels,
     })
 }
 
@@ -106,6 +125,19 @@ fn stat(alloc: Global, line: &Value) -> Result<Command, ReadError>
 }
 
 #[tactic(auto, unfolding(crate::specs::Commands::command_of))]
+fn update(alloc: Global, line: &Value) -> Result<Command, ReadError>
+    ensures { Gives (λ c. c) result (command_of verbs.Update (view line.now)) }
+{
+    let (namespace, key) = named(alloc, line)?;
+    Ok(Command::Update {
+        namespace,
+        key,
+        labels: required_labels(alloc, line)?,
+        paths: paths(alloc, line)?,
+    })
+}
+
+#[tactic(auto, unfolding(crate::specs::Commands::command_of))]
 fn usage(alloc: Global, line: &Value) -> Result<Command, ReadError>
     ensures { Gives (λ c. c) result (command_of verbs.Usage (view line.now)) }
 {
@@ -119,6 +151,31 @@ fn mounts(alloc: Global, line: &Value) -> Result<Command, ReadError>
 {
     let (namespace, key) = named(alloc, line)?;
     Ok(Command::Mounts { namespace, key })
+}
+
+/// The filter of a walk.
+#[tactic(auto, unfolding(crate::specs::Commands::filter_of))]
+fn filter(alloc: Global, line: &Value) -> Result<Filter, ReadError>
+    ensures { Gives (λ filter. filter) result (filter_of (view line.now)) }
+{
+    Ok(Filter {
+        name: optional_text(alloc, Field::Name, line)?,
+        parent: optional_text(alloc, Field::Parent, line)?,
+        kind: optional_kind(line)?,
+        labels: label_filters(alloc, line)?,
+    })
+}
+
+#[tactic(auto, unfolding(crate::specs::Commands::command_of))]
+fn walk(alloc: Global, line: &Value) -> Result<Command, ReadError>
+    ensures { Gives (λ c. c) result (command_of verbs.Walk (view line.now)) }
+{
+    Ok(Command::Walk {
+        namespace: text(alloc, Field::Namespace, line)?,
+        after: text_or_empty(alloc, Field::After, line)?,
+        most: number_or(PAGE, Field::Most, line)?,
+        filter: filter(alloc, line)?,
+    })
 }
 
 #[tactic(auto, unfolding(crate::specs::Commands::command_of))]
@@ -279,13 +336,16 @@ pub(crate) fn command_of(alloc: Global, verb: Verb, line: &Value) -> Result<Comm
         Verb::Open => open(alloc, line),
         Verb::Session => Ok(Command::Session),
         Verb::Prepare => prepare(alloc, line),
+        Verb::View => view(alloc, line),
         Verb::Charge => charge(alloc, line),
         Verb::Trim => trim(alloc, line),
         Verb::Commit => commit(alloc, line),
         Verb::Discard => discard(alloc, line),
         Verb::Stat => stat(alloc, line),
+        Verb::Update => update(alloc, line),
         Verb::Usage => usage(alloc, line),
         Verb::Mounts => mounts(alloc, line),
+        Verb::Walk => walk(alloc, line),
         Verb::File(verb) => file(alloc, verb, line),
         Verb::Lookup(own) => lookup(alloc, own, line),
         Verb::Report => Ok(Command::Report),

@@ -103,6 +103,16 @@ fn info_value(alloc: Global, info: &Info) -> Result<Value, AllocError>
     })
 }
 
+fn infos_value(alloc: Global, infos: &[Info]) -> Result<Value, AllocError>
+    ensures { IfOk result (λ v. view v ≡ array (items_of (map info_data infos.now))) }
+{
+    let mut items = Vec::new(alloc);
+    for info in infos {
+        items.push(info_value(alloc, info)?)?;
+    }
+    Ok(Value::Array(items))
+}
+
 fn mount_value(alloc: Global, mount: &Mount) -> Result<Value, AllocError>
     ensures { IfOk result (λ v. view v ≡ mount_data mount.now) }
 {
@@ -148,6 +158,13 @@ pub(crate) fn prepared(
     json!(in alloc; {"chain": chain, "id": id, "slot": slot})
 }
 
+pub(crate) fn viewed(alloc: Global, id: u32, chain: &[u32]) -> Result<Value, AllocError>
+    ensures { IfOk result (λ v. view v ≡ answer_data (answers.Viewed id chain.now)) }
+{
+    let chain = ids_value(alloc, chain)?;
+    json!(in alloc; {"chain": chain, "id": id})
+}
+
 pub(crate) fn share(alloc: Global, share: Usage) -> Result<Value, AllocError>
     ensures { IfOk result (λ v. view v ≡ answer_data (answers.Share share)) }
 {
@@ -188,6 +205,13 @@ pub(crate) fn mounts(alloc: Global, mounts: &[Mount]) -> Result<Value, AllocErro
 {
     let mounts = mounts_value(alloc, mounts)?;
     json!(in alloc; {"mounts": mounts})
+}
+
+pub(crate) fn infos(alloc: Global, infos: &[Info]) -> Result<Value, AllocError>
+    ensures { IfOk result (λ v. view v ≡ answer_data (answers.Infos infos.now)) }
+{
+    let infos = infos_value(alloc, infos)?;
+    json!(in alloc; {"infos": infos})
 }
 
 pub(crate) fn changed(alloc: Global, count: Usage, share: Usage) -> Result<Value, AllocError>

@@ -11,13 +11,16 @@ pub(crate) enum Verb {
     Open,
     Session,
     Prepare,
+    View,
     Charge,
     Trim,
     Commit,
     Discard,
     Stat,
+    Update,
     Usage,
     Mounts,
+    Walk,
     File(FileVerb),
     Lookup(Lookup),
     Report,
@@ -39,17 +42,20 @@ pub(crate) enum FileVerb {
 }
 
 /// The words of the commands.
-const WORDS: [(&str, Verb); 25] = [
+const WORDS: [(&str, Verb); 28] = [
     ("open", Verb::Open),
     ("session", Verb::Session),
     ("prepare", Verb::Prepare),
+    ("view", Verb::View),
     ("charge", Verb::Charge),
     ("trim", Verb::Trim),
     ("commit", Verb::Commit),
     ("discard", Verb::Discard),
     ("stat", Verb::Stat),
+    ("update", Verb::Update),
     ("usage", Verb::Usage),
     ("mounts", Verb::Mounts),
+    ("walk", Verb::Walk),
     ("mkdir", Verb::File(FileVerb::Mkdir)),
     ("create", Verb::File(FileVerb::Create)),
     ("write", Verb::File(FileVerb::Write)),

@@ -45,6 +45,7 @@ use Rattle.snap_session.specs.Opened.{OpenedValue, new_world, share_at, count_at
 abbrev pub told : ℕ → ℕ → WorldValue → StepAnswer → Answer
 told session slot w (step_answers.Reply replies.Opened) = answers.Session session
 told session slot w (step_answers.Reply (replies.Prepared id at chain)) = answers.Prepared id at chain
+told session slot w (step_answers.Reply (replies.Viewed id chain)) = answers.Viewed id chain
 told session slot w (step_answers.Reply (replies.Charged now)) = answers.Share now
 told session slot w (step_answers.Reply replies.Trimmed) = answers.Share (share_at slot w)
 told session slot w (step_answers.Reply (replies.Committed id usage)) = answers.Committed id usage
@@ -52,6 +53,7 @@ told session slot w (step_answers.Reply (replies.Discarded usage)) = answers.Fre
 told session slot w (step_answers.Reply (replies.Info info)) = answers.Info info
 told session slot w (step_answers.Reply (replies.Usage usage)) = answers.Usage usage
 told session slot w (step_answers.Reply (replies.Mounts mounts)) = answers.Mounts mounts
+told session slot w (step_answers.Reply (replies.Page infos)) = answers.Infos infos
 told session slot w (step_answers.Reply (replies.Refused why)) = answers.Refused why
 told session slot w (step_answers.File (Ok done)) = answers.Changed (count_at slot w) (share_at slot w)
 told session slot w (step_answers.File (Err e)) = answers.Failed e
@@ -154,6 +156,9 @@ on_store s n (commands.Discard namespace key) = on_key s.world namespace key (λ
 on_store s n (commands.Stat namespace key) = stepped n 0 (Locked n (calls.Stat namespace key)) s.world
 on_store s n (commands.Usage namespace key) = stepped n 0 (Locked n (calls.Usage namespace key)) s.world
 on_store s n (commands.Mounts namespace key) = stepped n 0 (Locked n (calls.Mounts namespace key)) s.world
+on_store s n (commands.View namespace key parent labels) = stepped n 0 (Locked n (calls.View namespace key parent labels)) s.world
+on_store s n (commands.Update namespace key labels paths) = stepped n 0 (Locked n (calls.Update namespace key labels paths)) s.world
+on_store s n (commands.Walk namespace after most asked) = stepped n 0 (Locked n (calls.Walk namespace after most asked)) s.world
 on_store s n (commands.File namespace key operation extra) = on_key s.world namespace key (λ slot id. performed n slot id (operation_of operation) extra s.world)
 on_store s n (commands.Lookup namespace key asked path) = (s.world, lookup asked (path_of path) (stack_of s.world namespace key))
 on_store s n commands.Report = (s.world, report s)

@@ -3,7 +3,7 @@ ghost use Rattle.std.specs.Prelude.{◌≡◌, IfOk, Some, map};
 ghost use Rattle.snap_session.specs.Opened.{total_of, totals_of};
 ghost use Rattle.snap_session.specs.Commands.{kept, on_store, report};
 
-use crate::calls::{charge, commit, discard, session, trim};
+use crate::calls::{charge, commit, discard, prepare, session, trim, update, view, walk};
 use crate::file_commands::file;
 use crate::lookups::lookup;
 use crate::step::called;
@@ -96,17 +96,7 @@ fn on_store<N: StoreName>(
             key,
             parent,
             labels,
-        } => called(
-            world,
-            n,
-            0,
-            Call::Prepare {
-                namespace,
-                key,
-                parent,
-                labels,
-            },
-        ),
+        } => prepare(world, n, namespace, key, parent, labels),
         Command::Charge {
             namespace,
             key,
@@ -124,6 +114,24 @@ fn on_store<N: StoreName>(
         Command::Stat { namespace, key } => called(world, n, 0, Call::Stat { namespace, key }),
         Command::Usage { namespace, key } => called(world, n, 0, Call::Usage { namespace, key }),
         Command::Mounts { namespace, key } => called(world, n, 0, Call::Mounts { namespace, key }),
+        Command::View {
+            namespace,
+            key,
+            parent,
+            labels,
+        } => view(world, n, namespace, key, parent, labels),
+        Command::Update {
+            namespace,
+            key,
+            labels,
+            paths,
+        } => update(world, n, namespace, key, labels, paths),
+        Command::Walk {
+            namespace,
+            after,
+            most,
+            filter,
+        } => walk(world, n, namespace, after, most, filter),
         Command::File {
             namespace,
             key,

@@ -1,12 +1,17 @@
 ghost use Rattle.std.specs.Prelude.{◌≡◌, IfOk, None, true, is_some};
 ghost use Rattle.snap_call.specs.Forms.{is_config};
 ghost use Rattle.snap_world.specs.declared.step.Answer.TheVariants as step_answers;
-ghost use Rattle.snap_session.specs.Commands.{is_started, store_opened, done};
+ghost use Rattle.snap_call.specs.declared.call.Call.TheVariants as calls;
+ghost use Rattle.snap_world.specs.declared.step.Step.TheVariants.{Locked};
+ghost use Rattle.snap_world.specs.Move.{move};
+ghost use Rattle.snap_session.specs.Commands.{is_started, started, store_opened, done};
+ghost use Rattle.snap_session.specs.Opened.{new_world};
 
 use crate::opened::{Opened, names_of};
 use crate::step::{take_step, told};
 use snap_call::{Call, Config, Refusal, Reply};
 use snap_ledger::{NewTable, StoreName};
+use snap_record::{Sequence, Text};
 use snap_script::{Answer, Command};
 use snap_world::{Answer as StepAnswer, NoMemory, Step, World};
 use std::alloc::Global;
@@ -71,6 +76,36 @@ impl<N: StoreName> Script<N> {
         self.store.is_some()
     }
 
+    // A world of the configuration, which has its form. The table goes to it.
+    fn open_world(&mut self, config: Config) -> Result<World<N>, NoMemory>
+        requires valid { is_config config ≡ true }
+        ensures world { IfOk result (λ world. world ≡ new_world config) }
+        ensures same { self.new ≡ self.old }
+    {
+        let table = self.table.take().ok_or(NoMemory)?;
+        match World::open(self.alloc, table, config) {
+            Ok(world) => Ok(world),
+            Err(_) => Err(NoMemory),
+        }
+    }
+
+    // Session 0 of the world, which is kept where the session was opened.
+    fn open_session(
+        &mut self,
+        mut world: World<N>,
+        names: Sequence<Text>,
+    ) -> Result<Answer, NoMemory>
+        requires none { self.old ≡ None }
+        ensures { IfOk result (λ answer. started names (move world (Locked 0 calls.Session)) ≡ (self.new, answer)) }
+    {
+        let answer = take_step(&mut world, &Step::Locked(0, Call::Session))?;
+        if is_started(&answer) {
+            self.store = Some(Opened { world, names });
+            return Ok(Answer::Done);
+        }
+        Ok(told(0, 0, &world, answer))
+    }
+
     // A world of the configuration, which has its form, and its session 0.
     fn start(&mut self, config: Config) -> Result<Answer, NoMemory>
         requires valid { is_config config ≡ true }
@@ -78,16 +113,8 @@ impl<N: StoreName> Script<N> {
         ensures { IfOk result (λ answer. store_opened config ≡ (self.new, answer)) }
     {
         let names = names_of(self.alloc, config.namespaces.as_slice())?;
-        let table = self.table.take().ok_or(NoMemory)?;
-        let Ok(mut world) = World::open(self.alloc, table, config) else {
-            return Err(NoMemory);
-        };
-        let answer = take_step(&mut world, &Step::Locked(0, Call::Session))?;
-        if is_started(&answer) {
-            self.store = Some(Opened { world, names });
-            return Ok(Answer::Done);
-        }
-        Ok(told(0, 0, &world, answer))
+        let world = self.open_world(config)?;
+        self.open_session(world, names)
     }
 
     // The first command.

@@ -1,4 +1,4 @@
--- The calls on hands and those that ask, one by one.
+-- The calls on hands and the plain calls, one by one.
 use Rattle.std.proofs.Common.{◌≡◌, ◌⊎◌, inl, inr, ℕ, ◌+◌, ◌≤◌, ◌<◌, List, ◌∷◌, length, true, false, Bool, Option, None, Some, refl, sym, ap, ◌∙◌, subst, ⊎_elim, arith}
 use Rattle.std.specs.Prelude.{◌↔◌, if◌then◌else◌, Result, Ok, Err, OnOk, OnErr, IfErr}
 use Rattle.std.specs.Option.{option_map}
@@ -30,7 +30,7 @@ use Rattle.snap_upper.specs.declared.op.Op.{Op}
 use Rattle.snap_upper.specs.After.{Outcome, lists_names}
 use Rattle.snap_book.specs.Files.{worked}
 use Rattle.snap_book.specs.Active.{ActiveValue, root_mode}
-use Rattle.snap_accounts.specs.Entries.{OnlyAsks}
+use Rattle.snap_accounts.specs.Entries.{IsPlain}
 use Rattle.snap_book.specs.Book.{BookValue, AnsweredBy, Recorded}
 use Rattle.snap_world.specs.declared.step.Answer.{Answer}
 use Rattle.snap_world.specs.declared.step.Answer.TheVariants as answers
@@ -93,14 +93,14 @@ pub back_again : (hands out after : List (Option HandValue)) (slot : ℕ) (h : H
 back_again hands out after slot h at gone back =
     back ∙ (ap (λ (l : List (Option HandValue)). with_hand slot (Some h) l) gone ∙ (with_hand-twice slot None (Some h) hands ∙ with_hand-again slot (Some h) hands at))
 
-pub asks_does : (old new : BookValue) (hands : List (Option HandValue)) (n : ℕ) (call : Call) (reply : Reply) → OnlyAsks call → AnsweredBy old new n call Nothing reply
+pub plain_does : (old new : BookValue) (hands : List (Option HandValue)) (n : ℕ) (call : Call) (reply : Reply) → IsPlain call → AnsweredBy old new n call Nothing reply
     → (reply ≡ Refused JournalFull) ↔ (old.limit ≤ length old.journal + open_count old.state.records) → DoesCall (world_of old hands) n call (answers.Reply reply) (world_of new hands)
-asks_does old new hands n call reply asks answered full = at call asks answered
+plain_does old new hands n call reply asks answered full = at call asks answered
   where
     full_here : (reply ≡ Refused JournalFull) ↔ (old.limit < length old.journal + open_count old.state.records + 1)
     full_here = (λ e. (let p = full.0 e in omega arith), λ lt. full.1 (omega (arith, lt)))
 
-    at : (call : Call) → OnlyAsks call → AnsweredBy old new n call Nothing reply → DoesCall (world_of old hands) n call (answers.Reply reply) (world_of new hands)
+    at : (call : Call) → IsPlain call → AnsweredBy old new n call Nothing reply → DoesCall (world_of old hands) n call (answers.Reply reply) (world_of new hands)
     at (calls.Stat namespace key) a h =
         ⊎_elim (λ e. inl e) (λ e. inr (ap answers.Reply e.0, (e.1, ap (λ (b : BookValue). world_of b hands) e.2)))
         (admits old new hands hands hands 1 n (calls.Stat namespace key) Nothing (λ r. hands) reply (ends old new n (calls.Stat namespace key) Nothing reply h) full_here refl refl)
@@ -110,32 +110,47 @@ asks_does old new hands n call reply asks answered full = at call asks answered
     at (calls.Mounts namespace key) a h =
         ⊎_elim (λ e. inl e) (λ e. inr (ap answers.Reply e.0, (e.1, ap (λ (b : BookValue). world_of b hands) e.2)))
         (admits old new hands hands hands 1 n (calls.Mounts namespace key) Nothing (λ r. hands) reply (ends old new n (calls.Mounts namespace key) Nothing reply h) full_here refl refl)
+    at (calls.View namespace key parent labels) a h =
+        ⊎_elim (λ e. inl e) (λ e. inr (ap answers.Reply e.0, (e.1, ap (λ (b : BookValue). world_of b hands) e.2)))
+        (admits old new hands hands hands 1 n (calls.View namespace key parent labels) Nothing (λ r. hands) reply (ends old new n (calls.View namespace key parent labels) Nothing reply h) full_here refl refl)
+    at (calls.Update namespace key labels paths) a h =
+        ⊎_elim (λ e. inl e) (λ e. inr (ap answers.Reply e.0, (e.1, ap (λ (b : BookValue). world_of b hands) e.2)))
+        (admits old new hands hands hands 1 n (calls.Update namespace key labels paths) Nothing (λ r. hands) reply (ends old new n (calls.Update namespace key labels paths) Nothing reply h) full_here refl refl)
+    at (calls.Walk namespace after most asked) a h =
+        ⊎_elim (λ e. inl e) (λ e. inr (ap answers.Reply e.0, (e.1, ap (λ (b : BookValue). world_of b hands) e.2)))
+        (admits old new hands hands hands 1 n (calls.Walk namespace after most asked) Nothing (λ r. hands) reply (ends old new n (calls.Walk namespace after most asked) Nothing reply h) full_here refl refl)
     at call a h = absurd a
 
--- a call that asks, where the journal is full
-pub asks_in_vain : (w : WorldValue) (n : ℕ) (call : Call) → OnlyAsks call → w.limit ≤ length w.journal + open_count w.state.records → DoesCall w n call (answers.Reply (Refused JournalFull)) w
-asks_in_vain w n call asks full = at call asks
+-- a plain call, where the journal is full
+pub plain_in_vain : (w : WorldValue) (n : ℕ) (call : Call) → IsPlain call → w.limit ≤ length w.journal + open_count w.state.records → DoesCall w n call (answers.Reply (Refused JournalFull)) w
+plain_in_vain w n call asks full = at call asks
   where
     no_room : is_full w 1 ≡ true
     no_room = lt-ltb w.limit (length w.journal + open_count w.state.records + 1) (omega (arith, full))
 
-    at : (call : Call) → OnlyAsks call → DoesCall w n call (answers.Reply (Refused JournalFull)) w
+    at : (call : Call) → IsPlain call → DoesCall w n call (answers.Reply (Refused JournalFull)) w
     at (calls.Stat namespace key) a = inl (ap (λ (b : Bool). if b then (w, answers.Reply (Refused JournalFull)) else recorded w n (calls.Stat namespace key) Nothing (λ reply. w.hands)) no_room)
     at (calls.Usage namespace key) a = inl (ap (λ (b : Bool). if b then (w, answers.Reply (Refused JournalFull)) else recorded w n (calls.Usage namespace key) Nothing (λ reply. w.hands)) no_room)
     at (calls.Mounts namespace key) a = inl (ap (λ (b : Bool). if b then (w, answers.Reply (Refused JournalFull)) else recorded w n (calls.Mounts namespace key) Nothing (λ reply. w.hands)) no_room)
+    at (calls.View namespace key parent labels) a = inl (ap (λ (b : Bool). if b then (w, answers.Reply (Refused JournalFull)) else recorded w n (calls.View namespace key parent labels) Nothing (λ reply. w.hands)) no_room)
+    at (calls.Update namespace key labels paths) a = inl (ap (λ (b : Bool). if b then (w, answers.Reply (Refused JournalFull)) else recorded w n (calls.Update namespace key labels paths) Nothing (λ reply. w.hands)) no_room)
+    at (calls.Walk namespace after most asked) a = inl (ap (λ (b : Bool). if b then (w, answers.Reply (Refused JournalFull)) else recorded w n (calls.Walk namespace after most asked) Nothing (λ reply. w.hands)) no_room)
     at call a = absurd a
 
--- a call that asks wants memory only where the journal has room
-pub asks_left : (w : WorldValue) (call : Call) → OnlyAsks call → ((w.limit ≤ length w.journal + open_count w.state.records) → ⊥) → IsLeft w call w
-asks_left w call asks room = at call asks
+-- a plain call wants memory only where the journal has room
+pub plain_left : (w : WorldValue) (call : Call) → IsPlain call → ((w.limit ≤ length w.journal + open_count w.state.records) → ⊥) → IsLeft w call w
+plain_left w call asks room = at call asks
   where
     free : is_full w 1 ≡ false
     free = not_lt w.limit (length w.journal + open_count w.state.records + 1) (λ lt. room (omega (arith, lt)))
 
-    at : (call : Call) → OnlyAsks call → IsLeft w call w
+    at : (call : Call) → IsPlain call → IsLeft w call w
     at (calls.Stat namespace key) a = (free, refl)
     at (calls.Usage namespace key) a = (free, refl)
     at (calls.Mounts namespace key) a = (free, refl)
+    at (calls.View namespace key parent labels) a = (free, refl)
+    at (calls.Update namespace key labels paths) a = (free, refl)
+    at (calls.Walk namespace after most asked) a = (free, refl)
     at call a = absurd a
 
 pub prepare_does : (old new : BookValue) (hands after : List (Option HandValue)) (n : ℕ) (namespace key parent : Bytes) (labels : List Label) (reply : Reply) → AnsweredBy old new n (calls.Prepare namespace key parent labels) Nothing reply

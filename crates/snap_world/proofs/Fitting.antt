@@ -1,6 +1,6 @@
 -- Each step keeps the hands those of the open slots.
 use Rattle.std.proofs.Common.{◌≡◌, ◌≢◌, inl, inr, ℕ, ◌+◌, ◌≤◌, ◌<◌, List, length, true, false, Bool, Option, None, Some, eqb, refl, sym, ap, ◌∙◌, subst, ⊎_elim, arith, length-set}
-use Rattle.std.specs.Prelude.{if◌then◌else◌, ◌&&◌, nat_lt, max, Result, Ok, Err, IsSome}
+use Rattle.std.specs.Prelude.{if◌then◌else◌, ◌&&◌, nat_le, nat_lt, max, Result, Ok, Err, IsSome}
 use Rattle.std.specs.List.{AllByRecursion}
 use Rattle.std.proofs.Math.Nat.{le-max_left}
 use Rattle.std.proofs.lemmas.Bool.{ltb-true}
@@ -11,6 +11,8 @@ use Rattle.snap_usage.specs.Counted.{Covers, count_of, covers}
 use Rattle.snap_ledger.specs.States.{plus}
 use Rattle.snap_record.specs.Labels.{Bytes, Label}
 use Rattle.snap_record.specs.Records.{usage_of, info_of}
+use Rattle.snap_record.specs.Updates.{is_granted, is_well_formed, updated as labels_after}
+use Rattle.snap_record.specs.declared.filter.Filter.{Filter}
 use Rattle.snap_record.specs.declared.record.Record.{Record}
 use Rattle.snap_call.specs.declared.call.Call.{Call}
 use Rattle.snap_call.specs.declared.call.Call.TheVariants as calls
@@ -22,10 +24,11 @@ use Rattle.snap_call.specs.declared.reply.Reply.{Reply}
 use Rattle.snap_call.specs.declared.reply.Reply.TheVariants as replies
 use Rattle.snap_call.specs.declared.state.State.{State}
 use Rattle.snap_call.specs.Good.{Good}
-use Rattle.snap_call.specs.Records.{active_at, charge_of, has_key, is_slot, lowest_free, recharged, record_at, with_record, without_slot, committed_as}
-use Rattle.snap_call.specs.Forms.{is_key, is_parent}
+use Rattle.snap_call.specs.Records.{active_at, charge_of, has_key, is_slot, lowest_free, recharged, record_at, relabelled, with_record, without_slot, committed_as}
+use Rattle.snap_call.specs.Forms.{is_key, is_page, is_start}
 use Rattle.snap_call.specs.State.{ancestors, layers_of, place_of}
-use Rattle.snap_call.specs.Step.{IsAllowed, IsCovered, IsOpen, ask, ask_record, charge, charge_to, commit_as, committed as committed_state, discard, greater, new_active, one, prepare_at, prepared as prepared_state, refused, session, step, trim, place_for, slot_for, unless_refused, mounts}
+use Rattle.snap_call.specs.Step.{IsAllowed, IsCovered, IsOpen, ask, ask_record, charge, charge_to, commit_as, committed as committed_state, discard, greater, new_active, one, prepare_at, prepared as prepared_state, refused, session, step, trim, place_for, slot_for, unless_refused, mounts, new_view, view_at, view, update_record, update_at, update, walk_at, walk}
+use Rattle.snap_call.proofs.Alike.{AreAlike, bare, bare-relabelled, alike-active_at, alike-active_at_None, alike-layers}
 use Rattle.snap_call.proofs.Chains.{chain, Keeps, Keeps-after, Keeps-recharged, Keeps-with_record, Keeps-without_slot, chain-found, keeps-ancestors}
 use Rattle.snap_call.proofs.Kept.{covers-Covers, good_step}
 use Rattle.snap_call.proofs.Lists.{active_at-all}
@@ -92,6 +95,39 @@ module _ (rs ts : List Record) (chained : AreChained rs) (keeps : Keeps rs ts) w
   -- a hand that goes with its record
   goes : (slot : ℕ) (hands : List (Option HandValue)) → AgreeAll hands rs → slot < length hands → active_at slot ts ≡ None → ((k : ℕ) → k ≢ slot → active_at k ts ≡ active_at k rs) → AgreeAll (with_hand slot None hands) ts
   goes slot hands agree low none others = agree_set slot None hands agree low (subst (λ (x : Option Record). AgreesAt slot ts None x) (sym none) tt) others
+
+  -- no slot changes
+  agree_on : (hands : List (Option HandValue)) → AgreeAll hands rs → ((k : ℕ) → active_at k ts ≡ active_at k rs) → AgreeAll hands ts
+  agree_on hands agree same k small = subst (λ (x : Option Record). AgreesAt k ts (hand_at k hands) x) (sym (same k)) (still_hand k (hand_at k hands) (agree k small))
+
+-- ---- records with other labels
+
+module _ (rs ts : List Record) (alike : AreAlike rs ts) where
+  -- a record's hand is still its hand
+  alike_hand : (k : ℕ) (h : HandValue) (r t : Record) → bare t ≡ bare r → IsHandOf k rs h r → IsHandOf k ts h t
+  alike_hand k h r t same is =
+      let lowers : layers_of (ancestors t.namespace t.parent ts) ≡ layers_of (ancestors r.namespace r.parent rs) =
+      alike-layers rs ts alike t.namespace t.parent ∙ ap (λ (x : Record). layers_of (ancestors x.namespace x.parent rs)) same in
+      record {
+        namespace = is.namespace ∙ sym (ap (λ (x : Record). x.namespace) same);
+        key = is.key ∙ sym (ap (λ (x : Record). x.key) same);
+        lowers = is.lowers ∙ sym lowers;
+        slot = is.slot;
+        id = is.id ∙ sym (ap (λ (x : Record). x.id) same);
+        usage = is.usage ∙ sym (ap (λ (x : Record). usage_of x.content) same);
+        covers = is.covers;
+      }
+
+  alike_at : (k : ℕ) (o : Option HandValue) (found : Option Record) → active_at k rs ≡ found → AgreesAt k rs o found → AgreesAt k ts o (active_at k ts)
+  alike_at k None None e is = subst (λ (x : Option Record). AgreesAt k ts None x) (sym (alike-active_at_None rs ts alike k e)) tt
+  alike_at k (Some h) None e is = absurd is
+  alike_at k None (Some r) e is = absurd is
+  alike_at k (Some h) (Some r) e is =
+      let found = alike-active_at rs ts alike k r e in
+      subst (λ (x : Option Record). AgreesAt k ts (Some h) x) (sym found.1) (alike_hand k h r found.0 found.2 is)
+
+  agree_alike : (hands : List (Option HandValue)) → AgreeAll hands rs → AgreeAll hands ts
+  agree_alike hands agree k small = alike_at k (hand_at k hands) (active_at k rs) refl (agree k small)
 
 -- the records that stay
 no_change : (rs : List Record) → Keeps rs rs
@@ -196,6 +232,47 @@ left_ask_in s hands answer key (Some place) agree = left_ask_record s hands answ
 left_ask : (s : State) (hands : List (Option HandValue)) (answer : Record → Reply) (namespace key : Bytes) → AgreeAll hands s.records → Left (λ reply. hands) (ask s answer namespace key)
 left_ask s hands answer namespace key agree = cases_if (Left (λ reply. hands)) (is_key key) _ _ (λ e. left_ask_in s hands answer key (place_of namespace s.namespaces) agree) (λ e. agree)
 
+left_unless_refused : (s : State) (f : Reply → List (Option HandValue)) (r : Result ℕ Refusal) (next : ℕ → State × Reply) → ((why : Refusal) → Left f (refused s why)) → ((n : ℕ) → r ≡ Ok n → Left f (next n)) → Left f (unless_refused s r next)
+left_unless_refused s f (Ok n) next bad good = good n refl
+left_unless_refused s f (Err why) next bad good = bad why
+
+left_view_at : (s : State) (namespace key parent : Bytes) (labels : List Label) (place : ℕ) (hands : List (Option HandValue)) → Good s → AgreeAll hands s.records → IsPlace s namespace key parent place → Left (λ reply. hands) (view_at s key parent labels place)
+left_view_at s namespace key parent labels place hands good agree is =
+    let new : Record = new_view s place key parent labels in
+    let ts : List Record = with_record new s.records in
+    cases_if (Left (λ reply. hands)) (nat_le s.next_id 4294967295) _ _
+    (λ few. agree_on s.records ts good.chains (Keeps-with_record new s.records is.free) hands agree (λ k. active_at-with_record_other k new s.records refl))
+    (λ spent. agree)
+
+left_view : (s : State) (hands : List (Option HandValue)) (namespace key parent : Bytes) (labels : List Label) → Good s → AgreeAll hands s.records → Left (λ reply. hands) (view s namespace key parent labels)
+left_view s hands namespace key parent labels good agree =
+    left_unless_refused s (λ reply. hands) (place_for s namespace key parent labels) (view_at s key parent labels) (λ why. agree)
+    (λ place e. left_view_at s namespace key parent labels place hands good agree (place_for-Ok s namespace key parent labels place e))
+
+left_update_record : (s : State) (hands : List (Option HandValue)) (place : ℕ) (key : Bytes) (given : List Label) (paths : List Bytes) (o : Option Record) → AgreeAll hands s.records → Left (λ reply. hands) (update_record s place key given paths o)
+left_update_record s hands place key given paths None agree = agree
+left_update_record s hands place key given paths (Some r) agree =
+    let labels = labels_after r.labels given paths in
+    cases_if (Left (λ reply. hands)) (is_granted r.labels given paths) _ _
+    (λ granted. agree_alike s.records (relabelled place key labels (s.entries + 1) s.records) (bare-relabelled place key labels (s.entries + 1) s.records) hands agree)
+    (λ bad. agree)
+
+left_update_at : (s : State) (hands : List (Option HandValue)) (key : Bytes) (given : List Label) (paths : List Bytes) (o : Option ℕ) → AgreeAll hands s.records → Left (λ reply. hands) (update_at s key given paths o)
+left_update_at s hands key given paths None agree = agree
+left_update_at s hands key given paths (Some place) agree = left_update_record s hands place key given paths (record_at place key s.records) agree
+
+left_update : (s : State) (hands : List (Option HandValue)) (namespace key : Bytes) (given : List Label) (paths : List Bytes) → AgreeAll hands s.records → Left (λ reply. hands) (update s namespace key given paths)
+left_update s hands namespace key given paths agree =
+    cases_if (Left (λ reply. hands)) (is_key key && is_well_formed given paths) _ _ (λ formed. left_update_at s hands key given paths (place_of namespace s.namespaces) agree) (λ bad. agree)
+
+left_walk_at : (s : State) (hands : List (Option HandValue)) (after : Bytes) (most : ℕ) (asked : Filter) (o : Option ℕ) → AgreeAll hands s.records → Left (λ reply. hands) (walk_at s after most asked o)
+left_walk_at s hands after most asked None agree = agree
+left_walk_at s hands after most asked (Some place) agree = agree
+
+left_walk : (s : State) (hands : List (Option HandValue)) (namespace after : Bytes) (most : ℕ) (asked : Filter) → AgreeAll hands s.records → Left (λ reply. hands) (walk s namespace after most asked)
+left_walk s hands namespace after most asked agree =
+    cases_if (Left (λ reply. hands)) (is_start after && is_page most) _ _ (λ formed. left_walk_at s hands after most asked (place_of namespace s.namespaces) agree) (λ bad. agree)
+
 left_session : (s : State) (hands : List (Option HandValue)) → AgreeAll hands s.records → Left (λ reply. hands) (session s)
 left_session s hands agree = cases_if (Left (λ reply. hands)) (nat_lt s.sessions 65536) _ _ (λ e. agree) (λ e. agree)
 
@@ -214,10 +291,6 @@ left_room s namespace key parent labels place slot hands good agree places is fo
     (subst (λ (x : Option Record). AgreesAt slot ts (Some hand) x) (sym (active_at-with_record_own slot new s.records own lowest.1))
     (record { namespace = refl; key = refl; lowers = same; slot = refl; id = refl; usage = refl; covers = record { blocks = omega arith; inodes = omega arith } }))
     (λ k ne. active_at-with_record_other k new s.records (is_slot-other slot k new ne own))
-
-left_unless_refused : (s : State) (f : Reply → List (Option HandValue)) (r : Result ℕ Refusal) (next : ℕ → State × Reply) → ((why : Refusal) → Left f (refused s why)) → ((n : ℕ) → r ≡ Ok n → Left f (next n)) → Left f (unless_refused s r next)
-left_unless_refused s f (Ok n) next bad good = good n refl
-left_unless_refused s f (Err why) next bad good = bad why
 
 left_prepare_at : (s : State) (namespace key parent : Bytes) (labels : List Label) (place : ℕ) (hands : List (Option HandValue)) → Good s → AgreeAll hands s.records → length hands ≡ 64 → IsPlace s namespace key parent place
     → Left (with_prepared (Some place) key parent s.records hands) (prepare_at s key parent labels place)
@@ -282,6 +355,7 @@ fits_called w n (calls.Prepare namespace key parent labels) fit =
     places : (r : Reply) → length (with_prepared (place_of namespace w.state.namespaces) key parent w.state.records w.hands r) ≡ 64
     places replies.Opened = fit.places
     places (replies.Prepared id slot chain) = set_places w slot _ fit
+    places (replies.Viewed id chain) = fit.places
     places (replies.Charged now) = fit.places
     places replies.Trimmed = fit.places
     places (replies.Committed id usage) = fit.places
@@ -289,6 +363,7 @@ fits_called w n (calls.Prepare namespace key parent labels) fit =
     places (replies.Info info) = fit.places
     places (replies.Usage usage) = fit.places
     places (replies.Mounts own) = fit.places
+    places (replies.Page infos) = fit.places
     places (replies.Refused why) = fit.places
 fits_called w n (calls.Charge slot id need want) fit =
     fits_on_hand w slot (is_working id) _ fit
@@ -321,6 +396,15 @@ fits_called w n (calls.Usage namespace key) fit =
 fits_called w n (calls.Mounts namespace key) fit =
     fits_admitted w 1 w.hands _ fit
     (fits_recorded w n (calls.Mounts namespace key) Nothing (λ reply. w.hands) fit tt (λ r. fit.places) (left_ask w.state w.hands (mounts w.state) namespace key fit.hands))
+fits_called w n (calls.View namespace key parent labels) fit =
+    fits_admitted w 1 w.hands _ fit
+    (fits_recorded w n (calls.View namespace key parent labels) Nothing (λ reply. w.hands) fit tt (λ r. fit.places) (left_view w.state w.hands namespace key parent labels fit.good fit.hands))
+fits_called w n (calls.Update namespace key labels paths) fit =
+    fits_admitted w 1 w.hands _ fit
+    (fits_recorded w n (calls.Update namespace key labels paths) Nothing (λ reply. w.hands) fit tt (λ r. fit.places) (left_update w.state w.hands namespace key labels paths fit.hands))
+fits_called w n (calls.Walk namespace after most asked) fit =
+    fits_admitted w 1 w.hands _ fit
+    (fits_recorded w n (calls.Walk namespace after most asked) Nothing (λ reply. w.hands) fit tt (λ r. fit.places) (left_walk w.state w.hands namespace after most asked fit.hands))
 
 -- an operation under the share leaves a layer that the share covers
 within : (share : Usage) (o : Outcome) (next : Tree) → within_share share o ≡ Ok next → Covers share (count_of next)

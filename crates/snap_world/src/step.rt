@@ -11,7 +11,7 @@ ghost use Rattle.snap_world.specs.Move.{charged, committed_hand, is_its_session,
 ghost use Rattle.std.specs.Option.{option_map};
 ghost use Rattle.snap_call.specs.declared.entry.Entry.{Entry};
 ghost use Rattle.snap_call.specs.State.{place_of};
-ghost use Rattle.snap_accounts.specs.Entries.{OnlyAsks};
+ghost use Rattle.snap_accounts.specs.Entries.{IsPlain};
 ghost use Rattle.snap_world.specs.declared.step.Step.TheVariants.{Locked};
 ghost use Rattle.snap_world.specs.World.{Fits, hand_at, with_hand, world_of};
 ghost use Rattle.snap_world.specs.Runs.{DoesCall, Moves};
@@ -118,8 +118,9 @@ impl<N: StoreName> Hands<N> {
         })
     }
 
-    fn ask(&mut self, book: &mut Book<N>, session: u64, call: &Call) -> Answer
-        requires { OnlyAsks call.now }
+    // A call that takes no snapshot out of a hand and puts none into one.
+    fn plain(&mut self, book: &mut Book<N>, session: u64, call: &Call) -> Answer
+        requires { IsPlain call.now }
         ensures { DoesCall (world_of book.old self.old) session call.now result (world_of book.new self.new) }
     {
         if book.is_full() {
@@ -304,15 +305,33 @@ impl<N: StoreName> Hands<N> {
             Call::Stat {
                 namespace: _,
                 key: _,
-            } => self.ask(book, session, call),
+            } => self.plain(book, session, call),
             Call::Usage {
                 namespace: _,
                 key: _,
-            } => self.ask(book, session, call),
+            } => self.plain(book, session, call),
             Call::Mounts {
                 namespace: _,
                 key: _,
-            } => self.ask(book, session, call),
+            } => self.plain(book, session, call),
+            Call::View {
+                namespace: _,
+                key: _,
+                parent: _,
+                labels: _,
+            } => self.plain(book, session, call),
+            Call::Update {
+                namespace: _,
+                key: _,
+                labels: _,
+                paths: _,
+            } => self.plain(book, session, call),
+            Call::Walk {
+                namespace: _,
+                after: _,
+                most: _,
+                asked: _,
+            } => self.plain(book, session, call),
         }
     }
 

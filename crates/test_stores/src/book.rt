@@ -1,7 +1,7 @@
 ghost use Rattle.std.specs.Prelude.{◌≡◌, [], ◌∷◌, IfOk, codes};
 
 use snap_book::{Active, Book, Held, Sealed};
-use snap_call::{Config, Namespace, Refusal};
+use snap_call::{Call, Config, Namespace, Refusal, Reply};
 use snap_ledger::{NewTable, StoreName};
 use snap_record::{Labels, Sequence, Text};
 use snap_usage::Usage;
@@ -53,6 +53,28 @@ fn prepared<N: StoreName>(alloc: Global, table: NewTable) -> Result<(), Fail>
     prove!(share.blocks == 1);
     prove!(spare.blocks == 0);
     prove!(freed.blocks == 1);
+    Ok(())
+}
+
+// A view of nothing has the first id and is charged nothing. A witness: it is proved, and not run.
+fn viewed<N: StoreName>(alloc: Global, table: NewTable) -> Result<(), Fail>
+    requires { table ≡ N.table }
+{
+    let mut book = Book::<N>::open(alloc, table, config(alloc, 100, 100)?)?;
+    let call = Call::View {
+        namespace: Text::copy_of(alloc, "a")?,
+        key: Text::copy_of(alloc, "q")?,
+        parent: Text::new(alloc),
+        labels: Labels::new(alloc),
+    };
+    if let Reply::Viewed { id, chain } = book.do_call(0, call) {
+        prove!(id == 1);
+        let ancestors = chain.len();
+        prove!(ancestors == 0);
+        let (total, open) = (book.totals("a"), book.open_slots());
+        prove!(total == Some(Usage::ZERO));
+        prove!(open == 0);
+    }
     Ok(())
 }
 

@@ -48,10 +48,10 @@ invariant_of-self-2 g c =
     let total : c.total.result ≡ charge_of place s.records = c.total.ensures.total ∙ ap (λ (u : State). charge_of place u.records) (sym view) in
     let after : c.sum-after.result ≡ plus (charge_of place s.records) one = c.sum-after.ensures ∙ (λ i. plus (total i) (c.one.ensures i)) in
     accounts_prepared s c.self.inside.totals c.set.new.self c.self.inside.slots c.issue.new.self c.self.inside.opened place slot key parent labels c.insert.new.self c.self.invariant
-    (subst (λ (u : State). place < length u.namespaces) (sym view) c.requires.vacant.place)
-    (ap (λ (u : State). has_key place key u.records) view ∙ c.requires.vacant.new)
-    (ap (λ (u : State). is_base place parent u.records) view ∙ c.requires.vacant.base)
-    (ap (λ (u : State). is_too_deep place parent u.records) view ∙ c.requires.vacant.deep)
+    (subst (λ (u : State). place < length u.namespaces) (sym view) c.requires.vacant.site.inside)
+    (ap (λ (u : State). has_key place key u.records) view ∙ c.requires.vacant.site.new)
+    (ap (λ (u : State). is_base place parent u.records) view ∙ c.requires.vacant.site.base)
+    (ap (λ (u : State). is_too_deep place parent u.records) view ∙ c.requires.vacant.site.deep)
     c.requires.vacant.low
     (ap (λ (u : State). active_at slot u.records) view ∙ c.requires.vacant.free)
     (ap (λ (u : State). covers (limit_at place u.namespaces) (plus (charge_of place u.records) one)) view ∙ c.requires.vacant.fits)

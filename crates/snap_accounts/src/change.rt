@@ -1,0 +1,260 @@
+// What a plain call answers, and what it changes.
+ghost use Rattle.std.specs.Prelude.{◌≡◌, ◌<◌, ◌^◌, ◌+◌, IfOk, IfErr, OnOk, OnErr, Some};
+ghost use Rattle.snap_record.specs.Records.{info_of};
+ghost use Rattle.snap_call.specs.Records.{open_count, with_labels};
+ghost use Rattle.snap_call.specs.Step.{added, refused, relabelled_at, step, update, update_record, view, viewed};
+ghost use Rattle.snap_call.specs.declared.call.Given.TheVariants.{Nothing};
+ghost use Rattle.snap_accounts.specs.Changes.{CanChange, IsNewView, changed};
+ghost use Rattle.snap_accounts.specs.Entries.{IsPlain, IsInEntry, IsRecorded};
+ghost use Rattle.snap_accounts.specs.Vacant.{IsSite};
+
+use crate::accounts::Accounts;
+use snap_call::limits::MAX_ID;
+use snap_call::{Call, Refusal, Reply, is_key};
+use snap_ledger::StoreName;
+use snap_record::{
+    Content, Info, Labels, LabelsError, Record, Text, is_well_formed, updated_labels,
+};
+use std::alloc::{AllocError, Global};
+
+/// What a plain call changes beside the journal.
+#[derive(Drop)]
+pub enum Change {
+    Nothing,
+    /// A view more.
+    View(Record),
+    /// Other labels of the snapshot that has this key in the namespace at this place.
+    Labels {
+        place: usize,
+        key: Text,
+        labels: Labels,
+    },
+}
+
+// The info of the snapshot once it has these labels, by the entry of this number.
+fn info_with(snapshot: &Record, labels: &Labels, number: u64) -> Result<Info, AllocError>
+    ensures { IfOk result (λ info. info ≡ info_of (with_labels labels.now number snapshot.now)) }
+{
+    Ok(Info {
+        kind: snapshot.content.kind(),
+        name: snapshot.key.clone()?,
+        parent: snapshot.parent.clone()?,
+        labels: labels.clone()?,
+        created: snapshot.created,
+        updated: number,
+        id: snapshot.id,
+    })
+}
+
+impl<N: StoreName> Accounts<N> {
+    // The place of a new view, or the first refusal.
+    fn view_place(
+        &self,
+        namespace: &str,
+        key: &str,
+        parent: &str,
+        labels: &Labels,
+    ) -> Result<usize, Refusal>
+        ensures ok { IfOk result (λ place. view self.now namespace.now key.now parent.now labels.now ≡ viewed self.now place key.now parent.now labels.now) }
+        ensures site { IfOk result (λ place. IsSite self.now place key.now parent.now) }
+        ensures recorded { IfErr result IsRecorded }
+        ensures refused { IfErr result (λ why. view self.now namespace.now key.now parent.now labels.now ≡ refused self.now why) }
+    {
+        let place = self.place_for(namespace, key, parent, labels)?;
+        if self.state.next_id > MAX_ID {
+            return Err(Refusal::NumbersSpent);
+        }
+        Ok(place)
+    }
+
+    // The view that goes there, and the reply with its id and the ids of its ancestors.
+    fn view_at(
+        &self,
+        alloc: Global,
+        place: usize,
+        key: &str,
+        parent: &str,
+        labels: &Labels,
+    ) -> Result<(Reply, Change), AllocError>
+        requires site { IsSite self.now place key.now parent.now }
+        requires entries { self.now.entries < 2 ^ 63 }
+        ensures reply { IfOk result (λ p. viewed self.now place key.now parent.now labels.now ≡ (changed self.now p.1, p.0)) }
+        ensures recorded { IfOk result (λ p. IsInEntry p.0) }
+        ensures possible { IfOk result (λ p. CanChange self.now p.1) }
+    {
+        let chain = self.state.records.chain_ids(alloc, place, parent)?;
+        let snapshot = self.new_record(alloc, place, key, parent, labels, Content::View)?;
+        let reply = Reply::Viewed {
+            id: snapshot.id,
+            chain,
+        };
+        Ok((reply, Change::View(snapshot)))
+    }
+
+    // A view, or why there is none.
+    fn plan_view(
+        &self,
+        alloc: Global,
+        namespace: &str,
+        key: &str,
+        parent: &str,
+        labels: &Labels,
+    ) -> Result<(Reply, Change), AllocError>
+        requires entries { self.now.entries < 2 ^ 63 }
+        ensures reply { IfOk result (λ p. view self.now namespace.now key.now parent.now labels.now ≡ (changed self.now p.1, p.0)) }
+        ensures recorded { IfOk result (λ p. IsInEntry p.0) }
+        ensures possible { IfOk result (λ p. CanChange self.now p.1) }
+    {
+        match self.view_place(namespace, key, parent, labels) {
+            Ok(place) => self.view_at(alloc, place, key, parent, labels),
+            Err(why) => Ok((Reply::Refused(why), Change::Nothing)),
+        }
+    }
+
+    // The labels of the snapshot after an update, and the reply with its info, or why there are none.
+    fn update_at(
+        &self,
+        place: usize,
+        key: &Text,
+        snapshot: &Record,
+        given: &Labels,
+        paths: &[Text],
+    ) -> Result<(Reply, Change), AllocError>
+        requires entries { self.now.entries < 2 ^ 63 }
+        ensures reply { IfOk result (λ p. update_record self.now place key.now given.now paths.now (Some snapshot.now) ≡ (changed self.now p.1, p.0)) }
+        ensures recorded { IfOk result (λ p. IsInEntry p.0) }
+        ensures possible { IfOk result (λ p. CanChange self.now p.1) }
+    {
+        let labels = match updated_labels(&snapshot.labels, given, paths) {
+            Ok(labels) => labels,
+            Err(LabelsError::BadLabels) => {
+                return Ok((Reply::Refused(Refusal::BadArgument), Change::Nothing));
+            }
+            Err(LabelsError::OutOfMemory) => return Err(AllocError),
+        };
+        let info = info_with(snapshot, &labels, self.state.entries + 1)?;
+        let key = key.clone()?;
+        Ok((Reply::Info(info), Change::Labels { place, key, labels }))
+    }
+
+    // Other labels of a snapshot, or why there are none.
+    fn plan_update(
+        &self,
+        namespace: &str,
+        key: &Text,
+        given: &Labels,
+        paths: &[Text],
+    ) -> Result<(Reply, Change), AllocError>
+        requires entries { self.now.entries < 2 ^ 63 }
+        ensures reply { IfOk result (λ p. update self.now namespace.now key.now given.now paths.now ≡ (changed self.now p.1, p.0)) }
+        ensures recorded { IfOk result (λ p. IsInEntry p.0) }
+        ensures possible { IfOk result (λ p. CanChange self.now p.1) }
+    {
+        if !(is_key(key.as_str()) && is_well_formed(given, paths)) {
+            return Ok((Reply::Refused(Refusal::BadArgument), Change::Nothing));
+        }
+        let Some(place) = self.state.place_of(namespace) else {
+            return Ok((Reply::Refused(Refusal::NoNamespace), Change::Nothing));
+        };
+        match self.state.records.record_at(place, key.as_str()) {
+            Some(snapshot) => self.update_at(place, key, snapshot, given, paths),
+            None => Ok((Reply::Refused(Refusal::NotFound), Change::Nothing)),
+        }
+    }
+
+    /// The reply to a plain call, and what the call changes, which [`Accounts::carry_out`] does.
+    ///
+    /// `Stat` has the info of a snapshot, `Usage` what it is charged, in blocks of 4096 bytes and
+    /// inodes, `Mounts` the mounts that show it, `View` the id of the new view and those of its
+    /// ancestors, `Update` the info with the labels after it, `Walk` a page of infos. The refusals are
+    /// those of [`snap_call`]'s `step`, in its order. Takes memory for the reply and the change. The cost
+    /// grows with the records and with the texts and labels of those that are found; that of mounts and
+    /// of a view with the records times the ancestors.
+    pub fn plan(&self, alloc: Global, call: &Call) -> Result<(Reply, Change), AllocError>
+        requires plain { IsPlain call.now }
+        requires entries { self.now.entries < 2 ^ 63 }
+        ensures reply { IfOk result (λ p. step self.now call.now Nothing ≡ (changed self.now p.1, p.0)) }
+        ensures recorded { IfOk result (λ p. IsInEntry p.0) }
+        ensures possible { IfOk result (λ p. CanChange self.now p.1) }
+    {
+        let reply = match call {
+            Call::View {
+                namespace,
+                key,
+                parent,
+                labels,
+            } => {
+                return self.plan_view(
+                    alloc,
+                    namespace.as_str(),
+                    key.as_str(),
+                    parent.as_str(),
+                    labels,
+                );
+            }
+            Call::Update {
+                namespace,
+                key,
+                labels,
+                paths,
+            } => return self.plan_update(namespace.as_str(), key, labels, paths.as_slice()),
+            Call::Stat { namespace, key } => self.stat(namespace.as_str(), key.as_str())?,
+            Call::Usage { namespace, key } => self.usage(namespace.as_str(), key.as_str()),
+            Call::Mounts { namespace, key } => {
+                self.mounts(alloc, namespace.as_str(), key.as_str())?
+            }
+            Call::Walk {
+                namespace,
+                after,
+                most,
+                asked,
+            } => self.walk(alloc, namespace.as_str(), after.as_str(), *most, asked)?,
+            _ => return Err(AllocError),
+        };
+        Ok((reply, Change::Nothing))
+    }
+
+    // The record of a view is one more.
+    fn add_view(&mut self, snapshot: Record) -> Result<(), AllocError>
+        requires possible { IsNewView self.old snapshot }
+        requires entries { self.old.entries < 2 ^ 63 }
+        ensures done { OnOk result (self.new ≡ added self.old snapshot) }
+        ensures open { OnOk result (open_count self.new.records ≡ open_count self.old.records) }
+        ensures err { OnErr result (self.new ≡ self.old) }
+    {
+        let Ok(()) = self.state.records.insert(snapshot) else {
+            return Err(AllocError);
+        };
+        self.state.next_id += 1;
+        self.state.entries += 1;
+        Ok(())
+    }
+
+    // The snapshot of the key gets these labels.
+    fn relabel(&mut self, place: usize, key: &str, labels: Labels)
+        requires entries { self.old.entries < 2 ^ 63 }
+        ensures done { self.new ≡ relabelled_at self.old place key.now labels }
+        ensures open { open_count self.new.records ≡ open_count self.old.records }
+    {
+        let number = self.state.entries + 1;
+        self.state.records.relabel(place, key, labels, number);
+        self.state.entries = number;
+    }
+
+    /// Makes the change, and counts an entry. Takes memory for the place of a view; where that is
+    /// refused, nothing changes. The cost grows with the records.
+    pub fn carry_out(&mut self, change: Change) -> Result<(), AllocError>
+        requires possible { CanChange self.old change }
+        requires entries { self.old.entries < 2 ^ 63 }
+        ensures done { OnOk result (self.new ≡ changed self.old change) }
+        ensures open { OnOk result (open_count self.new.records ≡ open_count self.old.records) }
+        ensures err { OnErr result (self.new ≡ self.old) }
+    {
+        match change {
+            Change::Nothing => self.count_entry(),
+            Change::View(snapshot) => self.add_view(snapshot)?,
+            Change::Labels { place, key, labels } => self.relabel(place, key.as_str(), labels),
+        }
+        Ok(())
+    }
+}
