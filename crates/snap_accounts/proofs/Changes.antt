@@ -1,6 +1,7 @@
 -- What is kept beside the state, after a plain call.
-use Rattle.std.proofs.Common.{◌≡◌, ℕ, ◌+◌, Bool, true, false, List, refl, sym, ap, ◌∙◌, subst, arith}
+use Rattle.std.proofs.Common.{◌≡◌, ℕ, ◌+◌, Bool, true, false, List, refl, ap, ◌∙◌, arith}
 use Rattle.std.specs.Prelude.{◌==◌, if◌then◌else◌}
+use Rattle.snap_layer.specs.Tree.{Tree}
 use Rattle.snap_usage.specs.declared.usage.Usage.{Usage}
 use Rattle.snap_usage.specs.Counted.{no_usage}
 use Rattle.snap_ledger.specs.States.{ChargeState, plus}
@@ -10,21 +11,21 @@ use Rattle.snap_record.specs.declared.record.Content.{Content}
 use Rattle.snap_record.specs.declared.record.Content.TheVariants.{View}
 use Rattle.snap_record.specs.declared.record.Record.{Record}
 use Rattle.snap_call.specs.declared.state.State.{State}
-use Rattle.snap_call.specs.Good.{Good}
 use Rattle.snap_call.specs.Records.{active_one, charge_of, charge_at, has_slot, open_count, with_record, relabelled}
-use Rattle.snap_call.specs.Step.{added, new_view, relabelled_at}
+use Rattle.snap_call.specs.State.{shown_layers}
+use Rattle.snap_call.specs.Step.{added, relabelled_at}
 use Rattle.snap_call.proofs.Alike.{bare-relabelled, alike-charge_of, alike-charge_at, alike-open_count}
 use Rattle.snap_call.proofs.Counts.{open_count-with_record}
 use Rattle.snap_call.proofs.Kept.{good_relabelled, good_view_added}
 use Rattle.snap_call.proofs.Slots.{charge_at-with_record_other}
-use Rattle.snap_call.proofs.Sums.{part_of, plus-none, charge_of-with_record}
+use Rattle.snap_call.proofs.Sums.{plus-none, charge_of-with_record}
 use Rattle.snap_accounts.specs.Accounts.{AreAccounts}
 use Rattle.snap_accounts.specs.Changes.{IsNewView}
 use Rattle.snap_accounts.proofs.Accounting.{accounts_kept}
 
 -- ---- a view more
 
-module _ (r : Record) (is : r.content ≡ View) where
+module _ (r : Record) (layers : List Tree) (is : r.content ≡ View layers) where
   -- no namespace is charged for it
   none_of : (place : ℕ) (own : Bool) → (if own then usage_of r.content else no_usage) ≡ no_usage
   none_of place true = ap usage_of is
@@ -41,12 +42,13 @@ module _ (r : Record) (is : r.content ≡ View) where
 
 pub accounts_viewed : (s : State) (us : List Usage) (cs : List ChargeState) (n : ℕ) (r : Record) → AreAccounts s us cs n → IsNewView s r → AreAccounts (added s r) us cs n
 accounts_viewed s us cs n r accounts new =
+    let layers : List Tree = shown_layers r.namespace r.parent s.records in
     accounts_kept s (added s r) us cs n accounts
     (good_view_added s r accounts.good new.view new.id new.site.inside new.site.new new.site.base new.site.deep)
     refl
-    (λ k. charge_of-view r new.view k s.records)
-    (λ k. charge_at-view r new.view k s.records)
-    (open_count-view r new.view s.records)
+    (λ k. charge_of-view r layers new.view k s.records)
+    (λ k. charge_at-view r layers new.view k s.records)
+    (open_count-view r layers new.view s.records)
 
 -- ---- other labels
 

@@ -4,6 +4,7 @@ use Rattle.std.specs.Prelude.{◌≡◌}
 use Rattle.snap_record.specs.declared.record.Content.TheVariants as contents
 use Rattle.snap_record.specs.declared.record.Record.{Record}
 use Rattle.snap_call.specs.declared.state.State.{State}
+use Rattle.snap_call.specs.State.{shown_layers}
 use Rattle.snap_call.specs.Step.{added, counted, relabelled_at}
 use Rattle.snap_accounts.specs.declared.change.Change.{Change}
 use Rattle.snap_accounts.specs.declared.change.Change.TheVariants.{Nothing, View, Labels}
@@ -17,7 +18,7 @@ changed s (Labels place key labels) = relabelled_at s place key labels
 
 -- the record is that of a view, under the next id, and can be added
 pub record IsNewView (s : State) (r : Record) : Type 0 where
-  pub view : r.content ≡ contents.View
+  pub view : r.content ≡ contents.View (shown_layers r.namespace r.parent s.records)
   pub id : r.id ≡ s.next_id
   pub site : IsSite s r.namespace r.key r.parent
 

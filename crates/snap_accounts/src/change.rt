@@ -1,7 +1,9 @@
 // What a plain call answers, and what it changes.
 ghost use Rattle.std.specs.Prelude.{◌≡◌, ◌<◌, ◌^◌, ◌+◌, IfOk, IfErr, OnOk, OnErr, Some};
+ghost use Rattle.snap_layer.specs.Edits.{root_only};
 ghost use Rattle.snap_record.specs.Records.{info_of};
 ghost use Rattle.snap_call.specs.Records.{open_count, with_labels};
+ghost use Rattle.snap_call.specs.State.{or_empty};
 ghost use Rattle.snap_call.specs.Step.{added, refused, relabelled_at, step, update, update_record, view, viewed};
 ghost use Rattle.snap_call.specs.declared.call.Given.TheVariants.{Nothing};
 ghost use Rattle.snap_accounts.specs.Changes.{CanChange, IsNewView, changed};
@@ -10,10 +12,12 @@ ghost use Rattle.snap_accounts.specs.Vacant.{IsSite};
 
 use crate::accounts::Accounts;
 use snap_call::limits::MAX_ID;
-use snap_call::{Call, Refusal, Reply, is_key};
+use snap_call::{Call, Chain, Refusal, Reply, is_key};
+use snap_layer::{Layer, Shared};
 use snap_ledger::StoreName;
+use snap_path::limits::DEFAULT_MODE;
 use snap_record::{
-    Content, Info, Labels, LabelsError, Record, Text, is_well_formed, updated_labels,
+    Content, Info, Labels, LabelsError, Record, Sequence, Text, is_well_formed, updated_labels,
 };
 use std::alloc::{AllocError, Global};
 
@@ -29,6 +33,26 @@ pub enum Change {
         key: Text,
         labels: Labels,
     },
+}
+
+// An empty layer.
+fn empty_layer(alloc: Global) -> Result<Shared, AllocError>
+    ensures { IfOk result (λ layer. layer ≡ root_only 493 1) }
+{
+    match Shared::new(alloc, Layer::empty(alloc, DEFAULT_MODE)?) {
+        Ok(layer) => Ok(layer),
+        Err(_) => Err(AllocError),
+    }
+}
+
+// The layers that a view shows whose ancestors have these.
+fn or_empty(alloc: Global, mut layers: Sequence<Shared>) -> Result<Sequence<Shared>, AllocError>
+    ensures { IfOk result (λ shown. shown ≡ or_empty layers) }
+{
+    if layers.is_empty() {
+        layers.push(empty_layer(alloc)?)?;
+    }
+    Ok(layers)
 }
 
 // The info of the snapshot once it has these labels, by the entry of this number.
@@ -82,11 +106,13 @@ impl<N: StoreName> Accounts<N> {
         ensures recorded { IfOk result (λ p. IsInEntry p.0) }
         ensures possible { IfOk result (λ p. CanChange self.now p.1) }
     {
-        let chain = self.state.records.chain_ids(alloc, place, parent)?;
-        let snapshot = self.new_record(alloc, place, key, parent, labels, Content::View)?;
+        let Chain { ids, layers } = self.state.records.chain(alloc, place, parent)?;
+        let shown = or_empty(alloc, layers)?;
+        let content = Content::View { layers: shown };
+        let snapshot = self.new_record(alloc, place, key, parent, labels, content)?;
         let reply = Reply::Viewed {
             id: snapshot.id,
-            chain,
+            chain: ids,
         };
         Ok((reply, Change::View(snapshot)))
     }

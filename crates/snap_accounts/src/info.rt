@@ -85,7 +85,7 @@ impl<N: StoreName> Accounts<N> {
         ensures recorded { IfOk result IsInEntry }
     {
         match &snapshot.content {
-            Content::View => {
+            Content::View { .. } => {
                 let mounts = self.mounts_as(alloc, Kind::View, snapshot)?;
                 Ok(Reply::Mounts(mounts))
             }

@@ -1,5 +1,5 @@
 -- What is asked of a book without an entry.
--- Cited by `Book::slot_of`, `replay_within`, `replay` and others.
+-- Cited by `Book::record`, `Book::slot_of`, `replay_within` and others.
 use Rattle.std.specs.Prelude.{ℕ, Option, None, Some, Result, Ok, Err}
 use Rattle.snap_record.specs.Labels.{Bytes}
 use Rattle.snap_record.specs.declared.record.Content.{Content}
@@ -11,19 +11,28 @@ use Rattle.snap_call.specs.declared.state.State.{State}
 use Rattle.snap_call.specs.Records.{record_at}
 use Rattle.snap_call.specs.State.{place_of}
 
+-- the record that was found, or why there is none
+abbrev pub found_if : Option Record → Result Record Refusal
+found_if None = Err NotFound
+found_if (Some r) = Ok r
+
+abbrev pub found_at : State → Bytes → Option ℕ → Result Record Refusal
+found_at s key None = Err NoNamespace
+found_at s key (Some place) = found_if (record_at place key s.records)
+
+-- the record of this key in the namespace, or why there is none
+abbrev pub found_of : State → Bytes → Bytes → Result Record Refusal
+found_of s namespace key = found_at s key (place_of namespace s.namespaces)
+
 -- the slot and the id of an active snapshot
 abbrev pub slot_in : ℕ → Content → Result (ℕ × ℕ) Refusal
 slot_in id (Active slot charged) = Ok (slot, id)
 slot_in id content = Err NotActive
 
-abbrev pub slot_if : Option Record → Result (ℕ × ℕ) Refusal
-slot_if None = Err NotFound
-slot_if (Some r) = slot_in r.id r.content
-
-abbrev pub slot_at : State → Bytes → Option ℕ → Result (ℕ × ℕ) Refusal
-slot_at s key None = Err NoNamespace
-slot_at s key (Some place) = slot_if (record_at place key s.records)
+abbrev pub slot_if : Result Record Refusal → Result (ℕ × ℕ) Refusal
+slot_if (Ok r) = slot_in r.id r.content
+slot_if (Err why) = Err why
 
 -- the slot and the id of the active snapshot of this key in the namespace, or why there is none
 abbrev pub slot_of : State → Bytes → Bytes → Result (ℕ × ℕ) Refusal
-slot_of s namespace key = slot_at s key (place_of namespace s.namespaces)
+slot_of s namespace key = slot_if (found_of s namespace key)

@@ -1,5 +1,5 @@
 // A book: its state, its journal, and what is read of both.
-ghost use Rattle.std.specs.Prelude.{◌≡◌, ◌≤◌, ◌<◌, ◌+◌, ◌↔◌, None, length, OnOk, IfErr, IsErrOf, ◌⊎◌, [], IfOk, OnErr, false, IsTrue};
+ghost use Rattle.std.specs.Prelude.{◌≡◌, ◌≤◌, ◌<◌, ◌+◌, ◌↔◌, None, length, Ok, Err, OnOk, IfErr, IsErrOf, ◌⊎◌, [], IfOk, OnErr, false, IsTrue};
 ghost use Rattle.snap_call.specs.Good.{Good};
 ghost use Rattle.snap_call.specs.Journal.{Replays};
 ghost use Rattle.snap_call.specs.Records.{open_count, charge_of};
@@ -15,7 +15,7 @@ ghost use Rattle.snap_accounts.specs.Changes.{CanChange, changed};
 ghost use Rattle.snap_accounts.specs.Entries.{IsUnrecorded, IsRecorded};
 ghost use Rattle.snap_call.specs.Step.{counted, refused, step, IsAllowed};
 ghost use Rattle.std.specs.Option.{option_map};
-ghost use Rattle.snap_book.specs.Slot.{slot_of};
+ghost use Rattle.snap_book.specs.Slot.{found_of, slot_of};
 
 use crate::journal::{Journal, Opening, session_entry};
 use snap_accounts::{Accounts, Change};
@@ -148,19 +148,29 @@ impl<N: StoreName> Book<N> {
         }
     }
 
+    /// The record of the snapshot of this key. `NoNamespace` where the store has no such namespace, then
+    /// `NotFound`. It leaves no entry. Takes no memory. The cost grows with the records.
+    pub fn record(&self, namespace: &str, key: &str) -> Result<&Record, Refusal>
+        ensures found { IfOk result (λ r. found_of self.now.state namespace.now key.now ≡ Ok r.now) }
+        ensures refused { IfErr result (λ why. found_of self.now.state namespace.now key.now ≡ Err why) }
+    {
+        let state = self.accounts.state();
+        let Some(place) = state.place_of(namespace) else {
+            return Err(Refusal::NoNamespace);
+        };
+        match state.records.record_at(place, key) {
+            Some(found) => Ok(found),
+            None => Err(Refusal::NotFound),
+        }
+    }
+
     /// The slot and the id of the active snapshot of this key. `NoNamespace` where the store has no
     /// such namespace, then `NotFound`, then `NotActive` for a view or a committed snapshot. It leaves
     /// no entry. Takes no memory. The cost grows with the records.
     pub fn slot_of(&self, namespace: &str, key: &str) -> Result<(u64, u32), Refusal>
         ensures { result ≡ slot_of self.now.state namespace.now key.now }
     {
-        let state = self.accounts.state();
-        let Some(place) = state.place_of(namespace) else {
-            return Err(Refusal::NoNamespace);
-        };
-        let Some(found) = state.records.record_at(place, key) else {
-            return Err(Refusal::NotFound);
-        };
+        let found = self.record(namespace, key)?;
         match &found.content {
             Content::Active { slot, charged: _ } => Ok((*slot, found.id)),
             _ => Err(Refusal::NotActive),

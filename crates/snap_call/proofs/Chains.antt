@@ -39,7 +39,7 @@ Keeps rs ts = (place : ℕ) (key : Bytes) (r : Record) → committed_at place ke
 
 -- a committed record is in no slot
 committed_no_slot : (slot : ℕ) (c : Content) → is_committed c ≡ true → has_slot slot c ≡ false
-committed_no_slot slot View e = refl
+committed_no_slot slot (View layers) e = refl
 committed_no_slot slot (Active s u) e = absurd (true≢false (sym e))
 committed_no_slot slot (Committed l u) e = refl
 

@@ -17,7 +17,7 @@ use Rattle.snap_call.proofs.Slots.{active_at-without_slot_own}
 
 -- a record that is in a slot is an active one
 active_one-in : (slot : ℕ) (c : Content) → has_slot slot c ≡ true → active_one c ≡ 1
-active_one-in slot View e = absurd (true≢false (sym e))
+active_one-in slot (View layers) e = absurd (true≢false (sym e))
 active_one-in slot (Active s u) e = refl
 active_one-in slot (Committed layer u) e = absurd (true≢false (sym e))
 
@@ -88,7 +88,7 @@ apart-without_slot slot (t ∷ ts) apart = at (is_slot slot t) refl (apart-witho
 
 -- the slot of an active is below a number
 abbrev IsBelow : ℕ → Content → Type 0
-IsBelow n View = Unit {0}
+IsBelow n (View layers) = Unit {0}
 IsBelow n (Active slot charged) = slot < n
 IsBelow n (Committed layer usage) = Unit {0}
 
@@ -96,7 +96,7 @@ abbrev AllBelow : ℕ → List Record → Type 0
 AllBelow n rs = AllByRecursion (λ r. IsBelow n r.content) rs
 
 place-below : (c : Content) → HasLowSlot c → IsBelow 64 c
-place-below View h = tt
+place-below (View layers) h = tt
 place-below (Active slot charged) h = h
 place-below (Committed layer usage) h = tt
 
@@ -105,7 +105,7 @@ all-below [] all = tt
 all-below (t ∷ ts) all = (place-below t.content all.0, all-below ts all.1)
 
 none_active : (c : Content) → IsBelow 0 c → active_one c ≡ 0
-none_active View h = refl
+none_active (View layers) h = refl
 none_active (Active slot charged) h = absurd (omega arith)
 none_active (Committed layer usage) h = refl
 
@@ -114,7 +114,7 @@ none_open [] all = refl
 none_open (t ∷ ts) all = let none = none_active t.content all.0 in let rest = none_open ts all.1 in omega arith
 
 below-other : (n : ℕ) (c : Content) → has_slot n c ≡ false → IsBelow (suc n) c → IsBelow n c
-below-other n View e h = tt
+below-other n (View layers) e h = tt
 below-other n (Active slot charged) e h =
     ⊎_elim
     (λ (k : ((slot == n) ≡ true) × (slot ≡ n)). absurd (true≢false (sym k.0 ∙ e)))

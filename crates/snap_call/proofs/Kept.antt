@@ -32,15 +32,15 @@ use Rattle.snap_call.specs.declared.reply.Reply.{Reply}
 use Rattle.snap_call.specs.declared.state.State.{State}
 use Rattle.snap_call.specs.Forms.{has_name, is_limit, is_namespace, is_text, have_distinct_names, is_config, is_key, is_page, is_start}
 use Rattle.snap_call.specs.Records.{has_key, has_slot, is_slot, record_at, active_at, charge_of, with_record, without_slot, recharged, relabelled, committed_as}
-use Rattle.snap_call.specs.State.{opening, place_of, limit_at, is_base, is_too_deep}
-use Rattle.snap_call.specs.Good.{IsGuarding, IsCounted, HasLowSlot, AreApart, Good}
+use Rattle.snap_call.specs.State.{opening, place_of, limit_at, is_base, is_too_deep, ancestors, layers_of, or_empty, shown_layers}
+use Rattle.snap_call.specs.Good.{IsGuarding, IsCounted, HasLowSlot, IsShown, AreApart, Good}
 use Rattle.snap_call.specs.Step.{counted, refused, session, one, new_active, prepared, prepare_at, prepare, greater, fits, charge_to, charge, trim, committed, commit_as, commit, discard, ask_record, ask, step, IsCovered, IsAllowed, place_for, slot_for, unless_refused, added, new_view, viewed, view_at, view, update_record, update_at, update, walk_at, walk}
 use Rattle.snap_call.specs.Journal.{Replays}
-use Rattle.snap_call.proofs.Lists.{all-map, find-none, same_slot, active_at-all, all-with_record, pairwise-with_record, all-without_slot, pairwise-without_slot, all-beside, all-recharged, pairwise-recharged}
+use Rattle.snap_call.proofs.Lists.{all-map, all-both, find-none, same_slot, active_at-all, all-with_record, pairwise-with_record, all-without_slot, pairwise-without_slot, all-beside, all-recharged, pairwise-recharged}
 use Rattle.snap_call.proofs.Ordered.{sorted-with_record, sorted-without_slot, sorted-recharged, has_key-without_slot}
-use Rattle.snap_call.proofs.Chains.{HasParent, chain, Keeps, Keeps-after, Keeps-with_record, Keeps-without_slot, Keeps-recharged, keeps-HasParent, keeps-IsGuarding, keeps-some_chain, chain-found}
+use Rattle.snap_call.proofs.Chains.{HasParent, chain, Keeps, Keeps-after, Keeps-with_record, Keeps-without_slot, Keeps-recharged, keeps-HasParent, keeps-IsGuarding, keeps-some_chain, keeps-ancestors, chain-found}
 use Rattle.snap_call.proofs.Sums.{charge_with, charge_of-with_record_own, charge_of-with_record_other, charge_of-covers, charge_of-without_slot_own, charge_of-without_slot_other, charge_of-recharged_own, charge_of-recharged_other, charge_of-committed_own, charge_of-committed_other}
-use Rattle.snap_call.proofs.Alike.{AreAlike, bare-relabelled, all-relabelled, pairwise-relabelled, sorted-relabelled, alike-HasParent, alike-IsGuarding, alike-charge_of, alike-some_chain}
+use Rattle.snap_call.proofs.Alike.{AreAlike, bare-relabelled, all-relabelled, pairwise-relabelled, sorted-relabelled, alike-HasParent, alike-IsGuarding, alike-charge_of, alike-layers, alike-some_chain}
 use Rattle.snap_call.proofs.Lowest.{lowest_free-Some}
 use Rattle.snap_call.proofs.Places.{IsPlace, place_for-Ok, slot_for-Ok}
 
@@ -76,6 +76,12 @@ apart_other slot k to c out is = false_from_ne_true (eqb slot k) (λ e. true≢f
 
 -- ---- what stands on committed records
 
+-- a view shows the same where its ancestors have the same layers
+shown_anew : (rs ts : List Record) (place : ℕ) (parent : Bytes) (c : Content) → layers_of (ancestors place parent ts) ≡ layers_of (ancestors place parent rs) → IsShown rs place parent c → IsShown ts place parent c
+shown_anew rs ts place parent (View layers) same h = h ∙ sym (ap or_empty same)
+shown_anew rs ts place parent (Active slot charged) same h = tt
+shown_anew rs ts place parent (Committed layer usage) same h = tt
+
 module _ (ns : List Namespace) (rs ts : List Record) (keeps : Keeps rs ts) where
   stand_parents : (us : List Record) → AllByRecursion (HasParent rs) us → AllByRecursion (HasParent ts) us
   stand_parents us all = all-map (HasParent rs) (HasParent ts) (keeps-HasParent rs ts keeps) us all
@@ -85,6 +91,13 @@ module _ (ns : List Namespace) (rs ts : List Record) (keeps : Keeps rs ts) where
 
   stand_chains : (us : List Record) → AllByRecursion (λ r. IsSome (chain rs r)) us → AllByRecursion (λ r. IsSome (chain ts r)) us
   stand_chains us all = all-map (λ r. IsSome (chain rs r)) (λ r. IsSome (chain ts r)) (keeps-some_chain rs ts keeps) us all
+
+  -- what views show
+  stand_shown : (us : List Record) → AllByRecursion (λ r. IsSome (chain rs r)) us → AllByRecursion (λ r. IsShown rs r.namespace r.parent r.content) us → AllByRecursion (λ r. IsShown ts r.namespace r.parent r.content) us
+  stand_shown us chained all =
+      all-map (λ r. IsSome (chain rs r) × IsShown rs r.namespace r.parent r.content) (λ r. IsShown ts r.namespace r.parent r.content)
+      (λ r h. shown_anew rs ts r.namespace r.parent r.content (ap layers_of (keeps-ancestors rs ts keeps r.namespace r.parent h.0)) h.1)
+      us (all-both (λ r. IsSome (chain rs r)) (λ r. IsShown rs r.namespace r.parent r.content) us chained all)
 
 -- ---- the counters alone
 
@@ -104,6 +117,7 @@ good_counters s m n good = record {
   numbered = good.numbered;
   slots = good.slots;
   open_slots = good.open_slots;
+  shown = good.shown;
   chains = good.chains;
 }
 
@@ -114,10 +128,10 @@ good_counted s good = good_counters s s.sessions (s.entries + 1) good
 
 -- of a free key, on a base that is there, with the next id, in no slot of another, and within the limit
 good_added : (s : State) (r : Record) → Good s → r.namespace < length s.namespaces → has_key r.namespace r.key s.records ≡ false
-    → is_base r.namespace r.parent s.records ≡ true → is_too_deep r.namespace r.parent s.records ≡ false → r.id ≡ s.next_id → IsCounted r.content → HasLowSlot r.content
+    → is_base r.namespace r.parent s.records ≡ true → is_too_deep r.namespace r.parent s.records ≡ false → r.id ≡ s.next_id → IsCounted r.content → HasLowSlot r.content → IsShown s.records r.namespace r.parent r.content
     → AllByRecursion (AreApart r) s.records → AllByRecursion (λ t. AreApart t r) s.records
     → Covers (limit_at r.namespace s.namespaces) (plus (charge_of r.namespace s.records) (usage_of r.content)) → Good (added s r)
-good_added s r good low free base deep next count few apart beside room = record {
+good_added s r good low free base deep next count few shown apart beside room = record {
   root = good.root;
   parents = stand_parents ns rs ts keeps ts (all-with_record r (HasParent rs) rs base good.parents);
   leased = stand_leases ns rs ts keeps s.leases good.leased;
@@ -135,7 +149,8 @@ good_added s r good low free base deep next count few apart beside room = record
   numbered = all-with_record r (λ t. t.id < s.next_id + 1) rs (omega (arith, next)) (all-map (λ t. t.id < s.next_id) (λ t. t.id < s.next_id + 1) (λ t h. omega (arith, h)) rs good.numbered);
   slots = pairwise-with_record r AreApart rs apart beside good.slots;
   open_slots = all-with_record r (λ t. HasLowSlot t.content) rs few good.open_slots;
-  chains = stand_chains ns rs ts keeps ts (all-with_record r (λ t. IsSome (chain rs t)) rs (chain-found rs r.namespace r.parent deep) good.chains);
+  shown = stand_shown ns rs ts keeps ts chained (all-with_record r (λ t. IsShown rs t.namespace t.parent t.content) rs shown good.shown);
+  chains = stand_chains ns rs ts keeps ts chained;
 }
   where
     ns : List Namespace
@@ -150,11 +165,14 @@ good_added s r good low free base deep next count few apart beside room = record
     keeps : Keeps rs ts
     keeps = Keeps-with_record r rs free
 
+    chained : AllByRecursion (λ t. IsSome (chain rs t)) ts
+    chained = all-with_record r (λ t. IsSome (chain rs t)) rs (chain-found rs r.namespace r.parent deep) good.chains
+
 pub good_prepared : (s : State) (place : ℕ) (key parent : Bytes) (labels : List Label) (slot : ℕ) → Good s → place < length s.namespaces → has_key place key s.records ≡ false
     → is_base place parent s.records ≡ true → is_too_deep place parent s.records ≡ false → slot < 64 → active_at slot s.records ≡ None
     → Covers (limit_at place s.namespaces) (plus (charge_of place s.records) one) → Good (prepared s place key parent labels slot).0
 good_prepared s place key parent labels slot good low free base deep few none room =
-    good_added s r good low free base deep refl tt few
+    good_added s r good low free base deep refl tt few tt
     (all-map (λ t. is_slot slot t ≡ false) (AreApart r) (λ t out k is. subst (λ (n : ℕ). is_slot n t ≡ false) (eqb-true slot k is) out) s.records empty)
     (all-map (λ t. is_slot slot t ≡ false) (λ t. AreApart t r) (λ t out k is. apart_other slot k one t.content out is) s.records empty)
     room
@@ -170,10 +188,10 @@ nothing_more : (limit total : Usage) → Covers limit total → Covers limit (pl
 nothing_more limit total a = record { blocks = omega (arith, a.blocks); inodes = omega (arith, a.inodes) }
 
 -- a view is in no slot, and is charged nothing
-pub good_view_added : (s : State) (r : Record) → Good s → r.content ≡ View → r.id ≡ s.next_id → r.namespace < length s.namespaces → has_key r.namespace r.key s.records ≡ false
+pub good_view_added : (s : State) (r : Record) → Good s → r.content ≡ View (shown_layers r.namespace r.parent s.records) → r.id ≡ s.next_id → r.namespace < length s.namespaces → has_key r.namespace r.key s.records ≡ false
     → is_base r.namespace r.parent s.records ≡ true → is_too_deep r.namespace r.parent s.records ≡ false → Good (added s r)
 good_view_added s r good is next low free base deep =
-    good_added s r good low free base deep next (subst IsCounted (sym is) tt) (subst HasLowSlot (sym is) tt)
+    good_added s r good low free base deep next (subst IsCounted (sym is) tt) (subst HasLowSlot (sym is) tt) (subst (IsShown s.records r.namespace r.parent) (sym is) refl)
     (all-map (λ t. HasLowSlot t.content) (AreApart r) (λ t h k held. absurd (true≢false (sym held ∙ ap (has_slot k) is))) s.records good.open_slots)
     (all-map (λ t. HasLowSlot t.content) (λ t. AreApart t r) (λ t h k held. ap (has_slot k) is) s.records good.open_slots)
     (subst (λ (u : Usage). Covers (limit_at r.namespace s.namespaces) (plus (charge_of r.namespace s.records) u)) (sym (ap usage_of is)) (nothing_more (limit_at r.namespace s.namespaces) (charge_of r.namespace s.records) (good.within r.namespace low)))
@@ -186,7 +204,7 @@ good_viewed s place key parent labels good low free base deep = good_view_added 
 
 module _ (slot : ℕ) (to : Usage) where
   place_anew : (c : Content) → has_slot slot c ≡ true → HasLowSlot c → slot < 64
-  place_anew View e h = absurd (true≢false (sym e))
+  place_anew (View layers) e h = absurd (true≢false (sym e))
   place_anew (Active k u) e h = subst (λ (n : ℕ). n < 64) (eqb-true k slot e) h
   place_anew (Committed l u) e h = absurd (true≢false (sym e))
 
@@ -210,7 +228,8 @@ module _ (slot : ℕ) (to : Usage) where
         (λ t u is h k out. same_slot slot k to u.content is ∙ h k out)
         good.slots;
     open_slots = all-recharged slot to (λ t. HasLowSlot t.content) rs (λ t is h. place_anew t.content is h) good.open_slots;
-    chains = stand_chains ns rs ts keeps ts (all-recharged slot to (λ t. IsSome (chain rs t)) rs (λ t is h. h) good.chains);
+    shown = stand_shown ns rs ts keeps ts chained (all-recharged slot to (λ t. IsShown rs t.namespace t.parent t.content) rs (λ t is h. tt) good.shown);
+    chains = stand_chains ns rs ts keeps ts chained;
   }
     where
       ns : List Namespace
@@ -224,6 +243,9 @@ module _ (slot : ℕ) (to : Usage) where
 
       keeps : Keeps rs ts
       keeps = Keeps-recharged slot to rs
+
+      chained : AllByRecursion (λ t. IsSome (chain rs t)) ts
+      chained = all-recharged slot to (λ t. IsSome (chain rs t)) rs (λ t is h. h) good.chains
 
 -- the charge of a record gives way to one that it covers
 covered : (s : State) (slot : ℕ) (r : Record) (to : Usage) → Good s → active_at slot s.records ≡ Some r → Covers (usage_of r.content) to → Covers (limit_at r.namespace s.namespaces) (charge_with r to s.records)
@@ -252,7 +274,8 @@ good_discarded s slot r good e = record {
   numbered = all-without_slot slot (λ t. t.id < s.next_id) rs good.numbered;
   slots = pairwise-without_slot slot AreApart rs good.slots;
   open_slots = all-without_slot slot (λ t. HasLowSlot t.content) rs good.open_slots;
-  chains = stand_chains ns rs ts keeps ts (all-without_slot slot (λ t. IsSome (chain rs t)) rs good.chains);
+  shown = stand_shown ns rs ts keeps ts chained (all-without_slot slot (λ t. IsShown rs t.namespace t.parent t.content) rs good.shown);
+  chains = stand_chains ns rs ts keeps ts chained;
 }
   where
     ns : List Namespace
@@ -266,6 +289,9 @@ good_discarded s slot r good e = record {
 
     keeps : Keeps rs ts
     keeps = Keeps-without_slot slot rs
+
+    chained : AllByRecursion (λ t. IsSome (chain rs t)) ts
+    chained = all-without_slot slot (λ t. IsSome (chain rs t)) rs good.chains
 
     low : r.namespace < length ns
     low = active_at-all (λ t. t.namespace < length ns) slot rs r e good.placed
@@ -297,8 +323,8 @@ good_committed s slot name layer r good e free less = record {
       (all-map (λ t. HasLowSlot t.content) (λ t. AreApart t c) (λ t h k is. refl) us places)
       (pairwise-without_slot slot AreApart rs good.slots);
   open_slots = all-with_record c (λ t. HasLowSlot t.content) us tt places;
-  chains = stand_chains ns rs ts keeps ts
-      (all-with_record c (λ t. IsSome (chain rs t)) us (active_at-all (λ t. IsSome (chain rs t)) slot rs r e good.chains) (all-without_slot slot (λ t. IsSome (chain rs t)) rs good.chains));
+  shown = stand_shown ns rs ts keeps ts chained (all-with_record c (λ t. IsShown rs t.namespace t.parent t.content) us tt (all-without_slot slot (λ t. IsShown rs t.namespace t.parent t.content) rs good.shown));
+  chains = stand_chains ns rs ts keeps ts chained;
 }
   where
     ns : List Namespace
@@ -322,6 +348,9 @@ good_committed s slot name layer r good e free less = record {
     keeps : Keeps rs ts
     keeps = Keeps-after rs us ts (Keeps-without_slot slot rs) (Keeps-with_record c us left)
 
+    chained : AllByRecursion (λ t. IsSome (chain rs t)) ts
+    chained = all-with_record c (λ t. IsSome (chain rs t)) us (active_at-all (λ t. IsSome (chain rs t)) slot rs r e good.chains) (all-without_slot slot (λ t. IsSome (chain rs t)) rs good.chains)
+
     places : AllByRecursion (λ t. HasLowSlot t.content) us
     places = all-without_slot slot (λ t. HasLowSlot t.content) rs good.open_slots
 
@@ -343,6 +372,8 @@ good_relabelled s place key labels good = record {
   numbered = all-relabelled place key labels n (λ t. t.id < s.next_id) rs (λ t h. h) good.numbered;
   slots = pairwise-relabelled place key labels n AreApart rs (λ t u h. h) (λ t u h. h) good.slots;
   open_slots = all-relabelled place key labels n (λ t. HasLowSlot t.content) rs (λ t h. h) good.open_slots;
+  shown = all-relabelled place key labels n (λ t. IsShown ts t.namespace t.parent t.content) rs (λ t h. h)
+      (all-map (λ t. IsShown rs t.namespace t.parent t.content) (λ t. IsShown ts t.namespace t.parent t.content) (λ t h. shown_anew rs ts t.namespace t.parent t.content (alike-layers rs ts alike t.namespace t.parent) h) rs good.shown);
   chains = all-relabelled place key labels n (λ t. IsSome (chain ts t)) rs (λ t h. h) (all-map (λ t. IsSome (chain rs t)) (λ t. IsSome (chain ts t)) (alike-some_chain rs ts alike) rs good.chains);
 }
   where
@@ -529,6 +560,7 @@ good_opening c e = record {
   numbered = tt;
   slots = tt;
   open_slots = tt;
+  shown = tt;
   chains = tt;
 }
 

@@ -82,7 +82,7 @@ with_charge slot to r = record r { content = Active slot to }
 
 -- a record that is active in a slot has no other
 pub same_slot : (slot k : ℕ) (to : Usage) (c : Content) → has_slot slot c ≡ true → has_slot k (Active slot to) ≡ has_slot k c
-same_slot slot k to View e = absurd (true≢false (sym e))
+same_slot slot k to (View layers) e = absurd (true≢false (sym e))
 same_slot slot k to (Active s u) e = ap (λ (n : ℕ). eqb n k) (sym (eqb-true s slot e))
 same_slot slot k to (Committed l u) e = absurd (true≢false (sym e))
 

@@ -20,7 +20,7 @@ use Rattle.snap_call.proofs.Lists.{active_at-is_slot}
 
 -- what is known of a record in a slot
 has_slot-Active : (slot : ℕ) (c : Content) → has_slot slot c ≡ true → c ≡ Active slot (usage_of c)
-has_slot-Active slot View e = absurd (true≢false (sym e))
+has_slot-Active slot (View layers) e = absurd (true≢false (sym e))
 has_slot-Active slot (Active s u) e = ap (λ k. Active k u) (eqb-true s slot e)
 has_slot-Active slot (Committed layer u) e = absurd (true≢false (sym e))
 
@@ -32,7 +32,7 @@ Active-is_slot slot u r e = ap (has_slot slot) e ∙ eq-eqb slot slot refl
 
 -- a record is in one slot at most
 has_slot-other : (slot k : ℕ) (c : Content) → k ≢ slot → has_slot slot c ≡ true → has_slot k c ≡ false
-has_slot-other slot k View ne e = refl
+has_slot-other slot k (View layers) ne e = refl
 has_slot-other slot k (Active s u) ne e = ⊎_elim (λ (h : ((s == k) ≡ true) × (s ≡ k)). absurd (ne (sym h.1 ∙ eqb-true s slot e))) (λ (h : ((s == k) ≡ false) × (s ≢ k)). h.0) (eqb_tells s k)
 has_slot-other slot k (Committed layer u) ne e = refl
 

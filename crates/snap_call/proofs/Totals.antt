@@ -17,7 +17,7 @@ use Rattle.snap_call.proofs.Sums.{usage, blocks, inodes, part_of, plus-none, non
 
 part_split : (own : Bool) (c : Content) → IsCounted c → (if own then usage_of c else no_usage) ≡ plus (if own then counted_in c else no_usage) (if own then share_in c else no_usage)
 part_split false c h = refl
-part_split true View h = refl
+part_split true (View layers) h = refl
 part_split true (Active slot charged) h = sym (none-plus charged)
 part_split true (Committed layer counted) h = h ∙ sym (plus-none _)
 

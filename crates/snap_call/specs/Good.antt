@@ -5,15 +5,16 @@ use Rattle.std.specs.List.{AllByRecursion}
 use Rattle.std.specs.List.Sorted.{IsStrictlySortedBy}
 use Rattle.snap_usage.specs.Counted.{count_of, Covers}
 use Rattle.snap_lease.specs.Lease.{Lease, NamesOnce}
+use Rattle.snap_record.specs.Labels.{Bytes}
 use Rattle.snap_record.specs.declared.record.Content.{Content}
-use Rattle.snap_record.specs.declared.record.Content.TheVariants.{Active, Committed}
+use Rattle.snap_record.specs.declared.record.Content.TheVariants.{View, Active, Committed}
 use Rattle.snap_record.specs.declared.record.Record.{Record}
 use Rattle.snap_mount.specs.Mounts.{is_root_text}
 use Rattle.snap_call.specs.declared.config.Namespace.{Namespace}
 use Rattle.snap_call.specs.declared.state.State.{State}
 use Rattle.snap_call.specs.Forms.{is_limit, have_distinct_names}
 use Rattle.snap_call.specs.Records.{record_cmp, is_slot, committed_at, charge_of}
-use Rattle.snap_call.specs.State.{place_of, limit_at, chain_from, is_base}
+use Rattle.snap_call.specs.State.{place_of, limit_at, chain_from, is_base, shown_layers}
 
 -- R holds of any two items, the earlier one first
 abbrev pub AllPairwise : {X : Type 0} → (X → X → Type 0) → List X → Type 0
@@ -33,6 +34,11 @@ IsCounted content = Unit {0}
 abbrev pub HasLowSlot : Content → Type 0
 HasLowSlot (Active slot charged) = slot < 64
 HasLowSlot content = Unit {0}
+
+-- a view's layers are those of its committed ancestors, or one empty layer
+abbrev pub IsShown : List Record → ℕ → Bytes → Content → Type 0
+IsShown rs place parent (View layers) = layers ≡ shown_layers place parent rs
+IsShown rs place parent content = Unit {0}
 
 -- the two are not active in the same slot
 abbrev pub AreApart : Record → Record → Type 0
@@ -64,5 +70,7 @@ pub record Good (s : State) : Type 0 where
   -- no two active snapshots have the same slot, and each has one of 0 to 63
   pub slots : AllPairwise AreApart s.records
   pub open_slots : AllByRecursion (λ r. HasLowSlot r.content) s.records
+  -- each view keeps the layers that it shows
+  pub shown : AllByRecursion (λ r. IsShown s.records r.namespace r.parent r.content) s.records
   -- each snapshot has a chain of at most 64 committed ancestors
   pub chains : AllByRecursion (λ r. IsSome (chain_from 64 s.records r.namespace r.parent)) s.records

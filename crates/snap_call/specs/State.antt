@@ -2,6 +2,7 @@
 -- Cited by `Records::is_present`, `Records::is_base`, `Records::is_too_deep` and others.
 use Rattle.std.specs.Prelude.{ℕ, zero, suc, Bool, true, List, [], ◌∷◌, Option, None, Some, option_and_then, unwrap_or, position, slice_get, map, not}
 use Rattle.std.specs.Option.{option_map, option_map_or, is_some}
+use Rattle.snap_layer.specs.Edits.{root_only}
 use Rattle.snap_layer.specs.Tree.{Tree}
 use Rattle.snap_usage.specs.declared.usage.Usage.{Usage}
 use Rattle.snap_usage.specs.Counted.{no_usage}
@@ -73,3 +74,12 @@ with_layer content layers = layers
 abbrev pub layers_of : List Record → List Tree
 layers_of [] = []
 layers_of (r ∷ rs) = with_layer r.content (layers_of rs)
+
+-- these layers; where there are none, one empty layer, whose root has the permission bits 755 in octal
+abbrev pub or_empty : List Tree → List Tree
+or_empty [] = root_only 493 1 ∷ []
+or_empty layers = layers
+
+-- what a view on the parent shows: the layers of its committed ancestors, nearest first
+abbrev pub shown_layers : ℕ → Bytes → List Record → List Tree
+shown_layers place parent rs = or_empty (layers_of (ancestors place parent rs))

@@ -27,7 +27,7 @@ use Rattle.snap_call.specs.declared.reply.Reply.TheVariants.{Opened, Prepared, V
 use Rattle.snap_call.specs.declared.state.State.{State}
 use Rattle.snap_call.specs.Forms.{is_key, is_parent, is_page, is_start}
 use Rattle.snap_call.specs.Records.{record_at, has_key, active_at, charge_of, with_record, without_slot, recharged, relabelled, with_labels, page, committed_as, lowest_free}
-use Rattle.snap_call.specs.State.{place_of, limit_at, over_limit, is_present, is_base, is_too_deep, ancestors, ids_of}
+use Rattle.snap_call.specs.State.{place_of, limit_at, over_limit, is_present, is_base, is_too_deep, ancestors, ids_of, shown_layers}
 
 -- one entry more
 abbrev pub counted : State → State
@@ -101,9 +101,9 @@ prepare_at s key parent labels place = unless_refused s (slot_for s place) (prep
 abbrev pub prepare : State → Bytes → Bytes → Bytes → List Label → State × Reply
 prepare s namespace key parent labels = unless_refused s (place_for s namespace key parent labels) (prepare_at s key parent labels)
 
--- View: a new snapshot that nothing is written to, without a slot and without a charge (containerd's Snapshotter.View). The reply has the ids of its committed ancestors, nearest first.
+-- View: a new snapshot that nothing is written to, without a slot and without a charge; it keeps the layers that it shows (containerd's Snapshotter.View). The reply has the ids of its committed ancestors, nearest first.
 abbrev pub new_view : State → ℕ → Bytes → Bytes → List Label → Record
-new_view s place key parent labels = new_record s place key parent labels View
+new_view s place key parent labels = new_record s place key parent labels (View (shown_layers place parent s.records))
 
 abbrev pub viewed : State → ℕ → Bytes → Bytes → List Label → State × Reply
 viewed s place key parent labels = (added s (new_view s place key parent labels), Viewed s.next_id (ids_of (ancestors place parent s.records)))

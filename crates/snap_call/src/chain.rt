@@ -20,7 +20,7 @@ fn is_committed(snapshot: &Record) -> bool
     ensures { result ≡ is_committed snapshot.now.content }
 {
     match &snapshot.content {
-        Content::View => false,
+        Content::View { .. } => false,
         Content::Active { .. } => false,
         Content::Committed { .. } => true,
     }

@@ -246,7 +246,7 @@ fn is_slot(snapshot: &Record, slot: u64) -> bool
     ensures { result ≡ is_slot slot snapshot.now }
 {
     match &snapshot.content {
-        Content::View => false,
+        Content::View { .. } => false,
         Content::Active { slot: own, .. } => *own == slot,
         Content::Committed { .. } => false,
     }

@@ -11,13 +11,13 @@ use Rattle.snap_record.specs.declared.record.Record.{Record}
 
 -- the kind of snapshot that holds it (containerd's snapshots.Kind)
 abbrev pub kind_of : Content → Kind
-kind_of View = kinds.View
+kind_of (View layers) = kinds.View
 kind_of (Active slot charged) = kinds.Active
 kind_of (Committed layer usage) = kinds.Committed
 
 -- what the namespace is charged for it: the charged usage while it is active, the stored usage once it is committed
 abbrev pub usage_of : Content → Usage
-usage_of View = no_usage
+usage_of (View layers) = no_usage
 usage_of (Active slot charged) = charged
 usage_of (Committed layer usage) = usage
 

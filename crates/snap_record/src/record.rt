@@ -4,6 +4,7 @@ ghost use Rattle.snap_record.specs.Records.{info_of, kind_of, usage_of};
 use crate::info::Info;
 use crate::kind::Kind;
 use crate::labels::Labels;
+use crate::sequence::Sequence;
 use crate::text::Text;
 use snap_layer::Shared;
 use snap_usage::Usage;
@@ -12,8 +13,8 @@ use std::alloc::AllocError;
 /// What a snapshot holds, by its kind.
 #[derive(Debug, Drop)]
 pub enum Content {
-    /// A view has no layer of its own.
-    View,
+    /// A view has no layer of its own, but the layers that it shows, nearest first.
+    View { layers: Sequence<Shared> },
     /// An active snapshot has one of the slots 0 to 63, and its namespace is charged so much for it.
     Active { slot: u64, charged: Usage },
     /// A committed snapshot has its layer, and the usage that was counted when it was committed.
@@ -47,7 +48,7 @@ impl Content {
         ensures { result ≡ kind_of self.now }
     {
         match self {
-            Content::View => Kind::View,
+            Content::View { .. } => Kind::View,
             Content::Active { .. } => Kind::Active,
             Content::Committed { .. } => Kind::Committed,
         }
@@ -59,7 +60,7 @@ impl Content {
         ensures { result ≡ usage_of self.now }
     {
         match self {
-            Content::View => Usage::ZERO,
+            Content::View { .. } => Usage::ZERO,
             Content::Active { charged, .. } => *charged,
             Content::Committed { usage, .. } => *usage,
         }

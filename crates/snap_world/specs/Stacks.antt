@@ -1,15 +1,15 @@
--- What the open snapshots of a world show: the layers of each, its own over those of its ancestors.
+-- What the snapshots of a world show: the layers of an active one, its own over those of its ancestors, and those of a view.
 -- Cited by `World::take_step`, `World::run`, `World::stack` and others.
-use Rattle.std.specs.Prelude.{◌≡◌, ℕ, List, ◌∷◌, Option, None, Some, IsSomeAnd, option_and_then, Result, Ok, Err}
+use Rattle.std.specs.Prelude.{◌≡◌, ℕ, List, ◌∷◌, Option, None, Some, Result, Ok, Err}
 use Rattle.snap_layer.specs.Tree.{Tree}
 use Rattle.snap_record.specs.Labels.{Bytes}
+use Rattle.snap_record.specs.declared.record.Content.{Content}
+use Rattle.snap_record.specs.declared.record.Content.TheVariants.{View, Active, Committed}
 use Rattle.snap_record.specs.declared.record.Record.{Record}
 use Rattle.snap_call.specs.declared.refusal.Refusal.{Refusal}
 use Rattle.snap_call.specs.declared.refusal.Refusal.TheVariants.{NotActive}
-use Rattle.snap_call.specs.declared.state.State.{State}
-use Rattle.snap_call.specs.Records.{record_at}
-use Rattle.snap_call.specs.State.{ancestors, layers_of, place_of}
-use Rattle.snap_book.specs.Slot.{slot_of}
+use Rattle.snap_call.specs.State.{ancestors, layers_of, shown_layers}
+use Rattle.snap_book.specs.Slot.{found_of}
 use Rattle.snap_world.specs.World.{HandValue, WorldValue, hand_at}
 
 -- the layers of the hand: its own, and those below it, nearest first (overlayfs.rst, "Upper and Lower", "Multiple lower layers")
@@ -21,18 +21,27 @@ abbrev pub stack_at : Option HandValue → Result (List Tree) Refusal
 stack_at None = Err NotActive
 stack_at (Some h) = Ok (layers_in h)
 
-abbrev pub stack_in : List (Option HandValue) → Result (ℕ × ℕ) Refusal → Result (List Tree) Refusal
+-- what a snapshot shows: an active one the layers of its hand, a view those that it keeps; a committed one has no mount of its own
+abbrev pub stack_by : List (Option HandValue) → Content → Result (List Tree) Refusal
+stack_by hands (View layers) = Ok layers
+stack_by hands (Active slot charged) = stack_at (hand_at slot hands)
+stack_by hands (Committed layer usage) = Err NotActive
+
+abbrev pub stack_in : List (Option HandValue) → Result Record Refusal → Result (List Tree) Refusal
 stack_in hands (Err why) = Err why
-stack_in hands (Ok found) = stack_at (hand_at found.0 hands)
+stack_in hands (Ok r) = stack_by hands r.content
 
--- the layers of the active snapshot of this key in the namespace, or why there is none
+-- the layers that the snapshot of this key in the namespace shows, or why there are none
 abbrev pub stack_of : WorldValue → Bytes → Bytes → Result (List Tree) Refusal
-stack_of w namespace key = stack_in w.hands (slot_of w.state namespace key)
+stack_of w namespace key = stack_in w.hands (found_of w.state namespace key)
 
--- the record of this key in the namespace, if there is one
-abbrev pub record_of : State → Bytes → Bytes → Option Record
-record_of s namespace key = option_and_then (λ place. record_at place key s.records) (place_of namespace s.namespaces)
+-- the layers of an active snapshot are one over those of its committed ancestors, nearest first; those of a view are the ancestors' alone, or one empty layer
+abbrev pub IsOverBy : List Record → List Tree → ℕ → Bytes → Content → Type 0
+IsOverBy rs layers place parent (View own) = layers ≡ shown_layers place parent rs
+IsOverBy rs layers place parent (Active slot charged) = (layer : Tree) × (layers ≡ layer ∷ layers_of (ancestors place parent rs))
+IsOverBy rs layers place parent content = ⊥
 
--- there is such a record, and these layers are one over those of its committed ancestors, nearest first
-abbrev pub IsOver : List Record → List Tree → Option Record → Type 0
-IsOver rs layers o = IsSomeAnd o (λ r. (layer : Tree) × (layers ≡ layer ∷ layers_of (ancestors r.namespace r.parent rs)))
+-- there is such a record, and these layers are so
+abbrev pub IsOver : List Record → List Tree → Result Record Refusal → Type 0
+IsOver rs layers (Ok r) = IsOverBy rs layers r.namespace r.parent r.content
+IsOver rs layers (Err why) = ⊥

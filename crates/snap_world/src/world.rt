@@ -6,10 +6,10 @@ ghost use Rattle.snap_call.specs.Records.{charge_of, open_count};
 ghost use Rattle.snap_call.specs.State.{opening, place_of};
 ghost use Rattle.snap_call.specs.Totals.{counts_and_shares};
 ghost use Rattle.snap_call.specs.declared.refusal.Refusal.TheVariants.{BadArgument, OutOfMemory};
-ghost use Rattle.snap_book.specs.Slot.{slot_of};
+ghost use Rattle.snap_book.specs.Slot.{found_of, slot_of};
 ghost use Rattle.snap_world.specs.World.{Fits, hand_at};
 ghost use Rattle.snap_world.specs.Runs.{Moves, Runs};
-ghost use Rattle.snap_world.specs.Stacks.{IsOver, record_of, stack_of};
+ghost use Rattle.snap_world.specs.Stacks.{IsOver, stack_of};
 
 use crate::hands::Hands;
 use crate::step::{Answer, Step};
@@ -17,7 +17,7 @@ use snap_book::Book;
 use snap_call::{Config, Entry, Refusal};
 use snap_ledger::{NewTable, StoreName};
 use snap_merge::Stack;
-use snap_record::Record;
+use snap_record::{Content, Record};
 use snap_usage::Usage;
 use std::alloc::{AllocError, AllocFailed, Global};
 use std::marker::Model;
@@ -123,24 +123,31 @@ impl<N: StoreName> World<N> {
         self.book.slot_of(namespace, key)
     }
 
-    /// What the active snapshot of this key shows, sealed or not: its layer over those of its
-    /// ancestors, nearest first. Bytes that the stack shows are lent by the world.
+    /// What the snapshot of this key shows: an active one, sealed or not, its layer over those of its
+    /// ancestors, nearest first; a view the layers of its ancestors alone, or one empty layer whose root
+    /// has the permission bits 755 in octal where it has none. Bytes that the stack shows are lent by the
+    /// world.
     ///
     /// `NoNamespace` where the store has no such namespace, then `NotFound`, then `NotActive` for a
-    /// view or a committed snapshot. It leaves no entry. Takes no memory. The cost grows with the
-    /// records.
+    /// committed snapshot. It leaves no entry. Takes no memory. The cost grows with the records.
     pub fn stack(&self, namespace: &str, key: &str) -> Result<Stack<'_>, Refusal>
         ensures stack { result ≡ stack_of self.now namespace.now key.now }
         // A snapshot that `hand` finds has a stack.
         ensures refused { IfErr result (λ why. slot_of self.now.state namespace.now key.now ≡ Err why) }
-        // The layers below its own are those of the committed ancestors of the key's record.
-        ensures ancestors { IfOk result (λ layers. IsOver self.now.state.records layers (record_of self.now.state namespace.now key.now)) }
+        // The layers below an active one's own, and those of a view, are those of the committed ancestors.
+        ensures ancestors { IfOk result (λ layers. IsOver self.now.state.records layers (found_of self.now.state namespace.now key.now)) }
     {
-        let (slot, _) = self.hand(namespace, key)?;
-        let Some(hand) = self.hands.get(slot) else {
-            unreachable!()
-        };
-        Ok(hand.stack())
+        let found = self.book.record(namespace, key)?;
+        match &found.content {
+            Content::View { layers } => Ok(Stack::of(layers.as_slice())),
+            Content::Active { slot, charged: _ } => {
+                let Some(hand) = self.hands.get(*slot) else {
+                    unreachable!()
+                };
+                Ok(hand.stack())
+            }
+            Content::Committed { .. } => Err(Refusal::NotActive),
+        }
     }
 
     /// What the layer of the slot's snapshot takes, sealed or not. `None` where the slot isn't open.

@@ -50,8 +50,10 @@ fn a_label_is_removed(rt: HostRuntime) -> Result<(), Fail> {
 }
 
 #[test]
-fn kinds() {
-    let view = Content::View;
+fn kinds(rt: HostRuntime) {
+    let view = Content::View {
+        layers: Sequence::new(rt.alloc()),
+    };
     let kind = view.kind();
     prove!(matches!(&kind, Kind::View));
     let usage = view.usage();

@@ -2,8 +2,7 @@ use Rattle.std.proofs.Common.{◌≡◌, ◌+◌, List, refl, sym, ap, ◌∙◌
 use Rattle.snap_record.specs.declared.record.Record.{Record}
 use Rattle.snap_call.specs.declared.state.State.{State}
 use Rattle.snap_call.specs.Good.{Good}
-use Rattle.snap_call.specs.Records.{open_count, with_record}
-use Rattle.snap_call.specs.Step.{added}
+use Rattle.snap_call.specs.Records.{open_count}
 use Rattle.snap_accounts.specs.Accounts.{AreAccounts}
 use Rattle.snap_accounts.specs.Changes.{IsNewView}
 use Rattle.snap_accounts.proofs.Accounting.{accounts_same}
@@ -28,4 +27,4 @@ invariant_of-self-2 g c =
 pub returns-clause-open : goal.returns-clause-open
 returns-clause-open g c =
     let s = c.self.inside.state in
-    ap open_count c.in-Ok.ensures.ok ∙ (open_count-view c.args.snapshot c.requires.possible.view s.records ∙ ap (λ (u : State). open_count u.records) c.self.view_is)
+    ap open_count c.in-Ok.ensures.ok ∙ (open_count-view c.args.snapshot _ c.requires.possible.view s.records ∙ ap (λ (u : State). open_count u.records) c.self.view_is)

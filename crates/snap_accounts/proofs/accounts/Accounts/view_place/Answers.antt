@@ -1,4 +1,4 @@
-use Rattle.std.proofs.Common.{◌≡◌, ℕ, ap, arith}
+use Rattle.std.proofs.Common.{◌≡◌, ap, arith}
 use Rattle.snap_call.specs.declared.state.State.{State}
 use Rattle.snap_call.proofs.Places.{place_for-Ok}
 use Rattle.snap_accounts.proofs.Prepared.{site}
