@@ -11,7 +11,7 @@ use Rattle.snap_call.specs.declared.state.State.{State}
 use Rattle.snap_call.specs.Good.{Good}
 use Rattle.snap_call.specs.Records.{charge_of, charge_at, open_count, active_at, is_slot, recharged, without_slot, with_record, committed_as}
 use Rattle.snap_call.specs.State.{limit_at}
-use Rattle.snap_call.proofs.Sums.{charge_of-recharged_own, charge_of-recharged_other, charge_of-without_slot_own, charge_of-without_slot_other, charge_of-committed_own, charge_of-committed_other, charge_of-with_record_own, charge_of-with_record_other}
+use Rattle.snap_call.proofs.Sums.{charge_of-recharged_own, charge_of-recharged_other, charge_of-without_own, charge_of-without_other, charge_of-committed_own, charge_of-committed_other, charge_of-with_record_own, charge_of-with_record_other}
 use Rattle.std.specs.Prelude.{nat_le, ◌&&◌}
 use Rattle.std.proofs.lemmas.Bool.{le-leb}
 use Rattle.snap_call.specs.Step.{fits}
@@ -48,6 +48,18 @@ total-is s us cs n place accounts lt = slice_get-found us place (charge_of place
 pub total-place : (s : State) (us : List Usage) (cs : List ChargeState) (n place : ℕ) → AreAccounts s us cs n → place < length s.namespaces → place < length us
 total-place s us cs n place accounts lt = let e = accounts.count in omega arith
 
+-- a total that is set is the charge of its namespace, and the others are those of theirs
+total_set : (us : List Usage) (place : ℕ) (to was : Usage) (before after : ℕ → Usage) → slice_get us place ≡ Some was → after place ≡ to → ((k : ℕ) → k ≢ place → after k ≡ before k)
+    → (k : ℕ) → (k ≢ place → slice_get us k ≡ Some (before k)) → slice_get (set us place to) k ≡ Some (after k)
+total_set us place to was before after there here elsewhere k at =
+    ⊎_elim
+    (λ (h : (eqb k place ≡ true) × (k ≡ place)).
+    let P : ℕ → Type 0 = λ j. slice_get (set us place to) j ≡ Some (after j) in
+    subst P (sym h.1) (slice_get-set_same us place to was there ∙ ap (λ (u : Usage). Some u) (sym here)))
+    (λ (h : (eqb k place ≡ false) × (k ≢ place)).
+    slice_get-set_other us place k to h.1 ∙ (at h.1 ∙ ap (λ (u : Usage). Some u) (sym (elsewhere k h.1))))
+    (eqb_tells k place)
+
 -- after a change of one namespace's charge and one slot's
 pub accounts_changed : (s t : State) (us vs : List Usage) (cs ds : List ChargeState) (n m place slot : ℕ) (to : Usage) (c : ChargeState)
     → AreAccounts s us cs n → Good t → t.namespaces ≡ s.namespaces → place < length s.namespaces → slot < 64
@@ -59,15 +71,9 @@ accounts_changed s t us vs cs ds n m place slot to c accounts good spaces inside
   good = good;
   count = ap length is_vs ∙ (length-set us place to ∙ (accounts.count ∙ sym (ap (λ (l : List Namespace). length l) spaces)));
   totals_are = λ k lt.
-      let lt' : k < length s.namespaces = (let e = ap (λ (l : List Namespace). length l) spaces in omega arith) in
       ap (λ (l : List Usage). slice_get l k) is_vs
-      ∙ ⊎_elim
-      (λ (h : (eqb k place ≡ true) × (k ≡ place)).
-      let P : ℕ → Type 0 = λ j. slice_get (set us place to) j ≡ Some (charge_of j t.records) in
-      subst P (sym h.1) (slice_get-set_same us place to (charge_of place s.records) (accounts.totals_are place inside) ∙ ap (λ (u : Usage). Some u) (sym here)))
-      (λ (h : (eqb k place ≡ false) × (k ≢ place)).
-      slice_get-set_other us place k to h.1 ∙ (accounts.totals_are k lt' ∙ ap (λ (u : Usage). Some u) (sym (elsewhere k h.1))))
-      (eqb_tells k place);
+      ∙ total_set us place to (charge_of place s.records) (λ j. charge_of j s.records) (λ j. charge_of j t.records) (accounts.totals_are place inside) here elsewhere
+      k (λ ne. accounts.totals_are k (let e = ap (λ (l : List Namespace). length l) spaces in omega arith));
   charges_are = λ k lt.
       ap (λ (l : List ChargeState). slice_get l k) is_ds
       ∙ ⊎_elim
@@ -78,6 +84,23 @@ accounts_changed s t us vs cs ds n m place slot to c accounts good spaces inside
       slice_get-set_other cs slot k c h.1 ∙ (accounts.charges_are k lt ∙ ap (λ (x : ChargeState). Some x) (sym (others k h.1))))
       (eqb_tells k slot);
   open_are = opened;
+}
+
+-- after a change of one namespace's charge alone
+pub accounts_total : (s t : State) (us vs : List Usage) (cs : List ChargeState) (n place : ℕ) (to : Usage)
+    → AreAccounts s us cs n → Good t → t.namespaces ≡ s.namespaces → place < length s.namespaces
+    → charge_of place t.records ≡ to → ((k : ℕ) → k ≢ place → charge_of k t.records ≡ charge_of k s.records)
+    → ((k : ℕ) → charge_at k t.records ≡ charge_at k s.records) → open_count t.records ≡ open_count s.records → vs ≡ set us place to
+    → AreAccounts t vs cs n
+accounts_total s t us vs cs n place to accounts good spaces inside here elsewhere charges opened is_vs = record {
+  good = good;
+  count = ap length is_vs ∙ (length-set us place to ∙ (accounts.count ∙ sym (ap (λ (l : List Namespace). length l) spaces)));
+  totals_are = λ k lt.
+      ap (λ (l : List Usage). slice_get l k) is_vs
+      ∙ total_set us place to (charge_of place s.records) (λ j. charge_of j s.records) (λ j. charge_of j t.records) (accounts.totals_are place inside) here elsewhere
+      k (λ ne. accounts.totals_are k (let e = ap (λ (l : List Namespace). length l) spaces in omega arith));
+  charges_are = λ k lt. accounts.charges_are k lt ∙ ap (λ (c : ChargeState). Some c) (sym (charges k));
+  open_are = accounts.open_are ∙ sym opened;
 }
 
 -- nothing that is charged changes
@@ -126,8 +149,8 @@ pub accounts_freed : (s t : State) (us vs : List Usage) (cs ds : List ChargeStat
 accounts_freed s t us vs cs ds n m slot r accounts good e low spaces is count is_vs is_ds =
     accounts_changed s t us vs cs ds n m r.namespace slot (minus (charge_of r.namespace s.records) (usage_of r.content)) (free_charge slot) accounts good spaces
     (place-of s slot r accounts.good e) low
-    (ap (charge_of r.namespace) is ∙ charge_of-without_slot_own slot s.records r e)
-    (λ k ne. ap (charge_of k) is ∙ charge_of-without_slot_other k slot s.records r e ne)
+    (ap (charge_of r.namespace) is ∙ charge_of-without_own (is_slot slot) s.records r e)
+    (λ k ne. ap (charge_of k) is ∙ charge_of-without_other k (is_slot slot) s.records r e ne)
     (ap (charge_at slot) is ∙ charge_at-without_slot_own slot s.records accounts.good.slots)
     (λ k ne. ap (charge_at k) is ∙ charge_at-without_slot_other slot k s.records ne)
     count is_vs is_ds
@@ -160,7 +183,7 @@ accounts_added s t us vs cs ds n m slot r accounts good none own low inside spac
 
 -- a namespace's charge covers that of each of its open slots
 pub found-covers : (s : State) (slot : ℕ) (r : Record) → active_at slot s.records ≡ Some r → Covers (charge_of r.namespace s.records) (charge_at slot s.records).usage
-found-covers s slot r e = subst (λ (u : Usage). Covers (charge_of r.namespace s.records) u) (sym (ap (λ (c : ChargeState). c.usage) (charge_at-Some slot s.records r e))) (charge_of-covers slot s.records r e)
+found-covers s slot r e = subst (λ (u : Usage). Covers (charge_of r.namespace s.records) u) (sym (ap (λ (c : ChargeState). c.usage) (charge_at-Some slot s.records r e))) (charge_of-covers (is_slot slot) s.records r e)
 
 covers-true : (a b : Usage) → b.blocks ≤ a.blocks → b.inodes ≤ a.inodes → covers a b ≡ true
 covers-true a b h k = (λ i. le-leb b.blocks a.blocks h i && nat_le b.inodes a.inodes) ∙ le-leb b.inodes a.inodes k

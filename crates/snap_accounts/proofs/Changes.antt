@@ -1,27 +1,29 @@
 -- What is kept beside the state, after a plain call.
-use Rattle.std.proofs.Common.{◌≡◌, ℕ, ◌+◌, Bool, true, false, List, refl, ap, ◌∙◌, arith}
-use Rattle.std.specs.Prelude.{◌==◌, if◌then◌else◌}
+use Rattle.std.proofs.Common.{◌≡◌, ℕ, ◌+◌, ◌<◌, Bool, true, false, List, length, set, Option, None, Some, refl, sym, ap, ◌∙◌, subst, arith}
+use Rattle.std.specs.Prelude.{◌==◌, bytes_eq, if◌then◌else◌, IsSomeAnd}
+use Rattle.std.specs.Option.{option_map_or}
+use Rattle.std.proofs.lemmas.Bool.{and_parts, eqb-true}
 use Rattle.snap_layer.specs.Tree.{Tree}
 use Rattle.snap_usage.specs.declared.usage.Usage.{Usage}
-use Rattle.snap_usage.specs.Counted.{no_usage}
-use Rattle.snap_ledger.specs.States.{ChargeState, plus}
+use Rattle.snap_usage.specs.Counted.{Covers, no_usage}
+use Rattle.snap_ledger.specs.States.{ChargeState, plus, minus}
 use Rattle.snap_record.specs.Labels.{Bytes, Label}
 use Rattle.snap_record.specs.Records.{usage_of}
-use Rattle.snap_record.specs.declared.record.Content.{Content}
 use Rattle.snap_record.specs.declared.record.Content.TheVariants.{View}
 use Rattle.snap_record.specs.declared.record.Record.{Record}
 use Rattle.snap_call.specs.declared.state.State.{State}
-use Rattle.snap_call.specs.Records.{active_one, charge_of, charge_at, has_slot, open_count, with_record, relabelled}
+use Rattle.snap_call.specs.Records.{active_one, charge_of, charge_at, has_slot, is_active, is_named, open_count, record_at, with_record, without_key, relabelled}
 use Rattle.snap_call.specs.State.{shown_layers}
-use Rattle.snap_call.specs.Step.{added, relabelled_at}
+use Rattle.snap_call.specs.Step.{added, removed_at, relabelled_at}
 use Rattle.snap_call.proofs.Alike.{bare-relabelled, alike-charge_of, alike-charge_at, alike-open_count}
-use Rattle.snap_call.proofs.Counts.{open_count-with_record}
-use Rattle.snap_call.proofs.Kept.{good_relabelled, good_view_added}
-use Rattle.snap_call.proofs.Slots.{charge_at-with_record_other}
-use Rattle.snap_call.proofs.Sums.{plus-none, charge_of-with_record}
+use Rattle.snap_call.proofs.Counts.{open_count-with_record, open_count-without_idle}
+use Rattle.snap_call.proofs.Kept.{good_relabelled, good_removed, good_view_added, place_of-below, removed_others, removed_total}
+use Rattle.snap_call.proofs.Lists.{record_at-is_named}
+use Rattle.snap_call.proofs.Slots.{charge_at-with_record_other, charge_at-without_idle}
+use Rattle.snap_call.proofs.Sums.{plus-none, charge_of-covers, charge_of-with_record}
 use Rattle.snap_accounts.specs.Accounts.{AreAccounts}
-use Rattle.snap_accounts.specs.Changes.{IsNewView}
-use Rattle.snap_accounts.proofs.Accounting.{accounts_kept}
+use Rattle.snap_accounts.specs.Changes.{IsNewView, IsUnused}
+use Rattle.snap_accounts.proofs.Accounting.{accounts_kept, accounts_total}
 
 -- ---- a view more
 
@@ -61,3 +63,45 @@ accounts_relabelled s us cs n place key labels accounts =
     (λ k. alike-charge_of rs ts alike k)
     (λ k. alike-charge_at rs ts alike k)
     (alike-open_count rs ts alike)
+
+-- ---- a snapshot less
+
+-- its record
+pub found_unused : (s : State) (place : ℕ) (key : Bytes) → IsUnused s place key → (r : Record) × (record_at place key s.records ≡ Some r) × (is_active r.content ≡ false)
+found_unused s place key unused = by (record_at place key s.records) refl unused.idle
+  where
+    by : (o : Option Record) → record_at place key s.records ≡ o → IsSomeAnd o (λ r. is_active r.content ≡ false) → (r : Record) × (record_at place key s.records ≡ Some r) × (is_active r.content ≡ false)
+    by None e h = absurd h
+    by (Some r) e h = (r, e, h)
+
+-- what it is charged is what is freed, and its namespace's charge covers it
+pub freed-found : (s : State) (place : ℕ) (key : Bytes) (unused : IsUnused s place key) → option_map_or (λ r. usage_of r.content) (record_at place key s.records) no_usage ≡ usage_of (found_unused s place key unused).0.content
+freed-found s place key unused = ap (λ o. option_map_or (λ r. usage_of r.content) o no_usage) (found_unused s place key unused).1
+
+pub freed-covered : (s : State) (place : ℕ) (key : Bytes) → IsUnused s place key → Covers (charge_of place s.records) (option_map_or (λ r. usage_of r.content) (record_at place key s.records) no_usage)
+freed-covered s place key unused =
+    let f = found_unused s place key unused in
+    let at : f.0.namespace ≡ place = eqb-true f.0.namespace place (and_parts (f.0.namespace == place) (bytes_eq f.0.key key) (record_at-is_named place key s.records f.0 f.1)).0 in
+    subst (λ (u : Usage). Covers (charge_of place s.records) u) (sym (freed-found s place key unused))
+    (subst (λ (n : ℕ). Covers (charge_of n s.records) (usage_of f.0.content)) at (charge_of-covers (is_named place key) s.records f.0 f.1))
+
+pub open_count-removed : (s : State) (place : ℕ) (key : Bytes) → IsUnused s place key → open_count (without_key place key s.records) ≡ open_count s.records
+open_count-removed s place key unused = let f = found_unused s place key unused in open_count-without_idle (is_named place key) s.records f.0 f.1 f.2
+
+-- its namespace is one of the store's
+pub unused-place : (s : State) (place : ℕ) (key : Bytes) → IsUnused s place key → place < length s.namespaces
+unused-place s place key unused = place_of-below unused.namespace s.namespaces place unused.named
+
+pub accounts_removed : (s : State) (us vs : List Usage) (cs : List ChargeState) (n place : ℕ) (key : Bytes) → AreAccounts s us cs n → IsUnused s place key
+    → vs ≡ set us place (minus (charge_of place s.records) (option_map_or (λ r. usage_of r.content) (record_at place key s.records) no_usage)) → AreAccounts (removed_at s place key) vs cs n
+accounts_removed s us vs cs n place key accounts unused is_vs =
+    let f = found_unused s place key unused in
+    accounts_total s (removed_at s place key) us vs cs n place (minus (charge_of place s.records) (usage_of f.0.content)) accounts
+    (good_removed s place key f.0 accounts.good f.1 unused.childless unused.namespace unused.named unused.unleased)
+    refl
+    (unused-place s place key unused)
+    (removed_total s place key f.0 accounts.good f.1 unused.childless)
+    (removed_others s place key f.0 accounts.good f.1 unused.childless)
+    (λ k. charge_at-without_idle k (is_named place key) s.records f.0 f.1 f.2)
+    (open_count-removed s place key unused)
+    (is_vs ∙ ap (λ u. set us place (minus (charge_of place s.records) u)) (freed-found s place key unused))

@@ -28,6 +28,7 @@ IsPlain (calls.Stat namespace key) = Unit {0}
 IsPlain (calls.Usage namespace key) = Unit {0}
 IsPlain (calls.Mounts namespace key) = Unit {0}
 IsPlain (calls.View namespace key parent labels) = Unit {0}
+IsPlain (calls.Remove namespace key) = Unit {0}
 IsPlain (calls.Update namespace key labels paths) = Unit {0}
 IsPlain (calls.Walk namespace after most asked) = Unit {0}
 IsPlain call = ⊥

@@ -1,12 +1,15 @@
 // What a plain call answers, and what it changes.
 ghost use Rattle.std.specs.Prelude.{◌≡◌, ◌<◌, ◌^◌, ◌+◌, IfOk, IfErr, OnOk, OnErr, Some};
 ghost use Rattle.snap_layer.specs.Edits.{root_only};
-ghost use Rattle.snap_record.specs.Records.{info_of};
-ghost use Rattle.snap_call.specs.Records.{open_count, with_labels};
+ghost use Rattle.std.specs.Option.{option_map_or};
+ghost use Rattle.snap_usage.specs.Counted.{no_usage};
+ghost use Rattle.snap_record.specs.Records.{info_of, usage_of};
+ghost use Rattle.snap_call.specs.Records.{is_active, open_count, with_labels};
 ghost use Rattle.snap_call.specs.State.{or_empty};
-ghost use Rattle.snap_call.specs.Step.{added, refused, relabelled_at, step, update, update_record, view, viewed};
+ghost use Rattle.snap_call.specs.Step.{added, refused, relabelled_at, remove, removed_at, step, update, update_record, view, viewed};
 ghost use Rattle.snap_call.specs.declared.call.Given.TheVariants.{Nothing};
-ghost use Rattle.snap_accounts.specs.Changes.{CanChange, IsNewView, changed};
+ghost use Rattle.snap_call.specs.declared.reply.Reply.TheVariants.{Removed};
+ghost use Rattle.snap_accounts.specs.Changes.{CanChange, IsNewView, IsUnused, changed};
 ghost use Rattle.snap_accounts.specs.Entries.{IsPlain, IsInEntry, IsRecorded};
 ghost use Rattle.snap_accounts.specs.Vacant.{IsSite};
 
@@ -19,6 +22,7 @@ use snap_path::limits::DEFAULT_MODE;
 use snap_record::{
     Content, Info, Labels, LabelsError, Record, Sequence, Text, is_well_formed, updated_labels,
 };
+use snap_usage::{Usage, difference};
 use std::alloc::{AllocError, Global};
 
 /// What a plain call changes beside the journal.
@@ -27,6 +31,11 @@ pub enum Change {
     Nothing,
     /// A view more.
     View(Record),
+    /// The snapshot that has this key in the namespace at this place goes.
+    Removal {
+        place: usize,
+        key: Text,
+    },
     /// Other labels of the snapshot that has this key in the namespace at this place.
     Labels {
         place: usize,
@@ -53,6 +62,27 @@ fn or_empty(alloc: Global, mut layers: Sequence<Shared>) -> Result<Sequence<Shar
         layers.push(empty_layer(alloc)?)?;
     }
     Ok(layers)
+}
+
+// Whether the snapshot is an active one.
+fn is_active(snapshot: &Record) -> bool
+    ensures { result ≡ is_active snapshot.now.content }
+{
+    match &snapshot.content {
+        Content::View { .. } => false,
+        Content::Active { .. } => true,
+        Content::Committed { .. } => false,
+    }
+}
+
+// What the snapshot that was taken away was charged; 0/0 where there was none.
+fn freed_by(taken: Option<Record>) -> Usage
+    ensures { result ≡ option_map_or (λ r. usage_of r.content) taken no_usage }
+{
+    match taken {
+        Some(snapshot) => snapshot.content.usage(),
+        None => Usage::ZERO,
+    }
 }
 
 // The info of the snapshot once it has these labels, by the entry of this number.
@@ -137,6 +167,50 @@ impl<N: StoreName> Accounts<N> {
         }
     }
 
+    // The place of a snapshot that can go, and what it is charged, or why it stays.
+    fn removal(&self, namespace: &str, key: &str) -> Result<(usize, Usage), Refusal>
+        ensures ok { IfOk result (λ p. remove self.now namespace.now key.now ≡ (removed_at self.now p.0 key.now, Removed p.1)) }
+        ensures unused { IfOk result (λ p. IsUnused self.now p.0 key.now) }
+        ensures recorded { IfErr result IsRecorded }
+        ensures refused { IfErr result (λ why. remove self.now namespace.now key.now ≡ refused self.now why) }
+    {
+        if !is_key(key) {
+            return Err(Refusal::BadArgument);
+        }
+        let state = self.state();
+        let Some(place) = state.place_of(namespace) else {
+            return Err(Refusal::NoNamespace);
+        };
+        let Some(snapshot) = state.records.record_at(place, key) else {
+            return Err(Refusal::NotFound);
+        };
+        if state.records.has_children(place, key) {
+            return Err(Refusal::HasChildren);
+        }
+        if is_active(snapshot) {
+            return Err(Refusal::InUse);
+        }
+        if state.leases.holds(namespace, key) {
+            return Err(Refusal::Leased);
+        }
+        Ok((place, snapshot.content.usage()))
+    }
+
+    // A snapshot less, and the reply with what it was charged, or why it stays.
+    fn plan_removal(&self, namespace: &str, key: &Text) -> Result<(Reply, Change), AllocError>
+        ensures reply { IfOk result (λ p. remove self.now namespace.now key.now ≡ (changed self.now p.1, p.0)) }
+        ensures recorded { IfOk result (λ p. IsInEntry p.0) }
+        ensures possible { IfOk result (λ p. CanChange self.now p.1) }
+    {
+        match self.removal(namespace, key.as_str()) {
+            Ok((place, freed)) => {
+                let key = key.clone()?;
+                Ok((Reply::Removed(freed), Change::Removal { place, key }))
+            }
+            Err(why) => Ok((Reply::Refused(why), Change::Nothing)),
+        }
+    }
+
     // The labels of the snapshot after an update, and the reply with its info, or why there are none.
     fn update_at(
         &self,
@@ -192,10 +266,11 @@ impl<N: StoreName> Accounts<N> {
     ///
     /// `Stat` has the info of a snapshot, `Usage` what it is charged, in blocks of 4096 bytes and
     /// inodes, `Mounts` the mounts that show it, `View` the id of the new view and those of its
-    /// ancestors, `Update` the info with the labels after it, `Walk` a page of infos. The refusals are
-    /// those of [`snap_call`]'s `step`, in its order. Takes memory for the reply and the change. The cost
-    /// grows with the records and with the texts and labels of those that are found; that of mounts and
-    /// of a view with the records times the ancestors.
+    /// ancestors, `Remove` what the snapshot was charged, `Update` the info with the labels after it,
+    /// `Walk` a page of infos. The refusals are those of [`snap_call`]'s `step`, in its order. Takes memory
+    /// for the reply and the change. The cost grows with the records and with the texts and labels of
+    /// those that are found; that of a removal with the leases and the names in them too, that of mounts
+    /// and of a view with the records times the ancestors.
     pub fn plan(&self, alloc: Global, call: &Call) -> Result<(Reply, Change), AllocError>
         requires plain { IsPlain call.now }
         requires entries { self.now.entries < 2 ^ 63 }
@@ -218,6 +293,7 @@ impl<N: StoreName> Accounts<N> {
                     labels,
                 );
             }
+            Call::Remove { namespace, key } => return self.plan_removal(namespace.as_str(), key),
             Call::Update {
                 namespace,
                 key,
@@ -256,6 +332,20 @@ impl<N: StoreName> Accounts<N> {
         Ok(())
     }
 
+    // The snapshot of the key goes, and its namespace is no longer charged for it.
+    fn remove(&mut self, place: usize, key: &str)
+        requires possible { IsUnused self.old place key.now }
+        requires entries { self.old.entries < 2 ^ 63 }
+        ensures done { self.new ≡ removed_at self.old place key.now }
+        ensures open { open_count self.new.records ≡ open_count self.old.records }
+    {
+        let total = self.total(place);
+        let taken = self.state.records.take_key(place, key);
+        let rest = difference(total, freed_by(taken));
+        self.totals.set(place, rest);
+        self.state.entries += 1;
+    }
+
     // The snapshot of the key gets these labels.
     fn relabel(&mut self, place: usize, key: &str, labels: Labels)
         requires entries { self.old.entries < 2 ^ 63 }
@@ -279,6 +369,7 @@ impl<N: StoreName> Accounts<N> {
         match change {
             Change::Nothing => self.count_entry(),
             Change::View(snapshot) => self.add_view(snapshot)?,
+            Change::Removal { place, key } => self.remove(place, key.as_str()),
             Change::Labels { place, key, labels } => self.relabel(place, key.as_str(), labels),
         }
         Ok(())

@@ -26,3 +26,4 @@ mod prepare;
 
 pub use active::{Active, Held, Sealed};
 pub use book::Book;
+pub use snap_call::{Call, Config, Entry, Given, Namespace, Refusal, Reply};

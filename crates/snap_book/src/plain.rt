@@ -1,4 +1,4 @@
-// The plain calls: View, Update, Stat, Usage, Mounts and Walk.
+// The plain calls: View, Remove, Update, Stat, Usage, Mounts and Walk.
 ghost use Rattle.std.specs.Prelude.{◌≡◌, ◌≤◌, ◌<◌, ◌+◌, ◌^◌, ◌↔◌, length, IfOk};
 ghost use Rattle.snap_call.specs.Records.{open_count};
 ghost use Rattle.snap_call.specs.Step.{step};
@@ -74,27 +74,32 @@ impl<N: StoreName> Book<N> {
     }
 
     /// Does a call that takes no snapshot out of its writer's hands and puts none into them: `View`,
-    /// `Update`, `Stat`, `Usage`, `Mounts` or `Walk`, as containerd's `snapshots.Snapshotter` has them.
+    /// `Remove`, `Update`, `Stat`, `Usage`, `Mounts` or `Walk`, as containerd's `snapshots.Snapshotter`
+    /// has them.
     ///
     /// A view is a new snapshot without a slot and without a charge; its reply has its id and those of
-    /// its ancestors. `Update` changes labels by field paths and answers the info after it; `Stat`
-    /// answers the info of a snapshot, `Usage` what it is charged, in blocks of 4096 bytes and inodes,
-    /// `Mounts` the mounts that show it, `Walk` the infos of the snapshots of a namespace that come after
-    /// a key and match a filter, at most 64 of them.
+    /// its ancestors. `Remove` takes a view or a committed snapshot away and answers what its namespace
+    /// is no longer charged, in blocks of 4096 bytes and inodes, 0/0 for a view. `Update` changes labels
+    /// by field paths and answers the info after it; `Stat` answers the info of a snapshot, `Usage` what
+    /// it is charged, `Mounts` the mounts that show it, `Walk` the infos of the snapshots of a namespace
+    /// that come after a key and match a filter, at most 64 of them.
     ///
     /// `JournalFull` where each further entry is kept for an open snapshot's end, and then
     /// `OutOfMemory` where memory for the reply, the change or the entry is refused; these two are not
     /// recorded, and the book is as it was. The other refusals are recorded, and change nothing else; they
     /// come in this order. `View`: `BadArgument`, `NoNamespace`, `NotFound`, `AlreadyExists`,
     /// `NotCommitted`, `TooDeep` as for [`Book::prepare`], then `NumbersSpent` after the id
-    /// 4,294,967,295. `Update`: `BadArgument` for a key, labels or paths that have not their form, or
+    /// 4,294,967,295. `Remove`: `BadArgument`, `NoNamespace`, `NotFound`; `HasChildren` where a snapshot
+    /// of the namespace is on it; `InUse` for an active one, which [`Book::discard`] ends; `Leased` where
+    /// a lease of the namespace names it. `Update`: `BadArgument` for a key, labels or paths that have not their form, or
     /// where more than 64 labels would replace all; `NoNamespace`; `NotFound`; `BadArgument` where more
     /// than 64 labels would be left. `Stat`, `Usage` and `Mounts`: `BadArgument`, `NoNamespace`,
     /// `NotFound`, and `NotActive` for the mounts of a committed snapshot. `Walk`: `BadArgument` for a
     /// page of none or of more than 64 infos, or a start of more than 1024 bytes, then `NoNamespace`.
     ///
-    /// Its cost grows with the records, and with the texts and labels of those that are found; that of
-    /// mounts and of a view with the records times the ancestors.
+    /// Its cost grows with the records, and with the texts and labels of those that are found; that of a
+    /// removal with the leases and the names in them too, that of mounts and of a view with the records
+    /// times the ancestors.
     pub fn do_call(&mut self, session: u64, call: Call) -> Reply
         requires { IsPlain call }
         ensures answered { AnsweredBy self.old self.new session call Nothing result }

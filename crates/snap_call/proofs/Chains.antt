@@ -2,20 +2,17 @@
 use Rattle.std.proofs.Common.{◌≡◌, ℕ, zero, suc, true, false, true≢false, List, [], ◌∷◌, Option, Some, None, IsSome, refl, sym, ap, ◌∙◌, subst}
 use Rattle.std.specs.List.{AllByRecursion}
 use Rattle.std.specs.Option.{option_map, is_some}
-use Rattle.std.specs.Prelude.{bytes_eq, ◌==◌, option_and_then, unwrap_or, IsSomeAnd}
+use Rattle.std.specs.Prelude.{bytes_eq, ◌==◌, ◌&&◌, option_and_then, unwrap_or, IsSomeAnd}
 use Rattle.std.proofs.lemmas.Bool.{and_parts, eqb-true, false_from_ne_true, not-false}
 use Rattle.std.proofs.lemmas.Slice.Eq.{bytes_eq-Decides}
 use Rattle.snap_usage.specs.declared.usage.Usage.{Usage}
-use Rattle.snap_lease.specs.Lease.{Lease}
 use Rattle.snap_record.specs.Labels.{Bytes}
 use Rattle.snap_record.specs.declared.record.Content.{Content}
 use Rattle.snap_record.specs.declared.record.Content.TheVariants.{View, Active, Committed}
 use Rattle.snap_record.specs.declared.record.Record.{Record}
-use Rattle.snap_call.specs.declared.config.Namespace.{Namespace}
-use Rattle.snap_call.specs.Records.{is_named, record_at, has_key, has_slot, is_committed, committed_at, with_record, without_slot, recharged}
-use Rattle.snap_call.specs.State.{place_of, chain_from, ancestors, is_base, is_too_deep}
-use Rattle.snap_call.specs.Good.{IsGuarding}
-use Rattle.snap_call.proofs.Lists.{all-map, none_some, committed-parts, committed-from, find-any, find-with_record, find-without_slot, find-recharged}
+use Rattle.snap_call.specs.Records.{is_named, record_at, has_key, has_slot, is_slot, is_child, has_children, is_committed, committed_at, with_record, without_slot, without_key, recharged}
+use Rattle.snap_call.specs.State.{chain_from, ancestors, is_base, is_too_deep}
+use Rattle.snap_call.proofs.Lists.{all-map, none_some, committed-parts, committed-from, find-any, find-passes, find-all, none-passes, all-both, find-with_record, find-without, find-recharged}
 
 -- the record's parent is none, or a committed record
 abbrev pub HasParent : List Record → Record → Type 0
@@ -36,6 +33,26 @@ chain_over o next = option_and_then (λ r. option_map (λ above. r ∷ above) (n
 -- each committed record of the one list is that of its key in the other
 abbrev pub Keeps : List Record → List Record → Type 0
 Keeps rs ts = (place : ℕ) (key : Bytes) (r : Record) → committed_at place key rs ≡ Some r → committed_at place key ts ≡ Some r
+
+-- each committed record of the one list whose key is in a set is that of its key in the other, and its parent is in the set
+pub record KeepsFor (P : ℕ → Bytes → Type 0) (rs ts : List Record) : Type 0 where
+  pub same : (place : ℕ) (key : Bytes) (r : Record) → P place key → committed_at place key rs ≡ Some r → committed_at place key ts ≡ Some r
+  pub above : (place : ℕ) (key : Bytes) (r : Record) → P place key → committed_at place key rs ≡ Some r → P place r.parent
+
+-- the set of all keys
+abbrev pub Every : ℕ → Bytes → Type 0
+Every place key = Unit {0}
+
+pub every : (rs ts : List Record) → Keeps rs ts → KeepsFor Every rs ts
+every rs ts keeps = record { same = λ place key r m e. keeps place key r e; above = λ place key r m e. tt }
+
+-- the records' parents are in the set
+abbrev pub AreOn : (ℕ → Bytes → Type 0) → List Record → Type 0
+AreOn P rs = AllByRecursion (λ r. P r.namespace r.parent) rs
+
+pub all_on : (rs : List Record) → AreOn Every rs
+all_on [] = tt
+all_on (r ∷ rs) = (tt, all_on rs)
 
 -- a committed record is in no slot
 committed_no_slot : (slot : ℕ) (c : Content) → is_committed c ≡ true → has_slot slot c ≡ false
@@ -68,70 +85,96 @@ pub Keeps-with_record : (new : Record) (rs : List Record) → has_key new.namesp
 Keeps-with_record new rs free = keeps_found rs (with_record new rs) (λ place key r e is. find-with_record new (is_named place key) rs (apart_from_found new rs free place key r e) ∙ e)
 
 pub Keeps-without_slot : (slot : ℕ) (rs : List Record) → Keeps rs (without_slot slot rs)
-Keeps-without_slot slot rs = keeps_found rs (without_slot slot rs) (λ place key r e is. find-without_slot slot (is_named place key) rs r (committed_no_slot slot r.content is) e)
+Keeps-without_slot slot rs = keeps_found rs (without_slot slot rs) (λ place key r e is. find-without (is_slot slot) (is_named place key) rs r (committed_no_slot slot r.content is) e)
 
 pub Keeps-recharged : (slot : ℕ) (to : Usage) (rs : List Record) → Keeps rs (recharged slot to rs)
 Keeps-recharged slot to rs = keeps_found rs (recharged slot to rs) (λ place key r e is. find-recharged slot to (is_named place key) rs r (λ t. refl) (committed_no_slot slot r.content is) e)
 
--- ---- what stands on them
+-- ---- a key less, that no record has as its parent
 
-module _ (rs ts : List Record) (keeps : Keeps rs ts) where
-  pub keeps-some : (place : ℕ) (key : Bytes) → IsSome (committed_at place key rs) → IsSome (committed_at place key ts)
-  keeps-some place key some = by (committed_at place key rs) refl some
+-- the other keys
+abbrev pub IsOther : ℕ → Bytes → ℕ → Bytes → Type 0
+IsOther place key p k = ((p == place) && bytes_eq k key) ≡ false
+
+module _ (place : ℕ) (key : Bytes) (rs : List Record) (childless : has_children place key rs ≡ false) where
+  -- all records are on other ones
+  pub on_other : AreOn (IsOther place key) rs
+  on_other = none-passes (is_child place key) rs childless
+
+  -- a record of another key is another record
+  other_named : (p : ℕ) (k : Bytes) (r : Record) → is_named p k r ≡ true → IsOther place key p k → is_named place key r ≡ false
+  other_named p k r is other =
+      let h = and_parts (r.namespace == p) (bytes_eq r.key k) is in
+      subst (λ (n : ℕ). IsOther place key n r.key) (sym (eqb-true r.namespace p h.0)) (subst (λ (b : Bytes). IsOther place key p b) (sym ((bytes_eq-Decides r.key k).0 h.1)) other)
+
+  pub keeps-without_key : KeepsFor (IsOther place key) rs (without_key place key rs)
+  keeps-without_key = record {
+    same = λ p k r other e.
+        let h = committed-parts (record_at p k rs) r e in
+        committed-from (record_at p k (without_key place key rs)) r
+        (find-without (is_named place key) (is_named p k) rs r (other_named p k r (find-passes (is_named p k) rs r h.0) other) h.0) h.1;
+    above = λ p k r other e.
+        let h = committed-parts (record_at p k rs) r e in
+        let named = and_parts (r.namespace == p) (bytes_eq r.key k) (find-passes (is_named p k) rs r h.0) in
+        subst (λ (n : ℕ). IsOther place key n r.parent) (eqb-true r.namespace p named.0) (find-all (λ t. is_child place key t ≡ false) (is_named p k) rs r h.0 on_other);
+  }
+
+-- ---- what stands on the records that are kept
+
+module _ (P : ℕ → Bytes → Type 0) (rs ts : List Record) (keeps : KeepsFor P rs ts) where
+  pub keeps-some : (place : ℕ) (key : Bytes) → P place key → IsSome (committed_at place key rs) → IsSome (committed_at place key ts)
+  keeps-some place key m some = by (committed_at place key rs) refl some
     where
       by : (o : Option Record) → committed_at place key rs ≡ o → IsSome o → IsSome (committed_at place key ts)
       by None e is = absurd (true≢false (sym is))
-      by (Some r) e is = ap is_some (keeps place key r e)
+      by (Some r) e is = ap is_some (keeps.same place key r m e)
 
-  keeps_parent : (place : ℕ) (p : Bytes) → is_base place p rs ≡ true → is_base place p ts ≡ true
-  keeps_parent place [] h = refl
-  keeps_parent place (b ∷ bs) h = keeps-some place (b ∷ bs) h
+  keeps_parent : (place : ℕ) (p : Bytes) → P place p → is_base place p rs ≡ true → is_base place p ts ≡ true
+  keeps_parent place [] m h = refl
+  keeps_parent place (b ∷ bs) m h = keeps-some place (b ∷ bs) m h
 
-  pub keeps-HasParent : (r : Record) → HasParent rs r → HasParent ts r
-  keeps-HasParent r h = keeps_parent r.namespace r.parent h
+  pub keeps-HasParent : (r : Record) → P r.namespace r.parent → HasParent rs r → HasParent ts r
+  keeps-HasParent r m h = keeps_parent r.namespace r.parent m h
 
-  keeps_names : (o : Option ℕ) (names : List Bytes) → NamesStand rs o names → NamesStand ts o names
-  keeps_names None names h = h
-  keeps_names (Some place) names h = all-map (λ name. IsSome (committed_at place name rs)) (λ name. IsSome (committed_at place name ts)) (λ name. keeps-some place name) names h
+  -- the names of a lease, where all are in the set
+  pub keeps-NamesStand : (o : Option ℕ) (names : List Bytes) → ((place : ℕ) → o ≡ Some place → AllByRecursion (P place) names) → NamesStand rs o names → NamesStand ts o names
+  keeps-NamesStand None names m h = h
+  keeps-NamesStand (Some place) names m h =
+      all-map (λ name. P place name × IsSome (committed_at place name rs)) (λ name. IsSome (committed_at place name ts)) (λ name g. keeps-some place name g.0 g.1)
+      names (all-both (P place) (λ name. IsSome (committed_at place name rs)) names (m place refl) h)
 
-  pub keeps-IsGuarding : (ns : List Namespace) (l : Lease) → IsGuarding ns rs l → IsGuarding ns ts l
-  keeps-IsGuarding ns l h = keeps_names (place_of l.namespace ns) l.names h
-
-  pub keeps-chain_from : (n : ℕ) (place : ℕ) (p : Bytes) (c : List Record) → chain_from n rs place p ≡ Some c → chain_from n ts place p ≡ Some c
-  keeps-chain_from n place [] c e = e
-  keeps-chain_from zero place (b ∷ bs) c e = absurd (none_some c e)
-  keeps-chain_from (suc n) place (b ∷ bs) c e = by (committed_at place (b ∷ bs) rs) refl e (λ r. keeps-chain_from n place r.parent)
+  pub keeps-chain_from : (n : ℕ) (place : ℕ) (p : Bytes) (c : List Record) → P place p → chain_from n rs place p ≡ Some c → chain_from n ts place p ≡ Some c
+  keeps-chain_from n place [] c m e = e
+  keeps-chain_from zero place (b ∷ bs) c m e = absurd (none_some c e)
+  keeps-chain_from (suc n) place (b ∷ bs) c m e = by (committed_at place (b ∷ bs) rs) refl e (λ r d on. keeps-chain_from n place r.parent d on)
     where
       by : (o : Option Record) → committed_at place (b ∷ bs) rs ≡ o → chain_over o (λ r. chain_from n rs place r.parent) ≡ Some c
-          → ((r : Record) (d : List Record) → chain_from n rs place r.parent ≡ Some d → chain_from n ts place r.parent ≡ Some d)
+          → ((r : Record) (d : List Record) → P place r.parent → chain_from n rs place r.parent ≡ Some d → chain_from n ts place r.parent ≡ Some d)
           → chain_from (suc n) ts place (b ∷ bs) ≡ Some c
       by None is found next = absurd (none_some c found)
-      by (Some r) is found next = ap (λ o. chain_over o (λ t. chain_from n ts place t.parent)) (keeps place (b ∷ bs) r is) ∙ over (chain_from n rs place r.parent) refl found
+      by (Some r) is found next = ap (λ o. chain_over o (λ t. chain_from n ts place t.parent)) (keeps.same place (b ∷ bs) r m is) ∙ over (chain_from n rs place r.parent) refl found
         where
           over : (o : Option (List Record)) → chain_from n rs place r.parent ≡ o → option_map (λ d. r ∷ d) o ≡ Some c → option_map (λ d. r ∷ d) (chain_from n ts place r.parent) ≡ Some c
           over None h made = absurd (none_some c made)
-          over (Some d) h made = ap (option_map (λ l. r ∷ l)) (next r d h) ∙ made
+          over (Some d) h made = ap (option_map (λ l. r ∷ l)) (next r d (keeps.above place (b ∷ bs) r m is) h) ∙ made
 
-  some_chain : (n place : ℕ) (p : Bytes) → IsSome (chain_from n rs place p) → IsSome (chain_from n ts place p)
-  some_chain n place p some = by (chain_from n rs place p) refl some
+  some_chain : (n place : ℕ) (p : Bytes) → P place p → IsSome (chain_from n rs place p) → IsSome (chain_from n ts place p)
+  some_chain n place p m some = by (chain_from n rs place p) refl some
     where
       by : (o : Option (List Record)) → chain_from n rs place p ≡ o → IsSome o → IsSome (chain_from n ts place p)
       by None e is = absurd (true≢false (sym is))
-      by (Some c) e is = ap is_some (keeps-chain_from n place p c e)
+      by (Some c) e is = ap is_some (keeps-chain_from n place p c m e)
 
-  pub keeps-chain : (r : Record) (c : List Record) → chain rs r ≡ Some c → chain ts r ≡ Some c
-  keeps-chain r c e = keeps-chain_from 64 r.namespace r.parent c e
-
-  pub keeps-some_chain : (r : Record) → IsSome (chain rs r) → IsSome (chain ts r)
-  keeps-some_chain r some = some_chain 64 r.namespace r.parent some
+  pub keeps-some_chain : (r : Record) → P r.namespace r.parent → IsSome (chain rs r) → IsSome (chain ts r)
+  keeps-some_chain r m some = some_chain 64 r.namespace r.parent m some
 
   -- the ancestors of a snapshot that has a chain
-  pub keeps-ancestors : (place : ℕ) (p : Bytes) → IsSome (chain_from 64 rs place p) → ancestors place p ts ≡ ancestors place p rs
-  keeps-ancestors place p some = by (chain_from 64 rs place p) refl some
+  pub keeps-ancestors : (place : ℕ) (p : Bytes) → P place p → IsSome (chain_from 64 rs place p) → ancestors place p ts ≡ ancestors place p rs
+  keeps-ancestors place p m some = by (chain_from 64 rs place p) refl some
     where
       by : (o : Option (List Record)) → chain_from 64 rs place p ≡ o → IsSome o → ancestors place p ts ≡ ancestors place p rs
       by None e is = absurd (true≢false (sym is))
-      by (Some c) e is = ap (λ o. unwrap_or o []) (keeps-chain_from 64 place p c e ∙ sym e)
+      by (Some c) e is = ap (λ o. unwrap_or o []) (keeps-chain_from 64 place p c m e ∙ sym e)
 
 -- ---- a parent that was tested
 

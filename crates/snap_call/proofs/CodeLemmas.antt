@@ -3,14 +3,14 @@ use Rattle.std.proofs.Common.{◌≡◌, ℕ, zero, suc, ◌+◌, ◌<◌, List,
 use Rattle.std.proofs.lemmas.List.Quantifiers.{position-Some}
 use Rattle.std.proofs.lemmas.Iterator.Adapters.{position_from-zero}
 use Rattle.std.specs.Option.{MatchOption}
-use Rattle.std.specs.List.{position_from, insert, remove}
+use Rattle.std.specs.List.{find, position_from, insert, remove}
 use Rattle.snap_layer.specs.Tree.{Tree}
 use Rattle.snap_usage.specs.declared.usage.Usage.{Usage}
 use Rattle.snap_usage.specs.Counted.{count_of}
 use Rattle.snap_record.specs.Labels.{Bytes, Label}
 use Rattle.snap_record.specs.declared.record.Record.{Record}
 use Rattle.snap_record.specs.declared.record.Content.TheVariants.{Active, Committed}
-use Rattle.snap_call.specs.Records.{is_later, is_named, is_slot, active_at, with_record, without_slot, recharged, relabelled, with_labels, committed_as}
+use Rattle.snap_call.specs.Records.{is_later, is_named, is_slot, active_at, with_record, without, without_slot, recharged, relabelled, with_labels, committed_as}
 
 -- an insertion before the first record that comes later
 with_record_found : (r : Record) (rs : List Record) (i : ℕ) (d : Record) → i < length rs → is_later r (get_or rs i d) ≡ true → ((k : ℕ) → k < i → is_later r (get_or rs k d) ≡ false) → insert rs i r ≡ with_record r rs
@@ -34,32 +34,32 @@ with_record-Some r rs i e = let f = position-Some (is_later r) rs i r e in with_
 pub with_record-None : (r : Record) (rs : List Record) → position (is_later r) rs ≡ None → insert rs (length rs) r ≡ with_record r rs
 with_record-None r rs e = with_record_absent r 0 rs (sym (position_from-zero (is_later r) rs) ∙ e)
 
--- the record at the place of a slot is taken away
-without_slot_found : (slot : ℕ) (rs : List Record) (i : ℕ) (d : Record) → i < length rs → is_slot slot (get_or rs i d) ≡ true → ((k : ℕ) → k < i → is_slot slot (get_or rs k d) ≡ false)
-    → (remove rs i ≡ without_slot slot rs) × (Some (get_or rs i d) ≡ active_at slot rs)
-without_slot_found slot [] i d lt here before = absurd (omega arith)
-without_slot_found slot (r ∷ rs) zero d lt here before = (rw here refl, rw here refl)
-without_slot_found slot (r ∷ rs) (suc i) d lt here before =
-    let no : is_slot slot r ≡ false = before 0 (omega arith) in
-    let f = without_slot_found slot rs i d (omega arith) here (λ k h. before (suc k) (omega arith)) in
+-- the record at the place of the first that passes is taken away
+without_found : (p : Record → Bool) (rs : List Record) (i : ℕ) (d : Record) → i < length rs → p (get_or rs i d) ≡ true → ((k : ℕ) → k < i → p (get_or rs k d) ≡ false)
+    → (remove rs i ≡ without p rs) × (Some (get_or rs i d) ≡ find p rs)
+without_found p [] i d lt here before = absurd (omega arith)
+without_found p (r ∷ rs) zero d lt here before = (rw here refl, rw here refl)
+without_found p (r ∷ rs) (suc i) d lt here before =
+    let no : p r ≡ false = before 0 (omega arith) in
+    let f = without_found p rs i d (omega arith) here (λ k h. before (suc k) (omega arith)) in
     (rw no (ap (λ l. r ∷ l) f.0), rw no f.1)
 
-without_slot_absent : (slot i : ℕ) (rs : List Record) → position_from (is_slot slot) i rs ≡ None → (rs ≡ without_slot slot rs) × (None ≡ active_at slot rs)
-without_slot_absent slot i [] e = (refl, refl)
-without_slot_absent slot i (r ∷ rs) e = at (is_slot slot r) refl (without_slot_absent slot (i + 1) rs)
+without_absent : (p : Record → Bool) (i : ℕ) (rs : List Record) → position_from p i rs ≡ None → (rs ≡ without p rs) × (None ≡ find p rs)
+without_absent p i [] e = (refl, refl)
+without_absent p i (r ∷ rs) e = at (p r) refl (without_absent p (i + 1) rs)
   where
-    at : (b : Bool) → is_slot slot r ≡ b → (position_from (is_slot slot) (i + 1) rs ≡ None → (rs ≡ without_slot slot rs) × (None ≡ active_at slot rs)) → (r ∷ rs ≡ without_slot slot (r ∷ rs)) × (None ≡ active_at slot (r ∷ rs))
+    at : (b : Bool) → p r ≡ b → (position_from p (i + 1) rs ≡ None → (rs ≡ without p rs) × (None ≡ find p rs)) → (r ∷ rs ≡ without p (r ∷ rs)) × (None ≡ find p (r ∷ rs))
     at true is next = let f = rw is at e in absurd (cc)
     at false is next = let f = rw is at e in let g = next f in (rw is (ap (λ l. r ∷ l) g.0), rw is g.1)
 
-pub without_slot-Some : (slot : ℕ) (rs : List Record) (i : ℕ) (r : Record) → position (is_slot slot) rs ≡ Some i → r ≡ get_or rs i r → (remove rs i ≡ without_slot slot rs) × (Some r ≡ active_at slot rs)
-without_slot-Some slot rs i r e at =
-    let f = position-Some (is_slot slot) rs i r e in
-    let g = without_slot_found slot rs i r f.0 f.1 f.2 in
+pub without-Some : (p : Record → Bool) (rs : List Record) (i : ℕ) (r : Record) → position p rs ≡ Some i → r ≡ get_or rs i r → (remove rs i ≡ without p rs) × (Some r ≡ find p rs)
+without-Some p rs i r e at =
+    let f = position-Some p rs i r e in
+    let g = without_found p rs i r f.0 f.1 f.2 in
     (g.0, ap Some at ∙ g.1)
 
-pub without_slot-None : (slot : ℕ) (rs : List Record) → position (is_slot slot) rs ≡ None → (rs ≡ without_slot slot rs) × (None ≡ active_at slot rs)
-without_slot-None slot rs e = without_slot_absent slot 0 rs (sym (position_from-zero (is_slot slot) rs) ∙ e)
+pub without-None : (p : Record → Bool) (rs : List Record) → position p rs ≡ None → (rs ≡ without p rs) × (None ≡ find p rs)
+without-None p rs e = without_absent p 0 rs (sym (position_from-zero p rs) ∙ e)
 
 -- the record at the place of a slot is charged
 recharged_found : (slot : ℕ) (to : Usage) (rs : List Record) (i : ℕ) (d : Record) → i < length rs → is_slot slot (get_or rs i d) ≡ true → ((k : ℕ) → k < i → is_slot slot (get_or rs k d) ≡ false)

@@ -1,6 +1,6 @@
 -- How many snapshots are active after each change of the records.
-use Rattle.std.proofs.Common.{◌≡◌, ◌≢◌, ℕ, zero, suc, ◌+◌, ◌<◌, ◌≤◌, List, [], ◌∷◌, Bool, true, false, true≢false, Some, None, refl, sym, ◌∙◌, ⊎_elim, arith}
-use Rattle.std.specs.Prelude.{◌==◌, Option}
+use Rattle.std.proofs.Common.{◌≡◌, ◌≢◌, ℕ, zero, suc, ◌+◌, ◌<◌, ◌≤◌, List, [], ◌∷◌, Bool, true, false, true≢false, Some, None, refl, sym, ap, ◌∙◌, ⊎_elim, arith}
+use Rattle.std.specs.Prelude.{◌==◌, Option, find}
 use Rattle.std.specs.List.{AllByRecursion}
 use Rattle.std.specs.Ordering.{is_lt}
 use Rattle.std.proofs.lemmas.Bool.Decides.{eqb_tells}
@@ -10,9 +10,10 @@ use Rattle.snap_record.specs.Labels.{Bytes}
 use Rattle.snap_record.specs.declared.record.Content.{Content}
 use Rattle.snap_record.specs.declared.record.Content.TheVariants.{View, Active, Committed}
 use Rattle.snap_record.specs.declared.record.Record.{Record}
-use Rattle.snap_call.specs.Records.{record_cmp, has_slot, is_slot, active_at, active_one, open_count, with_record, without_slot, recharged, committed_as}
+use Rattle.snap_call.specs.Records.{record_cmp, has_slot, is_slot, is_active, active_at, active_one, open_count, with_record, without, without_slot, recharged, committed_as}
 use Rattle.snap_call.specs.Good.{AllPairwise, AreApart, HasLowSlot}
-use Rattle.snap_call.proofs.Sums.{active_at-past}
+use Rattle.snap_call.proofs.Lists.{active_at-is_slot, all-without, pairwise-without}
+use Rattle.snap_call.proofs.Sums.{find-here, find-past}
 use Rattle.snap_call.proofs.Slots.{active_at-without_slot_own}
 
 -- a record that is in a slot is an active one
@@ -48,14 +49,33 @@ open_count-recharged slot to (t ∷ ts) = at (is_slot slot t) refl (open_count-r
     at true is next = rw is (let one = is_slot-active_one slot t is in omega arith)
     at false is next = rw is (omega arith)
 
+-- the record that is found less
+pub open_count-without : (p : Record → Bool) (rs : List Record) (r : Record) → find p rs ≡ Some r → open_count (without p rs) + active_one r.content ≡ open_count rs
+open_count-without p [] r e = absurd (cc)
+open_count-without p (t ∷ ts) r e = at (p t) refl (open_count-without p ts r)
+  where
+    at : (b : Bool) → p t ≡ b → (find p ts ≡ Some r → open_count (without p ts) + active_one r.content ≡ open_count ts) → open_count (without p (t ∷ ts)) + active_one r.content ≡ open_count (t ∷ ts)
+    at true is next = rw is (let one : active_one t.content ≡ active_one r.content = ap (λ (x : Record). active_one x.content) (find-here p t ts r is e) in omega arith)
+    at false is next = rw is (let less = next (find-past p t ts r is e) in omega arith)
+
+-- a record less that isn't active
+idle_none : (c : Content) → is_active c ≡ false → active_one c ≡ 0
+idle_none (View layers) e = refl
+idle_none (Active s u) e = absurd (true≢false e)
+idle_none (Committed layer u) e = refl
+
+pub open_count-without_idle : (p : Record → Bool) (rs : List Record) (r : Record) → find p rs ≡ Some r → is_active r.content ≡ false → open_count (without p rs) ≡ open_count rs
+open_count-without_idle p rs r e idle =
+    let all = open_count-without p rs r e in
+    let none = idle_none r.content idle in
+    omega arith
+
 -- the record of a slot less
 pub open_count-without_slot : (slot : ℕ) (rs : List Record) (r : Record) → active_at slot rs ≡ Some r → open_count (without_slot slot rs) + 1 ≡ open_count rs
-open_count-without_slot slot [] r e = absurd (cc)
-open_count-without_slot slot (t ∷ ts) r e = at (is_slot slot t) refl (open_count-without_slot slot ts r)
-  where
-    at : (b : Bool) → is_slot slot t ≡ b → (active_at slot ts ≡ Some r → open_count (without_slot slot ts) + 1 ≡ open_count ts) → open_count (without_slot slot (t ∷ ts)) + 1 ≡ open_count (t ∷ ts)
-    at true is next = rw is (let one = is_slot-active_one slot t is in omega arith)
-    at false is next = rw is (let less = next (active_at-past slot t ts r is e) in omega arith)
+open_count-without_slot slot rs r e =
+    let less = open_count-without (is_slot slot) rs r e in
+    let one = is_slot-active_one slot r (active_at-is_slot slot rs r e) in
+    omega arith
 
 -- a commit: one active less
 pub open_count-committed : (slot : ℕ) (name : Bytes) (layer : Tree) (number : ℕ) (rs : List Record) (r : Record) → active_at slot rs ≡ Some r
@@ -68,23 +88,6 @@ open_count-committed slot name layer number rs r e =
 -- where a slot is open, one is active
 pub open_count-some : (slot : ℕ) (rs : List Record) (r : Record) → active_at slot rs ≡ Some r → 1 ≤ open_count rs
 open_count-some slot rs r e = let less = open_count-without_slot slot rs r e in omega arith
-
--- what holds of all the records holds of all but one
-All-without_slot : (P : Record → Type 0) (slot : ℕ) (rs : List Record) → AllByRecursion P rs → AllByRecursion P (without_slot slot rs)
-All-without_slot P slot [] all = tt
-All-without_slot P slot (t ∷ ts) all = at (is_slot slot t) refl (All-without_slot P slot ts all.1)
-  where
-    at : (b : Bool) → is_slot slot t ≡ b → AllByRecursion P (without_slot slot ts) → AllByRecursion P (without_slot slot (t ∷ ts))
-    at true is next = rw is all.1
-    at false is next = rw is (all.0, next)
-
-apart-without_slot : (slot : ℕ) (rs : List Record) → AllPairwise AreApart rs → AllPairwise AreApart (without_slot slot rs)
-apart-without_slot slot [] apart = tt
-apart-without_slot slot (t ∷ ts) apart = at (is_slot slot t) refl (apart-without_slot slot ts apart.1)
-  where
-    at : (b : Bool) → is_slot slot t ≡ b → AllPairwise AreApart (without_slot slot ts) → AllPairwise AreApart (without_slot slot (t ∷ ts))
-    at true is next = rw is apart.1
-    at false is next = rw is (All-without_slot (AreApart t) slot ts apart.0, next)
 
 -- the slot of an active is below a number
 abbrev IsBelow : ℕ → Content → Type 0
@@ -137,7 +140,7 @@ count_below (suc n) rs apart all = at (active_at n rs) refl (count_below n)
     at : (o : Option Record) → active_at n rs ≡ o → ((ts : List Record) → AllPairwise AreApart ts → AllBelow n ts → open_count ts ≤ n) → open_count rs ≤ suc n
     at None is next = let few = next rs apart (below-free n rs is all) in omega arith
     at (Some r) is next =
-        let few = next (without_slot n rs) (apart-without_slot n rs apart) (below-free n (without_slot n rs) (active_at-without_slot_own n rs apart) (All-without_slot (λ r. IsBelow (suc n) r.content) n rs all)) in
+        let few = next (without_slot n rs) (pairwise-without (is_slot n) AreApart rs apart) (below-free n (without_slot n rs) (active_at-without_slot_own n rs apart) (all-without (is_slot n) (λ r. IsBelow (suc n) r.content) rs all)) in
         let less = open_count-without_slot n rs r is in
         omega arith
 

@@ -1,16 +1,18 @@
 -- Each step keeps what is true of the state, and so does the replay of a journal.
-use Rattle.std.proofs.Common.{◌≡◌, ◌≢◌, ℕ, zero, suc, ◌+◌, ◌<◌, Bool, true, false, true≢false, eqb, List, [], ◌∷◌, length, Option, Some, None, IsSome, refl, sym, ap, ◌∙◌, subst, inl, inr, arith}
+use Rattle.std.proofs.Common.{◌≡◌, ◌≢◌, ℕ, zero, suc, ◌+◌, ◌<◌, Bool, true, false, true≢false, eqb, get_or, List, [], ◌∷◌, length, Option, Some, None, IsSome, refl, sym, ap, ◌∙◌, subst, inl, inr, arith}
 use Rattle.std.specs.List.{AllByRecursion, list_all}
 use Rattle.std.specs.List.Sorted.{IsStrictlySortedBy}
 use Rattle.std.specs.Option.{option_map_or, is_some}
-use Rattle.std.specs.Prelude.{if◌then◌else◌, ◌&&◌, nat_lt, nat_le, Result, Ok, Err}
+use Rattle.std.specs.Prelude.{if◌then◌else◌, ◌&&◌, ◌==◌, bytes_eq, nat_lt, nat_le, Result, Ok, Err}
 use Rattle.std.proofs.lemmas.Bool.{and_parts, eqb-true, false_from_ne_true, cases_eq, leb-true}
 use Rattle.std.proofs.lemmas.List.Quantifiers.{position-Some}
+use Rattle.std.proofs.lemmas.Slice.Eq.{bytes_eq-Decides}
 use Rattle.snap_layer.specs.Tree.{Tree}
 use Rattle.snap_usage.specs.declared.usage.Usage.{Usage}
 use Rattle.snap_usage.specs.Counted.{count_of, Covers, no_usage, covers}
 use Rattle.snap_ledger.specs.States.{plus, minus}
-use Rattle.snap_lease.specs.Lease.{Lease}
+use Rattle.snap_lease.specs.Lease.{Lease, does_name, is_of}
+use Rattle.snap_lease.specs.Leases.{guards, is_guarded}
 use Rattle.snap_record.specs.Labels.{Bytes, Label}
 use Rattle.snap_record.specs.Records.{usage_of}
 use Rattle.snap_record.specs.Updates.{is_granted, is_well_formed, updated as labels_after}
@@ -31,15 +33,15 @@ use Rattle.snap_call.specs.declared.refusal.Refusal.TheVariants.{NoNamespace}
 use Rattle.snap_call.specs.declared.reply.Reply.{Reply}
 use Rattle.snap_call.specs.declared.state.State.{State}
 use Rattle.snap_call.specs.Forms.{has_name, is_limit, is_namespace, is_text, have_distinct_names, is_config, is_key, is_page, is_start}
-use Rattle.snap_call.specs.Records.{has_key, has_slot, is_slot, record_at, active_at, charge_of, with_record, without_slot, recharged, relabelled, committed_as}
-use Rattle.snap_call.specs.State.{opening, place_of, limit_at, is_base, is_too_deep, ancestors, layers_of, or_empty, shown_layers}
+use Rattle.snap_call.specs.Records.{has_key, has_children, has_slot, is_active, is_named, is_slot, record_at, active_at, charge_of, with_record, without_slot, without_key, recharged, relabelled, committed_as}
+use Rattle.snap_call.specs.State.{opening, place_of, limit_at, chain_from, is_base, is_too_deep, ancestors, layers_of, or_empty, shown_layers}
 use Rattle.snap_call.specs.Good.{IsGuarding, IsCounted, HasLowSlot, IsShown, AreApart, Good}
-use Rattle.snap_call.specs.Step.{counted, refused, session, one, new_active, prepared, prepare_at, prepare, greater, fits, charge_to, charge, trim, committed, commit_as, commit, discard, ask_record, ask, step, IsCovered, IsAllowed, place_for, slot_for, unless_refused, added, new_view, viewed, view_at, view, update_record, update_at, update, walk_at, walk}
+use Rattle.snap_call.specs.Step.{counted, refused, session, one, new_active, prepared, prepare_at, prepare, greater, fits, charge_to, charge, trim, committed, commit_as, commit, discard, ask_record, ask, step, IsCovered, IsAllowed, place_for, slot_for, unless_refused, added, new_view, viewed, view_at, view, removed_at, remove_record, remove_at, remove, update_record, update_at, update, walk_at, walk}
 use Rattle.snap_call.specs.Journal.{Replays}
-use Rattle.snap_call.proofs.Lists.{all-map, all-both, find-none, same_slot, active_at-all, all-with_record, pairwise-with_record, all-without_slot, pairwise-without_slot, all-beside, all-recharged, pairwise-recharged}
-use Rattle.snap_call.proofs.Ordered.{sorted-with_record, sorted-without_slot, sorted-recharged, has_key-without_slot}
-use Rattle.snap_call.proofs.Chains.{HasParent, chain, Keeps, Keeps-after, Keeps-with_record, Keeps-without_slot, Keeps-recharged, keeps-HasParent, keeps-IsGuarding, keeps-some_chain, keeps-ancestors, chain-found}
-use Rattle.snap_call.proofs.Sums.{charge_with, charge_of-with_record_own, charge_of-with_record_other, charge_of-covers, charge_of-without_slot_own, charge_of-without_slot_other, charge_of-recharged_own, charge_of-recharged_other, charge_of-committed_own, charge_of-committed_other}
+use Rattle.snap_call.proofs.Lists.{all-map, all-both, find-none, none-passes, record_at-is_named, same_slot, active_at-all, all-with_record, pairwise-with_record, all-without, pairwise-without, all-beside, all-recharged, pairwise-recharged}
+use Rattle.snap_call.proofs.Ordered.{sorted-with_record, sorted-without, sorted-recharged, has_key-without}
+use Rattle.snap_call.proofs.Chains.{HasParent, chain, Keeps, KeepsFor, Every, every, AreOn, all_on, IsOther, Keeps-after, Keeps-with_record, Keeps-without_slot, Keeps-recharged, on_other, keeps-without_key, keeps-HasParent, keeps-NamesStand, keeps-some_chain, keeps-ancestors, chain-found}
+use Rattle.snap_call.proofs.Sums.{charge_with, charge_of-with_record_own, charge_of-with_record_other, charge_of-covers, charge_of-without_own, charge_of-without_other, charge_of-recharged_own, charge_of-recharged_other, charge_of-committed_own, charge_of-committed_other}
 use Rattle.snap_call.proofs.Alike.{AreAlike, bare-relabelled, all-relabelled, pairwise-relabelled, sorted-relabelled, alike-HasParent, alike-IsGuarding, alike-charge_of, alike-layers, alike-some_chain}
 use Rattle.snap_call.proofs.Lowest.{lowest_free-Some}
 use Rattle.snap_call.proofs.Places.{IsPlace, place_for-Ok, slot_for-Ok}
@@ -68,6 +70,10 @@ covers-Covers a b e =
     let h = and_parts (nat_le b.blocks a.blocks) (nat_le b.inodes a.inodes) e in
     record { blocks = leb-true b.blocks a.blocks h.0; inodes = leb-true b.inodes a.inodes h.1 }
 
+-- a place that is found is one of the places
+pub place_of-below : (name : Bytes) (ns : List Namespace) (place : ℕ) → place_of name ns ≡ Some place → place < length ns
+place_of-below name ns place e = (position-Some (has_name name) ns place (record { name = []; limit = no_usage }) e).0
+
 -- ---- two records in slots
 
 -- a record that is out of a slot is apart from one that is active in it
@@ -82,22 +88,55 @@ shown_anew rs ts place parent (View layers) same h = h ∙ sym (ap or_empty same
 shown_anew rs ts place parent (Active slot charged) same h = tt
 shown_anew rs ts place parent (Committed layer usage) same h = tt
 
-module _ (ns : List Namespace) (rs ts : List Record) (keeps : Keeps rs ts) where
-  stand_parents : (us : List Record) → AllByRecursion (HasParent rs) us → AllByRecursion (HasParent ts) us
-  stand_parents us all = all-map (HasParent rs) (HasParent ts) (keeps-HasParent rs ts keeps) us all
+-- where the keys of a set are kept
+module _ (P : ℕ → Bytes → Type 0) (rs ts : List Record) (keeps : KeepsFor P rs ts) where
+  parents_on : (us : List Record) → AreOn P us → AllByRecursion (HasParent rs) us → AllByRecursion (HasParent ts) us
+  parents_on us on all =
+      all-map (λ r. P r.namespace r.parent × HasParent rs r) (HasParent ts) (λ r h. keeps-HasParent P rs ts keeps r h.0 h.1)
+      us (all-both (λ r. P r.namespace r.parent) (HasParent rs) us on all)
 
-  stand_leases : (ls : List Lease) → AllByRecursion (IsGuarding ns rs) ls → AllByRecursion (IsGuarding ns ts) ls
-  stand_leases ls all = all-map (IsGuarding ns rs) (IsGuarding ns ts) (keeps-IsGuarding rs ts keeps ns) ls all
-
-  stand_chains : (us : List Record) → AllByRecursion (λ r. IsSome (chain rs r)) us → AllByRecursion (λ r. IsSome (chain ts r)) us
-  stand_chains us all = all-map (λ r. IsSome (chain rs r)) (λ r. IsSome (chain ts r)) (keeps-some_chain rs ts keeps) us all
+  chains_on : (us : List Record) → AreOn P us → AllByRecursion (λ r. IsSome (chain rs r)) us → AllByRecursion (λ r. IsSome (chain ts r)) us
+  chains_on us on all =
+      all-map (λ r. P r.namespace r.parent × IsSome (chain rs r)) (λ r. IsSome (chain ts r)) (λ r h. keeps-some_chain P rs ts keeps r h.0 h.1)
+      us (all-both (λ r. P r.namespace r.parent) (λ r. IsSome (chain rs r)) us on all)
 
   -- what views show
+  shown_on : (us : List Record) → AreOn P us → AllByRecursion (λ r. IsSome (chain rs r)) us → AllByRecursion (λ r. IsShown rs r.namespace r.parent r.content) us → AllByRecursion (λ r. IsShown ts r.namespace r.parent r.content) us
+  shown_on us on chained all =
+      all-map (λ r. P r.namespace r.parent × (IsSome (chain rs r) × IsShown rs r.namespace r.parent r.content)) (λ r. IsShown ts r.namespace r.parent r.content)
+      (λ r h. shown_anew rs ts r.namespace r.parent r.content (ap layers_of (keeps-ancestors P rs ts keeps r.namespace r.parent h.0 h.1.0)) h.1.1)
+      us (all-both (λ r. P r.namespace r.parent) (λ r. IsSome (chain rs r) × IsShown rs r.namespace r.parent r.content) us on (all-both (λ r. IsSome (chain rs r)) (λ r. IsShown rs r.namespace r.parent r.content) us chained all))
+
+-- the names of a lease, where it has a place, are in the set
+abbrev AreNamed : (ℕ → Bytes → Type 0) → List Namespace → Lease → Type 0
+AreNamed P ns l = (place : ℕ) → place_of l.namespace ns ≡ Some place → AllByRecursion (P place) l.names
+
+leases_on : (P : ℕ → Bytes → Type 0) (rs ts : List Record) → KeepsFor P rs ts → (ns : List Namespace) (ls : List Lease) → AllByRecursion (AreNamed P ns) ls → AllByRecursion (IsGuarding ns rs) ls → AllByRecursion (IsGuarding ns ts) ls
+leases_on P rs ts keeps ns ls named all =
+    all-map (λ l. AreNamed P ns l × IsGuarding ns rs l) (IsGuarding ns ts) (λ l h. keeps-NamesStand P rs ts keeps (place_of l.namespace ns) l.names h.0 h.1)
+    ls (all-both (AreNamed P ns) (IsGuarding ns rs) ls named all)
+
+-- where all committed records are kept
+every_name : (place : ℕ) (names : List Bytes) → AllByRecursion (Every place) names
+every_name place [] = tt
+every_name place (n ∷ ns) = (tt, every_name place ns)
+
+every_lease : (ns : List Namespace) (ls : List Lease) → AllByRecursion (AreNamed Every ns) ls
+every_lease ns [] = tt
+every_lease ns (l ∷ ls) = (λ place e. every_name place l.names, every_lease ns ls)
+
+module _ (ns : List Namespace) (rs ts : List Record) (keeps : Keeps rs ts) where
+  stand_parents : (us : List Record) → AllByRecursion (HasParent rs) us → AllByRecursion (HasParent ts) us
+  stand_parents us all = parents_on Every rs ts (every rs ts keeps) us (all_on us) all
+
+  stand_leases : (ls : List Lease) → AllByRecursion (IsGuarding ns rs) ls → AllByRecursion (IsGuarding ns ts) ls
+  stand_leases ls all = leases_on Every rs ts (every rs ts keeps) ns ls (every_lease ns ls) all
+
+  stand_chains : (us : List Record) → AllByRecursion (λ r. IsSome (chain rs r)) us → AllByRecursion (λ r. IsSome (chain ts r)) us
+  stand_chains us all = chains_on Every rs ts (every rs ts keeps) us (all_on us) all
+
   stand_shown : (us : List Record) → AllByRecursion (λ r. IsSome (chain rs r)) us → AllByRecursion (λ r. IsShown rs r.namespace r.parent r.content) us → AllByRecursion (λ r. IsShown ts r.namespace r.parent r.content) us
-  stand_shown us chained all =
-      all-map (λ r. IsSome (chain rs r) × IsShown rs r.namespace r.parent r.content) (λ r. IsShown ts r.namespace r.parent r.content)
-      (λ r h. shown_anew rs ts r.namespace r.parent r.content (ap layers_of (keeps-ancestors rs ts keeps r.namespace r.parent h.0)) h.1)
-      us (all-both (λ r. IsSome (chain rs r)) (λ r. IsShown rs r.namespace r.parent r.content) us chained all)
+  stand_shown us chained all = shown_on Every rs ts (every rs ts keeps) us (all_on us) chained all
 
 -- ---- the counters alone
 
@@ -252,29 +291,29 @@ covered : (s : State) (slot : ℕ) (r : Record) (to : Usage) → Good s → acti
 covered s slot r to good e less =
     covers_less (limit_at r.namespace s.namespaces) (charge_of r.namespace s.records) (usage_of r.content) to
     (good.within r.namespace (active_at-all (λ t. t.namespace < length s.namespaces) slot s.records r e good.placed))
-    (charge_of-covers slot s.records r e) less
+    (charge_of-covers (is_slot slot) s.records r e) less
 
 -- ---- a snapshot less
 
 pub good_discarded : (s : State) (slot : ℕ) (r : Record) → Good s → active_at slot s.records ≡ Some r → Good (record s { records = without_slot slot s.records; entries = s.entries + 1 })
 good_discarded s slot r good e = record {
   root = good.root;
-  parents = stand_parents ns rs ts keeps ts (all-without_slot slot (HasParent rs) rs good.parents);
+  parents = stand_parents ns rs ts keeps ts (all-without (is_slot slot) (HasParent rs) rs good.parents);
   leased = stand_leases ns rs ts keeps s.leases good.leased;
   named_once = good.named_once;
-  counted = all-without_slot slot (λ t. IsCounted t.content) rs good.counted;
+  counted = all-without (is_slot slot) (λ t. IsCounted t.content) rs good.counted;
   within = within_after ns rs ts r.namespace good.within
-      (subst (λ (u : Usage). Covers (limit_at r.namespace ns) u) (sym (charge_of-without_slot_own slot rs r e)) (covers_gone (limit_at r.namespace ns) (charge_of r.namespace rs) (usage_of r.content) (good.within r.namespace low)))
-      (λ p apart. charge_of-without_slot_other p slot rs r e apart);
+      (subst (λ (u : Usage). Covers (limit_at r.namespace ns) u) (sym (charge_of-without_own (is_slot slot) rs r e)) (covers_gone (limit_at r.namespace ns) (charge_of r.namespace rs) (usage_of r.content) (good.within r.namespace low)))
+      (λ p apart. charge_of-without_other p (is_slot slot) rs r e apart);
   limits = good.limits;
   distinct = good.distinct;
-  placed = all-without_slot slot (λ t. t.namespace < length ns) rs good.placed;
-  sorted = sorted-without_slot slot rs good.sorted;
-  ids = pairwise-without_slot slot (λ t u. t.id ≢ u.id) rs good.ids;
-  numbered = all-without_slot slot (λ t. t.id < s.next_id) rs good.numbered;
-  slots = pairwise-without_slot slot AreApart rs good.slots;
-  open_slots = all-without_slot slot (λ t. HasLowSlot t.content) rs good.open_slots;
-  shown = stand_shown ns rs ts keeps ts chained (all-without_slot slot (λ t. IsShown rs t.namespace t.parent t.content) rs good.shown);
+  placed = all-without (is_slot slot) (λ t. t.namespace < length ns) rs good.placed;
+  sorted = sorted-without (is_slot slot) rs good.sorted;
+  ids = pairwise-without (is_slot slot) (λ t u. t.id ≢ u.id) rs good.ids;
+  numbered = all-without (is_slot slot) (λ t. t.id < s.next_id) rs good.numbered;
+  slots = pairwise-without (is_slot slot) AreApart rs good.slots;
+  open_slots = all-without (is_slot slot) (λ t. HasLowSlot t.content) rs good.open_slots;
+  shown = stand_shown ns rs ts keeps ts chained (all-without (is_slot slot) (λ t. IsShown rs t.namespace t.parent t.content) rs good.shown);
   chains = stand_chains ns rs ts keeps ts chained;
 }
   where
@@ -291,10 +330,112 @@ good_discarded s slot r good e = record {
     keeps = Keeps-without_slot slot rs
 
     chained : AllByRecursion (λ t. IsSome (chain rs t)) ts
-    chained = all-without_slot slot (λ t. IsSome (chain rs t)) rs good.chains
+    chained = all-without (is_slot slot) (λ t. IsSome (chain rs t)) rs good.chains
 
     low : r.namespace < length ns
     low = active_at-all (λ t. t.namespace < length ns) slot rs r e good.placed
+
+-- ---- a snapshot removed
+
+-- two texts with one place are one text
+same_name : (a b : Bytes) (ns : List Namespace) (place : ℕ) → place_of a ns ≡ Some place → place_of b ns ≡ Some place → a ≡ b
+same_name a b ns place e f =
+    let d : Namespace = record { name = []; limit = no_usage } in
+    let x : bytes_eq (get_or ns place d).name a ≡ true = (position-Some (has_name a) ns place d e).1 in
+    let y : bytes_eq (get_or ns place d).name b ≡ true = (position-Some (has_name b) ns place d f).1 in
+    sym ((bytes_eq-Decides (get_or ns place d).name a).0 x) ∙ (bytes_eq-Decides (get_or ns place d).name b).0 y
+
+-- a lease that doesn't name the key in its namespace names other keys
+names_other : (namespace key : Bytes) (ns : List Namespace) (place : ℕ) → place_of namespace ns ≡ Some place → (l : Lease) → guards namespace key l ≡ false → AreNamed (IsOther place key) ns l
+names_other namespace key ns place e l out p f = by (eqb p place) refl
+  where
+    apart : (k : Bytes) → (eqb p place) ≡ false → IsOther place key p k
+    apart k ne = ap (λ b. b && bytes_eq k key) ne
+
+    turned : (k : Bytes) → bytes_eq key k ≡ false → bytes_eq k key ≡ false
+    turned k ne = false_from_ne_true (bytes_eq k key) (λ is. true≢false (sym ((bytes_eq-Decides key k).1 (sym ((bytes_eq-Decides k key).0 is))) ∙ ne))
+
+    all_apart : (names : List Bytes) → (eqb p place) ≡ false → AllByRecursion (IsOther place key p) names
+    all_apart [] ne = tt
+    all_apart (k ∷ ks) ne = (apart k ne, all_apart ks ne)
+
+    by : (b : Bool) → eqb p place ≡ b → AllByRecursion (IsOther place key p) l.names
+    by false ne = all_apart l.names ne
+    by true is =
+        let own : namespace ≡ l.namespace = same_name namespace l.namespace ns p (subst (λ (n : ℕ). place_of namespace ns ≡ Some n) (sym (eqb-true p place is)) e) f in
+        let of : is_of namespace l ≡ true = (bytes_eq-Decides namespace l.namespace).1 own in
+        let unnamed : does_name key l ≡ false = sym (ap (λ b. b && does_name key l) of) ∙ out in
+        all-map (λ k. bytes_eq key k ≡ false) (IsOther place key p) (λ k ne. (λ i. is i && bytes_eq k key) ∙ turned k ne) l.names (none-passes (bytes_eq key) l.names unnamed)
+
+-- all leases of a state do, where none names the key
+leases_other : (namespace key : Bytes) (ns : List Namespace) (place : ℕ) → place_of namespace ns ≡ Some place → (ls : List Lease) → is_guarded ls namespace key ≡ false → AllByRecursion (AreNamed (IsOther place key) ns) ls
+leases_other namespace key ns place e ls out =
+    all-map (λ l. guards namespace key l ≡ false) (AreNamed (IsOther place key) ns) (λ l ne. names_other namespace key ns place e l ne) ls (none-passes (guards namespace key) ls out)
+
+-- the snapshot of the key goes, where no snapshot is on it and no lease names it
+module _ (s : State) (place : ℕ) (key : Bytes) (r : Record) (good : Good s) (e : record_at place key s.records ≡ Some r) (childless : has_children place key s.records ≡ false) where
+  -- it is of the namespace
+  removed_place : r.namespace ≡ place
+  removed_place = eqb-true r.namespace place (and_parts (r.namespace == place) (bytes_eq r.key key) (record_at-is_named place key s.records r e)).0
+
+  pub removed_total : charge_of place (without_key place key s.records) ≡ minus (charge_of place s.records) (usage_of r.content)
+  removed_total = subst (λ (n : ℕ). charge_of n (without_key place key s.records) ≡ minus (charge_of n s.records) (usage_of r.content)) removed_place (charge_of-without_own (is_named place key) s.records r e)
+
+  pub removed_others : (p : ℕ) → p ≢ place → charge_of p (without_key place key s.records) ≡ charge_of p s.records
+  removed_others p apart = charge_of-without_other p (is_named place key) s.records r e (λ same. apart (same ∙ removed_place))
+
+  -- the ancestors of those that stay are the same
+  pub removed-ancestors : (p : ℕ) (parent : Bytes) → IsOther place key p parent → IsSome (chain_from 64 s.records p parent) → ancestors p parent (without_key place key s.records) ≡ ancestors p parent s.records
+  removed-ancestors p parent other some = keeps-ancestors (IsOther place key) s.records (without_key place key s.records) (keeps-without_key place key s.records childless) p parent other some
+
+  pub good_removed : (namespace : Bytes) → place_of namespace s.namespaces ≡ Some place → is_guarded s.leases namespace key ≡ false → Good (removed_at s place key)
+  good_removed namespace spaced unleased = record {
+    root = good.root;
+    parents = parents_on P rs ts keeps ts on (all-without p (HasParent rs) rs good.parents);
+    leased = leases_on P rs ts keeps ns s.leases (leases_other namespace key ns place spaced s.leases unleased) good.leased;
+    named_once = good.named_once;
+    counted = all-without p (λ t. IsCounted t.content) rs good.counted;
+    within = within_after ns rs ts place good.within
+        (subst (λ (u : Usage). Covers (limit_at place ns) u) (sym removed_total) (covers_gone (limit_at place ns) (charge_of place rs) (usage_of r.content) (good.within place low)))
+        removed_others;
+    limits = good.limits;
+    distinct = good.distinct;
+    placed = all-without p (λ t. t.namespace < length ns) rs good.placed;
+    sorted = sorted-without p rs good.sorted;
+    ids = pairwise-without p (λ t u. t.id ≢ u.id) rs good.ids;
+    numbered = all-without p (λ t. t.id < s.next_id) rs good.numbered;
+    slots = pairwise-without p AreApart rs good.slots;
+    open_slots = all-without p (λ t. HasLowSlot t.content) rs good.open_slots;
+    shown = shown_on P rs ts keeps ts on chained (all-without p (λ t. IsShown rs t.namespace t.parent t.content) rs good.shown);
+    chains = chains_on P rs ts keeps ts on chained;
+  }
+    where
+      P : ℕ → Bytes → Type 0
+      P = IsOther place key
+
+      p : Record → Bool
+      p = is_named place key
+
+      ns : List Namespace
+      ns = s.namespaces
+
+      rs : List Record
+      rs = s.records
+
+      ts : List Record
+      ts = without_key place key rs
+
+      keeps : KeepsFor P rs ts
+      keeps = keeps-without_key place key rs childless
+
+      on : AreOn P ts
+      on = all-without p (λ t. P t.namespace t.parent) rs (on_other place key rs childless)
+
+      chained : AllByRecursion (λ t. IsSome (chain rs t)) ts
+      chained = all-without p (λ t. IsSome (chain rs t)) rs good.chains
+
+      low : place < length ns
+      low = place_of-below namespace ns place spaced
 
 -- ---- a snapshot committed
 
@@ -302,28 +443,28 @@ pub good_committed : (s : State) (slot : ℕ) (name : Bytes) (layer : Tree) (r :
     → Good (committed s slot name layer r).0
 good_committed s slot name layer r good e free less = record {
   root = good.root;
-  parents = stand_parents ns rs ts keeps ts (all-with_record c (HasParent rs) us (active_at-all (HasParent rs) slot rs r e good.parents) (all-without_slot slot (HasParent rs) rs good.parents));
+  parents = stand_parents ns rs ts keeps ts (all-with_record c (HasParent rs) us (active_at-all (HasParent rs) slot rs r e good.parents) (all-without (is_slot slot) (HasParent rs) rs good.parents));
   leased = stand_leases ns rs ts keeps s.leases good.leased;
   named_once = good.named_once;
-  counted = all-with_record c (λ t. IsCounted t.content) us refl (all-without_slot slot (λ t. IsCounted t.content) rs good.counted);
+  counted = all-with_record c (λ t. IsCounted t.content) us refl (all-without (is_slot slot) (λ t. IsCounted t.content) rs good.counted);
   within = within_after ns rs ts r.namespace good.within
       (subst (λ (u : Usage). Covers (limit_at r.namespace ns) u) (sym (charge_of-committed_own slot name layer (s.entries + 1) rs r e)) (covered s slot r (count_of layer) good e less))
       (λ p apart. charge_of-committed_other p slot name layer (s.entries + 1) rs r e apart);
   limits = good.limits;
   distinct = good.distinct;
-  placed = all-with_record c (λ t. t.namespace < length ns) us (active_at-all (λ t. t.namespace < length ns) slot rs r e good.placed) (all-without_slot slot (λ t. t.namespace < length ns) rs good.placed);
-  sorted = sorted-with_record c us left (sorted-without_slot slot rs good.sorted);
+  placed = all-with_record c (λ t. t.namespace < length ns) us (active_at-all (λ t. t.namespace < length ns) slot rs r e good.placed) (all-without (is_slot slot) (λ t. t.namespace < length ns) rs good.placed);
+  sorted = sorted-with_record c us left (sorted-without (is_slot slot) rs good.sorted);
   ids = pairwise-with_record c (λ t u. t.id ≢ u.id) us
-      (all-beside slot (λ t u. t.id ≢ u.id) (λ t. r.id ≢ t.id) rs r e (λ t h. h) (λ t h same. h (sym same)) good.ids)
-      (all-beside slot (λ t u. t.id ≢ u.id) (λ t. t.id ≢ r.id) rs r e (λ t h same. h (sym same)) (λ t h. h) good.ids)
-      (pairwise-without_slot slot (λ t u. t.id ≢ u.id) rs good.ids);
-  numbered = all-with_record c (λ t. t.id < s.next_id) us (active_at-all (λ t. t.id < s.next_id) slot rs r e good.numbered) (all-without_slot slot (λ t. t.id < s.next_id) rs good.numbered);
+      (all-beside (is_slot slot) (λ t u. t.id ≢ u.id) (λ t. r.id ≢ t.id) rs r e (λ t h. h) (λ t h same. h (sym same)) good.ids)
+      (all-beside (is_slot slot) (λ t u. t.id ≢ u.id) (λ t. t.id ≢ r.id) rs r e (λ t h same. h (sym same)) (λ t h. h) good.ids)
+      (pairwise-without (is_slot slot) (λ t u. t.id ≢ u.id) rs good.ids);
+  numbered = all-with_record c (λ t. t.id < s.next_id) us (active_at-all (λ t. t.id < s.next_id) slot rs r e good.numbered) (all-without (is_slot slot) (λ t. t.id < s.next_id) rs good.numbered);
   slots = pairwise-with_record c AreApart us
       (all-map (λ t. HasLowSlot t.content) (AreApart c) (λ t h k is. absurd (true≢false (sym is))) us places)
       (all-map (λ t. HasLowSlot t.content) (λ t. AreApart t c) (λ t h k is. refl) us places)
-      (pairwise-without_slot slot AreApart rs good.slots);
+      (pairwise-without (is_slot slot) AreApart rs good.slots);
   open_slots = all-with_record c (λ t. HasLowSlot t.content) us tt places;
-  shown = stand_shown ns rs ts keeps ts chained (all-with_record c (λ t. IsShown rs t.namespace t.parent t.content) us tt (all-without_slot slot (λ t. IsShown rs t.namespace t.parent t.content) rs good.shown));
+  shown = stand_shown ns rs ts keeps ts chained (all-with_record c (λ t. IsShown rs t.namespace t.parent t.content) us tt (all-without (is_slot slot) (λ t. IsShown rs t.namespace t.parent t.content) rs good.shown));
   chains = stand_chains ns rs ts keeps ts chained;
 }
   where
@@ -343,16 +484,16 @@ good_committed s slot name layer r good e free less = record {
     ts = with_record c us
 
     left : has_key r.namespace name us ≡ false
-    left = has_key-without_slot slot r.namespace name rs free
+    left = has_key-without (is_slot slot) r.namespace name rs free
 
     keeps : Keeps rs ts
     keeps = Keeps-after rs us ts (Keeps-without_slot slot rs) (Keeps-with_record c us left)
 
     chained : AllByRecursion (λ t. IsSome (chain rs t)) ts
-    chained = all-with_record c (λ t. IsSome (chain rs t)) us (active_at-all (λ t. IsSome (chain rs t)) slot rs r e good.chains) (all-without_slot slot (λ t. IsSome (chain rs t)) rs good.chains)
+    chained = all-with_record c (λ t. IsSome (chain rs t)) us (active_at-all (λ t. IsSome (chain rs t)) slot rs r e good.chains) (all-without (is_slot slot) (λ t. IsSome (chain rs t)) rs good.chains)
 
     places : AllByRecursion (λ t. HasLowSlot t.content) us
-    places = all-without_slot slot (λ t. HasLowSlot t.content) rs good.open_slots
+    places = all-without (is_slot slot) (λ t. HasLowSlot t.content) rs good.open_slots
 
 -- ---- a snapshot with other labels
 
@@ -404,10 +545,6 @@ good_refused s why good = good_counted s good
 
 pub good_session : (s : State) → Good s → Good (session s).0
 good_session s good = either (nat_lt s.sessions 65536) _ _ (λ e. good_counters s (s.sessions + 1) (s.entries + 1) good) (λ e. good)
-
--- a place that is found is one of the places
-pub place_of-below : (name : Bytes) (ns : List Namespace) (place : ℕ) → place_of name ns ≡ Some place → place < length ns
-place_of-below name ns place e = (position-Some (has_name name) ns place (record { name = []; limit = no_usage }) e).0
 
 good_unless_refused : (s : State) → Good s → (r : Result ℕ Refusal) (next : ℕ → State × Reply) → ((n : ℕ) → r ≡ Ok n → Good (next n).0) → Good (unless_refused s r next).0
 good_unless_refused s good (Ok n) next h = h n refl
@@ -484,6 +621,21 @@ good_ask_in s answer key good (Some place) = good_ask_record s answer good (reco
 pub good_ask : (s : State) (answer : Record → Reply) (namespace key : Bytes) → Good s → Good (ask s answer namespace key).0
 good_ask s answer namespace key good = either (is_key key) _ _ (λ e. good_ask_in s answer key good (place_of namespace s.namespaces)) (λ e. good_counted s good)
 
+good_remove_record : (s : State) (namespace key : Bytes) (place : ℕ) → Good s → place_of namespace s.namespaces ≡ Some place → (o : Option Record) → record_at place key s.records ≡ o → Good (remove_record s namespace key place o).0
+good_remove_record s namespace key place good spaced None e = good_counted s good
+good_remove_record s namespace key place good spaced (Some r) e =
+    either (has_children place key s.records) _ _ (λ some. good_counted s good)
+    (λ childless. either (is_active r.content) _ _ (λ active. good_counted s good)
+    (λ idle. either (is_guarded s.leases namespace key) _ _ (λ leased. good_counted s good)
+    (λ unleased. good_removed s place key r good e childless namespace spaced unleased)))
+
+good_remove_at : (s : State) (namespace key : Bytes) → Good s → (o : Option ℕ) → place_of namespace s.namespaces ≡ o → Good (remove_at s namespace key o).0
+good_remove_at s namespace key good None e = good_counted s good
+good_remove_at s namespace key good (Some place) e = good_remove_record s namespace key place good e (record_at place key s.records) refl
+
+pub good_remove : (s : State) (namespace key : Bytes) → Good s → Good (remove s namespace key).0
+good_remove s namespace key good = either (is_key key) _ _ (λ e. good_remove_at s namespace key good (place_of namespace s.namespaces) refl) (λ e. good_counted s good)
+
 good_update_record : (s : State) (place : ℕ) (key : Bytes) (given : List Label) (paths : List Bytes) → Good s → (o : Option Record) → Good (update_record s place key given paths o).0
 good_update_record s place key given paths good None = good_counted s good
 good_update_record s place key given paths good (Some r) =
@@ -517,6 +669,7 @@ good_step s (calls.Stat namespace key) given good h = good_ask s _ namespace key
 good_step s (calls.Usage namespace key) given good h = good_ask s _ namespace key good
 good_step s (calls.Mounts namespace key) given good h = good_ask s _ namespace key good
 good_step s (calls.View namespace key parent labels) given good h = good_view s namespace key parent labels good
+good_step s (calls.Remove namespace key) given good h = good_remove s namespace key good
 good_step s (calls.Update namespace key labels paths) given good h = good_update s namespace key labels paths good
 good_step s (calls.Walk namespace after most asked) given good h = good_walk s namespace after most asked good
 

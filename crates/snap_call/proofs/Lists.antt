@@ -10,7 +10,7 @@ use Rattle.snap_record.specs.Labels.{Bytes}
 use Rattle.snap_record.specs.declared.record.Content.{Content}
 use Rattle.snap_record.specs.declared.record.Content.TheVariants.{View, Active, Committed}
 use Rattle.snap_record.specs.declared.record.Record.{Record}
-use Rattle.snap_call.specs.Records.{record_cmp, is_named, record_at, has_slot, is_slot, active_at, is_committed, committed_at, with_record, without_slot, recharged}
+use Rattle.snap_call.specs.Records.{record_cmp, is_named, record_at, has_slot, is_slot, active_at, is_committed, committed_at, with_record, without, recharged}
 use Rattle.snap_call.specs.Good.{AllPairwise}
 
 -- ---- any list
@@ -153,40 +153,49 @@ module _ (r : Record) where
         | false ↦ ap (λ o. cond (p t) (Some t) o) (find-with_record p ts other)
       ]
 
--- ---- the record of a slot less
+-- ---- the first record that passes a test less
 
-module _ (slot : ℕ) where
-  pub all-without_slot : (P : Record → Type 0) (rs : List Record) → AllByRecursion P rs → AllByRecursion P (without_slot slot rs)
-  all-without_slot P [] all = tt
-  all-without_slot P (r ∷ rs) all =
-      elim (is_slot slot r) as (λ b. AllByRecursion P (if b then rs else r ∷ without_slot slot rs)) [ true ↦ all.1 | false ↦ (all.0, all-without_slot P rs all.1) ]
+module _ (p : Record → Bool) where
+  pub all-without : (P : Record → Type 0) (rs : List Record) → AllByRecursion P rs → AllByRecursion P (without p rs)
+  all-without P [] all = tt
+  all-without P (r ∷ rs) all =
+      elim (p r) as (λ b. AllByRecursion P (if b then rs else r ∷ without p rs)) [ true ↦ all.1 | false ↦ (all.0, all-without P rs all.1) ]
 
-  pub pairwise-without_slot : (R : Record → Record → Type 0) (rs : List Record) → AllPairwise R rs → AllPairwise R (without_slot slot rs)
-  pairwise-without_slot R [] all = tt
-  pairwise-without_slot R (r ∷ rs) all =
-      elim (is_slot slot r) as (λ b. AllPairwise R (if b then rs else r ∷ without_slot slot rs)) [ true ↦ all.1 | false ↦ (all-without_slot (R r) rs all.0, pairwise-without_slot R rs all.1) ]
+  pub pairwise-without : (R : Record → Record → Type 0) (rs : List Record) → AllPairwise R rs → AllPairwise R (without p rs)
+  pairwise-without R [] all = tt
+  pairwise-without R (r ∷ rs) all =
+      elim (p r) as (λ b. AllPairwise R (if b then rs else r ∷ without p rs)) [ true ↦ all.1 | false ↦ (all-without (R r) rs all.0, pairwise-without R rs all.1) ]
 
   -- those that are left, beside the one that goes
-  pub all-beside : (R : Record → Record → Type 0) (S : Record → Type 0) (rs : List Record) (r : Record) → active_at slot rs ≡ Some r
-      → ((t : Record) → R r t → S t) → ((t : Record) → R t r → S t) → AllPairwise R rs → AllByRecursion S (without_slot slot rs)
+  pub all-beside : (R : Record → Record → Type 0) (S : Record → Type 0) (rs : List Record) (r : Record) → find p rs ≡ Some r
+      → ((t : Record) → R r t → S t) → ((t : Record) → R t r → S t) → AllPairwise R rs → AllByRecursion S (without p rs)
   all-beside R S [] r e after before all = absurd (none_some r e)
-  all-beside R S (t ∷ ts) r e after before all = by (is_slot slot t) e (λ found. all-beside R S ts r found after before all.1)
+  all-beside R S (t ∷ ts) r e after before all = by (p t) e (λ found. all-beside R S ts r found after before all.1)
     where
-      by : (b : Bool) → cond b (Some t) (active_at slot ts) ≡ Some r → (active_at slot ts ≡ Some r → AllByRecursion S (without_slot slot ts)) → AllByRecursion S (if b then ts else t ∷ without_slot slot ts)
+      by : (b : Bool) → cond b (Some t) (find p ts) ≡ Some r → (find p ts ≡ Some r → AllByRecursion S (without p ts)) → AllByRecursion S (if b then ts else t ∷ without p ts)
       by true found next = all-map (R t) S (λ u h. after u (subst (λ z. R z u) (some_same t r found) h)) ts all.0
-      by false found next = (before t (active_at-all (R t) slot ts r found all.0), next found)
+      by false found next = (before t (find-all (R t) p ts r found all.0), next found)
 
-  -- what is found and isn't in the slot stays
-  pub find-without_slot : (p : Record → Bool) (rs : List Record) (r : Record) → is_slot slot r ≡ false → find p rs ≡ Some r → find p (without_slot slot rs) ≡ Some r
-  find-without_slot p [] r out e = absurd (none_some r e)
-  find-without_slot p (t ∷ ts) r out e = by (p t) refl e (find-without_slot p ts r out)
+  -- what is found by another test, and doesn't pass this one, stays
+  pub find-without : (q : Record → Bool) (rs : List Record) (r : Record) → p r ≡ false → find q rs ≡ Some r → find q (without p rs) ≡ Some r
+  find-without q [] r out e = absurd (none_some r e)
+  find-without q (t ∷ ts) r out e = by (q t) refl e (find-without q ts r out)
     where
-      by : (c : Bool) → p t ≡ c → cond c (Some t) (find p ts) ≡ Some r → (find p ts ≡ Some r → find p (without_slot slot ts) ≡ Some r) → find p (without_slot slot (t ∷ ts)) ≡ Some r
+      by : (c : Bool) → q t ≡ c → cond c (Some t) (find q ts) ≡ Some r → (find q ts ≡ Some r → find q (without p ts) ≡ Some r) → find q (without p (t ∷ ts)) ≡ Some r
       by true is found next =
-          let apart : is_slot slot t ≡ false = ap (is_slot slot) (some_same t r found) ∙ out in
-          ap (λ b. find p (if b then ts else t ∷ without_slot slot ts)) apart ∙ ap (λ c. cond c (Some t) (find p (without_slot slot ts))) is ∙ found
+          let apart : p t ≡ false = ap p (some_same t r found) ∙ out in
+          ap (λ b. find q (if b then ts else t ∷ without p ts)) apart ∙ ap (λ c. cond c (Some t) (find q (without p ts))) is ∙ found
       by false is found next =
-          elim (is_slot slot t) as (λ b. find p (if b then ts else t ∷ without_slot slot ts) ≡ Some r) [ true ↦ found | false ↦ ap (λ c. cond c (Some t) (find p (without_slot slot ts))) is ∙ next found ]
+          elim (p t) as (λ b. find q (if b then ts else t ∷ without p ts) ≡ Some r) [ true ↦ found | false ↦ ap (λ c. cond c (Some t) (find q (without p ts))) is ∙ next found ]
+
+  -- a test that doesn't find the one that goes finds what it found before
+  pub find-without_other : (q : Record → Bool) (rs : List Record) (r : Record) → find p rs ≡ Some r → q r ≡ false → find q (without p rs) ≡ find q rs
+  find-without_other q [] r e out = refl
+  find-without_other q (t ∷ ts) r e out = by (p t) e (λ found. find-without_other q ts r found out)
+    where
+      by : (b : Bool) → cond b (Some t) (find p ts) ≡ Some r → (find p ts ≡ Some r → find q (without p ts) ≡ find q ts) → find q (if b then ts else t ∷ without p ts) ≡ cond (q t) (Some t) (find q ts)
+      by true found next = ap (λ c. cond c (Some t) (find q ts)) (sym (ap q (some_same t r found) ∙ out))
+      by false found next = ap (λ o. cond (q t) (Some t) o) (next found)
 
 -- ---- the record of a slot charged anew
 

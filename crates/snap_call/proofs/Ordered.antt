@@ -1,5 +1,5 @@
 -- The order of the records after each change.
-use Rattle.std.proofs.Common.{◌≡◌, ℕ, ◌<◌, true, false, true≢false, eq-eqb, List, [], ◌∷◌, refl, sym, ap, ◌∙◌, subst}
+use Rattle.std.proofs.Common.{◌≡◌, ℕ, ◌<◌, Bool, true, false, true≢false, eq-eqb, List, [], ◌∷◌, refl, sym, ap, ◌∙◌, subst}
 use Rattle.std.specs.List.{AllByRecursion}
 use Rattle.std.specs.List.Sorted.{IsStrictlySortedBy}
 use Rattle.std.specs.Prelude.{if◌then◌else◌}
@@ -14,8 +14,8 @@ use Rattle.std.proofs.lemmas.Map.Text.{is_eq-slice_cmp}
 use Rattle.snap_usage.specs.declared.usage.Usage.{Usage}
 use Rattle.snap_record.specs.Labels.{Bytes}
 use Rattle.snap_record.specs.declared.record.Record.{Record}
-use Rattle.snap_call.specs.Records.{record_cmp, is_named, has_key, is_slot, with_record, without_slot, recharged}
-use Rattle.snap_call.proofs.Lists.{none-passes, list_any-none, with_charge, all-with_record, all-without_slot, all-recharged}
+use Rattle.snap_call.specs.Records.{record_cmp, is_named, has_key, is_slot, with_record, without, recharged}
+use Rattle.snap_call.proofs.Lists.{none-passes, list_any-none, with_charge, all-with_record, all-without, all-recharged}
 
 pub record_cmp_total : IsTotalOrder record_cmp
 record_cmp_total = then_total (on_total (λ (r : Record). r.namespace) nat_cmp_total) (on_total (λ (r : Record). r.key) nat_list_cmp_total)
@@ -55,13 +55,13 @@ sorted-with_record r (t ∷ ts) none sorted = by (record_cmp r t) refl (sorted-w
     by Equal e next = absurd (true≢false (sym (tied-is_named r t e) ∙ rest.0))
     by Greater e next = (all-with_record r (λ u. record_cmp t u ≡ Less) ts (record_cmp_total.antisymm t r ∙ ap ordering_reverse e) sorted.0, next)
 
-pub sorted-without_slot : (slot : ℕ) (rs : List Record) → IsStrictlySortedBy record_cmp rs → IsStrictlySortedBy record_cmp (without_slot slot rs)
+pub sorted-without : (p : Record → Bool) (rs : List Record) → IsStrictlySortedBy record_cmp rs → IsStrictlySortedBy record_cmp (without p rs)
 unfolding IsStrictlySortedBy
-sorted-without_slot slot [] sorted = tt
-sorted-without_slot slot (r ∷ rs) sorted =
-    elim (is_slot slot r) as (λ b. IsStrictlySortedBy record_cmp (if b then rs else r ∷ without_slot slot rs)) [
+sorted-without p [] sorted = tt
+sorted-without p (r ∷ rs) sorted =
+    elim (p r) as (λ b. IsStrictlySortedBy record_cmp (if b then rs else r ∷ without p rs)) [
       | true ↦ sorted.1
-      | false ↦ (all-without_slot slot (λ u. record_cmp r u ≡ Less) rs sorted.0, sorted-without_slot slot rs sorted.1)
+      | false ↦ (all-without p (λ u. record_cmp r u ≡ Less) rs sorted.0, sorted-without p rs sorted.1)
     ]
 
 pub sorted-recharged : (slot : ℕ) (to : Usage) (rs : List Record) → IsStrictlySortedBy record_cmp rs → IsStrictlySortedBy record_cmp (recharged slot to rs)
@@ -73,7 +73,7 @@ sorted-recharged slot to (r ∷ rs) sorted =
       | false ↦ (all-recharged slot to (λ u. record_cmp r u ≡ Less) rs (λ u is e. e) sorted.0, sorted-recharged slot to rs sorted.1)
     ]
 
--- a key that is free stays free where a slot's record goes
-pub has_key-without_slot : (slot place : ℕ) (key : Bytes) (rs : List Record) → has_key place key rs ≡ false → has_key place key (without_slot slot rs) ≡ false
-has_key-without_slot slot place key rs none =
-    list_any-none (is_named place key) (without_slot slot rs) (all-without_slot slot (λ r. is_named place key r ≡ false) rs (none-passes (is_named place key) rs none))
+-- a key that is free stays free where a record goes
+pub has_key-without : (p : Record → Bool) (place : ℕ) (key : Bytes) (rs : List Record) → has_key place key rs ≡ false → has_key place key (without p rs) ≡ false
+has_key-without p place key rs none =
+    list_any-none (is_named place key) (without p rs) (all-without p (λ r. is_named place key r ≡ false) rs (none-passes (is_named place key) rs none))

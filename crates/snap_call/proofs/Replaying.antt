@@ -5,6 +5,7 @@ use Rattle.std.specs.Option.{option_map_or, is_some}
 use Rattle.std.specs.Prelude.{◌==◌, ◌&&◌, nat_le, nat_lt, if◌then◌else◌, Option, Result, Ok, Err}
 use Rattle.snap_layer.specs.Tree.{Tree}
 use Rattle.snap_usage.specs.declared.usage.Usage.{Usage}
+use Rattle.snap_lease.specs.Leases.{is_guarded}
 use Rattle.snap_record.specs.Labels.{Bytes, Label}
 use Rattle.snap_record.specs.Records.{usage_of, info_of}
 use Rattle.snap_record.specs.Updates.{is_granted, is_well_formed, updated as labels_after}
@@ -16,14 +17,14 @@ use Rattle.snap_call.specs.declared.call.Given.{Given}
 use Rattle.snap_call.specs.declared.call.Given.TheVariants.{Nothing, Count, Layer}
 use Rattle.snap_call.specs.declared.entry.Entry.{Entry}
 use Rattle.snap_call.specs.declared.refusal.Refusal.{Refusal}
-use Rattle.snap_call.specs.declared.refusal.Refusal.TheVariants.{BadArgument, NoNamespace, NotFound, AlreadyExists, NotActive, NoLease, NumbersSpent}
+use Rattle.snap_call.specs.declared.refusal.Refusal.TheVariants.{BadArgument, NoNamespace, NotFound, AlreadyExists, NotActive, HasChildren, InUse, Leased, NoLease, NumbersSpent}
 use Rattle.snap_call.specs.declared.reply.Reply.{Reply}
 use Rattle.snap_call.specs.declared.reply.Reply.TheVariants.{Opened, Info, Usage as UsageReply, Refused}
 use Rattle.snap_call.specs.declared.state.State.{State}
 use Rattle.snap_call.specs.Forms.{is_key, is_page, is_start}
-use Rattle.snap_call.specs.Records.{record_at, has_key, active_at}
+use Rattle.snap_call.specs.Records.{record_at, has_key, has_children, is_active, active_at}
 use Rattle.snap_call.specs.State.{place_of, over_limit}
-use Rattle.snap_call.specs.Step.{refused, session, one, prepared, prepare_at, prepare, granted, charge_to, charge, trim, committed, commit_as, commit, discard, ask_record, ask, step, IsAllowed, place_for, slot_for, unless_refused, mounts, viewed, view_at, view, relabel, update_record, update_at, update, walk_at, walk}
+use Rattle.snap_call.specs.Step.{refused, session, prepared, prepare_at, prepare, granted, charge_to, charge, trim, committed, commit_as, commit, discard, ask_record, ask, step, IsAllowed, place_for, slot_for, unless_refused, mounts, viewed, view_at, view, removed_at, remove_record, remove_at, remove, relabel, update_record, update_at, update, walk_at, walk}
 use Rattle.snap_call.specs.Journal.{Replays, own}
 
 -- what no step changes
@@ -105,6 +106,20 @@ asking_in s answer key (Some place) = asking_record s answer (record_at place ke
 asking : (s : State) (answer : Record → Reply) (namespace key : Bytes) → IsNext s (ask s answer namespace key).0
 asking s answer namespace key = either s (is_key key) _ _ (asking_in s answer key (place_of namespace s.namespaces)) (refusing s BadArgument)
 
+removing_record : (s : State) (namespace key : Bytes) (place : ℕ) (o : Option Record) → IsNext s (remove_record s namespace key place o).0
+removing_record s namespace key place None = refusing s NotFound
+removing_record s namespace key place (Some r) =
+    either s (has_children place key s.records) _ _ (refusing s HasChildren)
+    (either s (is_active r.content) _ _ (refusing s InUse)
+    (either s (is_guarded s.leases namespace key) _ _ (refusing s Leased) (one_more s (removed_at s place key) refl refl refl refl)))
+
+removing_at : (s : State) (namespace key : Bytes) (o : Option ℕ) → IsNext s (remove_at s namespace key o).0
+removing_at s namespace key None = refusing s NoNamespace
+removing_at s namespace key (Some place) = removing_record s namespace key place (record_at place key s.records)
+
+removing : (s : State) (namespace key : Bytes) → IsNext s (remove s namespace key).0
+removing s namespace key = either s (is_key key) _ _ (removing_at s namespace key (place_of namespace s.namespaces)) (refusing s BadArgument)
+
 updating_record : (s : State) (place : ℕ) (key : Bytes) (given : List Label) (paths : List Bytes) (o : Option Record) → IsNext s (update_record s place key given paths o).0
 updating_record s place key given paths None = refusing s NotFound
 updating_record s place key given paths (Some r) =
@@ -151,6 +166,7 @@ step-same s (calls.Stat namespace key) given = (asking s (λ r. Info (info_of r)
 step-same s (calls.Usage namespace key) given = (asking s (λ r. UsageReply (usage_of r.content)) namespace key).same
 step-same s (calls.Mounts namespace key) given = (asking s (mounts s) namespace key).same
 step-same s (calls.View namespace key parent labels) given = (viewing s namespace key parent labels).same
+step-same s (calls.Remove namespace key) given = (removing s namespace key).same
 step-same s (calls.Update namespace key labels paths) given = (updating s namespace key labels paths).same
 step-same s (calls.Walk namespace after most asked) given = (walking s namespace after most asked).same
 
@@ -166,6 +182,7 @@ step-entries s (calls.Stat namespace key) given h = (asking s (λ r. Info (info_
 step-entries s (calls.Usage namespace key) given h = (asking s (λ r. UsageReply (usage_of r.content)) namespace key).entries
 step-entries s (calls.Mounts namespace key) given h = (asking s (mounts s) namespace key).entries
 step-entries s (calls.View namespace key parent labels) given h = (viewing s namespace key parent labels).entries
+step-entries s (calls.Remove namespace key) given h = (removing s namespace key).entries
 step-entries s (calls.Update namespace key labels paths) given h = (updating s namespace key labels paths).entries
 step-entries s (calls.Walk namespace after most asked) given h = (walking s namespace after most asked).entries
 

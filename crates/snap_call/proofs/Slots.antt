@@ -2,7 +2,7 @@
 use Rattle.std.proofs.Common.{◌≡◌, ◌≢◌, ℕ, List, [], ◌∷◌, Bool, true, false, true≢false, Some, None, eq-eqb, refl, sym, ap, ◌∙◌, ⊎_elim}
 use Rattle.std.proofs.lemmas.Bool.{eqb-true}
 use Rattle.std.proofs.lemmas.Bool.Decides.{eqb_tells}
-use Rattle.std.specs.Prelude.{◌==◌, Option}
+use Rattle.std.specs.Prelude.{◌==◌, Option, find}
 use Rattle.std.specs.List.{AllByRecursion}
 use Rattle.std.specs.Ordering.{is_lt}
 use Rattle.snap_layer.specs.Tree.{Tree}
@@ -13,10 +13,10 @@ use Rattle.snap_record.specs.Records.{usage_of}
 use Rattle.snap_record.specs.declared.record.Content.{Content}
 use Rattle.snap_record.specs.declared.record.Content.TheVariants.{View, Active, Committed}
 use Rattle.snap_record.specs.declared.record.Record.{Record}
-use Rattle.snap_call.specs.Records.{record_cmp, has_slot, is_slot, active_at, charge_if, charge_at, with_record, without_slot, recharged, committed_as}
+use Rattle.snap_call.specs.Records.{record_cmp, has_slot, is_slot, is_active, active_at, charge_if, charge_at, with_record, without, without_slot, recharged, committed_as}
 use Rattle.snap_call.specs.Good.{AllPairwise, AreApart}
-use Rattle.snap_call.proofs.Sums.{active_at-here, active_at-past}
-use Rattle.snap_call.proofs.Lists.{active_at-is_slot}
+use Rattle.snap_call.proofs.Sums.{find-here, find-past}
+use Rattle.snap_call.proofs.Lists.{active_at-is_slot, find-without_other}
 
 -- what is known of a record in a slot
 has_slot-Active : (slot : ℕ) (c : Content) → has_slot slot c ≡ true → c ≡ Active slot (usage_of c)
@@ -87,14 +87,24 @@ active_at-without_slot_other slot k (t ∷ ts) ne = at (is_slot slot t) refl (ac
     at true is next = rw (is, is_slot-other slot k t ne is) refl
     at false is next = rw is (other (is_slot k t) refl next)
 
+-- a record that isn't active is in no slot
+idle_no_slot : (k : ℕ) (c : Content) → is_active c ≡ false → has_slot k c ≡ false
+idle_no_slot k (View layers) e = refl
+idle_no_slot k (Active s u) e = absurd (true≢false e)
+idle_no_slot k (Committed layer u) e = refl
+
+-- where a record goes that isn't active, all slots stay as they are
+pub active_at-without_idle : (k : ℕ) (p : Record → Bool) (rs : List Record) (r : Record) → find p rs ≡ Some r → is_active r.content ≡ false → active_at k (without p rs) ≡ active_at k rs
+active_at-without_idle k p rs r e idle = find-without_other p (is_slot k) rs r e (idle_no_slot k r.content idle)
+
 -- recharged
 pub active_at-recharged_own : (slot : ℕ) (to : Usage) (rs : List Record) (r : Record) → active_at slot rs ≡ Some r → active_at slot (recharged slot to rs) ≡ Some (record r { content = Active slot to })
 active_at-recharged_own slot to [] r e = absurd (cc)
 active_at-recharged_own slot to (t ∷ ts) r e = at (is_slot slot t) refl (active_at-recharged_own slot to ts r)
   where
     at : (b : Bool) → is_slot slot t ≡ b → (active_at slot ts ≡ Some r → active_at slot (recharged slot to ts) ≡ Some (record r { content = Active slot to })) → active_at slot (recharged slot to (t ∷ ts)) ≡ Some (record r { content = Active slot to })
-    at true is next = rw (is, eq-eqb slot slot refl) (ap (λ (x : Record). Some (record x { content = Active slot to })) (active_at-here slot t ts r is e))
-    at false is next = rw is (rw is (next (active_at-past slot t ts r is e)))
+    at true is next = rw (is, eq-eqb slot slot refl) (ap (λ (x : Record). Some (record x { content = Active slot to })) (find-here (is_slot slot) t ts r is e))
+    at false is next = rw is (rw is (next (find-past (is_slot slot) t ts r is e)))
 
 pub active_at-recharged_other : (slot k : ℕ) (to : Usage) (rs : List Record) → k ≢ slot → active_at k (recharged slot to rs) ≡ active_at k rs
 active_at-recharged_other slot k to [] ne = refl
@@ -162,6 +172,9 @@ charge_at-without_slot_own slot rs apart = ap (charge_if slot) (active_at-withou
 
 pub charge_at-without_slot_other : (slot k : ℕ) (rs : List Record) → k ≢ slot → charge_at k (without_slot slot rs) ≡ charge_at k rs
 charge_at-without_slot_other slot k rs ne = ap (charge_if k) (active_at-without_slot_other slot k rs ne)
+
+pub charge_at-without_idle : (k : ℕ) (p : Record → Bool) (rs : List Record) (r : Record) → find p rs ≡ Some r → is_active r.content ≡ false → charge_at k (without p rs) ≡ charge_at k rs
+charge_at-without_idle k p rs r e idle = ap (charge_if k) (active_at-without_idle k p rs r e idle)
 
 pub charge_at-recharged_own : (slot : ℕ) (to : Usage) (rs : List Record) (r : Record) → active_at slot rs ≡ Some r → charge_at slot (recharged slot to rs) ≡ record { slot = slot; id = r.id; usage = to; issued = true }
 charge_at-recharged_own slot to rs r e = ap (charge_if slot) (active_at-recharged_own slot to rs r e)

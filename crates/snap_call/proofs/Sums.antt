@@ -1,7 +1,7 @@
 -- What each change of the records does to the charge of a namespace.
 use Rattle.std.proofs.Common.{◌≡◌, ◌≢◌, ℕ, List, [], ◌∷◌, Bool, true, false, Some, eq-eqb, refl, sym, ap, ◌∙◌, subst, ⊎_elim, arith}
 use Rattle.std.proofs.lemmas.Bool.Decides.{eqb_tells}
-use Rattle.std.specs.Prelude.{◌==◌, if◌then◌else◌, Option}
+use Rattle.std.specs.Prelude.{◌==◌, if◌then◌else◌, Option, find}
 use Rattle.std.specs.Ordering.{is_lt}
 use Rattle.snap_layer.specs.Tree.{Tree}
 use Rattle.snap_usage.specs.declared.usage.Usage.{Usage}
@@ -11,7 +11,7 @@ use Rattle.snap_record.specs.Labels.{Bytes}
 use Rattle.snap_record.specs.Records.{usage_of}
 use Rattle.snap_record.specs.declared.record.Content.TheVariants.{Active}
 use Rattle.snap_record.specs.declared.record.Record.{Record}
-use Rattle.snap_call.specs.Records.{record_cmp, is_slot, active_at, charge_of, with_record, without_slot, recharged, committed_as}
+use Rattle.snap_call.specs.Records.{record_cmp, is_slot, active_at, charge_of, with_record, without, without_slot, recharged, committed_as}
 
 -- what the record adds to the charge of the namespace at this place
 abbrev pub part_of : ℕ → Record → Usage
@@ -70,21 +70,21 @@ charge_of-with_record place r (t ∷ ts) = at (is_lt (record_cmp r t)) refl (cha
     at true is next = rw is (plus-turned (part_of place r) (plus (part_of place t) (charge_of place ts)))
     at false is next = rw is (ap (plus (part_of place t)) next ∙ plus-joined (part_of place t) (charge_of place ts) (part_of place r))
 
--- the record of a slot is the first one that is active in it
-pub active_at-here : (slot : ℕ) (t : Record) (ts : List Record) (r : Record) → is_slot slot t ≡ true → active_at slot (t ∷ ts) ≡ Some r → t ≡ r
-active_at-here slot t ts r is e = let f : ◌≡◌ {A = Option Record} (Some t) (Some r) = rw is at e in cc
+-- what is found is the first that passes
+pub find-here : (p : Record → Bool) (t : Record) (ts : List Record) (r : Record) → p t ≡ true → find p (t ∷ ts) ≡ Some r → t ≡ r
+find-here p t ts r is e = let f : ◌≡◌ {A = Option Record} (Some t) (Some r) = rw is at e in cc
 
-pub active_at-past : (slot : ℕ) (t : Record) (ts : List Record) (r : Record) → is_slot slot t ≡ false → active_at slot (t ∷ ts) ≡ Some r → active_at slot ts ≡ Some r
-active_at-past slot t ts r is e = rw is at e
+pub find-past : (p : Record → Bool) (t : Record) (ts : List Record) (r : Record) → p t ≡ false → find p (t ∷ ts) ≡ Some r → find p ts ≡ Some r
+find-past p t ts r is e = rw is at e
 
--- the record of a slot less
-pub charge_of-without_slot : (place slot : ℕ) (rs : List Record) (r : Record) → active_at slot rs ≡ Some r → charge_of place rs ≡ plus (charge_of place (without_slot slot rs)) (part_of place r)
-charge_of-without_slot place slot [] r e = absurd (cc)
-charge_of-without_slot place slot (t ∷ ts) r e = at (is_slot slot t) refl (charge_of-without_slot place slot ts r)
+-- the record that is found less
+pub charge_of-without : (place : ℕ) (p : Record → Bool) (rs : List Record) (r : Record) → find p rs ≡ Some r → charge_of place rs ≡ plus (charge_of place (without p rs)) (part_of place r)
+charge_of-without place p [] r e = absurd (cc)
+charge_of-without place p (t ∷ ts) r e = at (p t) refl (charge_of-without place p ts r)
   where
-    at : (b : Bool) → is_slot slot t ≡ b → (active_at slot ts ≡ Some r → charge_of place ts ≡ plus (charge_of place (without_slot slot ts)) (part_of place r)) → charge_of place (t ∷ ts) ≡ plus (charge_of place (without_slot slot (t ∷ ts))) (part_of place r)
-    at true is next = rw is (ap (λ (x : Record). plus (part_of place x) (charge_of place ts)) (active_at-here slot t ts r is e) ∙ plus-turned (part_of place r) (charge_of place ts))
-    at false is next = rw is (ap (plus (part_of place t)) (next (active_at-past slot t ts r is e)) ∙ plus-joined (part_of place t) (charge_of place (without_slot slot ts)) (part_of place r))
+    at : (b : Bool) → p t ≡ b → (find p ts ≡ Some r → charge_of place ts ≡ plus (charge_of place (without p ts)) (part_of place r)) → charge_of place (t ∷ ts) ≡ plus (charge_of place (without p (t ∷ ts))) (part_of place r)
+    at true is next = rw is (ap (λ (x : Record). plus (part_of place x) (charge_of place ts)) (find-here p t ts r is e) ∙ plus-turned (part_of place r) (charge_of place ts))
+    at false is next = rw is (ap (plus (part_of place t)) (next (find-past p t ts r is e)) ∙ plus-joined (part_of place t) (charge_of place (without p ts)) (part_of place r))
 
 -- the record of a slot charged anew
 pub charge_of-recharged : (place slot : ℕ) (to : Usage) (rs : List Record) (r : Record) → active_at slot rs ≡ Some r
@@ -94,8 +94,8 @@ charge_of-recharged place slot to (t ∷ ts) r e = at (is_slot slot t) refl (cha
   where
     at : (b : Bool) → is_slot slot t ≡ b → (active_at slot ts ≡ Some r → charge_of place (recharged slot to ts) ≡ plus (charge_of place (without_slot slot ts)) (part_of place (record r { content = Active slot to })))
         → charge_of place (recharged slot to (t ∷ ts)) ≡ plus (charge_of place (without_slot slot (t ∷ ts))) (part_of place (record r { content = Active slot to }))
-    at true is next = rw is (ap (λ (x : Record). plus (part_of place (record x { content = Active slot to })) (charge_of place ts)) (active_at-here slot t ts r is e) ∙ plus-turned (part_of place (record r { content = Active slot to })) (charge_of place ts))
-    at false is next = rw is (ap (plus (part_of place t)) (next (active_at-past slot t ts r is e)) ∙ plus-joined (part_of place t) (charge_of place (without_slot slot ts)) (part_of place (record r { content = Active slot to })))
+    at true is next = rw is (ap (λ (x : Record). plus (part_of place (record x { content = Active slot to })) (charge_of place ts)) (find-here (is_slot slot) t ts r is e) ∙ plus-turned (part_of place (record r { content = Active slot to })) (charge_of place ts))
+    at false is next = rw is (ap (plus (part_of place t)) (next (find-past (is_slot slot) t ts r is e)) ∙ plus-joined (part_of place t) (charge_of place (without_slot slot ts)) (part_of place (record r { content = Active slot to })))
 
 -- with_record, in the record's own namespace and in another one
 pub charge_of-with_record_own : (r : Record) (rs : List Record) → charge_of r.namespace (with_record r rs) ≡ plus (charge_of r.namespace rs) (usage_of r.content)
@@ -104,42 +104,42 @@ charge_of-with_record_own r rs = charge_of-with_record r.namespace r rs ∙ ap (
 pub charge_of-with_record_other : (place : ℕ) (r : Record) (rs : List Record) → place ≢ r.namespace → charge_of place (with_record r rs) ≡ charge_of place rs
 charge_of-with_record_other place r rs ne = charge_of-with_record place r rs ∙ ap (plus (charge_of place rs)) (part_of-other place r ne) ∙ plus-none (charge_of place rs)
 
--- without_slot
-charge_of-without_slot_sum : (slot : ℕ) (rs : List Record) (r : Record) → active_at slot rs ≡ Some r → charge_of r.namespace rs ≡ plus (charge_of r.namespace (without_slot slot rs)) (usage_of r.content)
-charge_of-without_slot_sum slot rs r e = charge_of-without_slot r.namespace slot rs r e ∙ ap (plus (charge_of r.namespace (without_slot slot rs))) (part_of-own r)
+-- a record less
+charge_of-without_sum : (p : Record → Bool) (rs : List Record) (r : Record) → find p rs ≡ Some r → charge_of r.namespace rs ≡ plus (charge_of r.namespace (without p rs)) (usage_of r.content)
+charge_of-without_sum p rs r e = charge_of-without r.namespace p rs r e ∙ ap (plus (charge_of r.namespace (without p rs))) (part_of-own r)
 
-pub charge_of-covers : (slot : ℕ) (rs : List Record) (r : Record) → active_at slot rs ≡ Some r → Covers (charge_of r.namespace rs) (usage_of r.content)
-charge_of-covers slot rs r e = subst (λ (u : Usage). Covers u (usage_of r.content)) (sym (charge_of-without_slot_sum slot rs r e)) (Covers-plus (charge_of r.namespace (without_slot slot rs)) (usage_of r.content))
+pub charge_of-covers : (p : Record → Bool) (rs : List Record) (r : Record) → find p rs ≡ Some r → Covers (charge_of r.namespace rs) (usage_of r.content)
+charge_of-covers p rs r e = subst (λ (u : Usage). Covers u (usage_of r.content)) (sym (charge_of-without_sum p rs r e)) (Covers-plus (charge_of r.namespace (without p rs)) (usage_of r.content))
 
-pub charge_of-without_slot_own : (slot : ℕ) (rs : List Record) (r : Record) → active_at slot rs ≡ Some r → charge_of r.namespace (without_slot slot rs) ≡ minus (charge_of r.namespace rs) (usage_of r.content)
-charge_of-without_slot_own slot rs r e = sym (ap (λ (u : Usage). minus u (usage_of r.content)) (charge_of-without_slot_sum slot rs r e) ∙ minus-plus (charge_of r.namespace (without_slot slot rs)) (usage_of r.content))
+pub charge_of-without_own : (p : Record → Bool) (rs : List Record) (r : Record) → find p rs ≡ Some r → charge_of r.namespace (without p rs) ≡ minus (charge_of r.namespace rs) (usage_of r.content)
+charge_of-without_own p rs r e = sym (ap (λ (u : Usage). minus u (usage_of r.content)) (charge_of-without_sum p rs r e) ∙ minus-plus (charge_of r.namespace (without p rs)) (usage_of r.content))
 
-pub charge_of-without_slot_other : (place slot : ℕ) (rs : List Record) (r : Record) → active_at slot rs ≡ Some r → place ≢ r.namespace → charge_of place (without_slot slot rs) ≡ charge_of place rs
-charge_of-without_slot_other place slot rs r e ne = sym (charge_of-without_slot place slot rs r e ∙ ap (plus (charge_of place (without_slot slot rs))) (part_of-other place r ne) ∙ plus-none (charge_of place (without_slot slot rs)))
+pub charge_of-without_other : (place : ℕ) (p : Record → Bool) (rs : List Record) (r : Record) → find p rs ≡ Some r → place ≢ r.namespace → charge_of place (without p rs) ≡ charge_of place rs
+charge_of-without_other place p rs r e ne = sym (charge_of-without place p rs r e ∙ ap (plus (charge_of place (without p rs))) (part_of-other place r ne) ∙ plus-none (charge_of place (without p rs)))
 
 -- recharged
 pub charge_of-recharged_own : (slot : ℕ) (to : Usage) (rs : List Record) (r : Record) → active_at slot rs ≡ Some r → charge_of r.namespace (recharged slot to rs) ≡ charge_with r to rs
 charge_of-recharged_own slot to rs r e =
     charge_of-recharged r.namespace slot to rs r e
     ∙ ap (plus (charge_of r.namespace (without_slot slot rs))) (part_of-own (record r { content = Active slot to }))
-    ∙ ap (λ (u : Usage). plus u to) (charge_of-without_slot_own slot rs r e)
+    ∙ ap (λ (u : Usage). plus u to) (charge_of-without_own (is_slot slot) rs r e)
 
 pub charge_of-recharged_other : (place slot : ℕ) (to : Usage) (rs : List Record) (r : Record) → active_at slot rs ≡ Some r → place ≢ r.namespace → charge_of place (recharged slot to rs) ≡ charge_of place rs
 charge_of-recharged_other place slot to rs r e ne =
     charge_of-recharged place slot to rs r e
     ∙ ap (plus (charge_of place (without_slot slot rs))) (part_of-other place (record r { content = Active slot to }) ne)
     ∙ plus-none (charge_of place (without_slot slot rs))
-    ∙ charge_of-without_slot_other place slot rs r e ne
+    ∙ charge_of-without_other place (is_slot slot) rs r e ne
 
 -- the record of a slot committed
 pub charge_of-committed_own : (slot : ℕ) (name : Bytes) (layer : Tree) (number : ℕ) (rs : List Record) (r : Record) → active_at slot rs ≡ Some r
     → charge_of r.namespace (with_record (committed_as name layer number r) (without_slot slot rs)) ≡ charge_with r (count_of layer) rs
 charge_of-committed_own slot name layer number rs r e =
     charge_of-with_record_own (committed_as name layer number r) (without_slot slot rs)
-    ∙ ap (λ (u : Usage). plus u (count_of layer)) (charge_of-without_slot_own slot rs r e)
+    ∙ ap (λ (u : Usage). plus u (count_of layer)) (charge_of-without_own (is_slot slot) rs r e)
 
 pub charge_of-committed_other : (place slot : ℕ) (name : Bytes) (layer : Tree) (number : ℕ) (rs : List Record) (r : Record) → active_at slot rs ≡ Some r → place ≢ r.namespace
     → charge_of place (with_record (committed_as name layer number r) (without_slot slot rs)) ≡ charge_of place rs
 charge_of-committed_other place slot name layer number rs r e ne =
     charge_of-with_record_other place (committed_as name layer number r) (without_slot slot rs) ne
-    ∙ charge_of-without_slot_other place slot rs r e ne
+    ∙ charge_of-without_other place (is_slot slot) rs r e ne

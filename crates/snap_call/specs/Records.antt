@@ -50,6 +50,19 @@ is_slot slot r = has_slot slot r.content
 abbrev pub active_at : ℕ → List Record → Option Record
 active_at slot rs = find (is_slot slot) rs
 
+-- the record is in the namespace and on this parent
+abbrev pub is_child : ℕ → Bytes → Record → Bool
+is_child place key r = (r.namespace == place) && bytes_eq r.parent key
+
+-- whether the namespace has a snapshot on this parent
+abbrev pub has_children : ℕ → Bytes → List Record → Bool
+has_children place key rs = list_any (is_child place key) rs
+
+-- an active record
+abbrev pub is_active : Content → Bool
+is_active (Active slot charged) = true
+is_active content = false
+
 -- a committed record
 abbrev pub is_committed : Content → Bool
 is_committed (Committed layer usage) = true
@@ -87,10 +100,18 @@ abbrev pub with_record : Record → List Record → List Record
 with_record r [] = r ∷ []
 with_record r (t ∷ ts) = if is_lt (record_cmp r t) then r ∷ t ∷ ts else t ∷ with_record r ts
 
--- the records without the one that is active in the slot
+-- the records without the first that passes a test
+abbrev pub without : (Record → Bool) → List Record → List Record
+without p [] = []
+without p (r ∷ rs) = if p r then rs else r ∷ without p rs
+
+-- without the one that is active in the slot
 abbrev pub without_slot : ℕ → List Record → List Record
-without_slot slot [] = []
-without_slot slot (r ∷ rs) = if is_slot slot r then rs else r ∷ without_slot slot rs
+without_slot slot rs = without (is_slot slot) rs
+
+-- without the one of this key in the namespace
+abbrev pub without_key : ℕ → Bytes → List Record → List Record
+without_key place key rs = without (is_named place key) rs
 
 -- the records after the one that is active in the slot is charged so much
 abbrev pub recharged : ℕ → Usage → List Record → List Record

@@ -6,6 +6,7 @@ use Rattle.snap_layer.specs.Tree.{Tree}
 use Rattle.snap_usage.specs.declared.usage.Usage.{Usage}
 use Rattle.snap_usage.specs.Counted.{count_of, Covers, covers}
 use Rattle.snap_ledger.specs.States.{plus, minus}
+use Rattle.snap_lease.specs.Leases.{is_guarded}
 use Rattle.snap_record.specs.Labels.{Bytes, Label, are_labels}
 use Rattle.snap_record.specs.Records.{usage_of, info_of, kind_of}
 use Rattle.snap_record.specs.Updates.{is_granted, is_well_formed, updated as labels_after}
@@ -21,12 +22,12 @@ use Rattle.snap_call.specs.declared.call.Call.TheVariants as calls
 use Rattle.snap_call.specs.declared.call.Given.{Given}
 use Rattle.snap_call.specs.declared.call.Given.TheVariants.{Count, Layer}
 use Rattle.snap_call.specs.declared.refusal.Refusal.{Refusal}
-use Rattle.snap_call.specs.declared.refusal.Refusal.TheVariants.{BadArgument, NoNamespace, NotFound, AlreadyExists, NotCommitted, NotActive, NoLease, TooDeep, TooManyActives, NumbersSpent}
+use Rattle.snap_call.specs.declared.refusal.Refusal.TheVariants.{BadArgument, NoNamespace, NotFound, AlreadyExists, NotCommitted, NotActive, HasChildren, InUse, Leased, NoLease, TooDeep, TooManyActives, NumbersSpent}
 use Rattle.snap_call.specs.declared.reply.Reply.{Reply}
-use Rattle.snap_call.specs.declared.reply.Reply.TheVariants.{Opened, Prepared, Viewed, Charged, Trimmed, Committed, Discarded, Info, Page, Usage as UsageReply, Mounts as MountsReply, Refused}
+use Rattle.snap_call.specs.declared.reply.Reply.TheVariants.{Opened, Prepared, Viewed, Charged, Trimmed, Committed, Discarded, Removed, Info, Page, Usage as UsageReply, Mounts as MountsReply, Refused}
 use Rattle.snap_call.specs.declared.state.State.{State}
 use Rattle.snap_call.specs.Forms.{is_key, is_parent, is_page, is_start}
-use Rattle.snap_call.specs.Records.{record_at, has_key, active_at, charge_of, with_record, without_slot, recharged, relabelled, with_labels, page, committed_as, lowest_free}
+use Rattle.snap_call.specs.Records.{record_at, has_key, has_children, is_active, active_at, charge_of, with_record, without_slot, without_key, recharged, relabelled, with_labels, page, committed_as, lowest_free}
 use Rattle.snap_call.specs.State.{place_of, limit_at, over_limit, is_present, is_base, is_too_deep, ancestors, ids_of, shown_layers}
 
 -- one entry more
@@ -163,6 +164,25 @@ abbrev pub discard : State → ℕ → Option Record → State × Reply
 discard s slot (Some r) = (record s { records = without_slot slot s.records; entries = s.entries + 1 }, Discarded (usage_of r.content))
 discard s slot None = refused s NotActive
 
+-- Remove: a snapshot goes that is no parent, isn't active and is named by no lease, and what it was charged is answered (containerd's Snapshotter.Remove)
+abbrev pub removed_at : State → ℕ → Bytes → State
+removed_at s place key = record s { records = without_key place key s.records; entries = s.entries + 1 }
+
+abbrev pub remove_record : State → Bytes → Bytes → ℕ → Option Record → State × Reply
+remove_record s namespace key place None = refused s NotFound
+remove_record s namespace key place (Some r) =
+    if has_children place key s.records then refused s HasChildren else
+    if is_active r.content then refused s InUse else
+    if is_guarded s.leases namespace key then refused s Leased else
+    (removed_at s place key, Removed (usage_of r.content))
+
+abbrev pub remove_at : State → Bytes → Bytes → Option ℕ → State × Reply
+remove_at s namespace key None = refused s NoNamespace
+remove_at s namespace key (Some place) = remove_record s namespace key place (record_at place key s.records)
+
+abbrev pub remove : State → Bytes → Bytes → State × Reply
+remove s namespace key = if is_key key then remove_at s namespace key (place_of namespace s.namespaces) else refused s BadArgument
+
 -- Stat, Usage, Mounts: what is asked of a record
 abbrev pub ask_record : State → (Record → Reply) → Option Record → State × Reply
 ask_record s answer None = refused s NotFound
@@ -220,6 +240,7 @@ step s (calls.Stat namespace key) given = ask s (λ r. Info (info_of r)) namespa
 step s (calls.Usage namespace key) given = ask s (λ r. UsageReply (usage_of r.content)) namespace key
 step s (calls.Mounts namespace key) given = ask s (mounts s) namespace key
 step s (calls.View namespace key parent labels) given = view s namespace key parent labels
+step s (calls.Remove namespace key) given = remove s namespace key
 step s (calls.Update namespace key labels paths) given = update s namespace key labels paths
 step s (calls.Walk namespace after most asked) given = walk s namespace after most asked
 

@@ -64,6 +64,11 @@ pub enum Call {
         parent: Text,
         labels: Labels,
     },
+    /// Takes a snapshot away (containerd's `Remove`).
+    Remove {
+        namespace: Text,
+        key: Text,
+    },
     /// Changes a snapshot's labels by field paths (containerd's `Update`).
     Update {
         namespace: Text,
@@ -132,6 +137,10 @@ impl Drop for Call {
                 key: _,
                 parent: _,
                 labels: _,
+            } => {}
+            Call::Remove {
+                namespace: _,
+                key: _,
             } => {}
             Call::Update {
                 namespace: _,
@@ -215,6 +224,10 @@ impl Clone for Call {
                 parent,
                 labels,
             } => clone_view(namespace, key, parent, labels),
+            Call::Remove { namespace, key } => {
+                let (namespace, key) = clone_both(namespace, key)?;
+                Ok(Call::Remove { namespace, key })
+            }
             Call::Update {
                 namespace,
                 key,

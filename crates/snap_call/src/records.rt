@@ -1,8 +1,7 @@
 ghost use Rattle.std.specs.Prelude.{◌≡◌, ◌<◌, ◌≤◌, [], length, position, option_copied, OnOk, OnErr, OnSome, IfErr, IfOk, MatchOption, IsTrue, ◌↔◌, vec_len, vec_capacity};
 ghost use Rattle.std.specs.Ordering.{is_lt};
 ghost use Rattle.std.specs.List.{insert, list_any};
-ghost use Rattle.snap_usage.specs.Counted.{count_of};
-ghost use Rattle.snap_call.specs.Records.{record_at, record_cmp, has_key, is_named, is_slot, is_later, active_at, with_record, without_slot, recharged, relabelled, is_walked, page, committed_as, lowest_free};
+ghost use Rattle.snap_call.specs.Records.{record_at, record_cmp, has_key, has_children, is_child, is_named, is_slot, is_later, active_at, with_record, without_key, without_slot, recharged, relabelled, is_walked, page, committed_as, lowest_free};
 
 use snap_layer::Shared;
 use snap_ledger::MAX_SLOTS;
@@ -76,6 +75,13 @@ impl Records {
         self.list.iter().find(|record| is_named(record, place, key))
     }
 
+    /// Whether the namespace at the place has a snapshot on this parent. Takes no memory.
+    pub fn has_children(&self, place: usize, key: &str) -> bool
+        ensures { result ≡ has_children place key.now self.now }
+    {
+        self.list.iter().any(|record| is_child(record, place, key))
+    }
+
     /// The record that is active in the slot, if the slot is open. Takes no memory.
     pub fn active_at(&self, slot: u64) -> Option<&Record>
         ensures { option_copied result ≡ active_at slot self.now }
@@ -121,6 +127,18 @@ impl Records {
         ensures record_taken { result ≡ active_at slot self.old }
     {
         take_active(&mut self.list, slot)
+    }
+
+    /// Takes the record of the key in the namespace at the place away. Where there is none, the records
+    /// are as they were. Takes no memory.
+    pub fn take_key(&mut self, place: usize, key: &str) -> Option<Record>
+        ensures taken { self.new ≡ without_key place key.now self.old }
+        ensures record_taken { result ≡ record_at place key.now self.old }
+    {
+        match place_of_key(&self.list, place, key) {
+            Some(at) => Some(self.list.remove(at)),
+            None => None,
+        }
     }
 
     /// Charges the record of a slot for so much. Where the slot is not open, the records are as
@@ -229,6 +247,13 @@ fn is_named(snapshot: &Record, place: usize, key: &str) -> bool
     ensures { result ≡ is_named place key.now snapshot.now }
 {
     snapshot.namespace == place && snapshot.key.as_str() == key
+}
+
+/// Whether the record is in the namespace at this place and on this parent.
+fn is_child(snapshot: &Record, place: usize, parent: &str) -> bool
+    ensures { result ≡ is_child place parent.now snapshot.now }
+{
+    snapshot.namespace == place && snapshot.parent.as_str() == parent
 }
 
 /// Whether the record is one of the namespace at this place, has a key that comes after the text, and

@@ -33,6 +33,8 @@ pub enum Reply {
     },
     /// What the snapshot was charged.
     Discarded(Usage),
+    /// What the snapshot was charged.
+    Removed(Usage),
     Info(Info),
     Usage(Usage),
     Mounts(Sequence<Mount>),
@@ -64,6 +66,7 @@ impl Clone for Reply {
                 usage: *usage,
             },
             Reply::Discarded(usage) => Reply::Discarded(*usage),
+            Reply::Removed(usage) => Reply::Removed(*usage),
             Reply::Info(info) => Reply::Info(info.clone()?),
             Reply::Usage(usage) => Reply::Usage(*usage),
             Reply::Mounts(mounts) => Reply::Mounts(mounts.clone()?),

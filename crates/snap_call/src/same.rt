@@ -111,6 +111,7 @@ pub(crate) fn is_same_call(a: &Call, b: &Call) -> bool
             parent,
             labels,
         } => is_view(b, namespace, key, parent, labels),
+        Call::Remove { namespace, key } => is_remove(b, namespace, key),
         Call::Update {
             namespace,
             key,
@@ -231,6 +232,18 @@ fn is_mounts(call: &Call, namespace: &Text, key: &Text) -> bool
     }
 }
 
+fn is_remove(call: &Call, namespace: &Text, key: &Text) -> bool
+    ensures { IsTrue result ↔ (calls.Remove namespace.now key.now ≡ call.now) }
+{
+    match call {
+        Call::Remove {
+            namespace: n,
+            key: k,
+        } => *namespace == *n && *key == *k,
+        _ => false,
+    }
+}
+
 fn is_view(call: &Call, namespace: &Text, key: &Text, parent: &Text, labels: &Labels) -> bool
     ensures { IsTrue result ↔ (calls.View namespace.now key.now parent.now labels.now ≡ call.now) }
 {
@@ -301,6 +314,7 @@ pub(crate) fn is_same_reply(a: &Reply, b: &Reply) -> bool
             *id == *i && *usage == *u
         }
         (Reply::Discarded(a), Reply::Discarded(b)) => *a == *b,
+        (Reply::Removed(a), Reply::Removed(b)) => *a == *b,
         (Reply::Info(a), Reply::Info(b)) => is_same_info(a, b),
         (Reply::Usage(a), Reply::Usage(b)) => *a == *b,
         (Reply::Mounts(a), Reply::Mounts(b)) => is_same_mounts(a, b),

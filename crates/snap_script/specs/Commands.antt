@@ -61,7 +61,7 @@ filter_of line = do
   labels ← optional as_label_filters fields.Labels (Ok []) line
   Ok (record { name = name; parent = parent; kind = kind; labels = labels })
 
--- the command of a line by its verb, mostly on a snapshot s; `prepare`, `view`, `commit`, `update` and `walk` are containerd's calls of these names, and a charge wants what it needs where it names no other
+-- the command of a line by its verb, mostly on a snapshot s; `prepare`, `view`, `commit`, `remove`, `update` and `walk` are containerd's calls of these names, and a charge wants what it needs where it names no other
 unfoldable pub command_of : Verb → Data → Result Command Fault
 command_of verbs.Open line = open_of line
 command_of verbs.Session line = Ok commands.Session
@@ -71,6 +71,7 @@ command_of verbs.Charge line = do s ← named line; need ← required as_usage f
 command_of verbs.Trim line = do s ← named line; Ok (commands.Trim s.0 s.1)
 command_of verbs.Commit line = do s ← named line; Ok (commands.Commit s.0 s.1 (← text fields.Name line) (← given as_str fields.Lease line))
 command_of verbs.Discard line = do s ← named line; Ok (commands.Discard s.0 s.1)
+command_of verbs.Remove line = do s ← named line; Ok (commands.Remove s.0 s.1)
 command_of verbs.Stat line = do s ← named line; Ok (commands.Stat s.0 s.1)
 command_of verbs.Update line = do s ← named line; Ok (commands.Update s.0 s.1 (← required as_labels fields.Labels line) (← optional as_texts fields.Paths (Ok []) line))
 command_of verbs.Usage line = do s ← named line; Ok (commands.Usage s.0 s.1)
@@ -91,6 +92,7 @@ words =
     ∷ (codes "trim", verbs.Trim)
     ∷ (codes "commit", verbs.Commit)
     ∷ (codes "discard", verbs.Discard)
+    ∷ (codes "remove", verbs.Remove)
     ∷ (codes "stat", verbs.Stat)
     ∷ (codes "update", verbs.Update)
     ∷ (codes "usage", verbs.Usage)

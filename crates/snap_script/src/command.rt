@@ -57,6 +57,11 @@ pub enum Command {
         namespace: Text,
         key: Text,
     },
+    /// Takes a snapshot away that is committed or a view (containerd's `Remove`).
+    Remove {
+        namespace: Text,
+        key: Text,
+    },
     /// Asks for a snapshot's info (containerd's `Stat`).
     Stat {
         namespace: Text,

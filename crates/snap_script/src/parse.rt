@@ -117,6 +117,14 @@ fn discard(alloc: Global, line: &Value) -> Result<Command, ReadError>
 }
 
 #[tactic(auto, unfolding(crate::specs::Commands::command_of))]
+fn remove(alloc: Global, line: &Value) -> Result<Command, ReadError>
+    ensures { Gives (λ c. c) result (command_of verbs.Remove (view line.now)) }
+{
+    let (namespace, key) = named(alloc, line)?;
+    Ok(Command::Remove { namespace, key })
+}
+
+#[tactic(auto, unfolding(crate::specs::Commands::command_of))]
 fn stat(alloc: Global, line: &Value) -> Result<Command, ReadError>
     ensures { Gives (λ c. c) result (command_of verbs.Stat (view line.now)) }
 {
@@ -341,6 +349,7 @@ pub(crate) fn command_of(alloc: Global, verb: Verb, line: &Value) -> Result<Comm
         Verb::Trim => trim(alloc, line),
         Verb::Commit => commit(alloc, line),
         Verb::Discard => discard(alloc, line),
+        Verb::Remove => remove(alloc, line),
         Verb::Stat => stat(alloc, line),
         Verb::Update => update(alloc, line),
         Verb::Usage => usage(alloc, line),

@@ -16,6 +16,7 @@ pub(crate) enum Verb {
     Trim,
     Commit,
     Discard,
+    Remove,
     Stat,
     Update,
     Usage,
@@ -42,7 +43,7 @@ pub(crate) enum FileVerb {
 }
 
 /// The words of the commands.
-const WORDS: [(&str, Verb); 28] = [
+const WORDS: [(&str, Verb); 29] = [
     ("open", Verb::Open),
     ("session", Verb::Session),
     ("prepare", Verb::Prepare),
@@ -51,6 +52,7 @@ const WORDS: [(&str, Verb); 28] = [
     ("trim", Verb::Trim),
     ("commit", Verb::Commit),
     ("discard", Verb::Discard),
+    ("remove", Verb::Remove),
     ("stat", Verb::Stat),
     ("update", Verb::Update),
     ("usage", Verb::Usage),

@@ -120,6 +120,7 @@ fn on_store<N: StoreName>(
             parent,
             labels,
         } => view(world, n, namespace, key, parent, labels),
+        Command::Remove { namespace, key } => called(world, n, 0, Call::Remove { namespace, key }),
         Command::Update {
             namespace,
             key,

@@ -87,6 +87,7 @@ fn told_reply<N: StoreName>(session: u64, slot: u64, world: &World<N>, reply: Re
         Reply::Trimmed => Answer::Share(share_at(world, slot)),
         Reply::Committed { id, usage } => Answer::Committed { id, usage },
         Reply::Discarded(usage) => Answer::Freed(usage),
+        Reply::Removed(usage) => Answer::Freed(usage),
         Reply::Info(info) => Answer::Info(info),
         Reply::Usage(usage) => Answer::Usage(usage),
         Reply::Mounts(mounts) => Answer::Mounts(mounts),

@@ -13,5 +13,6 @@ mod upper;
 mod usage;
 
 pub use op::Op;
+pub use snap_merge::FsError;
 pub use upper::{apply, apply_within};
 pub use usage::{Planned, plan};

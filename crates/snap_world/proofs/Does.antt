@@ -113,6 +113,9 @@ plain_does old new hands n call reply asks answered full = at call asks answered
     at (calls.View namespace key parent labels) a h =
         ⊎_elim (λ e. inl e) (λ e. inr (ap answers.Reply e.0, (e.1, ap (λ (b : BookValue). world_of b hands) e.2)))
         (admits old new hands hands hands 1 n (calls.View namespace key parent labels) Nothing (λ r. hands) reply (ends old new n (calls.View namespace key parent labels) Nothing reply h) full_here refl refl)
+    at (calls.Remove namespace key) a h =
+        ⊎_elim (λ e. inl e) (λ e. inr (ap answers.Reply e.0, (e.1, ap (λ (b : BookValue). world_of b hands) e.2)))
+        (admits old new hands hands hands 1 n (calls.Remove namespace key) Nothing (λ r. hands) reply (ends old new n (calls.Remove namespace key) Nothing reply h) full_here refl refl)
     at (calls.Update namespace key labels paths) a h =
         ⊎_elim (λ e. inl e) (λ e. inr (ap answers.Reply e.0, (e.1, ap (λ (b : BookValue). world_of b hands) e.2)))
         (admits old new hands hands hands 1 n (calls.Update namespace key labels paths) Nothing (λ r. hands) reply (ends old new n (calls.Update namespace key labels paths) Nothing reply h) full_here refl refl)
@@ -133,6 +136,7 @@ plain_in_vain w n call asks full = at call asks
     at (calls.Usage namespace key) a = inl (ap (λ (b : Bool). if b then (w, answers.Reply (Refused JournalFull)) else recorded w n (calls.Usage namespace key) Nothing (λ reply. w.hands)) no_room)
     at (calls.Mounts namespace key) a = inl (ap (λ (b : Bool). if b then (w, answers.Reply (Refused JournalFull)) else recorded w n (calls.Mounts namespace key) Nothing (λ reply. w.hands)) no_room)
     at (calls.View namespace key parent labels) a = inl (ap (λ (b : Bool). if b then (w, answers.Reply (Refused JournalFull)) else recorded w n (calls.View namespace key parent labels) Nothing (λ reply. w.hands)) no_room)
+    at (calls.Remove namespace key) a = inl (ap (λ (b : Bool). if b then (w, answers.Reply (Refused JournalFull)) else recorded w n (calls.Remove namespace key) Nothing (λ reply. w.hands)) no_room)
     at (calls.Update namespace key labels paths) a = inl (ap (λ (b : Bool). if b then (w, answers.Reply (Refused JournalFull)) else recorded w n (calls.Update namespace key labels paths) Nothing (λ reply. w.hands)) no_room)
     at (calls.Walk namespace after most asked) a = inl (ap (λ (b : Bool). if b then (w, answers.Reply (Refused JournalFull)) else recorded w n (calls.Walk namespace after most asked) Nothing (λ reply. w.hands)) no_room)
     at call a = absurd a
@@ -149,6 +153,7 @@ plain_left w call asks room = at call asks
     at (calls.Usage namespace key) a = (free, refl)
     at (calls.Mounts namespace key) a = (free, refl)
     at (calls.View namespace key parent labels) a = (free, refl)
+    at (calls.Remove namespace key) a = (free, refl)
     at (calls.Update namespace key labels paths) a = (free, refl)
     at (calls.Walk namespace after most asked) a = (free, refl)
     at call a = absurd a

@@ -8,7 +8,6 @@ use Rattle.std.proofs.lemmas.Bool.Decides.{eqb_tells}
 use Rattle.snap_layer.specs.Tree.{Tree}
 use Rattle.snap_usage.specs.declared.usage.Usage.{Usage}
 use Rattle.snap_usage.specs.Counted.{Covers, count_of, covers}
-use Rattle.snap_ledger.specs.States.{plus}
 use Rattle.snap_record.specs.Labels.{Bytes, Label}
 use Rattle.snap_record.specs.Records.{usage_of, info_of}
 use Rattle.snap_record.specs.Updates.{is_granted, is_well_formed, updated as labels_after}
@@ -18,24 +17,24 @@ use Rattle.snap_call.specs.declared.call.Call.{Call}
 use Rattle.snap_call.specs.declared.call.Call.TheVariants as calls
 use Rattle.snap_call.specs.declared.call.Given.{Given}
 use Rattle.snap_call.specs.declared.call.Given.TheVariants.{Nothing, Count, Layer}
-use Rattle.snap_call.specs.declared.refusal.Refusal.TheVariants.{NumbersSpent, NoNamespace, NoLease}
+use Rattle.snap_call.specs.declared.refusal.Refusal.TheVariants.{NoNamespace, NoLease}
 use Rattle.snap_call.specs.declared.refusal.Refusal.{Refusal}
 use Rattle.snap_call.specs.declared.reply.Reply.{Reply}
 use Rattle.snap_call.specs.declared.reply.Reply.TheVariants as replies
 use Rattle.snap_call.specs.declared.state.State.{State}
 use Rattle.snap_call.specs.Good.{Good}
-use Rattle.snap_call.specs.Records.{active_at, charge_of, has_key, is_slot, lowest_free, recharged, record_at, relabelled, with_record, without_slot, committed_as}
+use Rattle.snap_call.specs.Records.{active_at, has_children, has_key, is_active, is_named, is_slot, recharged, record_at, relabelled, with_record, without_key, without_slot, committed_as}
 use Rattle.snap_call.specs.Forms.{is_key, is_page, is_start}
 use Rattle.snap_call.specs.State.{ancestors, layers_of, place_of}
-use Rattle.snap_call.specs.Step.{IsAllowed, IsCovered, IsOpen, ask, ask_record, charge, charge_to, commit_as, committed as committed_state, discard, greater, new_active, one, prepare_at, prepared as prepared_state, refused, session, step, trim, place_for, slot_for, unless_refused, mounts, new_view, view_at, view, update_record, update_at, update, walk_at, walk}
+use Rattle.snap_call.specs.Step.{IsAllowed, IsCovered, IsOpen, ask, ask_record, charge, charge_to, commit_as, committed as committed_state, discard, greater, new_active, one, prepare_at, prepared as prepared_state, refused, session, step, trim, place_for, slot_for, unless_refused, mounts, new_view, view_at, view, remove_record, remove_at, remove, update_record, update_at, update, walk_at, walk}
 use Rattle.snap_call.proofs.Alike.{AreAlike, bare, bare-relabelled, alike-active_at, alike-active_at_None, alike-layers}
-use Rattle.snap_call.proofs.Chains.{chain, Keeps, Keeps-after, Keeps-recharged, Keeps-with_record, Keeps-without_slot, chain-found, keeps-ancestors}
+use Rattle.snap_call.proofs.Chains.{chain, Every, every, IsOther, Keeps, Keeps-after, Keeps-recharged, Keeps-with_record, Keeps-without_slot, chain-found, keeps-ancestors, keeps-without_key, on_other}
 use Rattle.snap_call.proofs.Kept.{covers-Covers, good_step}
 use Rattle.snap_call.proofs.Lists.{active_at-all}
-use Rattle.snap_call.proofs.Ordered.{has_key-without_slot}
+use Rattle.snap_call.proofs.Ordered.{has_key-without}
 use Rattle.snap_call.proofs.Lowest.{lowest_free-Some}
 use Rattle.snap_call.proofs.Places.{IsPlace, IsSlotFor, place_for-Ok, slot_for-Ok}
-use Rattle.snap_call.proofs.Slots.{Active-is_slot, is_slot-other, active_at-with_record_own, active_at-with_record_other, active_at-without_slot_own, active_at-without_slot_other, active_at-recharged_own, active_at-recharged_other, active_at-committed_own, active_at-committed_other}
+use Rattle.snap_call.proofs.Slots.{Active-is_slot, is_slot-other, active_at-with_record_own, active_at-with_record_other, active_at-without_slot_own, active_at-without_slot_other, active_at-without_idle, active_at-recharged_own, active_at-recharged_other, active_at-committed_own, active_at-committed_other}
 use Rattle.std.specs.Option.{option_map, option_map_or, is_some}
 use Rattle.snap_merge.specs.declared.error.FsError.TheVariants.{NeedsCharge}
 use Rattle.snap_upper.specs.declared.op.Op.{Op}
@@ -66,11 +65,27 @@ AreChained rs = AllByRecursion (λ r. IsSome (chain rs r)) rs
 
 -- ---- records that keep the committed ones
 
-module _ (rs ts : List Record) (chained : AreChained rs) (keeps : Keeps rs ts) where
-  -- a record's ancestors are the same
-  same_lowers : (k : ℕ) (r : Record) → active_at k rs ≡ Some r → layers_of (ancestors r.namespace r.parent ts) ≡ layers_of (ancestors r.namespace r.parent rs)
-  same_lowers k r e = ap layers_of (keeps-ancestors rs ts keeps r.namespace r.parent (active_at-all (λ t. IsSome (chain rs t)) k rs r e chained))
+-- those that are active have the same ancestors
+abbrev AreSame : List Record → List Record → Type 0
+AreSame rs ts = (k : ℕ) (r : Record) → active_at k rs ≡ Some r → layers_of (ancestors r.namespace r.parent ts) ≡ layers_of (ancestors r.namespace r.parent rs)
 
+same_here : (rs : List Record) → AreSame rs rs
+same_here rs k r e = refl
+
+-- where all committed records are kept
+same_where : (rs ts : List Record) → AreChained rs → Keeps rs ts → AreSame rs ts
+same_where rs ts chained keeps k r e =
+    ap layers_of (keeps-ancestors Every rs ts (every rs ts keeps) r.namespace r.parent tt (active_at-all (λ t. IsSome (chain rs t)) k rs r e chained))
+
+-- where a key goes that no record is on
+same_without : (rs : List Record) (place : ℕ) (key : Bytes) → AreChained rs → has_children place key rs ≡ false → AreSame rs (without_key place key rs)
+same_without rs place key chained childless k r e =
+    ap layers_of
+    (keeps-ancestors (IsOther place key) rs (without_key place key rs) (keeps-without_key place key rs childless) r.namespace r.parent
+    (active_at-all (λ t. IsOther place key t.namespace t.parent) k rs r e (on_other place key rs childless))
+    (active_at-all (λ t. IsSome (chain rs t)) k rs r e chained))
+
+module _ (rs ts : List Record) (same_lowers : AreSame rs ts) where
   -- and its hand is still the record's
   still_hand : (k : ℕ) (o : Option HandValue) → AgreesAt k rs o (active_at k rs) → AgreesAt k ts o (active_at k rs)
   still_hand k o agrees = at o (active_at k rs) refl agrees
@@ -129,10 +144,6 @@ module _ (rs ts : List Record) (alike : AreAlike rs ts) where
   agree_alike : (hands : List (Option HandValue)) → AgreeAll hands rs → AgreeAll hands ts
   agree_alike hands agree k small = alike_at k (hand_at k hands) (active_at k rs) refl (agree k small)
 
--- the records that stay
-no_change : (rs : List Record) → Keeps rs rs
-no_change rs place key r e = e
-
 -- the snapshot is charged so much
 abbrev charged_so : ActiveValue → Usage → ActiveValue
 charged_so a to = record { namespace = a.namespace; key = a.key; lowers = a.lowers; layer = a.layer; share = record { slot = a.share.slot; id = a.share.id; usage = to } }
@@ -142,10 +153,10 @@ recharges : (slot : ℕ) (to : Usage) (hands : List (Option HandValue)) (rs : Li
 recharges slot to hands rs h r chained agree low at is more =
     let ts : List Record = recharged slot to rs in
     let keeps : Keeps rs ts = Keeps-recharged slot to rs in
-    agree_set rs ts chained keeps slot _ hands agree low
+    agree_set rs ts (same_where rs ts chained keeps) slot _ hands agree low
     (subst (λ (x : Option Record). AgreesAt slot ts (Some (record { snapshot = charged_so h.snapshot to; sealed = h.sealed })) x)
     (sym (active_at-recharged_own slot to rs r at))
-    (record { namespace = is.namespace; key = is.key; lowers = is.lowers ∙ sym (same_lowers rs ts chained keeps slot r at); slot = is.slot; id = is.id; usage = refl; covers = more }))
+    (record { namespace = is.namespace; key = is.key; lowers = is.lowers ∙ sym (same_where rs ts chained keeps slot r at); slot = is.slot; id = is.id; usage = refl; covers = more }))
     (λ k ne. active_at-recharged_other slot k to rs ne)
 
 -- a hand that stays
@@ -155,7 +166,7 @@ stays slot h hands rs agree at = subst (λ (l : List (Option HandValue)). AgreeA
 seals : (slot : ℕ) (hands : List (Option HandValue)) (rs : List Record) (h : HandValue) (r : Record) → AreChained rs → AgreeAll hands rs → slot < length hands → active_at slot rs ≡ Some r → IsHandOf slot rs h r
     → AgreeAll (with_hand slot (Some (sealed_hand h.snapshot)) hands) rs
 seals slot hands rs h r chained agree low at is =
-    agree_set rs rs chained (no_change rs) slot (Some (sealed_hand h.snapshot)) hands agree low
+    agree_set rs rs (same_here rs) slot (Some (sealed_hand h.snapshot)) hands agree low
     (subst (λ (x : Option Record). AgreesAt slot rs (Some (sealed_hand h.snapshot)) x) (sym at)
     (record { namespace = is.namespace; key = is.key; lowers = is.lowers; slot = is.slot; id = is.id; usage = is.usage; covers = is.covers }))
     (λ k ne. refl)
@@ -199,7 +210,7 @@ left_under : (s : State) (slot : ℕ) (name : Bytes) (lease : Option Bytes) (han
 left_under s slot name None hands h r good agree low stands is new =
     let c : Record = committed_as name h.snapshot.layer (s.entries + 1) r in
     let us : List Record = without_slot slot s.records in
-    goes s.records (with_record c us) good.chains (Keeps-after s.records us (with_record c us) (Keeps-without_slot slot s.records) (Keeps-with_record c us (has_key-without_slot slot r.namespace name s.records new))) slot hands agree low
+    goes s.records (with_record c us) (same_where s.records (with_record c us) good.chains (Keeps-after s.records us (with_record c us) (Keeps-without_slot slot s.records) (Keeps-with_record c us (has_key-without (is_slot slot) r.namespace name s.records new)))) slot hands agree low
     (active_at-committed_own slot name h.snapshot.layer (s.entries + 1) s.records r good.slots) (λ k ne. active_at-committed_other slot k name h.snapshot.layer (s.entries + 1) s.records r ne)
 left_under s slot name (Some lease) hands h r good agree low stands is new = seals slot hands s.records h r good.chains agree low stands is
 
@@ -217,7 +228,7 @@ left_discard : (s : State) (slot : ℕ) (hands : List (Option HandValue)) (r : R
     → Left (λ reply. with_hand slot None hands) (discard s slot (active_at slot s.records))
 left_discard s slot hands r good agree low stands =
     subst (λ (o : Option Record). Left (λ reply. with_hand slot None hands) (discard s slot o)) (sym stands)
-    (goes s.records (without_slot slot s.records) good.chains (Keeps-without_slot slot s.records) slot hands agree low (active_at-without_slot_own slot s.records good.slots) (λ k ne. active_at-without_slot_other slot k s.records ne))
+    (goes s.records (without_slot slot s.records) (same_where s.records (without_slot slot s.records) good.chains (Keeps-without_slot slot s.records)) slot hands agree low (active_at-without_slot_own slot s.records good.slots) (λ k ne. active_at-without_slot_other slot k s.records ne))
 
 -- ---- other calls
 
@@ -241,13 +252,28 @@ left_view_at s namespace key parent labels place hands good agree is =
     let new : Record = new_view s place key parent labels in
     let ts : List Record = with_record new s.records in
     cases_if (Left (λ reply. hands)) (nat_le s.next_id 4294967295) _ _
-    (λ few. agree_on s.records ts good.chains (Keeps-with_record new s.records is.free) hands agree (λ k. active_at-with_record_other k new s.records refl))
+    (λ few. agree_on s.records ts (same_where s.records ts good.chains (Keeps-with_record new s.records is.free)) hands agree (λ k. active_at-with_record_other k new s.records refl))
     (λ spent. agree)
 
 left_view : (s : State) (hands : List (Option HandValue)) (namespace key parent : Bytes) (labels : List Label) → Good s → AgreeAll hands s.records → Left (λ reply. hands) (view s namespace key parent labels)
 left_view s hands namespace key parent labels good agree =
     left_unless_refused s (λ reply. hands) (place_for s namespace key parent labels) (view_at s key parent labels) (λ why. agree)
     (λ place e. left_view_at s namespace key parent labels place hands good agree (place_for-Ok s namespace key parent labels place e))
+
+left_remove_record : (s : State) (hands : List (Option HandValue)) (namespace key : Bytes) (place : ℕ) (o : Option Record) → Good s → record_at place key s.records ≡ o → AgreeAll hands s.records → Left (λ reply. hands) (remove_record s namespace key place o)
+left_remove_record s hands namespace key place None good e agree = agree
+left_remove_record s hands namespace key place (Some r) good e agree =
+    cases_if (Left (λ reply. hands)) (has_children place key s.records) _ _ (λ some. agree)
+    (λ childless. cases_if (Left (λ reply. hands)) (is_active r.content) _ _ (λ active. agree)
+    (λ idle. cases_if (Left (λ reply. hands)) _ _ _ (λ leased. agree)
+    (λ unleased. agree_on s.records (without_key place key s.records) (same_without s.records place key good.chains childless) hands agree (λ k. active_at-without_idle k (is_named place key) s.records r e idle))))
+
+left_remove_at : (s : State) (hands : List (Option HandValue)) (namespace key : Bytes) (o : Option ℕ) → Good s → AgreeAll hands s.records → Left (λ reply. hands) (remove_at s namespace key o)
+left_remove_at s hands namespace key None good agree = agree
+left_remove_at s hands namespace key (Some place) good agree = left_remove_record s hands namespace key place (record_at place key s.records) good refl agree
+
+left_remove : (s : State) (hands : List (Option HandValue)) (namespace key : Bytes) → Good s → AgreeAll hands s.records → Left (λ reply. hands) (remove s namespace key)
+left_remove s hands namespace key good agree = cases_if (Left (λ reply. hands)) (is_key key) _ _ (λ formed. left_remove_at s hands namespace key (place_of namespace s.namespaces) good agree) (λ bad. agree)
 
 left_update_record : (s : State) (hands : List (Option HandValue)) (place : ℕ) (key : Bytes) (given : List Label) (paths : List Bytes) (o : Option Record) → AgreeAll hands s.records → Left (λ reply. hands) (update_record s place key given paths o)
 left_update_record s hands place key given paths None agree = agree
@@ -286,8 +312,8 @@ left_room s namespace key parent labels place slot hands good agree places is fo
     let own : is_slot slot new ≡ true = Active-is_slot slot one new refl in
     let low : slot < length hands = (let p = lowest.0 in omega (arith, places)) in
     let hand : HandValue = new_hand key parent s.records s.next_id slot place in
-    let same : layers_of (ancestors place parent s.records) ≡ layers_of (ancestors place parent ts) = ap layers_of (sym (keeps-ancestors s.records ts keeps place parent (chain-found s.records place parent is.deep))) in
-    agree_set s.records ts good.chains keeps slot (Some hand) hands agree low
+    let same : layers_of (ancestors place parent s.records) ≡ layers_of (ancestors place parent ts) = ap layers_of (sym (keeps-ancestors Every s.records ts (every s.records ts keeps) place parent tt (chain-found s.records place parent is.deep))) in
+    agree_set s.records ts (same_where s.records ts good.chains keeps) slot (Some hand) hands agree low
     (subst (λ (x : Option Record). AgreesAt slot ts (Some hand) x) (sym (active_at-with_record_own slot new s.records own lowest.1))
     (record { namespace = refl; key = refl; lowers = same; slot = refl; id = refl; usage = refl; covers = record { blocks = omega arith; inodes = omega arith } }))
     (λ k ne. active_at-with_record_other k new s.records (is_slot-other slot k new ne own))
@@ -360,6 +386,7 @@ fits_called w n (calls.Prepare namespace key parent labels) fit =
     places replies.Trimmed = fit.places
     places (replies.Committed id usage) = fit.places
     places (replies.Discarded usage) = fit.places
+    places (replies.Removed usage) = fit.places
     places (replies.Info info) = fit.places
     places (replies.Usage usage) = fit.places
     places (replies.Mounts own) = fit.places
@@ -399,6 +426,9 @@ fits_called w n (calls.Mounts namespace key) fit =
 fits_called w n (calls.View namespace key parent labels) fit =
     fits_admitted w 1 w.hands _ fit
     (fits_recorded w n (calls.View namespace key parent labels) Nothing (λ reply. w.hands) fit tt (λ r. fit.places) (left_view w.state w.hands namespace key parent labels fit.good fit.hands))
+fits_called w n (calls.Remove namespace key) fit =
+    fits_admitted w 1 w.hands _ fit
+    (fits_recorded w n (calls.Remove namespace key) Nothing (λ reply. w.hands) fit tt (λ r. fit.places) (left_remove w.state w.hands namespace key fit.good fit.hands))
 fits_called w n (calls.Update namespace key labels paths) fit =
     fits_admitted w 1 w.hands _ fit
     (fits_recorded w n (calls.Update namespace key labels paths) Nothing (λ reply. w.hands) fit tt (λ r. fit.places) (left_update w.state w.hands namespace key labels paths fit.hands))
@@ -420,7 +450,7 @@ fits_filed w slot h r (Err e) fit low stands is covers_it = fit
 fits_filed w slot h r (Ok next) fit low stands is covers_it = record {
   good = fit.good;
   places = set_places w slot _ fit;
-  hands = agree_set w.state.records w.state.records fit.good.chains (no_change w.state.records) slot _ w.hands fit.hands (let p = fit.places in omega (arith, low))
+  hands = agree_set w.state.records w.state.records (same_here w.state.records) slot _ w.hands fit.hands (let p = fit.places in omega (arith, low))
       (subst (λ (x : Option Record). AgreesAt slot w.state.records (Some (record { snapshot = record { namespace = h.snapshot.namespace; key = h.snapshot.key; lowers = h.snapshot.lowers; layer = next; share = h.snapshot.share }; sealed = h.sealed })) x) (sym stands)
       (record { namespace = is.namespace; key = is.key; lowers = is.lowers; slot = is.slot; id = is.id; usage = is.usage; covers = covers_it next refl }))
       (λ k ne. refl);

@@ -8,5 +8,9 @@ mod hands;
 mod step;
 mod world;
 
+pub use snap_call::{Call, Config, Entry, Given, Namespace, Refusal, Reply};
+pub use snap_merge::FsError;
+pub use snap_record::{Info, Kind, Labels, Record};
+pub use snap_upper::Op;
 pub use step::{Answer, Step};
 pub use world::{NoMemory, World};

@@ -320,6 +320,10 @@ impl<N: StoreName> Hands<N> {
                 parent: _,
                 labels: _,
             } => self.plain(book, session, call),
+            Call::Remove {
+                namespace: _,
+                key: _,
+            } => self.plain(book, session, call),
             Call::Update {
                 namespace: _,
                 key: _,

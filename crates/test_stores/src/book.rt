@@ -1,9 +1,10 @@
 ghost use Rattle.std.specs.Prelude.{◌≡◌, [], ◌∷◌, IfOk, codes};
+ghost use Rattle.snap_call.specs.declared.call.Call.TheVariants as calls;
 
 use snap_book::{Active, Book, Held, Sealed};
 use snap_call::{Call, Config, Namespace, Refusal, Reply};
 use snap_ledger::{NewTable, StoreName};
-use snap_record::{Labels, Sequence, Text};
+use snap_record::{Filter, Labels, Sequence, Text};
 use snap_usage::Usage;
 use std::alloc::Global;
 use std::sync::Mutex;
@@ -56,24 +57,100 @@ fn prepared<N: StoreName>(alloc: Global, table: NewTable) -> Result<(), Fail>
     Ok(())
 }
 
+// The view q of nothing in the namespace a.
+fn view(alloc: Global) -> Result<Call, Fail>
+    ensures { IfOk result (λ c. c ≡ calls.View (codes "a") (codes "q") [] []) }
+{
+    Ok(Call::View {
+        namespace: Text::copy_of(alloc, "a")?,
+        key: Text::copy_of(alloc, "q")?,
+        parent: Text::new(alloc),
+        labels: Labels::new(alloc),
+    })
+}
+
 // A view of nothing has the first id and is charged nothing. A witness: it is proved, and not run.
 fn viewed<N: StoreName>(alloc: Global, table: NewTable) -> Result<(), Fail>
     requires { table ≡ N.table }
 {
     let mut book = Book::<N>::open(alloc, table, config(alloc, 100, 100)?)?;
-    let call = Call::View {
-        namespace: Text::copy_of(alloc, "a")?,
-        key: Text::copy_of(alloc, "q")?,
-        parent: Text::new(alloc),
-        labels: Labels::new(alloc),
-    };
-    if let Reply::Viewed { id, chain } = book.do_call(0, call) {
+    if let Reply::Viewed { id, chain } = book.do_call(0, view(alloc)?) {
         prove!(id == 1);
         let ancestors = chain.len();
         prove!(ancestors == 0);
         let (total, open) = (book.totals("a"), book.open_slots());
         prove!(total == Some(Usage::ZERO));
         prove!(open == 0);
+    }
+    Ok(())
+}
+
+// A removed view frees nothing, and is gone. A witness: it is proved, and not run.
+fn removed<N: StoreName>(alloc: Global, table: NewTable) -> Result<(), Fail>
+    requires { table ≡ N.table }
+{
+    let mut book = Book::<N>::open(alloc, table, config(alloc, 100, 100)?)?;
+    if let Reply::Viewed { .. } = book.do_call(0, view(alloc)?) {
+        let call = Call::Remove {
+            namespace: Text::copy_of(alloc, "a")?,
+            key: Text::copy_of(alloc, "q")?,
+        };
+        match book.do_call(0, call) {
+            Reply::Removed(freed) => {
+                let found = book.slot_of("a", "q");
+                prove!(freed == Usage::ZERO);
+                prove!(found == Err(Refusal::NotFound));
+            }
+            Reply::Refused(why) => {
+                prove!(why == Refusal::OutOfMemory);
+            }
+            _ => {}
+        }
+    }
+    Ok(())
+}
+
+// An update of the first snapshot is the second entry. A witness: it is proved, and not run.
+fn updated<N: StoreName>(alloc: Global, table: NewTable) -> Result<(), Fail>
+    requires { table ≡ N.table }
+{
+    let mut book = Book::<N>::open(alloc, table, config(alloc, 100, 100)?)?;
+    if let Reply::Viewed { .. } = book.do_call(0, view(alloc)?) {
+        let call = Call::Update {
+            namespace: Text::copy_of(alloc, "a")?,
+            key: Text::copy_of(alloc, "q")?,
+            labels: Labels::new(alloc),
+            paths: Sequence::new(alloc),
+        };
+        if let Reply::Info(info) = book.do_call(0, call) {
+            prove!(info.created == 1);
+            prove!(info.updated == 2);
+        }
+    }
+    Ok(())
+}
+
+// A walk of one snapshot is a page of one info. A witness: it is proved, and not run.
+fn walked<N: StoreName>(alloc: Global, table: NewTable) -> Result<(), Fail>
+    requires { table ≡ N.table }
+{
+    let mut book = Book::<N>::open(alloc, table, config(alloc, 100, 100)?)?;
+    if let Reply::Viewed { .. } = book.do_call(0, view(alloc)?) {
+        let call = Call::Walk {
+            namespace: Text::copy_of(alloc, "a")?,
+            after: Text::new(alloc),
+            most: 64,
+            asked: Filter {
+                name: None,
+                parent: None,
+                kind: None,
+                labels: Sequence::new(alloc),
+            },
+        };
+        if let Reply::Page(infos) = book.do_call(0, call) {
+            let found = infos.len();
+            prove!(found == 1);
+        }
     }
     Ok(())
 }

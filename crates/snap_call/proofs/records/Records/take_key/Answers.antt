@@ -1,0 +1,34 @@
+use Rattle.std.proofs.Common.{◌≡◌, sym, ap, ◌∙◌, get_or, List, position, Some, None}
+use Rattle.std.specs.List.{remove}
+use Rattle.snap_record.specs.declared.record.Record.{Record}
+use Rattle.snap_call.specs.Records.{is_named}
+use Rattle.snap_call.proofs.CodeLemmas.{without-Some, without-None}
+use Rattle.snap_call.proofs.records.Records.take_key.Goals as goal
+
+pub returns-in-Some-clause-taken : goal.returns-in-Some-clause-taken
+returns-in-Some-clause-taken c =
+    let named = is_named c.args.place c.args.key.now in
+    let at : position named c.args.self.now ≡ Some c.in-Some.at = ap (λ (l : List Record). position named l) (sym (c.deref.ensures.value ∙ c.self.view_is)) ∙ sym c.place_of_key.ensures ∙ c.in-Some.is in
+    let both = without-Some named c.args.self.now c.in-Some.at c.remove.result at (c.remove.ensures.value ∙ ap (λ l. get_or l c.in-Some.at c.remove.result) c.self.view_is) in
+    c.remove.ensures.items ∙ ap (λ l. remove l c.in-Some.at) c.self.view_is ∙ both.0
+
+pub returns-in-Some-clause-record_taken : goal.returns-in-Some-clause-record_taken
+returns-in-Some-clause-record_taken c =
+    let named = is_named c.args.place c.args.key.now in
+    let at : position named c.args.self.now ≡ Some c.in-Some.at = ap (λ (l : List Record). position named l) (sym (c.deref.ensures.value ∙ c.self.view_is)) ∙ sym c.place_of_key.ensures ∙ c.in-Some.is in
+    let both = without-Some named c.args.self.now c.in-Some.at c.remove.result at (c.remove.ensures.value ∙ ap (λ l. get_or l c.in-Some.at c.remove.result) c.self.view_is) in
+    both.1
+
+pub returns-in-None-clause-taken : goal.returns-in-None-clause-taken
+returns-in-None-clause-taken c =
+    let named = is_named c.args.place c.args.key.now in
+    let at : position named c.args.self.now ≡ None = ap (λ (l : List Record). position named l) (sym (c.deref.ensures.value ∙ c.self.view_is)) ∙ sym c.place_of_key.ensures ∙ c.in-None.is in
+    let both = without-None named c.args.self.now at in
+    both.0
+
+pub returns-in-None-clause-record_taken : goal.returns-in-None-clause-record_taken
+returns-in-None-clause-record_taken c =
+    let named = is_named c.args.place c.args.key.now in
+    let at : position named c.args.self.now ≡ None = ap (λ (l : List Record). position named l) (sym (c.deref.ensures.value ∙ c.self.view_is)) ∙ sym c.place_of_key.ensures ∙ c.in-None.is in
+    let both = without-None named c.args.self.now at in
+    both.1
