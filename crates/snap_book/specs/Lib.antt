@@ -4,3 +4,4 @@ pub mod Book
 pub mod Active
 pub mod Held
 pub mod Files
+pub mod Viewed

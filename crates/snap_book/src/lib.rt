@@ -10,6 +10,9 @@
 //! A container runs on it: its own active snapshot, over the committed layer, takes what the container
 //! writes. [`Book::discard`] drops it at the end, and gives back all that was charged for it.
 //!
+//! What a committed layer shows is read through a view: [`Book::view`] makes one, without a slot and
+//! without a charge, and answers it as a [`Viewed`].
+//!
 //! Each call leaves an entry in the journal, with its reply. An `Active`, and a [`Sealed`], can't be
 //! lost: it ends by a commit or a discard. Both tasks are written out in `life.rt` of the crate
 //! `test_stores`, and proved there to meet what each call asks.
@@ -23,7 +26,10 @@ mod files;
 mod journal;
 mod plain;
 mod prepare;
+mod view;
+mod viewed;
 
 pub use active::{Active, Held, Sealed};
 pub use book::Book;
 pub use snap_call::{Call, Config, Entry, Given, Namespace, Refusal, Reply};
+pub use viewed::Viewed;

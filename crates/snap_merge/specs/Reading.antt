@@ -1,5 +1,5 @@
 -- The bytes of a file at a path (read(2)).
--- Cited by `Stack::read`, `Active::read`, `replay_within` and others.
+-- Cited by `Stack::read`, `Active::read`, `Viewed::read` and others.
 use Rattle.std.specs.Prelude.{ℕ, List, Option, Some, None, Result, Ok, Err}
 use Rattle.snap_path.specs.Text.{Names}
 use Rattle.snap_layer.specs.Tree.{Tree}

@@ -1,5 +1,5 @@
 -- The rules of overlayfs.rst, which `seen` keeps.
--- Cited by `hides`, `Stack::resolve`, `Active::resolve`.
+-- Cited by `hides`, `Stack::resolve`, `Active::resolve` and others.
 use Rattle.std.specs.Prelude.{◌≡◌, ◌↔◌, ℕ, Bool, true, false, List, [], ◌∷◌, ◌++◌, Some, None, Ok}
 use Rattle.snap_path.specs.Text.{Names}
 use Rattle.snap_layer.specs.declared.node.Node.{Node}

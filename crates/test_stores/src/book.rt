@@ -1,7 +1,8 @@
 ghost use Rattle.std.specs.Prelude.{◌≡◌, [], ◌∷◌, IfOk, codes};
+ghost use Rattle.snap_layer.specs.Edits.{root_only};
 ghost use Rattle.snap_call.specs.declared.call.Call.TheVariants as calls;
 
-use snap_book::{Active, Book, Held, Sealed};
+use snap_book::{Active, Book, Held, Sealed, Viewed};
 use snap_call::{Call, Config, Namespace, Refusal, Reply};
 use snap_ledger::{NewTable, StoreName};
 use snap_record::{Filter, Labels, Sequence, Text};
@@ -83,6 +84,18 @@ fn viewed<N: StoreName>(alloc: Global, table: NewTable) -> Result<(), Fail>
         prove!(open == 0);
     }
     Ok(())
+}
+
+// The first view of a new store has the id 1, and without a parent it shows one empty layer. A witness:
+// it is proved, and not run.
+fn first_view<N: StoreName>(alloc: Global, table: NewTable) -> Result<Viewed, Fail>
+    requires { table ≡ N.table }
+    ensures id { IfOk result (λ v. v.id ≡ 1) }
+    ensures layers { IfOk result (λ v. v.layers ≡ root_only 493 1 ∷ []) }
+{
+    let mut book = Book::<N>::open(alloc, table, config(alloc, 100, 100)?)?;
+    let view = book.view(0, "a", "q", "", &Labels::new(alloc))?;
+    Ok(view)
 }
 
 // A removed view frees nothing, and is gone. A witness: it is proved, and not run.
