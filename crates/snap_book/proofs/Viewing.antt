@@ -59,7 +59,7 @@ same_record r q rs new e =
 
 abbrev IsGranted : State → Bytes → Bytes → Reply → ViewedValue → Type 0
 IsGranted s namespace parent reply v =
-    IsSomeAnd (place_of namespace s.namespaces) (λ place. (reply ≡ replies.Viewed v.id (ids_of (ancestors place parent s.records))) × (v.layers ≡ shown_layers place parent s.records))
+    IsSomeAnd (place_of namespace s.namespaces) (λ place. (reply ≡ replies.Viewed v.id (ids_of (ancestors place parent s.records))) × (v.lowers ≡ shown_layers place parent s.records))
 
 -- a refusal adds no record
 not_refused : (s : State) (r : Record) (why : Refusal) (reply : Reply) → refused s why ≡ (added s r, reply) → ⊥
@@ -76,8 +76,8 @@ granted_viewed s namespace key parent labels place r reply v named e can is =
     let id : s.next_id ≡ v.id = sym can.id ∙ is.0 in
     let answer : reply ≡ replies.Viewed v.id (ids_of (ancestors place parent s.records)) =
     sym (ap (λ (p : State × Reply). p.1) e) ∙ ap (λ (n : ℕ). replies.Viewed n (ids_of (ancestors place parent s.records))) id in
-    let shown : v.layers ≡ shown_layers place parent s.records = same_layers _ _ (sym is.1 ∙ ap (λ (t : Record). t.content) same) in
-    subst (λ o. IsSomeAnd o (λ p. (reply ≡ replies.Viewed v.id (ids_of (ancestors p parent s.records))) × (v.layers ≡ shown_layers p parent s.records))) (sym named) (answer, shown)
+    let shown : v.lowers ≡ shown_layers place parent s.records = same_layers _ _ (sym is.1 ∙ ap (λ (t : Record). t.content) same) in
+    subst (λ o. IsSomeAnd o (λ p. (reply ≡ replies.Viewed v.id (ids_of (ancestors p parent s.records))) × (v.lowers ≡ shown_layers p parent s.records))) (sym named) (answer, shown)
 
 granted_numbered : (s : State) (namespace key parent : Bytes) (labels : List Label) (place : ℕ) (r : Record) (reply : Reply) (v : ViewedValue) (few : Bool) → place_of namespace s.namespaces ≡ Some place
     → (if few then viewed s place key parent labels else refused s NumbersSpent) ≡ (added s r, reply) → CanChange s (View r) → IsViewOf (View r) v → IsGranted s namespace parent reply v
@@ -124,8 +124,8 @@ granted_at mid old new n namespace parent call e (Ok v) same is noted granted =
     (λ place parts. subst (λ (reply : Reply). Recorded old new n call givens.Nothing reply) parts.0 of_call)
     (subst (λ (b : BookValue). IsGranted b.state namespace parent e.reply v) same granted)
 
-pub layers_at : (mid old : BookValue) (namespace parent : Bytes) (reply : Reply) (answer : Result ViewedValue Refusal) → mid ≡ old → IfOk answer (IsGranted mid.state namespace parent reply)
-    → IfOk answer (λ v. IsSomeAnd (place_of namespace old.state.namespaces) (λ place. v.layers ≡ shown_layers place parent old.state.records))
-layers_at mid old namespace parent reply (Err why) same granted = tt
-layers_at mid old namespace parent reply (Ok v) same granted =
+pub lowers_at : (mid old : BookValue) (namespace parent : Bytes) (reply : Reply) (answer : Result ViewedValue Refusal) → mid ≡ old → IfOk answer (IsGranted mid.state namespace parent reply)
+    → IfOk answer (λ v. IsSomeAnd (place_of namespace old.state.namespaces) (λ place. v.lowers ≡ shown_layers place parent old.state.records))
+lowers_at mid old namespace parent reply (Err why) same granted = tt
+lowers_at mid old namespace parent reply (Ok v) same granted =
     some_other _ _ (place_of namespace old.state.namespaces) (λ place parts. parts.1) (subst (λ (b : BookValue). IsGranted b.state namespace parent reply v) same granted)

@@ -6,12 +6,12 @@ use Rattle.snap_record.specs.declared.record.Content.TheVariants as contents
 use Rattle.snap_accounts.specs.declared.change.Change.{Change}
 use Rattle.snap_accounts.specs.declared.change.Change.TheVariants.{View}
 
--- a view: the id of its snapshot, and the layers that it shows, nearest first
+-- a view: the id of its snapshot, and the lower layers of its mount, which it shows, nearest first
 pub record ViewedValue : Type 0 where
   pub id : ℕ
-  pub layers : List Tree
+  pub lowers : List Tree
 
 -- the change is a view more, of this id and these layers
 abbrev pub IsViewOf : Change → ViewedValue → Type 0
-IsViewOf (View r) v = (r.id ≡ v.id) × (r.content ≡ contents.View v.layers)
+IsViewOf (View r) v = (r.id ≡ v.id) × (r.content ≡ contents.View v.lowers)
 IsViewOf change v = ⊥

@@ -76,7 +76,7 @@ fn planned<N: StoreName>(
     ensures entry { IfOk result (λ p. p.entry ≡ entry session (calls.View namespace.now key.now parent.now labels.now) Nothing p.entry.reply) }
     ensures changed { IfOk result (λ p. step accounts.now p.entry.call Nothing ≡ (changed accounts.now p.change, p.entry.reply)) }
     ensures possible { IfOk result (λ p. CanChange accounts.now p.change) }
-    ensures granted { IfOk result (λ p. IfOk p.answer (λ v. IsSomeAnd (place_of namespace.now accounts.now.namespaces) (λ place. (p.entry.reply ≡ replies.Viewed v.id (ids_of (ancestors place parent.now accounts.now.records))) × (v.layers ≡ shown_layers place parent.now accounts.now.records)))) }
+    ensures granted { IfOk result (λ p. IfOk p.answer (λ v. IsSomeAnd (place_of namespace.now accounts.now.namespaces) (λ place. (p.entry.reply ≡ replies.Viewed v.id (ids_of (ancestors place parent.now accounts.now.records))) × (v.lowers ≡ shown_layers place parent.now accounts.now.records)))) }
     ensures refused { IfOk result (λ p. IfErr p.answer (λ why. (p.entry.reply ≡ replies.Refused why) × IsRecorded why)) }
 {
     let call = view_call(alloc, namespace, key, parent, labels)?;
@@ -127,7 +127,7 @@ impl<N: StoreName> Book<N> {
     ) -> Result<Viewed, Refusal>
         // Its namespace has a place in the configuration.
         ensures granted { IfOk result (λ v. IsSomeAnd (place_of namespace.now self.old.state.namespaces) (λ place. Recorded self.old self.new session (calls.View namespace.now key.now parent.now labels.now) Nothing (replies.Viewed v.id (ids_of (ancestors place parent.now self.old.state.records))))) }
-        ensures layers { IfOk result (λ v. IsSomeAnd (place_of namespace.now self.old.state.namespaces) (λ place. v.layers ≡ shown_layers place parent.now self.old.state.records)) }
+        ensures lowers { IfOk result (λ v. IsSomeAnd (place_of namespace.now self.old.state.namespaces) (λ place. v.lowers ≡ shown_layers place parent.now self.old.state.records)) }
         ensures refused { IfErr result (λ why. RefusedBy self.old self.new session (calls.View namespace.now key.now parent.now labels.now) Nothing why) }
         ensures full { IsErrOf result JournalFull ↔ (self.old.limit ≤ length self.old.journal + open_count self.old.state.records) }
     {

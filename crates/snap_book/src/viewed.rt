@@ -18,7 +18,8 @@ use snap_record::{Content, Sequence};
 use std::alloc::{AllocError, Global};
 use std::marker::Model;
 
-/// A view in its reader's hands: the id of its snapshot, and the layers that it shows, nearest first.
+/// A view in its reader's hands: the id of its snapshot, and the lower layers of its mount, which
+/// it shows, nearest first.
 ///
 /// It shares the layers, which never change: it shows the same for as long as it is kept, also once
 /// the snapshot, or one of its ancestors, is removed. A view has no slot and no charge, so it may be
@@ -27,7 +28,7 @@ use std::marker::Model;
 pub struct Viewed {
     alloc: Global,
     id: u32,
-    layers: Sequence<Shared>,
+    lowers: Sequence<Shared>,
 }
 
 impl Model for Viewed {
@@ -35,7 +36,7 @@ impl Model for Viewed {
 
     ghost Value = { ViewedValue };
 
-    ghost view = { λ v. record { id = v.id; layers = v.layers } };
+    ghost view = { λ v. record { id = v.id; lowers = v.lowers } };
 }
 
 // One more holder of each layer.
@@ -63,7 +64,7 @@ impl Viewed {
         Ok(Viewed {
             alloc,
             id: snapshot.id,
-            layers: again(alloc, layers.as_slice())?,
+            lowers: again(alloc, layers.as_slice())?,
         })
     }
 
@@ -79,9 +80,9 @@ impl Viewed {
     ///
     /// Takes no memory. The cost is constant.
     pub fn stack(&self) -> Stack<'_>
-        ensures { result ≡ self.now.layers }
+        ensures { result ≡ self.now.lowers }
     {
-        Stack::of(self.layers.as_slice())
+        Stack::of(self.lowers.as_slice())
     }
 
     /// What is seen at the path, or nothing. No symlink is followed. Bytes and targets are lent by the
@@ -89,7 +90,7 @@ impl Viewed {
     ///
     /// Takes no memory. The cost is that of [`Stack::look`].
     pub fn look(&self, path: &Path) -> Option<Seen<'_>>
-        ensures { option_map object result ≡ seen self.now.layers path.now }
+        ensures { option_map object result ≡ seen self.now.lowers path.now }
     {
         self.stack().look(path)
     }
@@ -102,12 +103,12 @@ impl Viewed {
     /// where no directory is; `OutOfMemory` where memory for the names, or for a path that is looked at,
     /// is refused. The cost is that of [`Stack::list`].
     pub fn list(&self, path: &Path) -> Result<Vec<Name>, FsError>
-        ensures ok { IfOk result (λ v. listing self.now.layers path.now ≡ Ok v.items) }
-        ensures err { IfErr result (λ e. (e ≡ OutOfMemory) ⊎ (listing self.now.layers path.now ≡ Err e)) }
+        ensures ok { IfOk result (λ v. listing self.now.lowers path.now ≡ Ok v.items) }
+        ensures err { IfErr result (λ e. (e ≡ OutOfMemory) ⊎ (listing self.now.lowers path.now ≡ Err e)) }
         // Any other error comes before memory is taken.
-        ensures first { IfErr (listing self.now.layers path.now) (λ e. result ≡ Err e) }
+        ensures first { IfErr (listing self.now.lowers path.now) (λ e. result ≡ Err e) }
         // A list has exactly the names at which something is seen, in order.
-        ensures names { IfOk result (λ v. IsListing self.now.layers path.now v.items) }
+        ensures names { IfOk result (λ v. IsListing self.now.lowers path.now v.items) }
     {
         self.stack().list(self.alloc, path)
     }
@@ -119,8 +120,8 @@ impl Viewed {
     /// at a directory, and `Invalid` at a symlink, which isn't followed. Takes no memory. The cost is
     /// that of [`Stack::read`].
     pub fn read(&self, path: &Path) -> Result<&[u8], FsError>
-        ensures ok { IfOk result (λ bytes. reading self.now.layers path.now ≡ Ok bytes.now) }
-        ensures err { IfErr result (λ e. reading self.now.layers path.now ≡ Err e) }
+        ensures ok { IfOk result (λ bytes. reading self.now.lowers path.now ≡ Ok bytes.now) }
+        ensures err { IfErr result (λ e. reading self.now.lowers path.now ≡ Err e) }
     {
         self.stack().read(path)
     }
@@ -132,11 +133,11 @@ impl Viewed {
     /// `TooManyLinks`; `OutOfMemory` where memory for names, words or paths is refused, but not for an
     /// error before the first symlink. So is the cost.
     pub fn resolve(&self, path: &Path) -> Result<Path, FsError>
-        ensures answer { Answers (resolution self.now.layers path.now) result }
+        ensures answer { Answers (resolution self.now.lowers path.now) result }
         // An error before the first symlink comes before any memory is taken.
-        ensures first { IfSome (plain_error self.now.layers [] path.now) (λ e. result ≡ Err e) }
+        ensures first { IfSome (plain_error self.now.lowers [] path.now) (λ e. result ≡ Err e) }
         // A path without symlinks leads to itself, and each path to what is no symlink.
-        ensures rules { ResolvingRules self.now.layers path.now }
+        ensures rules { ResolvingRules self.now.lowers path.now }
     {
         self.stack().resolve(self.alloc, path)
     }

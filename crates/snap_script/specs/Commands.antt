@@ -8,6 +8,7 @@ use Rattle.serde_json.specs.Data.{Data}
 use Rattle.serde_json.specs.Find.{as_str}
 use Rattle.snap_record.specs.Labels.{Bytes}
 use Rattle.snap_record.specs.declared.filter.Filter.{Filter}
+use Rattle.snap_call.specs.declared.call.Call.TheVariants as calls
 use Rattle.snap_script.specs.declared.fault.Field.{Field}
 use Rattle.snap_script.specs.declared.fault.Field.TheVariants as fields
 use Rattle.snap_script.specs.declared.fault.Fault.{Fault}
@@ -65,18 +66,18 @@ filter_of line = do
 unfoldable pub command_of : Verb → Data → Result Command Fault
 command_of verbs.Open line = open_of line
 command_of verbs.Session line = Ok commands.Session
-command_of verbs.Prepare line = do s ← named line; Ok (commands.Prepare s.0 s.1 (← text fields.Parent line) (← optional as_labels fields.Labels (Ok []) line))
-command_of verbs.View line = do s ← named line; Ok (commands.View s.0 s.1 (← text fields.Parent line) (← optional as_labels fields.Labels (Ok []) line))
+command_of verbs.Prepare line = do s ← named line; Ok (commands.Call (calls.Prepare s.0 s.1 (← text fields.Parent line) (← optional as_labels fields.Labels (Ok []) line)))
+command_of verbs.View line = do s ← named line; Ok (commands.Call (calls.View s.0 s.1 (← text fields.Parent line) (← optional as_labels fields.Labels (Ok []) line)))
 command_of verbs.Charge line = do s ← named line; need ← required as_usage fields.Need line; Ok (commands.Charge s.0 s.1 need (← optional as_usage fields.Want (Ok need) line))
 command_of verbs.Trim line = do s ← named line; Ok (commands.Trim s.0 s.1)
 command_of verbs.Commit line = do s ← named line; Ok (commands.Commit s.0 s.1 (← text fields.Name line) (← given as_str fields.Lease line))
 command_of verbs.Discard line = do s ← named line; Ok (commands.Discard s.0 s.1)
-command_of verbs.Remove line = do s ← named line; Ok (commands.Remove s.0 s.1)
-command_of verbs.Stat line = do s ← named line; Ok (commands.Stat s.0 s.1)
-command_of verbs.Update line = do s ← named line; Ok (commands.Update s.0 s.1 (← required as_labels fields.Labels line) (← optional as_texts fields.Paths (Ok []) line))
-command_of verbs.Usage line = do s ← named line; Ok (commands.Usage s.0 s.1)
-command_of verbs.Mounts line = do s ← named line; Ok (commands.Mounts s.0 s.1)
-command_of verbs.Walk line = do Ok (commands.Walk (← text fields.Namespace line) (← optional as_str fields.After (Ok []) line) (← optional as_natural fields.Most (Ok 64) line) (← filter_of line))
+command_of verbs.Remove line = do s ← named line; Ok (commands.Call (calls.Remove s.0 s.1))
+command_of verbs.Stat line = do s ← named line; Ok (commands.Call (calls.Stat s.0 s.1))
+command_of verbs.Update line = do s ← named line; Ok (commands.Call (calls.Update s.0 s.1 (← required as_labels fields.Labels line) (← optional as_texts fields.Paths (Ok []) line)))
+command_of verbs.Usage line = do s ← named line; Ok (commands.Call (calls.Usage s.0 s.1))
+command_of verbs.Mounts line = do s ← named line; Ok (commands.Call (calls.Mounts s.0 s.1))
+command_of verbs.Walk line = do Ok (commands.Call (calls.Walk (← text fields.Namespace line) (← optional as_str fields.After (Ok []) line) (← optional as_natural fields.Most (Ok 64) line) (← filter_of line)))
 command_of (verbs.File verb) line = do s ← named line; Ok (commands.File s.0 s.1 (← file_command_of verb line) (← optional as_usage fields.Extra (Ok (record { blocks = 0; inodes = 0 })) line))
 command_of (verbs.Lookup asked) line = do s ← named line; Ok (commands.Lookup s.0 s.1 asked (← text fields.Path line))
 command_of verbs.Report line = Ok commands.Report

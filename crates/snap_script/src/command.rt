@@ -1,11 +1,11 @@
 ghost use Rattle.snap_merge.specs.Walk.{Answers};
 ghost use Rattle.snap_script.specs.Operations.{path_of, operation_of};
 
-use snap_call::Config;
+use snap_call::{Call, Config};
 use snap_layer::Bytes;
 use snap_merge::FsError;
 use snap_path::Path;
-use snap_record::{Filter, Labels, Sequence, Text};
+use snap_record::Text;
 use snap_upper::Op;
 use snap_usage::Usage;
 use std::alloc::Global;
@@ -19,20 +19,9 @@ pub enum Command {
     },
     /// Opens a session.
     Session,
-    /// Makes an active snapshot on a parent, the empty text for none (containerd's `Prepare`).
-    Prepare {
-        namespace: Text,
-        key: Text,
-        parent: Text,
-        labels: Labels,
-    },
-    /// Makes a view of a parent, the empty text for none (containerd's `View`).
-    View {
-        namespace: Text,
-        key: Text,
-        parent: Text,
-        labels: Labels,
-    },
+    /// A call that the line has all of: `Prepare`, `View`, `Remove`, `Stat`, `Update`, `Usage`, `Mounts`
+    /// or `Walk`, as containerd's `Snapshotter` has them.
+    Call(Call),
     /// Charges an active snapshot for the wanted amount, or for the needed one.
     Charge {
         namespace: Text,
@@ -56,41 +45,6 @@ pub enum Command {
     Discard {
         namespace: Text,
         key: Text,
-    },
-    /// Takes a snapshot away that is committed or a view (containerd's `Remove`).
-    Remove {
-        namespace: Text,
-        key: Text,
-    },
-    /// Asks for a snapshot's info (containerd's `Stat`).
-    Stat {
-        namespace: Text,
-        key: Text,
-    },
-    /// Replaces a snapshot's labels, or those that the paths name (containerd's `Update`).
-    Update {
-        namespace: Text,
-        key: Text,
-        labels: Labels,
-        paths: Sequence<Text>,
-    },
-    /// Asks what a snapshot is charged (containerd's `Usage`).
-    Usage {
-        namespace: Text,
-        key: Text,
-    },
-    /// Asks for the mounts that show a snapshot (containerd's `Mounts`).
-    Mounts {
-        namespace: Text,
-        key: Text,
-    },
-    /// Asks for the snapshots of a namespace that have every part of the filter, in byte order of
-    /// their keys: those greater than `after`, at most so many (containerd's `Walk`).
-    Walk {
-        namespace: Text,
-        after: Text,
-        most: u64,
-        filter: Filter,
     },
     /// Changes a file or a directory of an active snapshot. Where its charge doesn't cover what is
     /// needed, so much is charged and, if the limit covers it, the extra amount too.

@@ -14,8 +14,8 @@ use crate::fields::{
 };
 use crate::verb::{FileVerb, Verb};
 use serde_json::Value;
-use snap_call::Config;
 use snap_call::limits::MAX_JOURNAL;
+use snap_call::{Call, Config};
 use snap_layer::Bytes;
 use snap_path::limits::DEFAULT_MODE;
 use snap_record::{Filter, Text};
@@ -62,12 +62,12 @@ fn prepare(alloc: Global, line: &Value) -> Result<Command, ReadError>
     ensures { Gives (λ c. c) result (command_of verbs.Prepare (view line.now)) }
 {
     let (namespace, key) = named(alloc, line)?;
-    Ok(Command::Prepare {
+    Ok(Command::Call(Call::Prepare {
         namespace,
         key,
         parent: text(alloc, Field::Parent, line)?,
         labels: labels(alloc, line)?,
-    })
+    }))
 }
 
 #[tactic(auto, unfolding(crate::specs::Commands::command_of))]
@@ -77,12 +77,12 @@ fn view(alloc: Global, line: &Value) -> Result<Command, ReadError>
     let (namespace, key) = named(alloc, line)?;
     let parent = text(alloc, Field::Parent, line)?;
     let labels = labels(alloc, line)?;
-    Ok(Command::View {
+    Ok(Command::Call(Call::View {
         namespace,
         key,
         parent,
         labels,
-    })
+    }))
 }
 
 #[tactic(auto, unfolding(crate::specs::Commands::command_of))]
@@ -121,7 +121,7 @@ fn remove(alloc: Global, line: &Value) -> Result<Command, ReadError>
     ensures { Gives (λ c. c) result (command_of verbs.Remove (view line.now)) }
 {
     let (namespace, key) = named(alloc, line)?;
-    Ok(Command::Remove { namespace, key })
+    Ok(Command::Call(Call::Remove { namespace, key }))
 }
 
 #[tactic(auto, unfolding(crate::specs::Commands::command_of))]
@@ -129,7 +129,7 @@ fn stat(alloc: Global, line: &Value) -> Result<Command, ReadError>
     ensures { Gives (λ c. c) result (command_of verbs.Stat (view line.now)) }
 {
     let (namespace, key) = named(alloc, line)?;
-    Ok(Command::Stat { namespace, key })
+    Ok(Command::Call(Call::Stat { namespace, key }))
 }
 
 #[tactic(auto, unfolding(crate::specs::Commands::command_of))]
@@ -137,12 +137,12 @@ fn update(alloc: Global, line: &Value) -> Result<Command, ReadError>
     ensures { Gives (λ c. c) result (command_of verbs.Update (view line.now)) }
 {
     let (namespace, key) = named(alloc, line)?;
-    Ok(Command::Update {
+    Ok(Command::Call(Call::Update {
         namespace,
         key,
         labels: required_labels(alloc, line)?,
         paths: paths(alloc, line)?,
-    })
+    }))
 }
 
 #[tactic(auto, unfolding(crate::specs::Commands::command_of))]
@@ -150,7 +150,7 @@ fn usage(alloc: Global, line: &Value) -> Result<Command, ReadError>
     ensures { Gives (λ c. c) result (command_of verbs.Usage (view line.now)) }
 {
     let (namespace, key) = named(alloc, line)?;
-    Ok(Command::Usage { namespace, key })
+    Ok(Command::Call(Call::Usage { namespace, key }))
 }
 
 #[tactic(auto, unfolding(crate::specs::Commands::command_of))]
@@ -158,7 +158,7 @@ fn mounts(alloc: Global, line: &Value) -> Result<Command, ReadError>
     ensures { Gives (λ c. c) result (command_of verbs.Mounts (view line.now)) }
 {
     let (namespace, key) = named(alloc, line)?;
-    Ok(Command::Mounts { namespace, key })
+    Ok(Command::Call(Call::Mounts { namespace, key }))
 }
 
 /// The filter of a walk.
@@ -178,12 +178,12 @@ fn filter(alloc: Global, line: &Value) -> Result<Filter, ReadError>
 fn walk(alloc: Global, line: &Value) -> Result<Command, ReadError>
     ensures { Gives (λ c. c) result (command_of verbs.Walk (view line.now)) }
 {
-    Ok(Command::Walk {
+    Ok(Command::Call(Call::Walk {
         namespace: text(alloc, Field::Namespace, line)?,
         after: text_or_empty(alloc, Field::After, line)?,
         most: number_or(PAGE, Field::Most, line)?,
-        filter: filter(alloc, line)?,
-    })
+        asked: filter(alloc, line)?,
+    }))
 }
 
 #[tactic(auto, unfolding(crate::specs::Commands::command_of))]

@@ -8,7 +8,7 @@ ghost use Rattle.snap_session.specs.Commands.{stepped, on_key};
 use crate::step::called;
 use snap_call::{Call, Refusal};
 use snap_ledger::StoreName;
-use snap_record::{Filter, Labels, Sequence, Text};
+use snap_record::Text;
 use snap_script::Answer;
 use snap_usage::Usage;
 use snap_world::{NoMemory, World};
@@ -29,25 +29,6 @@ pub(crate) fn session<N: StoreName>(world: &mut World<N>) -> Result<Answer, NoMe
 {
     let number = world.sessions();
     called(world, number, 0, Call::Session)
-}
-
-pub(crate) fn prepare<N: StoreName>(
-    world: &mut World<N>,
-    n: u64,
-    namespace: Text,
-    key: Text,
-    parent: Text,
-    labels: Labels,
-) -> Result<Answer, NoMemory>
-    ensures { IfOk result (λ answer. stepped n 0 (Locked n (calls.Prepare namespace key parent labels)) world.old ≡ (world.new, answer)) }
-{
-    let call = Call::Prepare {
-        namespace,
-        key,
-        parent,
-        labels,
-    };
-    called(world, n, 0, call)
 }
 
 pub(crate) fn charge<N: StoreName>(
@@ -128,61 +109,4 @@ pub(crate) fn discard<N: StoreName>(
         Ok((slot, id)) => called(world, n, slot, Call::Discard { slot, id }),
         Err(why) => Ok(Answer::Refused(why)),
     }
-}
-
-pub(crate) fn view<N: StoreName>(
-    world: &mut World<N>,
-    n: u64,
-    namespace: Text,
-    key: Text,
-    parent: Text,
-    labels: Labels,
-) -> Result<Answer, NoMemory>
-    ensures { IfOk result (λ answer. stepped n 0 (Locked n (calls.View namespace key parent labels)) world.old ≡ (world.new, answer)) }
-{
-    let call = Call::View {
-        namespace,
-        key,
-        parent,
-        labels,
-    };
-    called(world, n, 0, call)
-}
-
-pub(crate) fn update<N: StoreName>(
-    world: &mut World<N>,
-    n: u64,
-    namespace: Text,
-    key: Text,
-    labels: Labels,
-    paths: Sequence<Text>,
-) -> Result<Answer, NoMemory>
-    ensures { IfOk result (λ answer. stepped n 0 (Locked n (calls.Update namespace key labels paths)) world.old ≡ (world.new, answer)) }
-{
-    let call = Call::Update {
-        namespace,
-        key,
-        labels,
-        paths,
-    };
-    called(world, n, 0, call)
-}
-
-pub(crate) fn walk<N: StoreName>(
-    world: &mut World<N>,
-    n: u64,
-    namespace: Text,
-    after: Text,
-    most: u64,
-    asked: Filter,
-) -> Result<Answer, NoMemory>
-    ensures { IfOk result (λ answer. stepped n 0 (Locked n (calls.Walk namespace after most asked)) world.old ≡ (world.new, answer)) }
-{
-    let call = Call::Walk {
-        namespace,
-        after,
-        most,
-        asked,
-    };
-    called(world, n, 0, call)
 }

@@ -3,11 +3,11 @@ ghost use Rattle.std.specs.Prelude.{◌≡◌, IfOk, Some, map};
 ghost use Rattle.snap_session.specs.Opened.{total_of, totals_of};
 ghost use Rattle.snap_session.specs.Commands.{kept, on_store, report};
 
-use crate::calls::{charge, commit, discard, prepare, session, trim, update, view, walk};
+use crate::calls::{charge, commit, discard, session, trim};
 use crate::file_commands::file;
 use crate::lookups::lookup;
 use crate::step::called;
-use snap_call::{Call, Namespace, Refusal};
+use snap_call::{Namespace, Refusal};
 use snap_ledger::StoreName;
 use snap_record::{Sequence, Text};
 use snap_script::{Answer, Command};
@@ -91,12 +91,7 @@ fn on_store<N: StoreName>(
     match command {
         Command::Open { config: _ } => Ok(Answer::Refused(Refusal::BadArgument)),
         Command::Session => session(world),
-        Command::Prepare {
-            namespace,
-            key,
-            parent,
-            labels,
-        } => prepare(world, n, namespace, key, parent, labels),
+        Command::Call(call) => called(world, n, 0, call),
         Command::Charge {
             namespace,
             key,
@@ -111,28 +106,6 @@ fn on_store<N: StoreName>(
             lease,
         } => commit(world, n, namespace, key, name, lease),
         Command::Discard { namespace, key } => discard(world, n, namespace, key),
-        Command::Stat { namespace, key } => called(world, n, 0, Call::Stat { namespace, key }),
-        Command::Usage { namespace, key } => called(world, n, 0, Call::Usage { namespace, key }),
-        Command::Mounts { namespace, key } => called(world, n, 0, Call::Mounts { namespace, key }),
-        Command::View {
-            namespace,
-            key,
-            parent,
-            labels,
-        } => view(world, n, namespace, key, parent, labels),
-        Command::Remove { namespace, key } => called(world, n, 0, Call::Remove { namespace, key }),
-        Command::Update {
-            namespace,
-            key,
-            labels,
-            paths,
-        } => update(world, n, namespace, key, labels, paths),
-        Command::Walk {
-            namespace,
-            after,
-            most,
-            filter,
-        } => walk(world, n, namespace, after, most, filter),
         Command::File {
             namespace,
             key,

@@ -91,7 +91,7 @@ fn viewed<N: StoreName>(alloc: Global, table: NewTable) -> Result<(), Fail>
 fn first_view<N: StoreName>(alloc: Global, table: NewTable) -> Result<Viewed, Fail>
     requires { table ≡ N.table }
     ensures id { IfOk result (λ v. v.id ≡ 1) }
-    ensures layers { IfOk result (λ v. v.layers ≡ root_only 493 1 ∷ []) }
+    ensures lowers { IfOk result (λ v. v.lowers ≡ root_only 493 1 ∷ []) }
 {
     let mut book = Book::<N>::open(alloc, table, config(alloc, 100, 100)?)?;
     let view = book.view(0, "a", "q", "", &Labels::new(alloc))?;
