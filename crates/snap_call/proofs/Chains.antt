@@ -1,9 +1,9 @@
 -- What stands on committed records stands while they do: parents, leases and chains.
-use Rattle.std.proofs.Common.{◌≡◌, ℕ, zero, suc, true, false, true≢false, List, [], ◌∷◌, Option, Some, None, IsSome, refl, sym, ap, ◌∙◌, subst}
-use Rattle.std.specs.List.{AllByRecursion}
+use Rattle.std.proofs.Common.{◌≡◌, ℕ, zero, suc, Bool, true, false, true≢false, List, [], ◌∷◌, Option, Some, None, IsSome, refl, sym, ap, ◌∙◌, subst}
+use Rattle.std.specs.List.{AllByRecursion, list_any}
 use Rattle.std.specs.Option.{option_map, is_some}
 use Rattle.std.specs.Prelude.{bytes_eq, ◌==◌, ◌&&◌, option_and_then, unwrap_or, IsSomeAnd}
-use Rattle.std.proofs.lemmas.Bool.{and_parts, eqb-true, false_from_ne_true, not-false}
+use Rattle.std.proofs.lemmas.Bool.{and_parts, eqb-true, false_from_ne_true, not-false, or_left, or_right}
 use Rattle.std.proofs.lemmas.Slice.Eq.{bytes_eq-Decides}
 use Rattle.snap_usage.specs.declared.usage.Usage.{Usage}
 use Rattle.snap_record.specs.Labels.{Bytes}
@@ -12,7 +12,7 @@ use Rattle.snap_record.specs.declared.record.Content.TheVariants.{View, Active, 
 use Rattle.snap_record.specs.declared.record.Record.{Record}
 use Rattle.snap_call.specs.Records.{is_named, record_at, has_key, has_slot, is_slot, is_child, has_children, is_committed, committed_at, with_record, without_slot, without_key, recharged}
 use Rattle.snap_call.specs.State.{chain_from, ancestors, is_base, is_too_deep}
-use Rattle.snap_call.proofs.Lists.{all-map, none_some, committed-parts, committed-from, find-any, find-passes, find-all, none-passes, all-both, find-with_record, find-without, find-recharged}
+use Rattle.snap_call.proofs.Lists.{all-map, some_same, none_some, committed-parts, committed-from, committed_at-is_named, find-any, find-passes, find-all, none-passes, all-both, find-with_record, find-without, find-recharged}
 
 -- the record's parent is none, or a committed record
 abbrev pub HasParent : List Record → Record → Type 0
@@ -34,25 +34,39 @@ chain_over o next = option_and_then (λ r. option_map (λ above. r ∷ above) (n
 abbrev pub Keeps : List Record → List Record → Type 0
 Keeps rs ts = (place : ℕ) (key : Bytes) (r : Record) → committed_at place key rs ≡ Some r → committed_at place key ts ≡ Some r
 
--- each committed record of the one list whose key is in a set is that of its key in the other, and its parent is in the set
+-- the parent is none, or is in the set
+abbrev pub OnParent : (ℕ → Bytes → Type 0) → ℕ → Bytes → Type 0
+OnParent P place [] = Unit {0}
+OnParent P place (b ∷ bs) = P place (b ∷ bs)
+
+-- a key of the set is one that a record may be on
+pub on_parent : (P : ℕ → Bytes → Type 0) (place : ℕ) (p : Bytes) → P place p → OnParent P place p
+on_parent P place [] m = tt
+on_parent P place (b ∷ bs) m = m
+
+pub on_parent-map : (P Q : ℕ → Bytes → Type 0) (m n : ℕ) (p : Bytes) → (P m p → Q n p) → OnParent P m p → OnParent Q n p
+on_parent-map P Q m n [] f on = tt
+on_parent-map P Q m n (b ∷ bs) f on = f on
+
+-- each committed record of the one list whose key is in a set is that of its key in the other, and its parent is none or in the set
 pub record KeepsFor (P : ℕ → Bytes → Type 0) (rs ts : List Record) : Type 0 where
   pub same : (place : ℕ) (key : Bytes) (r : Record) → P place key → committed_at place key rs ≡ Some r → committed_at place key ts ≡ Some r
-  pub above : (place : ℕ) (key : Bytes) (r : Record) → P place key → committed_at place key rs ≡ Some r → P place r.parent
+  pub above : (place : ℕ) (key : Bytes) (r : Record) → P place key → committed_at place key rs ≡ Some r → OnParent P place r.parent
 
 -- the set of all keys
 abbrev pub Every : ℕ → Bytes → Type 0
 Every place key = Unit {0}
 
 pub every : (rs ts : List Record) → Keeps rs ts → KeepsFor Every rs ts
-every rs ts keeps = record { same = λ place key r m e. keeps place key r e; above = λ place key r m e. tt }
+every rs ts keeps = record { same = λ place key r m e. keeps place key r e; above = λ place key r m e. on_parent Every place r.parent tt }
 
--- the records' parents are in the set
+-- the records' parents are none, or in the set
 abbrev pub AreOn : (ℕ → Bytes → Type 0) → List Record → Type 0
-AreOn P rs = AllByRecursion (λ r. P r.namespace r.parent) rs
+AreOn P rs = AllByRecursion (λ r. OnParent P r.namespace r.parent) rs
 
 pub all_on : (rs : List Record) → AreOn Every rs
 all_on [] = tt
-all_on (r ∷ rs) = (tt, all_on rs)
+all_on (r ∷ rs) = (on_parent Every r.namespace r.parent tt, all_on rs)
 
 -- a committed record is in no slot
 committed_no_slot : (slot : ℕ) (c : Content) → is_committed c ≡ true → has_slot slot c ≡ false
@@ -99,7 +113,9 @@ IsOther place key p k = ((p == place) && bytes_eq k key) ≡ false
 module _ (place : ℕ) (key : Bytes) (rs : List Record) (childless : has_children place key rs ≡ false) where
   -- all records are on other ones
   pub on_other : AreOn (IsOther place key) rs
-  on_other = none-passes (is_child place key) rs childless
+  on_other =
+      all-map (λ r. is_child place key r ≡ false) (λ r. OnParent (IsOther place key) r.namespace r.parent) (λ r other. on_parent (IsOther place key) r.namespace r.parent other)
+      rs (none-passes (is_child place key) rs childless)
 
   -- a record of another key is another record
   other_named : (p : ℕ) (k : Bytes) (r : Record) → is_named p k r ≡ true → IsOther place key p k → is_named place key r ≡ false
@@ -116,7 +132,7 @@ module _ (place : ℕ) (key : Bytes) (rs : List Record) (childless : has_childre
     above = λ p k r other e.
         let h = committed-parts (record_at p k rs) r e in
         let named = and_parts (r.namespace == p) (bytes_eq r.key k) (find-passes (is_named p k) rs r h.0) in
-        subst (λ (n : ℕ). IsOther place key n r.parent) (eqb-true r.namespace p named.0) (find-all (λ t. is_child place key t ≡ false) (is_named p k) rs r h.0 on_other);
+        subst (λ (n : ℕ). OnParent (IsOther place key) n r.parent) (eqb-true r.namespace p named.0) (find-all (λ t. OnParent (IsOther place key) t.namespace t.parent) (is_named p k) rs r h.0 on_other);
   }
 
 -- ---- what stands on the records that are kept
@@ -129,11 +145,11 @@ module _ (P : ℕ → Bytes → Type 0) (rs ts : List Record) (keeps : KeepsFor 
       by None e is = absurd (true≢false (sym is))
       by (Some r) e is = ap is_some (keeps.same place key r m e)
 
-  keeps_parent : (place : ℕ) (p : Bytes) → P place p → is_base place p rs ≡ true → is_base place p ts ≡ true
+  keeps_parent : (place : ℕ) (p : Bytes) → OnParent P place p → is_base place p rs ≡ true → is_base place p ts ≡ true
   keeps_parent place [] m h = refl
   keeps_parent place (b ∷ bs) m h = keeps-some place (b ∷ bs) m h
 
-  pub keeps-HasParent : (r : Record) → P r.namespace r.parent → HasParent rs r → HasParent ts r
+  pub keeps-HasParent : (r : Record) → OnParent P r.namespace r.parent → HasParent rs r → HasParent ts r
   keeps-HasParent r m h = keeps_parent r.namespace r.parent m h
 
   -- the names of a lease, where all are in the set
@@ -143,13 +159,13 @@ module _ (P : ℕ → Bytes → Type 0) (rs ts : List Record) (keeps : KeepsFor 
       all-map (λ name. P place name × IsSome (committed_at place name rs)) (λ name. IsSome (committed_at place name ts)) (λ name g. keeps-some place name g.0 g.1)
       names (all-both (P place) (λ name. IsSome (committed_at place name rs)) names (m place refl) h)
 
-  pub keeps-chain_from : (n : ℕ) (place : ℕ) (p : Bytes) (c : List Record) → P place p → chain_from n rs place p ≡ Some c → chain_from n ts place p ≡ Some c
+  pub keeps-chain_from : (n : ℕ) (place : ℕ) (p : Bytes) (c : List Record) → OnParent P place p → chain_from n rs place p ≡ Some c → chain_from n ts place p ≡ Some c
   keeps-chain_from n place [] c m e = e
   keeps-chain_from zero place (b ∷ bs) c m e = absurd (none_some c e)
   keeps-chain_from (suc n) place (b ∷ bs) c m e = by (committed_at place (b ∷ bs) rs) refl e (λ r d on. keeps-chain_from n place r.parent d on)
     where
       by : (o : Option Record) → committed_at place (b ∷ bs) rs ≡ o → chain_over o (λ r. chain_from n rs place r.parent) ≡ Some c
-          → ((r : Record) (d : List Record) → P place r.parent → chain_from n rs place r.parent ≡ Some d → chain_from n ts place r.parent ≡ Some d)
+          → ((r : Record) (d : List Record) → OnParent P place r.parent → chain_from n rs place r.parent ≡ Some d → chain_from n ts place r.parent ≡ Some d)
           → chain_from (suc n) ts place (b ∷ bs) ≡ Some c
       by None is found next = absurd (none_some c found)
       by (Some r) is found next = ap (λ o. chain_over o (λ t. chain_from n ts place t.parent)) (keeps.same place (b ∷ bs) r m is) ∙ over (chain_from n rs place r.parent) refl found
@@ -158,18 +174,18 @@ module _ (P : ℕ → Bytes → Type 0) (rs ts : List Record) (keeps : KeepsFor 
           over None h made = absurd (none_some c made)
           over (Some d) h made = ap (option_map (λ l. r ∷ l)) (next r d (keeps.above place (b ∷ bs) r m is) h) ∙ made
 
-  some_chain : (n place : ℕ) (p : Bytes) → P place p → IsSome (chain_from n rs place p) → IsSome (chain_from n ts place p)
+  some_chain : (n place : ℕ) (p : Bytes) → OnParent P place p → IsSome (chain_from n rs place p) → IsSome (chain_from n ts place p)
   some_chain n place p m some = by (chain_from n rs place p) refl some
     where
       by : (o : Option (List Record)) → chain_from n rs place p ≡ o → IsSome o → IsSome (chain_from n ts place p)
       by None e is = absurd (true≢false (sym is))
       by (Some c) e is = ap is_some (keeps-chain_from n place p c m e)
 
-  pub keeps-some_chain : (r : Record) → P r.namespace r.parent → IsSome (chain rs r) → IsSome (chain ts r)
+  pub keeps-some_chain : (r : Record) → OnParent P r.namespace r.parent → IsSome (chain rs r) → IsSome (chain ts r)
   keeps-some_chain r m some = some_chain 64 r.namespace r.parent m some
 
   -- the ancestors of a snapshot that has a chain
-  pub keeps-ancestors : (place : ℕ) (p : Bytes) → P place p → IsSome (chain_from 64 rs place p) → ancestors place p ts ≡ ancestors place p rs
+  pub keeps-ancestors : (place : ℕ) (p : Bytes) → OnParent P place p → IsSome (chain_from 64 rs place p) → ancestors place p ts ≡ ancestors place p rs
   keeps-ancestors place p m some = by (chain_from 64 rs place p) refl some
     where
       by : (o : Option (List Record)) → chain_from 64 rs place p ≡ o → IsSome o → ancestors place p ts ≡ ancestors place p rs
@@ -181,3 +197,72 @@ module _ (P : ℕ → Bytes → Type 0) (rs ts : List Record) (keeps : KeepsFor 
 -- there is a chain from it upwards
 pub chain-found : (rs : List Record) (place : ℕ) (p : Bytes) → is_too_deep place p rs ≡ false → IsSome (chain_from 64 rs place p)
 chain-found rs place p e = not-false (is_some (chain_from 64 rs place p)) e
+
+-- ---- a chain, record by record
+
+-- a record of the list has this key
+abbrev pub is_in : Bytes → List Record → Bool
+is_in key rs = list_any (λ r. bytes_eq r.key key) rs
+
+-- the set of the keys of the list's records
+abbrev pub KeyOf : List Record → ℕ → Bytes → Type 0
+KeyOf rs place key = is_in key rs ≡ true
+
+later : (r : Record) (c : List Record) (place : ℕ) (p : Bytes) → OnParent (KeyOf c) place p → OnParent (KeyOf (r ∷ c)) place p
+later r c place p on = on_parent-map (KeyOf c) (KeyOf (r ∷ c)) place place p (λ h. or_right (bytes_eq r.key p) (is_in p c) h) on
+
+-- the first record of a chain from a parent, and the chain above it
+chain_parts : (n : ℕ) (rs : List Record) (place b : ℕ) (bs : Bytes) (c : List Record) → chain_from (suc n) rs place (b ∷ bs) ≡ Some c
+    → (r : Record) × (d : List Record) × (committed_at place (b ∷ bs) rs ≡ Some r) × (chain_from n rs place r.parent ≡ Some d) × (r ∷ d ≡ c)
+chain_parts n rs place b bs c e = by (committed_at place (b ∷ bs) rs) refl e
+  where
+    by : (o : Option Record) → committed_at place (b ∷ bs) rs ≡ o → chain_over o (λ r. chain_from n rs place r.parent) ≡ Some c
+        → (r : Record) × (d : List Record) × (committed_at place (b ∷ bs) rs ≡ Some r) × (chain_from n rs place r.parent ≡ Some d) × (r ∷ d ≡ c)
+    by None is found = absurd (none_some c found)
+    by (Some r) is found = over (chain_from n rs place r.parent) refl found
+      where
+        over : (o : Option (List Record)) → chain_from n rs place r.parent ≡ o → option_map (λ d. r ∷ d) o ≡ Some c
+            → (t : Record) × (d : List Record) × (committed_at place (b ∷ bs) rs ≡ Some t) × (chain_from n rs place t.parent ≡ Some d) × (t ∷ d ≡ c)
+        over None h made = absurd (none_some c made)
+        over (Some d) h made = (r, d, is, h, some_same (r ∷ d) c made)
+
+-- the first record of a chain has the parent's key
+chain-head : (n : ℕ) (rs : List Record) (place : ℕ) (p : Bytes) (c : List Record) → chain_from n rs place p ≡ Some c → OnParent (KeyOf c) place p
+chain-head n rs place [] c e = tt
+chain-head zero rs place (b ∷ bs) c e = absurd (none_some c e)
+chain-head (suc n) rs place (b ∷ bs) c e =
+    let h = chain_parts n rs place b bs c e in
+    let named = and_parts (h.0.namespace == place) (bytes_eq h.0.key (b ∷ bs)) (committed_at-is_named place (b ∷ bs) rs h.0 h.2) in
+    subst (λ (l : List Record). is_in (b ∷ bs) l ≡ true) h.4 (or_left (bytes_eq h.0.key (b ∷ bs)) (is_in (b ∷ bs) h.1) named.1)
+
+-- the record is the committed one of its key, and its parent is none or in the chain
+abbrev pub IsLink : List Record → ℕ → List Record → Record → Type 0
+IsLink rs place c r = (committed_at place r.key rs ≡ Some r) × OnParent (KeyOf c) place r.parent
+
+chain-links : (n : ℕ) (rs : List Record) (place : ℕ) (p : Bytes) (c : List Record) → chain_from n rs place p ≡ Some c → AllByRecursion (IsLink rs place c) c
+chain-links n rs place [] c e = subst (λ (l : List Record). AllByRecursion (IsLink rs place l) l) (some_same [] c e) tt
+chain-links zero rs place (b ∷ bs) c e = absurd (none_some c e)
+chain-links (suc n) rs place (b ∷ bs) c e =
+    let h = chain_parts n rs place b bs c e in
+    let named = and_parts (h.0.namespace == place) (bytes_eq h.0.key (b ∷ bs)) (committed_at-is_named place (b ∷ bs) rs h.0 h.2) in
+    let own : committed_at place h.0.key rs ≡ Some h.0 = subst (λ (k : Bytes). committed_at place k rs ≡ Some h.0) (sym ((bytes_eq-Decides h.0.key (b ∷ bs)).0 named.1)) h.2 in
+    let on : OnParent (KeyOf (h.0 ∷ h.1)) place h.0.parent = later h.0 h.1 place h.0.parent (chain-head n rs place h.0.parent h.1 h.3) in
+    subst (λ (l : List Record). AllByRecursion (IsLink rs place l) l) h.4
+    ((own, on), all-map (IsLink rs place h.1) (IsLink rs place (h.0 ∷ h.1)) (λ t g. (g.0, later h.0 h.1 place t.parent g.1)) h.1 (chain-links n rs place h.0.parent h.1 h.3))
+
+-- the ancestors of a snapshot that has a chain
+module _ (rs : List Record) (place : ℕ) (p : Bytes) (some : IsSome (chain_from 64 rs place p)) where
+  of_chain : (P : List Record → Type 0) → ((c : List Record) → chain_from 64 rs place p ≡ Some c → P c) → P (ancestors place p rs)
+  of_chain P f = by (chain_from 64 rs place p) refl some
+    where
+      by : (o : Option (List Record)) → chain_from 64 rs place p ≡ o → IsSome o → P (ancestors place p rs)
+      by None e is = absurd (true≢false (sym is))
+      by (Some c) e is = subst P (sym (ap (λ o. unwrap_or o []) e)) (f c e)
+
+  -- the first is its parent
+  pub ancestors-head : OnParent (KeyOf (ancestors place p rs)) place p
+  ancestors-head = of_chain (λ c. OnParent (KeyOf c) place p) (λ c e. chain-head 64 rs place p c e)
+
+  -- each is a committed record, whose parent is none or one of them
+  pub ancestors-links : AllByRecursion (IsLink rs place (ancestors place p rs)) (ancestors place p rs)
+  ancestors-links = of_chain (λ c. AllByRecursion (IsLink rs place c) c) (λ c e. chain-links 64 rs place p c e)

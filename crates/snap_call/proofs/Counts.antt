@@ -1,6 +1,6 @@
 -- How many snapshots are active after each change of the records.
-use Rattle.std.proofs.Common.{◌≡◌, ◌≢◌, ℕ, zero, suc, ◌+◌, ◌<◌, ◌≤◌, List, [], ◌∷◌, Bool, true, false, true≢false, Some, None, refl, sym, ap, ◌∙◌, ⊎_elim, arith}
-use Rattle.std.specs.Prelude.{◌==◌, Option, find}
+use Rattle.std.proofs.Common.{◌≡◌, ◌≢◌, ℕ, zero, suc, ◌+◌, ◌<◌, ◌≤◌, List, [], ◌∷◌, Bool, true, false, true≢false, cond, Some, None, refl, sym, ap, ◌∙◌, ⊎_elim, arith}
+use Rattle.std.specs.Prelude.{◌==◌, Option, find, filter}
 use Rattle.std.specs.List.{AllByRecursion}
 use Rattle.std.specs.Ordering.{is_lt}
 use Rattle.std.proofs.lemmas.Bool.Decides.{eqb_tells}
@@ -69,6 +69,15 @@ open_count-without_idle p rs r e idle =
     let all = open_count-without p rs r e in
     let none = idle_none r.content idle in
     omega arith
+
+-- the records that pass a test, where none of the others is active
+pub open_count-filter : (keep : Record → Bool) → ((r : Record) → keep r ≡ false → is_active r.content ≡ false) → (rs : List Record) → open_count (filter keep rs) ≡ open_count rs
+open_count-filter keep idle [] = refl
+open_count-filter keep idle (t ∷ ts) = at (keep t) refl (open_count-filter keep idle ts)
+  where
+    at : (b : Bool) → keep t ≡ b → open_count (filter keep ts) ≡ open_count ts → open_count (cond b (t ∷ filter keep ts) (filter keep ts)) ≡ active_one t.content + open_count ts
+    at true is next = omega arith
+    at false is next = let none = idle_none t.content (idle t is) in omega arith
 
 -- the record of a slot less
 pub open_count-without_slot : (slot : ℕ) (rs : List Record) (r : Record) → active_at slot rs ≡ Some r → open_count (without_slot slot rs) + 1 ≡ open_count rs

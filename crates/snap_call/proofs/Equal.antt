@@ -1,5 +1,5 @@
 -- Equality of infos and of filters, as their types compare them.
-use Rattle.std.proofs.Common.{◌≡◌, ◌&&◌, Bool, true, false, true≢false, Option, Some, None, refl, sym, ap}
+use Rattle.std.proofs.Common.{◌≡◌, ◌&&◌, Bool, true≢false, Option, Some, None, refl, sym, ap}
 use Rattle.std.proofs.lemmas.Bool.Decides.{Decides-and, Decides-eqb, Decides-like}
 use Rattle.std.specs.Bool.{Decides}
 use Rattle.std.specs.Cmp.Lexicographic.{pointwise, pointwise_decides, bytes_decides}

@@ -7,7 +7,14 @@ pub mod Lowest
 pub mod Slots
 pub mod Places
 mod CodeLemmas
+mod Searches
+mod Marks
+pub mod Gathered
 mod Equal
+pub mod Leasing
+pub mod Keeping
+pub mod Reaching
+pub mod Sweeping
 pub mod Kept
 pub mod Counts
 pub mod Replaying

@@ -1,11 +1,12 @@
 -- Lists of records: what holds of each of them and of any two of them, and what is found, after each change.
 use Rattle.std.proofs.Common.{◌≡◌, ℕ, Bool, true, false, true≢false, eqb, cond, List, [], ◌∷◌, Option, Some, None, refl, sym, ap, ◌∙◌, subst}
 use Rattle.std.specs.List.{AllByRecursion, find, list_any}
-use Rattle.std.specs.Prelude.{if◌then◌else◌, ◌||◌}
+use Rattle.std.specs.Prelude.{if◌then◌else◌, ◌||◌, filter}
 use Rattle.std.specs.Ordering.{is_lt}
-use Rattle.std.proofs.lemmas.Bool.{eqb-true, or_parts}
+use Rattle.std.proofs.lemmas.Bool.{eqb-true, or_parts, or_left, or_right}
 use Rattle.std.specs.Option.{option_and_then}
 use Rattle.snap_usage.specs.declared.usage.Usage.{Usage}
+use Rattle.snap_lease.proofs.ListLemmas.{all-filter}
 use Rattle.snap_record.specs.Labels.{Bytes}
 use Rattle.snap_record.specs.declared.record.Content.{Content}
 use Rattle.snap_record.specs.declared.record.Content.TheVariants.{View, Active, Committed}
@@ -19,6 +20,10 @@ module _ {X : Type 0} where
   pub all-map : (P Q : X → Type 0) → ((x : X) → P x → Q x) → (xs : List X) → AllByRecursion P xs → AllByRecursion Q xs
   all-map P Q f [] all = tt
   all-map P Q f (x ∷ xs) all = (f x all.0, all-map P Q f xs all.1)
+
+  pub all-each : (P : X → Type 0) → ((x : X) → P x) → (xs : List X) → AllByRecursion P xs
+  all-each P f [] = tt
+  all-each P f (x ∷ xs) = (f x, all-each P f xs)
 
   pub all-both : (P Q : X → Type 0) (xs : List X) → AllByRecursion P xs → AllByRecursion Q xs → AllByRecursion (λ x. P x × Q x) xs
   all-both P Q [] p q = tt
@@ -73,6 +78,63 @@ module _ {X : Type 0} where
       by : (b : Bool) → p x ≡ b → cond b (Some x) (find p xs) ≡ None → (find p xs ≡ None → AllByRecursion (λ y. p y ≡ false) xs) → (p x ≡ false) × AllByRecursion (λ y. p y ≡ false) xs
       by true is found next = absurd (none_some x (sym found))
       by false is found next = (is, next found)
+
+  -- where some pass, one is found
+  pub found-any : (p : X → Bool) (xs : List X) → list_any p xs ≡ true → (x : X) × (find p xs ≡ Some x)
+  found-any p xs e = by (find p xs) refl
+    where
+      by : (o : Option X) → find p xs ≡ o → (x : X) × (find p xs ≡ Some x)
+      by None is = absurd (true≢false (sym e ∙ list_any-none p xs (find-none p xs is)))
+      by (Some x) is = (x, is)
+
+  -- where one of them passes, some pass
+  pub all-any : (xs : List X) → AllByRecursion (λ x. (p : X → Bool) → p x ≡ true → list_any p xs ≡ true) xs
+  all-any [] = tt
+  all-any (x ∷ xs) = (
+    λ p e. or_left (p x) (list_any p xs) e,
+    all-map (λ y. (p : X → Bool) → p y ≡ true → list_any p xs ≡ true) (λ y. (p : X → Bool) → p y ≡ true → list_any p (x ∷ xs) ≡ true) (λ y h p e. or_right (p x) (list_any p xs) (h p e)) xs (all-any xs),
+  )
+
+  pub any-found : (p q : X → Bool) (xs : List X) (x : X) → find p xs ≡ Some x → q x ≡ true → list_any q xs ≡ true
+  any-found p q xs x e is = find-all (λ y. (r : X → Bool) → r y ≡ true → list_any r xs ≡ true) p xs x e (all-any xs) q is
+
+-- ---- those of a list that pass a test
+
+module _ {X : Type 0} (keep : X → Bool) where
+  -- what holds of each that passes
+  pub all-kept : (P : X → Type 0) (xs : List X) → AllByRecursion (λ x. keep x ≡ true → P x) xs → AllByRecursion P (filter keep xs)
+  all-kept P [] all = tt
+  all-kept P (x ∷ xs) all = by (keep x) refl (all-kept P xs all.1)
+    where
+      by : (b : Bool) → keep x ≡ b → AllByRecursion P (filter keep xs) → AllByRecursion P (cond b (x ∷ filter keep xs) (filter keep xs))
+      by true is next = (all.0 is, next)
+      by false is next = next
+
+  pub pairwise-filter : (R : X → X → Type 0) (xs : List X) → AllPairwise R xs → AllPairwise R (filter keep xs)
+  pairwise-filter R [] all = tt
+  pairwise-filter R (x ∷ xs) all =
+      elim (keep x) as (λ b. AllPairwise R (cond b (x ∷ filter keep xs) (filter keep xs))) [ true ↦ (all-filter (R x) keep xs all.0, pairwise-filter R xs all.1) | false ↦ pairwise-filter R xs all.1 ]
+
+  -- what is found and passes is found among them
+  pub find-filter : (p : X → Bool) (xs : List X) (x : X) → keep x ≡ true → find p xs ≡ Some x → find p (filter keep xs) ≡ Some x
+  find-filter p [] x is e = absurd (none_some x e)
+  find-filter p (y ∷ ys) x is e = by (p y) refl e (find-filter p ys x is)
+    where
+      by : (b : Bool) → p y ≡ b → cond b (Some y) (find p ys) ≡ Some x → (find p ys ≡ Some x → find p (filter keep ys) ≡ Some x) → find p (filter keep (y ∷ ys)) ≡ Some x
+      by true here found next =
+          let kept : keep y ≡ true = ap keep (some_same y x found) ∙ is in
+          ap (λ b. find p (cond b (y ∷ filter keep ys) (filter keep ys))) kept ∙ ap (λ b. cond b (Some y) (find p (filter keep ys))) here ∙ found
+      by false past found next =
+          elim (keep y) as (λ b. find p (cond b (y ∷ filter keep ys) (filter keep ys)) ≡ Some x) [ true ↦ ap (λ b. cond b (Some y) (find p (filter keep ys))) past ∙ next found | false ↦ next found ]
+
+  -- a test that only those pass finds the same
+  pub find-filter_same : (p : X → Bool) → ((x : X) → keep x ≡ false → p x ≡ false) → (xs : List X) → find p (filter keep xs) ≡ find p xs
+  find-filter_same p out [] = refl
+  find-filter_same p out (x ∷ xs) = by (keep x) refl (find-filter_same p out xs)
+    where
+      by : (b : Bool) → keep x ≡ b → find p (filter keep xs) ≡ find p xs → find p (cond b (x ∷ filter keep xs) (filter keep xs)) ≡ cond (p x) (Some x) (find p xs)
+      by true is next = ap (λ o. cond (p x) (Some x) o) next
+      by false is next = next ∙ sym (ap (λ b. cond b (Some x) (find p xs)) (out x is))
 
 -- ---- a slot
 
@@ -152,6 +214,16 @@ module _ (r : Record) where
         | true ↦ ap (λ b. cond b (Some r) (find p (t ∷ ts))) other
         | false ↦ ap (λ o. cond (p t) (Some t) o) (find-with_record p ts other)
       ]
+
+  -- it is found by a test that no other passes
+  pub find-with_record_own : (p : Record → Bool) (rs : List Record) → p r ≡ true → list_any p rs ≡ false → find p (with_record r rs) ≡ Some r
+  find-with_record_own p [] is none = rw is refl
+  find-with_record_own p (t ∷ ts) is none = at (is_lt (record_cmp r t)) refl (p t) refl (find-with_record_own p ts is)
+    where
+      at : (b : Bool) → is_lt (record_cmp r t) ≡ b → (c : Bool) → p t ≡ c → (list_any p ts ≡ false → find p (with_record r ts) ≡ Some r) → find p (with_record r (t ∷ ts)) ≡ Some r
+      at true lt c here next = rw lt (rw is refl)
+      at false lt true here next = let f = rw here at none in absurd (true≢false f)
+      at false lt false here next = rw lt (rw here (next (rw here at none)))
 
 -- ---- the first record that passes a test less
 

@@ -1,21 +1,23 @@
 -- The order of the records after each change.
-use Rattle.std.proofs.Common.{◌≡◌, ℕ, ◌<◌, Bool, true, false, true≢false, eq-eqb, List, [], ◌∷◌, refl, sym, ap, ◌∙◌, subst}
+use Rattle.std.proofs.Common.{◌≡◌, ℕ, ◌<◌, Bool, true, false, true≢false, eq-eqb, cond, List, [], ◌∷◌, Some, refl, sym, ap, ◌∙◌, subst}
 use Rattle.std.specs.List.{AllByRecursion}
 use Rattle.std.specs.List.Sorted.{IsStrictlySortedBy}
-use Rattle.std.specs.Prelude.{if◌then◌else◌}
+use Rattle.std.specs.Prelude.{if◌then◌else◌, ◌==◌, bytes_eq, filter}
 use Rattle.std.specs.declared.cmp.Ordering.{Ordering}
 use Rattle.std.specs.declared.cmp.Ordering.TheVariants.{Less, Equal, Greater}
 use Rattle.std.specs.Ordering.{is_lt, is_eq, nat_cmp, ordering_then, ordering_reverse, MatchOrdering}
 use Rattle.std.specs.Cmp.{IsTotalOrder}
 use Rattle.std.specs.Cmp.Lexicographic.{slice_cmp}
-use Rattle.std.proofs.lemmas.Bool.{and_from, or_parts}
-use Rattle.std.proofs.lemmas.Cmp.{nat_cmp_total, nat_list_cmp_total, on_total, then_total, tied_back, ranked}
+use Rattle.std.proofs.lemmas.Bool.{and_from, and_parts, eqb-true, false_from_ne_true, or_parts}
+use Rattle.std.proofs.lemmas.Cmp.{nat_cmp_total, nat_list_cmp_total, on_total, then_total, tied_back, tied_itself, ranked}
 use Rattle.std.proofs.lemmas.Map.Text.{is_eq-slice_cmp}
+use Rattle.std.proofs.lemmas.Slice.Eq.{bytes_eq-Decides}
 use Rattle.snap_usage.specs.declared.usage.Usage.{Usage}
+use Rattle.snap_lease.proofs.ListLemmas.{all-filter}
 use Rattle.snap_record.specs.Labels.{Bytes}
 use Rattle.snap_record.specs.declared.record.Record.{Record}
-use Rattle.snap_call.specs.Records.{record_cmp, is_named, has_key, is_slot, with_record, without, recharged}
-use Rattle.snap_call.proofs.Lists.{none-passes, list_any-none, with_charge, all-with_record, all-without, all-recharged}
+use Rattle.snap_call.specs.Records.{record_cmp, is_named, record_at, has_key, is_slot, with_record, without, recharged}
+use Rattle.snap_call.proofs.Lists.{all-map, all-both, none-passes, list_any-none, with_charge, all-with_record, all-without, all-recharged}
 
 pub record_cmp_total : IsTotalOrder record_cmp
 record_cmp_total = then_total (on_total (λ (r : Record). r.namespace) nat_cmp_total) (on_total (λ (r : Record). r.key) nat_list_cmp_total)
@@ -35,6 +37,34 @@ pub tied-is_named : (r t : Record) → record_cmp r t ≡ Equal → is_named r.n
 tied-is_named r t e =
     let h = both_equal (nat_cmp t.namespace r.namespace) (slice_cmp nat_cmp t.key r.key) (tied_back record_cmp_total r t e) in
     and_from _ _ (eq-eqb t.namespace r.namespace (nat_tied t.namespace r.namespace h.0)) (sym (is_eq-slice_cmp t.key r.key) ∙ ap is_eq h.1)
+
+named_tied : (r t : Record) → is_named r.namespace r.key t ≡ true → record_cmp t r ≡ Equal
+named_tied r t is =
+    let h = and_parts (t.namespace == r.namespace) (bytes_eq t.key r.key) is in
+    let place : t.namespace ≡ r.namespace = eqb-true t.namespace r.namespace h.0 in
+    let key : t.key ≡ r.key = (bytes_eq-Decides t.key r.key).0 h.1 in
+    (λ i. ordering_then (nat_cmp (place i) r.namespace) (slice_cmp nat_cmp (key i) r.key)) ∙ tied_itself record_cmp_total r
+
+-- a record has its own name
+pub own_named : (r : Record) → is_named r.namespace r.key r ≡ true
+own_named r = and_from (r.namespace == r.namespace) (bytes_eq r.key r.key) (eq-eqb r.namespace r.namespace refl) ((bytes_eq-Decides r.key r.key).1 refl)
+
+-- of sorted records, each is the one of its key
+pub own_found : (rs : List Record) → IsStrictlySortedBy record_cmp rs → AllByRecursion (λ r. record_at r.namespace r.key rs ≡ Some r) rs
+unfolding IsStrictlySortedBy
+own_found [] sorted = tt
+own_found (r ∷ rs) sorted = (
+  ap (λ b. cond b (Some r) (record_at r.namespace r.key rs)) (own_named r),
+  all-map (λ t. (record_cmp r t ≡ Less) × (record_at t.namespace t.key rs ≡ Some t)) (λ t. record_at t.namespace t.key (r ∷ rs) ≡ Some t)
+      (λ t h. ap (λ b. cond b (Some r) (record_at t.namespace t.key rs)) (other t h.0) ∙ h.1)
+      rs (all-both (λ t. record_cmp r t ≡ Less) (λ t. record_at t.namespace t.key rs ≡ Some t) rs sorted.0 (own_found rs sorted.1)),
+)
+  where
+    other : (t : Record) → record_cmp r t ≡ Less → is_named t.namespace t.key r ≡ false
+    other t e = false_from_ne_true (is_named t.namespace t.key r) (λ is. apart (sym e ∙ named_tied t r is))
+      where
+        apart : Less ≡ Equal → ⊥
+        apart same = cc
 
 -- ---- the changes
 
@@ -62,6 +92,15 @@ sorted-without p (r ∷ rs) sorted =
     elim (p r) as (λ b. IsStrictlySortedBy record_cmp (if b then rs else r ∷ without p rs)) [
       | true ↦ sorted.1
       | false ↦ (all-without p (λ u. record_cmp r u ≡ Less) rs sorted.0, sorted-without p rs sorted.1)
+    ]
+
+pub sorted-filter : (keep : Record → Bool) (rs : List Record) → IsStrictlySortedBy record_cmp rs → IsStrictlySortedBy record_cmp (filter keep rs)
+unfolding IsStrictlySortedBy
+sorted-filter keep [] sorted = tt
+sorted-filter keep (r ∷ rs) sorted =
+    elim (keep r) as (λ b. IsStrictlySortedBy record_cmp (cond b (r ∷ filter keep rs) (filter keep rs))) [
+      | true ↦ (all-filter (λ u. record_cmp r u ≡ Less) keep rs sorted.0, sorted-filter keep rs sorted.1)
+      | false ↦ sorted-filter keep rs sorted.1
     ]
 
 pub sorted-recharged : (slot : ℕ) (to : Usage) (rs : List Record) → IsStrictlySortedBy record_cmp rs → IsStrictlySortedBy record_cmp (recharged slot to rs)

@@ -2,7 +2,7 @@
 use Rattle.std.proofs.Common.{◌≡◌, ◌≢◌, ℕ, List, [], ◌∷◌, Bool, true, false, true≢false, Some, None, eq-eqb, refl, sym, ap, ◌∙◌, ⊎_elim}
 use Rattle.std.proofs.lemmas.Bool.{eqb-true}
 use Rattle.std.proofs.lemmas.Bool.Decides.{eqb_tells}
-use Rattle.std.specs.Prelude.{◌==◌, Option, find}
+use Rattle.std.specs.Prelude.{◌==◌, Option, find, filter}
 use Rattle.std.specs.List.{AllByRecursion}
 use Rattle.std.specs.Ordering.{is_lt}
 use Rattle.snap_layer.specs.Tree.{Tree}
@@ -16,7 +16,7 @@ use Rattle.snap_record.specs.declared.record.Record.{Record}
 use Rattle.snap_call.specs.Records.{record_cmp, has_slot, is_slot, is_active, active_at, charge_if, charge_at, with_record, without, without_slot, recharged, committed_as}
 use Rattle.snap_call.specs.Good.{AllPairwise, AreApart}
 use Rattle.snap_call.proofs.Sums.{find-here, find-past}
-use Rattle.snap_call.proofs.Lists.{active_at-is_slot, find-without_other}
+use Rattle.snap_call.proofs.Lists.{active_at-is_slot, find-filter_same, find-without_other}
 
 -- what is known of a record in a slot
 has_slot-Active : (slot : ℕ) (c : Content) → has_slot slot c ≡ true → c ≡ Active slot (usage_of c)
@@ -97,6 +97,10 @@ idle_no_slot k (Committed layer u) e = refl
 pub active_at-without_idle : (k : ℕ) (p : Record → Bool) (rs : List Record) (r : Record) → find p rs ≡ Some r → is_active r.content ≡ false → active_at k (without p rs) ≡ active_at k rs
 active_at-without_idle k p rs r e idle = find-without_other p (is_slot k) rs r e (idle_no_slot k r.content idle)
 
+-- and where records go that aren't active
+pub active_at-filter : (k : ℕ) (keep : Record → Bool) → ((r : Record) → keep r ≡ false → is_active r.content ≡ false) → (rs : List Record) → active_at k (filter keep rs) ≡ active_at k rs
+active_at-filter k keep idle rs = find-filter_same keep (is_slot k) (λ r out. idle_no_slot k r.content (idle r out)) rs
+
 -- recharged
 pub active_at-recharged_own : (slot : ℕ) (to : Usage) (rs : List Record) (r : Record) → active_at slot rs ≡ Some r → active_at slot (recharged slot to rs) ≡ Some (record r { content = Active slot to })
 active_at-recharged_own slot to [] r e = absurd (cc)
@@ -175,6 +179,9 @@ charge_at-without_slot_other slot k rs ne = ap (charge_if k) (active_at-without_
 
 pub charge_at-without_idle : (k : ℕ) (p : Record → Bool) (rs : List Record) (r : Record) → find p rs ≡ Some r → is_active r.content ≡ false → charge_at k (without p rs) ≡ charge_at k rs
 charge_at-without_idle k p rs r e idle = ap (charge_if k) (active_at-without_idle k p rs r e idle)
+
+pub charge_at-filter : (k : ℕ) (keep : Record → Bool) → ((r : Record) → keep r ≡ false → is_active r.content ≡ false) → (rs : List Record) → charge_at k (filter keep rs) ≡ charge_at k rs
+charge_at-filter k keep idle rs = ap (charge_if k) (active_at-filter k keep idle rs)
 
 pub charge_at-recharged_own : (slot : ℕ) (to : Usage) (rs : List Record) (r : Record) → active_at slot rs ≡ Some r → charge_at slot (recharged slot to rs) ≡ record { slot = slot; id = r.id; usage = to; issued = true }
 charge_at-recharged_own slot to rs r e = ap (charge_if slot) (active_at-recharged_own slot to rs r e)

@@ -1,7 +1,8 @@
 -- What each change of the records does to the charge of a namespace.
-use Rattle.std.proofs.Common.{◌≡◌, ◌≢◌, ℕ, List, [], ◌∷◌, Bool, true, false, Some, eq-eqb, refl, sym, ap, ◌∙◌, subst, ⊎_elim, arith}
+use Rattle.std.proofs.Common.{◌≡◌, ◌≢◌, ℕ, List, [], ◌∷◌, Bool, true, false, not, cond, Some, eq-eqb, refl, sym, ap, ◌∙◌, subst, ⊎_elim, arith}
 use Rattle.std.proofs.lemmas.Bool.Decides.{eqb_tells}
-use Rattle.std.specs.Prelude.{◌==◌, if◌then◌else◌, Option, find}
+use Rattle.std.specs.Prelude.{◌==◌, if◌then◌else◌, Option, find, filter}
+use Rattle.std.specs.List.{AllByRecursion}
 use Rattle.std.specs.Ordering.{is_lt}
 use Rattle.snap_layer.specs.Tree.{Tree}
 use Rattle.snap_usage.specs.declared.usage.Usage.{Usage}
@@ -96,6 +97,30 @@ charge_of-recharged place slot to (t ∷ ts) r e = at (is_slot slot t) refl (cha
         → charge_of place (recharged slot to (t ∷ ts)) ≡ plus (charge_of place (without_slot slot (t ∷ ts))) (part_of place (record r { content = Active slot to }))
     at true is next = rw is (ap (λ (x : Record). plus (part_of place (record x { content = Active slot to })) (charge_of place ts)) (find-here (is_slot slot) t ts r is e) ∙ plus-turned (part_of place (record r { content = Active slot to })) (charge_of place ts))
     at false is next = rw is (ap (plus (part_of place t)) (next (find-past (is_slot slot) t ts r is e)) ∙ plus-joined (part_of place t) (charge_of place (without_slot slot ts)) (part_of place (record r { content = Active slot to })))
+
+-- the records that pass a test, and those that don't
+plus-past : (u v w : Usage) → plus u (plus v w) ≡ plus v (plus u w)
+plus-past u v w = usage _ _ (omega arith) (omega arith)
+
+pub charge_of-filter : (place : ℕ) (p : Record → Bool) (rs : List Record) → charge_of place rs ≡ plus (charge_of place (filter (λ r. not (p r)) rs)) (charge_of place (filter p rs))
+charge_of-filter place p [] = sym (plus-none no_usage)
+charge_of-filter place p (t ∷ ts) =
+    ap (plus (part_of place t)) (charge_of-filter place p ts)
+    ∙ elim (p t) as (λ b. plus (part_of place t) (plus (charge_of place stay) (charge_of place go)) ≡ plus (charge_of place (cond (not b) (t ∷ stay) stay)) (charge_of place (cond b (t ∷ go) go))) [
+      | true ↦ plus-past (part_of place t) (charge_of place stay) (charge_of place go)
+      | false ↦ plus-joined (part_of place t) (charge_of place stay) (charge_of place go)
+    ]
+  where
+    stay : List Record
+    stay = filter (λ r. not (p r)) ts
+
+    go : List Record
+    go = filter p ts
+
+-- records of other namespaces
+pub charge_of-elsewhere : (place : ℕ) (rs : List Record) → AllByRecursion (λ r. place ≢ r.namespace) rs → charge_of place rs ≡ no_usage
+charge_of-elsewhere place [] all = refl
+charge_of-elsewhere place (r ∷ rs) all = ap (λ (u : Usage). plus u (charge_of place rs)) (part_of-other place r all.0) ∙ none-plus (charge_of place rs) ∙ charge_of-elsewhere place rs all.1
 
 -- with_record, in the record's own namespace and in another one
 pub charge_of-with_record_own : (r : Record) (rs : List Record) → charge_of r.namespace (with_record r rs) ≡ plus (charge_of r.namespace rs) (usage_of r.content)

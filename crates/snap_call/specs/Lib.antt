@@ -1,6 +1,9 @@
 pub mod Forms
 pub mod Records
 pub mod State
+pub mod Reached
+pub mod Ids
+pub mod Marked
 pub mod Good
 pub mod Step
 pub mod Journal

@@ -31,6 +31,16 @@ place_of name ns = position (has_name name) ns
 abbrev pub limit_at : ℕ → List Namespace → Usage
 limit_at place ns = option_map_or (λ n. n.limit) (slice_get ns place) no_usage
 
+-- the name of the namespace at a place
+abbrev pub name_at : ℕ → List Namespace → Bytes
+name_at place ns = option_map_or (λ n. n.name) (slice_get ns place) []
+
+-- the namespaces once the one at a place has this limit
+abbrev pub limited : ℕ → Usage → List Namespace → List Namespace
+limited place limit [] = []
+limited zero limit (n ∷ ns) = record n { limit = limit } ∷ ns
+limited (suc place) limit (n ∷ ns) = n ∷ limited place limit ns
+
 -- the refusal of an amount that the limit doesn't cover, with what is free: the limit less the charge
 abbrev pub over_limit : State → ℕ → Refusal
 over_limit s place =

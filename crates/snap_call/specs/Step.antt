@@ -1,12 +1,13 @@
 -- What one call answers, and the state after it. The cases of each call stand in the order in which its refusals are tested.
--- Cited by `State::opening`, `Accounts::count_entry`, `Accounts::plan` and others.
-use Rattle.std.specs.Prelude.{◌≡◌, ℕ, ◌+◌, ◌<◌, Bool, true, not, ◌&&◌, nat_le, nat_lt, if◌then◌else◌, List, Option, None, Some, IsSomeAnd, is_some, max, Result, Ok, Err}
+-- Cited by `State::opening`, `State::has_named`, `State::name_in` and others.
+use Rattle.std.specs.Prelude.{◌≡◌, ℕ, ◌+◌, ◌<◌, Bool, true, not, ◌&&◌, nat_le, nat_lt, if◌then◌else◌, List, [], ◌∷◌, ◌++◌, count_by, Option, None, Some, IsSomeAnd, max, Result, Ok, Err}
 use Rattle.std.specs.Option.{option_map_or}
 use Rattle.snap_layer.specs.Tree.{Tree}
 use Rattle.snap_usage.specs.declared.usage.Usage.{Usage}
 use Rattle.snap_usage.specs.Counted.{count_of, Covers, covers}
 use Rattle.snap_ledger.specs.States.{plus, minus}
-use Rattle.snap_lease.specs.Leases.{is_guarded}
+use Rattle.snap_lease.specs.Lease.{Lease, empty_lease}
+use Rattle.snap_lease.specs.Leases.{is_guarded, has_lease, has_ended, with_name_added, without_lease, without_ended}
 use Rattle.snap_record.specs.Labels.{Bytes, Label, are_labels}
 use Rattle.snap_record.specs.Records.{usage_of, info_of, kind_of}
 use Rattle.snap_record.specs.Updates.{is_granted, is_well_formed, updated as labels_after}
@@ -22,13 +23,14 @@ use Rattle.snap_call.specs.declared.call.Call.TheVariants as calls
 use Rattle.snap_call.specs.declared.call.Given.{Given}
 use Rattle.snap_call.specs.declared.call.Given.TheVariants.{Count, Layer}
 use Rattle.snap_call.specs.declared.refusal.Refusal.{Refusal}
-use Rattle.snap_call.specs.declared.refusal.Refusal.TheVariants.{BadArgument, NoNamespace, NotFound, AlreadyExists, NotCommitted, NotActive, HasChildren, InUse, Leased, NoLease, TooDeep, TooManyActives, NumbersSpent}
+use Rattle.snap_call.specs.declared.refusal.Refusal.TheVariants.{BadArgument, NoNamespace, NotFound, AlreadyExists, NotCommitted, NotActive, HasChildren, InUse, Leased, NoLease, LeaseExists, TooDeep, TooManyActives, BelowCharge, NumbersSpent}
 use Rattle.snap_call.specs.declared.reply.Reply.{Reply}
-use Rattle.snap_call.specs.declared.reply.Reply.TheVariants.{Opened, Prepared, Viewed, Charged, Trimmed, Committed, Discarded, Removed, Info, Page, Usage as UsageReply, Mounts as MountsReply, Refused}
+use Rattle.snap_call.specs.declared.reply.Reply.TheVariants.{Opened, Prepared, Viewed, Charged, Trimmed, Committed, Discarded, Removed, Info, Page, Usage as UsageReply, Mounts as MountsReply, Done, Swept, Refused}
 use Rattle.snap_call.specs.declared.state.State.{State}
-use Rattle.snap_call.specs.Forms.{is_key, is_parent, is_page, is_start}
-use Rattle.snap_call.specs.Records.{record_at, has_key, has_children, is_active, active_at, charge_of, with_record, without_slot, without_key, recharged, relabelled, with_labels, page, committed_as, lowest_free}
-use Rattle.snap_call.specs.State.{place_of, limit_at, over_limit, is_present, is_base, is_too_deep, ancestors, ids_of, shown_layers}
+use Rattle.snap_call.specs.Forms.{is_key, is_parent, is_page, is_start, is_limit}
+use Rattle.snap_call.specs.Records.{record_at, has_key, has_children, is_active, is_committed, active_at, charge_of, with_record, without_slot, without_key, recharged, relabelled, with_labels, page, committed_as, lowest_free}
+use Rattle.snap_call.specs.State.{place_of, name_at, limit_at, limited, over_limit, is_present, is_base, is_too_deep, ancestors, ids_of, shown_layers}
+use Rattle.snap_call.specs.Reached.{swept, swept_keys, unswept}
 
 -- one entry more
 abbrev pub counted : State → State
@@ -41,6 +43,10 @@ refused s why = (counted s, Refused why)
 -- Session: there are at most 65,536
 abbrev pub session : State → State × Reply
 session s = if nat_lt s.sessions 65536 then (record s { sessions = s.sessions + 1; entries = s.entries + 1 }, Opened) else (s, Refused NumbersSpent)
+
+-- what follows at the place of a namespace, or the refusal of one that the store doesn't have
+abbrev pub in_namespace : State → Bytes → (ℕ → State × Reply) → State × Reply
+in_namespace s namespace next = option_map_or next (place_of namespace s.namespaces) (refused s NoNamespace)
 
 -- what follows at a place or a slot that was found, or the refusal of it
 abbrev pub unless_refused : State → Result ℕ Refusal → (ℕ → State × Reply) → State × Reply
@@ -144,14 +150,25 @@ trim s slot (Count now) (Some r) = (record s { records = recharged slot now s.re
 trim s slot (Count now) None = refused s NotActive
 trim s slot given r = refused s BadArgument
 
--- Commit: the active snapshot gives way to a committed one with the layer and its count. No lease stands yet, so none is found.
-abbrev pub committed : State → ℕ → Bytes → Tree → Record → State × Reply
-committed s slot name layer r = (record s { records = with_record (committed_as name layer (s.entries + 1) r) (without_slot slot s.records); entries = s.entries + 1 }, Committed r.id (count_of layer))
+-- Commit: the active snapshot gives way to a committed one with the layer and its count; the lease, where one is named, gets the name (containerd's Snapshotter.Commit, under a lease)
+abbrev pub has_named : State → ℕ → Option Bytes → Bool
+has_named s place None = true
+has_named s place (Some lease) = has_lease s.leases (name_at place s.namespaces) lease
+
+abbrev pub leases_after : State → ℕ → Bytes → Option Bytes → List Lease
+leases_after s place name None = s.leases
+leases_after s place name (Some lease) = with_name_added s.leases (name_at place s.namespaces) lease name
+
+abbrev pub committed : State → ℕ → Bytes → Option Bytes → Tree → Record → State × Reply
+committed s slot name lease layer r = (
+  record s { records = with_record (committed_as name layer (s.entries + 1) r) (without_slot slot s.records); leases = leases_after s r.namespace name lease; entries = s.entries + 1 },
+  Committed r.id (count_of layer),
+)
 
 abbrev pub commit_as : State → ℕ → Bytes → Option Bytes → Tree → Option Record → State × Reply
 commit_as s slot name lease layer (Some r) =
     if is_key name && option_map_or is_key lease true
-    then if has_key r.namespace name s.records then refused s AlreadyExists else if is_some lease then refused s NoLease else committed s slot name layer r
+    then if has_key r.namespace name s.records then refused s AlreadyExists else if has_named s r.namespace lease then committed s slot name lease layer r else refused s NoLease
     else refused s BadArgument
 commit_as s slot name lease layer None = refused s NotActive
 
@@ -228,6 +245,58 @@ walk_at s after most asked (Some place) = (counted s, Page (page place after mos
 abbrev pub walk : State → Bytes → Bytes → ℕ → Filter → State × Reply
 walk s namespace after most asked = if is_start after && is_page most then walk_at s after most asked (place_of namespace s.namespaces) else refused s BadArgument
 
+-- SetLimit: another limit of a namespace, which has to cover what it is charged
+abbrev pub limited_at : State → ℕ → Usage → State
+limited_at s place limit = record s { namespaces = limited place limit s.namespaces; entries = s.entries + 1 }
+
+abbrev pub set_limit_at : State → Usage → ℕ → State × Reply
+set_limit_at s limit place = if covers limit (charge_of place s.records) then (limited_at s place limit, Done) else refused s BelowCharge
+
+abbrev pub set_limit : State → Bytes → Usage → State × Reply
+set_limit s namespace limit = if is_limit limit then in_namespace s namespace (set_limit_at s limit) else refused s BadArgument
+
+-- the state with these leases
+abbrev pub leasing : State → List Lease → State
+leasing s leases = record s { leases = leases; entries = s.entries + 1 }
+
+-- LeaseCreate: a lease that names nothing yet, with a last moment or none (containerd's leases.Manager.Create)
+abbrev pub lease_create_at : State → Bytes → Bytes → Option ℕ → State × Reply
+lease_create_at s namespace lease until = if has_lease s.leases namespace lease then refused s LeaseExists else (leasing s (s.leases ++ empty_lease namespace lease until ∷ []), Done)
+
+abbrev pub lease_create : State → Bytes → Bytes → Option ℕ → State × Reply
+lease_create s namespace lease until = if is_key lease then in_namespace s namespace (λ place. lease_create_at s namespace lease until) else refused s BadArgument
+
+-- LeaseAdd: the lease names a committed snapshot too, live or ended (containerd's leases.Manager.AddResource)
+abbrev pub lease_add_record : State → Bytes → Bytes → Bytes → Option Record → State × Reply
+lease_add_record s namespace lease name None = refused s NotFound
+lease_add_record s namespace lease name (Some r) =
+    if not (is_committed r.content) then refused s NotCommitted else
+    if not (has_lease s.leases namespace lease) then refused s NoLease else
+    (leasing s (with_name_added s.leases namespace lease name), Done)
+
+abbrev pub lease_add : State → Bytes → Bytes → Bytes → State × Reply
+lease_add s namespace lease name = if is_key lease && is_key name then in_namespace s namespace (λ place. lease_add_record s namespace lease name (record_at place name s.records)) else refused s BadArgument
+
+-- LeaseRelease: the lease goes with its names, and no snapshot does (containerd's leases.Manager.Delete)
+abbrev pub lease_release_at : State → Bytes → Bytes → State × Reply
+lease_release_at s namespace lease = if has_lease s.leases namespace lease then (leasing s (without_lease s.leases namespace lease), Done) else refused s NoLease
+
+abbrev pub lease_release : State → Bytes → Bytes → State × Reply
+lease_release s namespace lease = if is_key lease then in_namespace s namespace (λ place. lease_release_at s namespace lease) else refused s BadArgument
+
+-- Sweep: the namespace's leases that have ended at the moment go, and those of its committed snapshots that are not reached. The reply has the keys of these, how many leases went, and what the snapshots were charged.
+abbrev pub swept_at : State → Bytes → ℕ → ℕ → State
+swept_at s namespace place moment = record s { records = unswept s namespace place moment; leases = without_ended s.leases namespace moment; entries = s.entries + 1 }
+
+abbrev pub sweep_at : State → Bytes → ℕ → ℕ → State × Reply
+sweep_at s namespace moment place = (
+  swept_at s namespace place moment,
+  Swept (swept_keys s namespace place moment) (count_by (has_ended namespace moment) s.leases) (charge_of place (swept s namespace place moment)),
+)
+
+abbrev pub sweep : State → Bytes → ℕ → State × Reply
+sweep s namespace moment = in_namespace s namespace (sweep_at s namespace moment)
+
 -- one call: the state after it, and its reply
 abbrev pub step : State → Call → Given → State × Reply
 step s calls.Session given = session s
@@ -243,6 +312,11 @@ step s (calls.View namespace key parent labels) given = view s namespace key par
 step s (calls.Remove namespace key) given = remove s namespace key
 step s (calls.Update namespace key labels paths) given = update s namespace key labels paths
 step s (calls.Walk namespace after most asked) given = walk s namespace after most asked
+step s (calls.SetLimit namespace limit) given = set_limit s namespace limit
+step s (calls.LeaseCreate namespace lease until) given = lease_create s namespace lease until
+step s (calls.LeaseAdd namespace lease name) given = lease_add s namespace lease name
+step s (calls.LeaseRelease namespace lease) given = lease_release s namespace lease
+step s (calls.Sweep namespace moment) given = sweep s namespace moment
 
 -- the slot is open under the id
 abbrev pub IsOpen : ℕ → Option Record → Type 0

@@ -1,5 +1,5 @@
 ghost use Rattle.std.specs.Prelude.{◌≡◌, IfOk};
-ghost use Rattle.snap_call.specs.declared.call.Call.TheVariants.{Prepare, Commit, View, Update, Walk};
+ghost use Rattle.snap_call.specs.declared.call.Call.TheVariants.{Prepare, Commit, View, Update, Walk, LeaseAdd};
 
 use snap_layer::Shared;
 use snap_record::{Filter, Labels, Sequence, Text};
@@ -84,6 +84,35 @@ pub enum Call {
         most: u64,
         asked: Filter,
     },
+    /// Gives a namespace another limit.
+    SetLimit {
+        namespace: Text,
+        limit: Usage,
+    },
+    /// Makes a lease that names nothing, with a last moment or none (containerd's
+    /// `leases.Manager.Create`).
+    LeaseCreate {
+        namespace: Text,
+        lease: Text,
+        until: Option<u64>,
+    },
+    /// Names a committed snapshot in a lease too (containerd's `leases.Manager.AddResource`).
+    LeaseAdd {
+        namespace: Text,
+        lease: Text,
+        name: Text,
+    },
+    /// Takes a lease away with its names (containerd's `leases.Manager.Delete`).
+    LeaseRelease {
+        namespace: Text,
+        lease: Text,
+    },
+    /// Takes the leases of a namespace away that have ended at a moment, and its committed snapshots that
+    /// nothing in use stands on.
+    Sweep {
+        namespace: Text,
+        moment: u64,
+    },
 }
 
 /// What the value handed in adds to a call.
@@ -153,6 +182,28 @@ impl Drop for Call {
                 after: _,
                 most: _,
                 asked: _,
+            } => {}
+            Call::SetLimit {
+                namespace: _,
+                limit: _,
+            } => {}
+            Call::LeaseCreate {
+                namespace: _,
+                lease: _,
+                until: _,
+            } => {}
+            Call::LeaseAdd {
+                namespace: _,
+                lease: _,
+                name: _,
+            } => {}
+            Call::LeaseRelease {
+                namespace: _,
+                lease: _,
+            } => {}
+            Call::Sweep {
+                namespace: _,
+                moment: _,
             } => {}
         }
     }
@@ -240,6 +291,35 @@ impl Clone for Call {
                 most,
                 asked,
             } => clone_walk(namespace, after, *most, asked),
+            Call::SetLimit { namespace, limit } => Ok(Call::SetLimit {
+                namespace: namespace.clone()?,
+                limit: *limit,
+            }),
+            Call::LeaseCreate {
+                namespace,
+                lease,
+                until,
+            } => {
+                let (namespace, lease) = clone_both(namespace, lease)?;
+                Ok(Call::LeaseCreate {
+                    namespace,
+                    lease,
+                    until: *until,
+                })
+            }
+            Call::LeaseAdd {
+                namespace,
+                lease,
+                name,
+            } => clone_lease_add(namespace, lease, name),
+            Call::LeaseRelease { namespace, lease } => {
+                let (namespace, lease) = clone_both(namespace, lease)?;
+                Ok(Call::LeaseRelease { namespace, lease })
+            }
+            Call::Sweep { namespace, moment } => Ok(Call::Sweep {
+                namespace: namespace.clone()?,
+                moment: *moment,
+            }),
         }
     }
 }
@@ -310,6 +390,17 @@ fn clone_walk(namespace: &Text, after: &Text, most: u64, asked: &Filter) -> Resu
         after,
         most,
         asked: asked.clone()?,
+    })
+}
+
+fn clone_lease_add(namespace: &Text, lease: &Text, name: &Text) -> Result<Call, AllocError>
+    ensures { IfOk result (λ call. call ≡ LeaseAdd namespace.now lease.now name.now) }
+{
+    let (namespace, lease) = clone_both(namespace, lease)?;
+    Ok(Call::LeaseAdd {
+        namespace,
+        lease,
+        name: name.clone()?,
     })
 }
 

@@ -1,8 +1,10 @@
-ghost use Rattle.std.specs.Prelude.{◌≡◌, ◌<◌, ◌≤◌, [], length, position, option_copied, OnOk, OnErr, OnSome, IfErr, IfOk, MatchOption, IsTrue, ◌↔◌, vec_len, vec_capacity};
+ghost use Rattle.std.specs.Prelude.{◌≡◌, ◌<◌, ◌≤◌, [], not, filter, length, position, option_copied, OnOk, OnErr, OnSome, IfErr, IfOk, MatchOption, IsTrue, ◌↔◌, vec_len, vec_capacity};
 ghost use Rattle.std.specs.Ordering.{is_lt};
 ghost use Rattle.std.specs.List.{insert, list_any};
 ghost use Rattle.snap_call.specs.Records.{record_at, record_cmp, has_key, has_children, is_child, is_named, is_slot, is_later, active_at, with_record, without_key, without_slot, recharged, relabelled, is_walked, page, committed_as, lowest_free};
+ghost use Rattle.snap_call.specs.Ids.{has_id};
 
+use crate::ids::Ids;
 use snap_layer::Shared;
 use snap_ledger::MAX_SLOTS;
 use snap_record::{Content, Filter, Info, Labels, Record, Sequence, Text};
@@ -141,6 +143,13 @@ impl Records {
         }
     }
 
+    /// Takes the records away that have one of these ids, in one pass. Takes no memory.
+    pub fn remove_ids(&mut self, ids: &Ids)
+        ensures { self.new ≡ filter (λ r. not (has_id r.id ids.now)) self.old }
+    {
+        self.list.retain(|snapshot| !has_id(snapshot, ids));
+    }
+
     /// Charges the record of a slot for so much. Where the slot is not open, the records are as
     /// they were. Takes no memory.
     pub fn recharge(&mut self, slot: u64, to: Usage)
@@ -247,6 +256,13 @@ fn is_named(snapshot: &Record, place: usize, key: &str) -> bool
     ensures { result ≡ is_named place key.now snapshot.now }
 {
     snapshot.namespace == place && snapshot.key.as_str() == key
+}
+
+/// Whether the record's id is one of these.
+fn has_id(snapshot: &Record, ids: &Ids) -> bool
+    ensures { result ≡ has_id snapshot.now.id ids.now }
+{
+    ids.has(snapshot.id)
 }
 
 /// Whether the record is in the namespace at this place and on this parent.

@@ -2,7 +2,7 @@ ghost use Rattle.std.specs.Prelude.{◌≡◌};
 
 use crate::refusal::Refusal;
 use snap_mount::Mount;
-use snap_record::{Info, Sequence};
+use snap_record::{Info, Sequence, Text};
 use snap_usage::Usage;
 use std::alloc::AllocError;
 
@@ -40,6 +40,15 @@ pub enum Reply {
     Mounts(Sequence<Mount>),
     /// The infos of a walk, in the order of their keys.
     Page(Sequence<Info>),
+    /// A limit was set, or a lease was made, added to or released.
+    Done,
+    /// The keys of the snapshots that a sweep took away, in the order of their bytes, the number of
+    /// leases that went, and what the snapshots were charged.
+    Swept {
+        removed: Sequence<Text>,
+        leases: u64,
+        freed: Usage,
+    },
     Refused(Refusal),
 }
 
@@ -71,6 +80,16 @@ impl Clone for Reply {
             Reply::Usage(usage) => Reply::Usage(*usage),
             Reply::Mounts(mounts) => Reply::Mounts(mounts.clone()?),
             Reply::Page(infos) => Reply::Page(infos.clone()?),
+            Reply::Done => Reply::Done,
+            Reply::Swept {
+                removed,
+                leases,
+                freed,
+            } => Reply::Swept {
+                removed: removed.clone()?,
+                leases: *leases,
+                freed: *freed,
+            },
             Reply::Refused(refusal) => Reply::Refused(*refusal),
         })
     }

@@ -30,6 +30,16 @@ pub(crate) fn is_same_lease(a: &Option<Text>, b: &Option<Text>) -> bool
     }
 }
 
+fn is_same_moment(a: Option<u64>, b: Option<u64>) -> bool
+    ensures { IsTrue result ↔ (a ≡ b) }
+{
+    match (a, b) {
+        (None, None) => true,
+        (Some(a), Some(b)) => a == b,
+        _ => false,
+    }
+}
+
 pub(crate) fn is_same_info(a: &Info, b: &Info) -> bool
     ensures { IsTrue result ↔ (a.now ≡ b.now) }
 {
@@ -60,7 +70,7 @@ pub(crate) fn is_same_filter(a: &Filter, b: &Filter) -> bool
     *a == *b
 }
 
-pub(crate) fn is_same_paths(a: &Sequence<Text>, b: &Sequence<Text>) -> bool
+pub(crate) fn is_same_texts(a: &Sequence<Text>, b: &Sequence<Text>) -> bool
     ensures { IsTrue result ↔ (a.now ≡ b.now) }
 {
     *a == *b
@@ -124,6 +134,19 @@ pub(crate) fn is_same_call(a: &Call, b: &Call) -> bool
             most,
             asked,
         } => is_walk(b, namespace, after, *most, asked),
+        Call::SetLimit { namespace, limit } => is_set_limit(b, namespace, *limit),
+        Call::LeaseCreate {
+            namespace,
+            lease,
+            until,
+        } => is_lease_create(b, namespace, lease, *until),
+        Call::LeaseAdd {
+            namespace,
+            lease,
+            name,
+        } => is_lease_add(b, namespace, lease, name),
+        Call::LeaseRelease { namespace, lease } => is_lease_release(b, namespace, lease),
+        Call::Sweep { namespace, moment } => is_sweep(b, namespace, *moment),
     }
 }
 
@@ -273,7 +296,7 @@ fn is_update(
             key: k,
             labels: l,
             paths: p,
-        } => *namespace == *n && *key == *k && is_same_labels(labels, l) && is_same_paths(paths, p),
+        } => *namespace == *n && *key == *k && is_same_labels(labels, l) && is_same_texts(paths, p),
         _ => false,
     }
 }
@@ -288,6 +311,68 @@ fn is_walk(call: &Call, namespace: &Text, after: &Text, most: u64, asked: &Filte
             most: m,
             asked: f,
         } => *namespace == *n && *after == *a && most == *m && is_same_filter(asked, f),
+        _ => false,
+    }
+}
+
+fn is_set_limit(call: &Call, namespace: &Text, limit: Usage) -> bool
+    ensures { IsTrue result ↔ (calls.SetLimit namespace.now limit ≡ call.now) }
+{
+    match call {
+        Call::SetLimit {
+            namespace: n,
+            limit: l,
+        } => *namespace == *n && limit == *l,
+        _ => false,
+    }
+}
+
+fn is_lease_create(call: &Call, namespace: &Text, lease: &Text, until: Option<u64>) -> bool
+    ensures { IsTrue result ↔ (calls.LeaseCreate namespace.now lease.now until ≡ call.now) }
+{
+    match call {
+        Call::LeaseCreate {
+            namespace: n,
+            lease: l,
+            until: u,
+        } => *namespace == *n && *lease == *l && is_same_moment(until, *u),
+        _ => false,
+    }
+}
+
+fn is_lease_add(call: &Call, namespace: &Text, lease: &Text, name: &Text) -> bool
+    ensures { IsTrue result ↔ (calls.LeaseAdd namespace.now lease.now name.now ≡ call.now) }
+{
+    match call {
+        Call::LeaseAdd {
+            namespace: n,
+            lease: l,
+            name: k,
+        } => *namespace == *n && *lease == *l && *name == *k,
+        _ => false,
+    }
+}
+
+fn is_lease_release(call: &Call, namespace: &Text, lease: &Text) -> bool
+    ensures { IsTrue result ↔ (calls.LeaseRelease namespace.now lease.now ≡ call.now) }
+{
+    match call {
+        Call::LeaseRelease {
+            namespace: n,
+            lease: l,
+        } => *namespace == *n && *lease == *l,
+        _ => false,
+    }
+}
+
+fn is_sweep(call: &Call, namespace: &Text, moment: u64) -> bool
+    ensures { IsTrue result ↔ (calls.Sweep namespace.now moment ≡ call.now) }
+{
+    match call {
+        Call::Sweep {
+            namespace: n,
+            moment: m,
+        } => *namespace == *n && moment == *m,
         _ => false,
     }
 }
@@ -319,6 +404,19 @@ pub(crate) fn is_same_reply(a: &Reply, b: &Reply) -> bool
         (Reply::Usage(a), Reply::Usage(b)) => *a == *b,
         (Reply::Mounts(a), Reply::Mounts(b)) => is_same_mounts(a, b),
         (Reply::Page(a), Reply::Page(b)) => is_same_infos(a, b),
+        (Reply::Done, Reply::Done) => true,
+        (
+            Reply::Swept {
+                removed,
+                leases,
+                freed,
+            },
+            Reply::Swept {
+                removed: r,
+                leases: l,
+                freed: f,
+            },
+        ) => is_same_texts(removed, r) && *leases == *l && *freed == *f,
         (Reply::Refused(a), Reply::Refused(b)) => *a == *b,
         _ => false,
     }

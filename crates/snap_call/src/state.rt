@@ -1,8 +1,8 @@
-ghost use Rattle.std.specs.Prelude.{◌≡◌, true};
+ghost use Rattle.std.specs.Prelude.{◌≡◌, ◌<◌, length, true, OnOk, OnErr};
 ghost use Rattle.snap_call.specs.Forms.{is_config};
 ghost use Rattle.snap_call.specs.Good.{Good};
-ghost use Rattle.snap_call.specs.State.{opening, place_of, limit_at};
-ghost use Rattle.snap_call.specs.Step.{IsAllowed, step};
+ghost use Rattle.snap_call.specs.State.{opening, place_of, name_at, limit_at, limited};
+ghost use Rattle.snap_call.specs.Step.{IsAllowed, step, has_named, leases_after};
 ghost use Rattle.snap_call.specs.declared.call.Call.{Call};
 ghost use Rattle.snap_call.specs.declared.call.Given.{Given};
 ghost use Rattle.snap_call.specs.declared.state.State.{State};
@@ -13,7 +13,7 @@ use crate::records::Records;
 use snap_lease::Leases;
 use snap_record::{Sequence, Text};
 use snap_usage::Usage;
-use std::alloc::Global;
+use std::alloc::{AllocError, Global};
 
 /// The state of a store.
 #[derive(Drop)]
@@ -61,6 +61,64 @@ impl State {
         namespaces
             .iter()
             .position(|namespace| has_name(namespace, name))
+    }
+
+    /// Puts the namespace, which has another limit, in its place. Takes no memory. The cost is constant.
+    pub fn set_limit(&mut self, place: usize, namespace: Namespace)
+        requires inside { place < length self.old.namespaces }
+        requires same { namespace.name ≡ name_at place self.old.namespaces }
+        ensures { self.new ≡ record self.old { namespaces = limited place namespace.limit self.old.namespaces } }
+    {
+        self.namespaces.set(place, namespace);
+    }
+
+    /// Whether the namespace at the place has the lease, where one is given. Takes no memory. The cost
+    /// grows with the number of leases.
+    pub fn has_named(&self, place: usize, lease: &Option<Text>) -> bool
+        ensures { result ≡ has_named self.now place lease.now }
+    {
+        match lease {
+            Some(lease) => self.leases.has(self.name_at(place), lease.as_str()),
+            None => true,
+        }
+    }
+
+    /// Names the snapshot in the lease of the namespace at the place, where one is given. Takes memory
+    /// for a name that is new; where that is refused, nothing changes. The cost grows with the number of
+    /// leases.
+    pub fn name_in(
+        &mut self,
+        place: usize,
+        name: &str,
+        lease: &Option<Text>,
+    ) -> Result<(), AllocError>
+        requires { has_named self.old place lease.now ≡ true }
+        ensures ok { OnOk result (self.new ≡ record self.old { leases = leases_after self.old place name.now lease.now }) }
+        ensures err { OnErr result (self.new ≡ self.old) }
+    {
+        let Some(lease) = lease else {
+            return Ok(());
+        };
+        let Some(namespace) = self.namespaces.as_slice().get(place) else {
+            return Err(AllocError);
+        };
+        match self
+            .leases
+            .add(namespace.name.as_str(), lease.as_str(), name)
+        {
+            Ok(()) => Ok(()),
+            Err(_) => Err(AllocError),
+        }
+    }
+
+    /// The name of the namespace at the place; no text past the last one. Takes no memory.
+    pub fn name_at(&self, place: usize) -> &str
+        ensures { result.now ≡ name_at place self.now.namespaces }
+    {
+        match self.namespaces.as_slice().get(place) {
+            Some(namespace) => namespace.name.as_str(),
+            None => "",
+        }
     }
 
     /// The limit of the namespace at the place; 0/0 past the last one. Takes no memory.

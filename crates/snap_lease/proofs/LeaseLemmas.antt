@@ -5,7 +5,9 @@ use Rattle.std.specs.List.{list_any}
 use Rattle.std.specs.Str.{bytes_eq}
 use Rattle.std.specs.String.{string_eq}
 use Rattle.indexmap.specs.IndexSet.{insert_key}
+use Rattle.std.proofs.lemmas.Slice.Eq.{bytes_eq-Decides}
 use Rattle.snap_lease.specs.Lease.{Lease, does_name, with_lease_name}
+use Rattle.snap_lease.specs.Live.{is_among, with_name}
 
 -- a test of each element of a mapped list
 pub list_any-map : {X Y : Type 0} (p : Y → Bool) (f : X → Y) (xs : List X) → list_any p (map f xs) ≡ list_any (λ x. p (f x)) xs
@@ -46,3 +48,43 @@ with_name-inserted name l keys new k absent seen is inserted =
     let lacks : list_any (bytes_eq (string_bytes k)) (map string_bytes keys) ≡ false = ap (λ n. list_any (bytes_eq n) (map string_bytes keys)) is ∙ ap (list_any (bytes_eq name)) (sym seen) ∙ absent in
     let grown : map string_bytes new ≡ l.names ++ name ∷ [] = ap (map string_bytes) inserted ∙ names-insert_key keys k lacks ∙ ap (λ ns. ns ++ string_bytes k ∷ []) (sym seen) ∙ ap (λ n. l.names ++ n ∷ []) is in
     ap (λ ns. record l { names = ns }) grown ∙ sym (with_name-new name l absent)
+
+-- ---- sets of names
+
+-- the names after a new key is inserted
+pub names-inserted : {Z : Type 0} (name : List ℕ) (names : List (List ℕ)) (keys new : List (String Z)) (k : String Z)
+    → is_among name names ≡ false → names ≡ map string_bytes keys → string_bytes k ≡ name → new ≡ insert_key string_eq keys k → map string_bytes new ≡ with_name name names
+names-inserted name names keys new k absent seen is inserted =
+    let lacks : list_any (bytes_eq (string_bytes k)) (map string_bytes keys) ≡ false = ap (λ n. list_any (bytes_eq n) (map string_bytes keys)) is ∙ ap (list_any (bytes_eq name)) (sym seen) ∙ absent in
+    let grown : map string_bytes new ≡ names ++ name ∷ [] = ap (map string_bytes) inserted ∙ names-insert_key keys k lacks ∙ ap (λ ns. ns ++ string_bytes k ∷ []) (sym seen) ∙ ap (λ n. names ++ n ∷ []) is in
+    grown ∙ sym (ap (λ b. if b then names else names ++ name ∷ []) absent)
+
+or_none : (a : Bool) → (a || false) ≡ a
+or_none true = refl
+or_none false = refl
+
+or_joined : (a b c : Bool) → (a || (b || c)) ≡ ((a || b) || c)
+or_joined true b c = refl
+or_joined false b c = refl
+
+-- a test of a list with one element more
+pub list_any-push : {X : Type 0} (p : X → Bool) (xs : List X) (x : X) → list_any p (xs ++ x ∷ []) ≡ (list_any p xs || p x)
+list_any-push p [] x = or_none (p x)
+list_any-push p (y ∷ ys) x = ap (λ b. p y || b) (list_any-push p ys x) ∙ or_joined (p y) (list_any p ys) (p x)
+
+-- what is among the names with one more
+pub is_among-with_name : (name new : List ℕ) (names : List (List ℕ)) → is_among name (with_name new names) ≡ (is_among name names || bytes_eq name new)
+is_among-with_name name new names = by (is_among new names) refl
+  where
+    same : (b : Bool) → bytes_eq name new ≡ b → is_among new names ≡ true → is_among name names ≡ (is_among name names || b)
+    same true e there = let at : name ≡ new = (bytes_eq-Decides name new).0 e in let here : is_among name names ≡ true = ap (λ n. is_among n names) at ∙ there in here ∙ ap (λ b. b || true) (sym here)
+    same false e there = sym (or_none (is_among name names))
+
+    by : (b : Bool) → is_among new names ≡ b → is_among name (if b then names else names ++ new ∷ []) ≡ (is_among name names || bytes_eq name new)
+    by true there = same (bytes_eq name new) refl there
+    by false there = list_any-push (bytes_eq name) names new
+
+-- what is among the names of a set and the first names of a list
+pub among_more : (name new : List ℕ) (set names : List (List ℕ)) (b : Bool) → is_among name set ≡ (b || is_among name names) → is_among name (with_name new set) ≡ (b || is_among name (names ++ new ∷ []))
+among_more name new set names b before =
+    is_among-with_name name new set ∙ ap (λ a. a || bytes_eq name new) before ∙ sym (or_joined b (is_among name names) (bytes_eq name new)) ∙ ap (λ a. b || a) (sym (list_any-push (bytes_eq name) names new))

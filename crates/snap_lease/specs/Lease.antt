@@ -1,5 +1,5 @@
 -- What a lease is, and what is asked of one lease. Texts are their bytes.
--- Cited by `Leases::create`, `Leases::add`, `Leases::release` and others.
+-- Cited by `Leases::has`, `Leases::create`, `Leases::add` and others.
 use Rattle.std.specs.Prelude.{ℕ, Bool, true, List, [], ◌∷◌, ◌++◌, Option, None, Some, nat_le, ◌&&◌, if◌then◌else◌}
 use Rattle.std.specs.List.{list_any, IsDistinct}
 use Rattle.std.specs.Str.{bytes_eq}

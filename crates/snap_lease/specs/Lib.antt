@@ -1,4 +1,5 @@
 pub mod Lease
 pub mod Leases
+pub mod Live
 pub mod Marks
 pub mod Reach

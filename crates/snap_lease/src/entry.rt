@@ -1,7 +1,9 @@
 //! One lease, over texts that it owns.
-ghost use Rattle.std.specs.Prelude.{◌≡◌, List, ℕ, map, string_bytes, IsTrue, IsOk, IfOk, OnOk, OnErr};
+ghost use Rattle.std.specs.Prelude.{◌≡◌, ◌||◌, List, ℕ, map, string_bytes, IsTrue, IsOk, IfOk, OnOk, OnErr};
 ghost use Rattle.snap_lease.specs.Lease.{is_of, is_lease, does_name, is_live, empty_lease, with_lease_name};
+ghost use Rattle.snap_lease.specs.Live.{is_among};
 
+use crate::live::LiveNames;
 use indexmap::IndexSet;
 use std::alloc::{AllocError, Global};
 use std::marker::Model;
@@ -96,5 +98,15 @@ impl LeaseEntry {
             names.push(String::from_str(alloc, name.as_str())?)?;
         }
         Ok(names)
+    }
+
+    /// Adds copies of the names to the set.
+    pub(crate) fn put_names(&self, alloc: Global, set: &mut LiveNames) -> Result<(), AllocError>
+        ensures { OnOk result ((name : List ℕ) → is_among name set.new ≡ (is_among name set.old || does_name name self.now)) }
+    {
+        for name in self.names.as_slice() {
+            set.add(alloc, name.as_str())?;
+        }
+        Ok(())
     }
 }

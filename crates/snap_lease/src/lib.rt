@@ -12,8 +12,10 @@
 mod entry;
 mod error;
 mod list;
+mod live;
 mod sweep;
 
 pub use error::LeaseError;
 pub use list::Leases;
+pub use live::LiveNames;
 pub use sweep::sweep_set;

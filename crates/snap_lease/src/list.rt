@@ -3,10 +3,12 @@ ghost use Rattle.std.specs.Prelude.{◌≡◌, ◌≢◌, ◌↔◌, ◌<◌, �
 ghost use Rattle.std.specs.List.{AllByRecursion};
 ghost use Rattle.snap_lease.specs.Lease.{empty_lease, is_lease, NamesOnce};
 ghost use Rattle.snap_lease.specs.Leases.{AreDistinct, has_lease, names_in_lease, lease_names, naming_count, is_guarded, is_guarded_at, has_ended, with_name_added, without_lease, without_ended, CountsAdded, CountsReleased, CountsLive};
+ghost use Rattle.snap_lease.specs.Live.{is_among};
 
 use crate::LeaseError;
 use crate::entry::LeaseEntry;
-use std::alloc::Global;
+use crate::live::LiveNames;
+use std::alloc::{AllocError, Global};
 use std::marker::Model;
 
 /// The leases of all namespaces.
@@ -44,8 +46,10 @@ impl Leases {
         }
     }
 
-    // Whether the namespace has a lease of this name.
-    fn has(&self, namespace: &str, lease: &str) -> bool
+    /// Whether the namespace has a lease of this name, live or ended.
+    ///
+    /// Takes no memory. Its cost grows with the number of leases.
+    pub fn has(&self, namespace: &str, lease: &str) -> bool
         ensures { result ≡ has_lease self.now namespace.now lease.now }
     {
         self.list.iter().any(|l| l.is_lease(namespace, lease))
@@ -183,6 +187,22 @@ impl Leases {
         ensures { result ≡ is_guarded_at self.now namespace.now name.now now }
     {
         self.list.iter().any(|l| l.is_of(namespace) && l.does_name(name) && l.is_live(now))
+    }
+
+    /// The names in the namespace's leases that are live at the moment, as a set: [`Leases::live`] for
+    /// many names.
+    ///
+    /// Takes memory for copies of the names. Its cost grows with the number of leases and with the length of the names.
+    pub fn live_names(&self, namespace: &str, now: u64) -> Result<LiveNames, AllocError>
+        ensures { IfOk result (λ names. (name : List ℕ) → is_among name names ≡ is_guarded_at self.now namespace.now name now) }
+    {
+        let mut names = LiveNames::new(self.alloc);
+        for lease in &self.list {
+            if lease.is_of(namespace) && lease.is_live(now) {
+                lease.put_names(self.alloc, &mut names)?;
+            }
+        }
+        Ok(names)
     }
 
     /// The number of the namespace's leases that have ended at the moment.

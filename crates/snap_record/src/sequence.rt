@@ -1,4 +1,4 @@
-ghost use Rattle.std.specs.Prelude.{◌≡◌, [], ◌∷◌, ◌++◌, List, ℕ, length, OnOk, OnErr, IfErr, IsTrue, ◌↔◌};
+ghost use Rattle.std.specs.Prelude.{◌≡◌, ◌<◌, [], ◌∷◌, ◌++◌, List, ℕ, length, slice_set, OnOk, OnErr, IfErr, IsTrue, ◌↔◌};
 
 use std::alloc::{AllocError, AllocFailed, Global};
 use std::marker::Model;
@@ -42,6 +42,16 @@ impl<T> Sequence<T> {
         ensures { result.now ≡ self.now }
     {
         self.items.as_slice()
+    }
+
+    /// Puts the item in the place of the one that stands there. Takes no memory. The cost is constant.
+    pub fn set(&mut self, place: usize, item: T)
+    where
+        T: Drop,
+        requires { place < length self.old }
+        ensures { self.new ≡ slice_set self.old place item }
+    {
+        self.items[place] = item;
     }
 
     /// How many items there are. Takes no memory. The cost is constant.

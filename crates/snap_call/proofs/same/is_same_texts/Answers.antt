@@ -1,6 +1,6 @@
 use Rattle.std.proofs.lemmas.Bool.Decides.{Decides-at}
 use Rattle.std.specs.Cmp.Lexicographic.{pointwise_decides, bytes_decides}
-use Rattle.snap_call.proofs.same.is_same_paths.Goals as goal
+use Rattle.snap_call.proofs.same.is_same_texts.Goals as goal
 
 pub returns : goal.returns
 returns c = Decides-at c.eq.result _ c.eq.ensures (pointwise_decides bytes_decides c.args.a.now c.args.b.now)

@@ -1,0 +1,211 @@
+-- What is true of the state after a limit is set, and after leases are made, added to and released.
+use Rattle.std.proofs.Common.{◌≡◌, ◌≢◌, ℕ, zero, suc, ◌<◌, Bool, true, false, true≢false, List, [], ◌∷◌, ◌++◌, length, Option, Some, None, IsSome, refl, sym, ap, ◌∙◌, subst, inl, inr, arith}
+use Rattle.std.specs.List.{AllByRecursion, list_any, position_or_len}
+use Rattle.std.specs.Option.{option_map}
+use Rattle.std.specs.Prelude.{if◌then◌else◌, ◌&&◌, bytes_eq, not, nat_lt, position, cond, slice_set, ◌||◌}
+use Rattle.std.proofs.lemmas.Bool.{and_parts, cases_eq, false_from_ne_true, not-true, lt-ltb}
+use Rattle.std.proofs.lemmas.Bool.Decides.{nat_tests}
+use Rattle.std.proofs.lemmas.Slice.Eq.{bytes_eq-Decides}
+use Rattle.snap_usage.specs.declared.usage.Usage.{Usage}
+use Rattle.snap_usage.specs.Counted.{Covers}
+use Rattle.snap_lease.specs.Lease.{Lease, NamesOnce, does_name, is_lease, empty_lease, with_lease_name}
+use Rattle.snap_lease.specs.Leases.{with_name_added, without_lease}
+use Rattle.snap_lease.proofs.ListLemmas.{is_lease-parts, all-push, all-filter, NamesOnce-empty, NamesOnce-with_name_added}
+use Rattle.snap_record.specs.Labels.{Bytes}
+use Rattle.snap_record.specs.declared.record.Record.{Record}
+use Rattle.snap_call.specs.declared.config.Namespace.{Namespace}
+use Rattle.snap_call.specs.declared.state.State.{State}
+use Rattle.snap_call.specs.Forms.{has_name, have_distinct_names, is_limit}
+use Rattle.snap_call.specs.Good.{IsGuarding, Good}
+use Rattle.snap_call.specs.Records.{charge_of, committed_at}
+use Rattle.snap_call.specs.State.{place_of, name_at, limit_at, limited}
+use Rattle.snap_call.specs.Step.{limited_at, leasing}
+use Rattle.snap_call.proofs.Chains.{NamesStand}
+use Rattle.snap_call.proofs.Lists.{all-map, some_same}
+
+-- ---- the place of a name
+
+module _ {X : Type 0} (p : X → Bool) where
+  pub position-here : (x : X) (xs : List X) → p x ≡ true → position p (x ∷ xs) ≡ Some 0
+  position-here x xs is = rw is (ap (λ b. cond b (Some 0) None) (lt-ltb 0 (suc (length xs)) (omega arith)))
+
+  pub position-past : (x : X) (xs : List X) → p x ≡ false → position p (x ∷ xs) ≡ option_map (λ k. suc k) (position p xs)
+  position-past x xs out =
+      ap (λ (k : ℕ). cond (nat_lt k (suc (length xs))) (Some k) None) longer
+      ∙ (ap (λ b. cond b (Some (suc (position_or_len p xs))) None) (shifted (position_or_len p xs) (length xs)) ∙ by (nat_lt (position_or_len p xs) (length xs)))
+    where
+      longer : position_or_len p (x ∷ xs) ≡ suc (position_or_len p xs)
+      longer = rw out (omega arith)
+
+      shifted : (a b : ℕ) → nat_lt (suc a) (suc b) ≡ nat_lt a b
+      shifted a b = grind (arith, nat_tests)
+
+      by : (b : Bool) → cond b (Some (suc (position_or_len p xs))) None ≡ option_map (λ k. suc k) (cond b (Some (position_or_len p xs)) None)
+      by true = refl
+      by false = refl
+
+-- the name at a place leads to it
+pub place_of-name_at : (ns : List Namespace) (place : ℕ) → have_distinct_names ns ≡ true → place < length ns → place_of (name_at place ns) ns ≡ Some place
+place_of-name_at [] place apart low = absurd (omega arith)
+place_of-name_at (n ∷ ns) zero apart low = position-here (has_name n.name) n ns ((bytes_eq-Decides n.name n.name).1 refl)
+place_of-name_at (n ∷ ns) (suc k) apart low =
+    let h = and_parts (not (list_any (has_name n.name) ns)) (have_distinct_names ns) apart in
+    position-past (has_name (name_at k ns)) n ns (other ns k (omega arith) (not-true (list_any (has_name n.name) ns) h.0)) ∙ ap (option_map (λ j. suc j)) (place_of-name_at ns k h.1 (omega arith))
+  where
+    other : (ms : List Namespace) (k : ℕ) → k < length ms → list_any (has_name n.name) ms ≡ false → has_name (name_at k ms) n ≡ false
+    other [] k low none = absurd (omega arith)
+    other (m ∷ ms) zero low none = false_from_ne_true (bytes_eq n.name m.name) (λ is. true≢false (sym (here is) ∙ none))
+      where
+        here : bytes_eq n.name m.name ≡ true → list_any (has_name n.name) (m ∷ ms) ≡ true
+        here is = rw ((bytes_eq-Decides m.name n.name).1 (sym ((bytes_eq-Decides n.name m.name).0 is))) refl
+    other (m ∷ ms) (suc k) low none = other ms k (omega arith) (rest (has_name n.name m) none)
+      where
+        rest : (b : Bool) → (b || list_any (has_name n.name) ms) ≡ false → list_any (has_name n.name) ms ≡ false
+        rest true e = absurd (true≢false e)
+        rest false e = e
+
+-- and is the one that was looked for
+pub name_at-place : (name : Bytes) (ns : List Namespace) (place : ℕ) → place_of name ns ≡ Some place → name ≡ name_at place ns
+name_at-place name [] place e = absurd (cc)
+name_at-place name (n ∷ ns) place e = by (has_name name n) refl (name_at-place name ns)
+  where
+    under : (o : Option ℕ) → ((k : ℕ) → o ≡ Some k → name ≡ name_at k ns) → option_map (λ k. suc k) o ≡ Some place → name ≡ name_at place (n ∷ ns)
+    under None next f = absurd (cc)
+    under (Some k) next f = subst (λ (j : ℕ). name ≡ name_at j (n ∷ ns)) (some_same (suc k) place f) (next k refl)
+
+    by : (b : Bool) → has_name name n ≡ b → ((k : ℕ) → place_of name ns ≡ Some k → name ≡ name_at k ns) → name ≡ name_at place (n ∷ ns)
+    by true is next = subst (λ (j : ℕ). name ≡ name_at j (n ∷ ns)) (some_same 0 place (sym (position-here (has_name name) n ns is) ∙ e)) (sym ((bytes_eq-Decides n.name name).0 is))
+    by false out next = under (place_of name ns) next (sym (position-past (has_name name) n ns out) ∙ e)
+
+-- ---- another limit
+
+module _ (limit : Usage) where
+  pub length-limited : (place : ℕ) (ns : List Namespace) → length (limited place limit ns) ≡ length ns
+  length-limited place [] = refl
+  length-limited zero (n ∷ ns) = refl
+  length-limited (suc place) (n ∷ ns) = ap suc (length-limited place ns)
+
+  -- the namespace of the name, with the limit, in its place
+  pub set-limited : (place : ℕ) (ns : List Namespace) (n : Namespace) → place < length ns → n.name ≡ name_at place ns → n.limit ≡ limit → slice_set ns place n ≡ limited place limit ns
+  set-limited place [] n low same is = absurd (omega arith)
+  set-limited zero (m ∷ ns) n low same is = λ i. record { name = same i; limit = is i } ∷ ns
+  set-limited (suc place) (m ∷ ns) n low same is = ap (λ l. m ∷ l) (set-limited place ns n (omega arith) same is)
+
+  -- a test of the names alone
+  any-limited : (p : Namespace → Bool) → ((n : Namespace) → p (record n { limit = limit }) ≡ p n) → (place : ℕ) (ns : List Namespace) → list_any p (limited place limit ns) ≡ list_any p ns
+  any-limited p same place [] = refl
+  any-limited p same zero (n ∷ ns) = rw (same n) refl
+  any-limited p same (suc place) (n ∷ ns) = ap (λ b. p n || b) (any-limited p same place ns)
+
+  pub place_of-limited : (name : Bytes) (place : ℕ) (ns : List Namespace) → place_of name (limited place limit ns) ≡ place_of name ns
+  place_of-limited name place [] = refl
+  place_of-limited name zero (n ∷ ns) = refl
+  place_of-limited name (suc place) (n ∷ ns) = by (has_name name n) refl (place_of-limited name place ns)
+    where
+      by : (b : Bool) → has_name name n ≡ b → place_of name (limited place limit ns) ≡ place_of name ns → place_of name (n ∷ limited place limit ns) ≡ place_of name (n ∷ ns)
+      by true is next = position-here (has_name name) n _ is ∙ sym (position-here (has_name name) n ns is)
+      by false out next = position-past (has_name name) n _ out ∙ (ap (option_map (λ k. suc k)) next ∙ sym (position-past (has_name name) n ns out))
+
+  distinct-limited : (place : ℕ) (ns : List Namespace) → have_distinct_names (limited place limit ns) ≡ have_distinct_names ns
+  distinct-limited place [] = refl
+  distinct-limited zero (n ∷ ns) = refl
+  distinct-limited (suc place) (n ∷ ns) = λ i. not (any-limited (has_name n.name) (λ m. refl) place ns i) && distinct-limited place ns i
+
+  pub limit_at-limited_own : (place : ℕ) (ns : List Namespace) → place < length ns → limit_at place (limited place limit ns) ≡ limit
+  limit_at-limited_own place [] low = absurd (omega arith)
+  limit_at-limited_own zero (n ∷ ns) low = refl
+  limit_at-limited_own (suc place) (n ∷ ns) low = limit_at-limited_own place ns (omega arith)
+
+  pub limit_at-limited_other : (p place : ℕ) (ns : List Namespace) → p ≢ place → limit_at p (limited place limit ns) ≡ limit_at p ns
+  limit_at-limited_other p place [] apart = refl
+  limit_at-limited_other zero zero (n ∷ ns) apart = absurd (apart refl)
+  limit_at-limited_other (suc p) zero (n ∷ ns) apart = refl
+  limit_at-limited_other zero (suc place) (n ∷ ns) apart = refl
+  limit_at-limited_other (suc p) (suc place) (n ∷ ns) apart = limit_at-limited_other p place ns (λ e. apart (ap suc e))
+
+  -- what is true of the limits of all places is true of the new one and of the others
+  limits_anew : (P : ℕ → Usage → Type 0) (place : ℕ) (ns : List Namespace) → place < length ns → P place limit → ((p : ℕ) → p < length ns → P p (limit_at p ns))
+      → (p : ℕ) → p < length (limited place limit ns) → P p (limit_at p (limited place limit ns))
+  limits_anew P place ns inside new all p low = elim (cases_eq p place) [
+    | inl same ↦ subst (λ k. P k (limit_at k (limited place limit ns))) (sym same) (subst (P place) (sym (limit_at-limited_own place ns inside)) new)
+    | inr apart ↦ subst (P p) (sym (limit_at-limited_other p place ns apart)) (all p (subst (λ (m : ℕ). p < m) (length-limited place ns) low))
+  ]
+
+  pub good_limited : (s : State) (place : ℕ) → Good s → place < length s.namespaces → is_limit limit ≡ true → Covers limit (charge_of place s.records) → Good (limited_at s place limit)
+  good_limited s place good low is covered = record {
+    root = good.root;
+    parents = good.parents;
+    leased = all-map (IsGuarding s.namespaces s.records) (IsGuarding (limited place limit s.namespaces) s.records) (λ l h. subst (λ (o : Option ℕ). NamesStand s.records o l.names) (sym (place_of-limited l.namespace place s.namespaces)) h) s.leases good.leased;
+    named_once = good.named_once;
+    counted = good.counted;
+    within = limits_anew (λ p u. Covers u (charge_of p s.records)) place s.namespaces low covered good.within;
+    limits = limits_anew (λ p u. is_limit u ≡ true) place s.namespaces low is good.limits;
+    distinct = distinct-limited place s.namespaces ∙ good.distinct;
+    placed = subst (λ (m : ℕ). AllByRecursion (λ (r : Record). r.namespace < m) s.records) (sym (length-limited place s.namespaces)) good.placed;
+    sorted = good.sorted;
+    ids = good.ids;
+    numbered = good.numbered;
+    slots = good.slots;
+    open_slots = good.open_slots;
+    shown = good.shown;
+    chains = good.chains;
+  }
+
+-- ---- other leases
+
+pub good_leasing : (s : State) (ls : List Lease) → Good s → AllByRecursion (IsGuarding s.namespaces s.records) ls → AllByRecursion NamesOnce ls → Good (leasing s ls)
+good_leasing s ls good leased once = record {
+  root = good.root;
+  parents = good.parents;
+  leased = leased;
+  named_once = once;
+  counted = good.counted;
+  within = good.within;
+  limits = good.limits;
+  distinct = good.distinct;
+  placed = good.placed;
+  sorted = good.sorted;
+  ids = good.ids;
+  numbered = good.numbered;
+  slots = good.slots;
+  open_slots = good.open_slots;
+  shown = good.shown;
+  chains = good.chains;
+}
+
+-- no names yet
+pub good_created : (s : State) (namespace lease : Bytes) (until : Option ℕ) (place : ℕ) → Good s → place_of namespace s.namespaces ≡ Some place → Good (leasing s (s.leases ++ empty_lease namespace lease until ∷ []))
+good_created s namespace lease until place good spaced =
+    good_leasing s _ good
+    (all-push (IsGuarding s.namespaces s.records) s.leases (empty_lease namespace lease until) good.leased (subst (λ (o : Option ℕ). NamesStand s.records o []) (sym spaced) tt))
+    (all-push NamesOnce s.leases (empty_lease namespace lease until) good.named_once (NamesOnce-empty namespace lease until))
+
+-- a name more, of a committed snapshot of the lease's namespace
+module _ (ns : List Namespace) (rs : List Record) (namespace name : Bytes) (place : ℕ) (spaced : place_of namespace ns ≡ Some place) (there : IsSome (committed_at place name rs)) where
+  name_more : (o : Option ℕ) (names : List Bytes) → o ≡ Some place → NamesStand rs o names → NamesStand rs o (names ++ name ∷ [])
+  name_more None names e h = absurd (cc)
+  name_more (Some p) names e h = all-push (λ n. IsSome (committed_at p n rs)) names name h (subst (λ (k : ℕ). IsSome (committed_at k name rs)) (sym (some_same p place e)) there)
+
+  guarding-name : (l : Lease) → namespace ≡ l.namespace → IsGuarding ns rs l → IsGuarding ns rs (with_lease_name name l)
+  guarding-name l own h = by (does_name name l)
+    where
+      by : (b : Bool) → IsGuarding ns rs (if b then l else record l { names = l.names ++ name ∷ [] })
+      by true = h
+      by false = name_more (place_of l.namespace ns) l.names (subst (λ (n : Bytes). place_of n ns ≡ Some place) own spaced) h
+
+  pub guarding-with_name : (lease : Bytes) (ls : List Lease) → AllByRecursion (IsGuarding ns rs) ls → AllByRecursion (IsGuarding ns rs) (with_name_added ls namespace lease name)
+  guarding-with_name lease [] all = tt
+  guarding-with_name lease (l ∷ ls) all = (by (is_lease namespace lease l) refl, guarding-with_name lease ls all.1)
+    where
+      by : (b : Bool) → is_lease namespace lease l ≡ b → IsGuarding ns rs (if b then with_lease_name name l else l)
+      by true is = guarding-name l (is_lease-parts namespace lease l is).0 all.0
+      by false is = all.0
+
+pub good_named : (s : State) (namespace lease name : Bytes) (place : ℕ) → Good s → place_of namespace s.namespaces ≡ Some place → IsSome (committed_at place name s.records) → Good (leasing s (with_name_added s.leases namespace lease name))
+good_named s namespace lease name place good spaced there =
+    good_leasing s _ good (guarding-with_name s.namespaces s.records namespace name place spaced there lease s.leases good.leased) (NamesOnce-with_name_added namespace lease name s.leases good.named_once)
+
+-- a lease less
+pub good_released : (s : State) (namespace lease : Bytes) → Good s → Good (leasing s (without_lease s.leases namespace lease))
+good_released s namespace lease good =
+    good_leasing s _ good (all-filter (IsGuarding s.namespaces s.records) (λ l. not (is_lease namespace lease l)) s.leases good.leased) (all-filter NamesOnce (λ l. not (is_lease namespace lease l)) s.leases good.named_once)
