@@ -104,19 +104,19 @@ accounts_total s t us vs cs n place to accounts good spaces inside here elsewher
 }
 
 -- nothing that is charged changes
-pub accounts_kept : (s t : State) (us : List Usage) (cs : List ChargeState) (n : ℕ) → AreAccounts s us cs n → Good t → t.namespaces ≡ s.namespaces
+pub accounts_kept : (s t : State) (us : List Usage) (cs : List ChargeState) (n : ℕ) → AreAccounts s us cs n → Good t → length t.namespaces ≡ length s.namespaces
     → ((k : ℕ) → charge_of k t.records ≡ charge_of k s.records) → ((k : ℕ) → charge_at k t.records ≡ charge_at k s.records) → open_count t.records ≡ open_count s.records → AreAccounts t us cs n
 accounts_kept s t us cs n accounts good spaces totals charges opened = record {
   good = good;
-  count = accounts.count ∙ sym (ap (λ (l : List Namespace). length l) spaces);
-  totals_are = λ k lt. (let lt' : k < length s.namespaces = (let e = ap (λ (l : List Namespace). length l) spaces in omega arith) in accounts.totals_are k lt' ∙ ap (λ (u : Usage). Some u) (sym (totals k)));
+  count = accounts.count ∙ sym spaces;
+  totals_are = λ k lt. (let lt' : k < length s.namespaces = omega (arith, spaces) in accounts.totals_are k lt' ∙ ap (λ (u : Usage). Some u) (sym (totals k)));
   charges_are = λ k lt. accounts.charges_are k lt ∙ ap (λ (c : ChargeState). Some c) (sym (charges k));
   open_are = accounts.open_are ∙ sym opened;
 }
 
 -- nothing but the numbers of entries and sessions changes
 pub accounts_same : (s t : State) (us : List Usage) (cs : List ChargeState) (n : ℕ) → AreAccounts s us cs n → Good t → t.namespaces ≡ s.namespaces → t.records ≡ s.records → AreAccounts t us cs n
-accounts_same s t us cs n accounts good spaces same = accounts_kept s t us cs n accounts good spaces (λ k. ap (charge_of k) same) (λ k. ap (charge_at k) same) (ap open_count same)
+accounts_same s t us cs n accounts good spaces same = accounts_kept s t us cs n accounts good (ap (λ (l : List Namespace). length l) spaces) (λ k. ap (charge_of k) same) (λ k. ap (charge_at k) same) (ap open_count same)
 
 -- the charge of a slot, in the row and in the records
 pub charge_in-at : (s : State) (us : List Usage) (cs : List ChargeState) (n slot : ℕ) → AreAccounts s us cs n → slot < 64 → charge_in cs slot ≡ charge_at slot s.records

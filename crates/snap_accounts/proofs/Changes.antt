@@ -1,28 +1,35 @@
 -- What is kept beside the state, after a plain call.
-use Rattle.std.proofs.Common.{◌≡◌, ℕ, ◌+◌, ◌<◌, Bool, true, false, List, length, set, Option, None, Some, refl, sym, ap, ◌∙◌, subst, arith}
-use Rattle.std.specs.Prelude.{◌==◌, bytes_eq, if◌then◌else◌, IsSomeAnd}
+use Rattle.std.proofs.Common.{◌≡◌, ℕ, ◌+◌, ◌<◌, Bool, true, false, true≢false, List, [], ◌∷◌, ◌++◌, length, set, Option, None, Some, IsSome, refl, sym, ap, ◌∙◌, subst, arith}
+use Rattle.std.specs.Prelude.{◌==◌, ◌↔◌, bytes_eq, if◌then◌else◌, IsSomeAnd, IsErrOf, IsOkUnless, OnOk, Result, Ok, Err}
 use Rattle.std.specs.Option.{option_map_or}
 use Rattle.std.proofs.lemmas.Bool.{and_parts, eqb-true}
 use Rattle.snap_layer.specs.Tree.{Tree}
 use Rattle.snap_usage.specs.declared.usage.Usage.{Usage}
 use Rattle.snap_usage.specs.Counted.{Covers, no_usage}
 use Rattle.snap_ledger.specs.States.{ChargeState, plus, minus}
+use Rattle.snap_lease.specs.Lease.{Lease, empty_lease}
+use Rattle.snap_lease.specs.Leases.{with_name_added, without_lease}
+use Rattle.snap_lease.specs.declared.error.LeaseError.{LeaseError}
+use Rattle.snap_lease.specs.declared.error.LeaseError.TheVariants as errors
 use Rattle.snap_record.specs.Labels.{Bytes, Label}
 use Rattle.snap_record.specs.Records.{usage_of}
 use Rattle.snap_record.specs.declared.record.Content.TheVariants.{View}
 use Rattle.snap_record.specs.declared.record.Record.{Record}
+use Rattle.snap_call.specs.declared.config.Namespace.{Namespace}
 use Rattle.snap_call.specs.declared.state.State.{State}
-use Rattle.snap_call.specs.Records.{active_one, charge_of, charge_at, has_slot, is_active, is_named, open_count, record_at, with_record, without_key, relabelled}
-use Rattle.snap_call.specs.State.{shown_layers}
-use Rattle.snap_call.specs.Step.{added, removed_at, relabelled_at}
+use Rattle.snap_call.specs.Good.{Good}
+use Rattle.snap_call.specs.Records.{active_one, charge_of, charge_at, committed_at, has_slot, is_active, is_named, open_count, record_at, with_record, without_key, relabelled}
+use Rattle.snap_call.specs.State.{place_of, shown_layers}
+use Rattle.snap_call.specs.Step.{added, leasing, limited_at, removed_at, relabelled_at}
 use Rattle.snap_call.proofs.Alike.{bare-relabelled, alike-charge_of, alike-charge_at, alike-open_count}
 use Rattle.snap_call.proofs.Counts.{open_count-with_record, open_count-without_idle}
-use Rattle.snap_call.proofs.Kept.{good_relabelled, good_removed, good_view_added, place_of-below, removed_others, removed_total}
+use Rattle.snap_call.proofs.Keeping.{good_relabelled, good_removed, good_view_added, place_of-below, removed_others, removed_total}
+use Rattle.snap_call.proofs.Leasing.{good_created, good_limited, good_named, good_released, length-limited}
 use Rattle.snap_call.proofs.Lists.{record_at-is_named}
 use Rattle.snap_call.proofs.Slots.{charge_at-with_record_other, charge_at-without_idle}
 use Rattle.snap_call.proofs.Sums.{plus-none, charge_of-covers, charge_of-with_record}
 use Rattle.snap_accounts.specs.Accounts.{AreAccounts}
-use Rattle.snap_accounts.specs.Changes.{IsNewView, IsUnused}
+use Rattle.snap_accounts.specs.Changes.{IsLimitFor, IsName, IsNewView, IsSpace, IsUnused}
 use Rattle.snap_accounts.proofs.Accounting.{accounts_kept, accounts_total}
 
 -- ---- a view more
@@ -105,3 +112,37 @@ accounts_removed s us vs cs n place key accounts unused is_vs =
     (λ k. charge_at-without_idle k (is_named place key) s.records f.0 f.1 f.2)
     (open_count-removed s place key unused)
     (is_vs ∙ ap (λ u. set us place (minus (charge_of place s.records) u)) (freed-found s place key unused))
+
+-- ---- another limit
+
+pub accounts_limited : (s : State) (us : List Usage) (cs : List ChargeState) (n place : ℕ) (m : Namespace) → AreAccounts s us cs n → IsLimitFor s place m → AreAccounts (limited_at s place m.limit) us cs n
+accounts_limited s us cs n place m accounts is =
+    accounts_kept s (limited_at s place m.limit) us cs n accounts (good_limited m.limit s place accounts.good is.inside is.formed is.covers)
+    (length-limited m.limit place s.namespaces) (λ k. refl) (λ k. refl) refl
+
+-- ---- other leases
+
+leases_kept : (s : State) (us : List Usage) (cs : List ChargeState) (n : ℕ) (ls : List Lease) → AreAccounts s us cs n → Good (leasing s ls) → AreAccounts (leasing s ls) us cs n
+leases_kept s us cs n ls accounts good = accounts_kept s (leasing s ls) us cs n accounts good refl (λ k. refl) (λ k. refl) refl
+
+pub accounts_created : (s : State) (us : List Usage) (cs : List ChargeState) (n : ℕ) (namespace lease : Bytes) (until : Option ℕ) → AreAccounts s us cs n → IsSpace s namespace → AreAccounts (leasing s (s.leases ++ empty_lease namespace lease until ∷ [])) us cs n
+accounts_created s us cs n namespace lease until accounts space = by (place_of namespace s.namespaces) refl space
+  where
+    by : (o : Option ℕ) → place_of namespace s.namespaces ≡ o → IsSome o → AreAccounts (leasing s (s.leases ++ empty_lease namespace lease until ∷ [])) us cs n
+    by None e is = absurd (true≢false (sym is))
+    by (Some place) e is = leases_kept s us cs n _ accounts (good_created s namespace lease until place accounts.good e)
+
+pub accounts_named : (s : State) (us : List Usage) (cs : List ChargeState) (n : ℕ) (namespace lease name : Bytes) → AreAccounts s us cs n → IsName s namespace lease name → AreAccounts (leasing s (with_name_added s.leases namespace lease name)) us cs n
+accounts_named s us cs n namespace lease name accounts is = by (place_of namespace s.namespaces) refl is.committed
+  where
+    by : (o : Option ℕ) → place_of namespace s.namespaces ≡ o → IsSomeAnd o (λ place. IsSome (committed_at place name s.records)) → AreAccounts (leasing s (with_name_added s.leases namespace lease name)) us cs n
+    by None e h = absurd h
+    by (Some place) e h = leases_kept s us cs n _ accounts (good_named s namespace lease name place accounts.good e h)
+
+pub accounts_released : (s : State) (us : List Usage) (cs : List ChargeState) (n : ℕ) (namespace lease : Bytes) → AreAccounts s us cs n → AreAccounts (leasing s (without_lease s.leases namespace lease)) us cs n
+accounts_released s us cs n namespace lease accounts = leases_kept s us cs n _ accounts (good_released s namespace lease accounts.good)
+
+-- a lease that is there is released
+pub released-ok : (r : Result (Unit {0}) LeaseError) (P : Type 0) (has : Bool) → has ≡ true → (IsErrOf r errors.NoLease ↔ (has ≡ false)) → IsOkUnless r errors.NoLease → OnOk r P → P
+released-ok (Ok tt) P has is none only ok = ok
+released-ok (Err e) P has is none only ok = absurd (true≢false (sym is ∙ none.0 (ap (λ (x : LeaseError). Err x) only)))

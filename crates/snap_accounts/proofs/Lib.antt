@@ -4,3 +4,4 @@ pub mod Prepared
 pub mod Commits
 pub mod Changes
 pub mod Found
+pub mod Sweeps

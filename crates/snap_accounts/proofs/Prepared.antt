@@ -14,7 +14,7 @@ use Rattle.snap_call.specs.Records.{charge_of, active_at, has_key, is_slot, open
 use Rattle.snap_call.specs.State.{limit_at, is_present, is_base, is_too_deep}
 use Rattle.snap_call.specs.Step.{new_active, one, place_for, place_on, slot_for}
 use Rattle.snap_call.proofs.Counts.{open_count-with_active, open_count-most}
-use Rattle.snap_call.proofs.Kept.{covers-Covers, good_prepared, place_of-below}
+use Rattle.snap_call.proofs.Keeping.{covers-Covers, good_prepared, place_of-below}
 use Rattle.snap_call.proofs.Lowest.{lowest_free-Some}
 use Rattle.snap_call.proofs.Places.{IsPlace, place_for-Ok, slot_for-Ok}
 use Rattle.snap_call.proofs.Slots.{Active-is_slot, charge_at-None}

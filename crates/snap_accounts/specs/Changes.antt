@@ -1,16 +1,22 @@
 -- What a plain call changes beside the journal.
 -- Cited by `Accounts::plan`, `Accounts::carry_out`.
-use Rattle.std.specs.Prelude.{◌≡◌, ℕ, false, Some, IsSomeAnd}
-use Rattle.snap_lease.specs.Leases.{is_guarded}
+use Rattle.std.specs.Prelude.{◌≡◌, ℕ, ◌<◌, true, false, List, [], ◌∷◌, ◌++◌, length, Some, IsSome, IsSomeAnd}
+use Rattle.snap_usage.specs.declared.usage.Usage.{Usage}
+use Rattle.snap_usage.specs.Counted.{Covers}
+use Rattle.snap_lease.specs.Lease.{empty_lease}
+use Rattle.snap_lease.specs.Leases.{has_lease, is_guarded, with_name_added, without_lease}
 use Rattle.snap_record.specs.Labels.{Bytes}
 use Rattle.snap_record.specs.declared.record.Content.TheVariants as contents
 use Rattle.snap_record.specs.declared.record.Record.{Record}
 use Rattle.snap_call.specs.declared.state.State.{State}
-use Rattle.snap_call.specs.Records.{has_children, is_active, record_at}
-use Rattle.snap_call.specs.State.{place_of, shown_layers}
-use Rattle.snap_call.specs.Step.{added, counted, removed_at, relabelled_at}
+use Rattle.snap_call.specs.declared.config.Namespace.{Namespace}
+use Rattle.snap_call.specs.Forms.{is_limit}
+use Rattle.snap_call.specs.Records.{charge_of, committed_at, has_children, is_active, record_at}
+use Rattle.snap_call.specs.Reached.{swept as swept_records}
+use Rattle.snap_call.specs.State.{ids_of, name_at, place_of, shown_layers}
+use Rattle.snap_call.specs.Step.{added, counted, leasing, limited_at, removed_at, relabelled_at, swept_at}
 use Rattle.snap_accounts.specs.declared.change.Change.{Change}
-use Rattle.snap_accounts.specs.declared.change.Change.TheVariants.{Nothing, View, Removal, Labels}
+use Rattle.snap_accounts.specs.declared.change.Change.TheVariants.{Nothing, View, Removal, Labels, Limit, Lease, LeaseName, LeaseEnd, Sweep}
 use Rattle.snap_accounts.specs.Vacant.{IsSite}
 
 -- the state after the change, with one entry more
@@ -19,6 +25,11 @@ changed s Nothing = counted s
 changed s (View r) = added s r
 changed s (Removal place key) = removed_at s place key
 changed s (Labels place key labels) = relabelled_at s place key labels
+changed s (Limit place n) = limited_at s place n.limit
+changed s (Lease namespace lease until) = leasing s (s.leases ++ empty_lease namespace lease until ∷ [])
+changed s (LeaseName namespace lease name) = leasing s (with_name_added s.leases namespace lease name)
+changed s (LeaseEnd namespace lease) = leasing s (without_lease s.leases namespace lease)
+changed s (Sweep place namespace moment ids freed) = swept_at s namespace place moment
 
 -- the record is that of a view, under the next id, and can be added
 pub record IsNewView (s : State) (r : Record) : Type 0 where
@@ -34,8 +45,35 @@ pub record IsUnused (s : State) (place : ℕ) (key : Bytes) : Type 0 where
   pub idle : IsSomeAnd (record_at place key s.records) (λ r. is_active r.content ≡ false)
   pub unleased : is_guarded s.leases namespace key ≡ false
 
--- the change can be made: a view can be added, a snapshot can go
+-- the namespace at the place can have the limit: it covers what the namespace is charged
+pub record IsLimitFor (s : State) (place : ℕ) (n : Namespace) : Type 0 where
+  pub inside : place < length s.namespaces
+  pub same : n.name ≡ name_at place s.namespaces
+  pub formed : is_limit n.limit ≡ true
+  pub covers : Covers n.limit (charge_of place s.records)
+
+-- the store has the namespace
+abbrev pub IsSpace : State → Bytes → Type 0
+IsSpace s namespace = IsSome (place_of namespace s.namespaces)
+
+-- the namespace's lease can be given the name: the name is that of a committed snapshot
+pub record IsName (s : State) (namespace lease name : Bytes) : Type 0 where
+  pub there : has_lease s.leases namespace lease ≡ true
+  pub committed : IsSomeAnd (place_of namespace s.namespaces) (λ place. IsSome (committed_at place name s.records))
+
+-- the ids are those of what a sweep of the namespace at the place takes away at the moment, for which it is charged so much
+pub record IsSweep (s : State) (place : ℕ) (namespace : Bytes) (moment : ℕ) (ids : List ℕ) (freed : Usage) : Type 0 where
+  pub named : place_of namespace s.namespaces ≡ Some place
+  pub swept : ids ≡ ids_of (swept_records s namespace place moment)
+  pub charged : freed ≡ charge_of place (swept_records s namespace place moment)
+
+-- the change can be made: a view can be added, a snapshot can go, the limit covers the charge, the namespace has no such lease yet, the lease can be given the name, there is a lease to go, a sweep takes these away
 abbrev pub CanChange : State → Change → Type 0
 CanChange s (View r) = IsNewView s r
 CanChange s (Removal place key) = IsUnused s place key
+CanChange s (Limit place n) = IsLimitFor s place n
+CanChange s (Lease namespace lease until) = IsSpace s namespace × (has_lease s.leases namespace lease ≡ false)
+CanChange s (LeaseName namespace lease name) = IsName s namespace lease name
+CanChange s (LeaseEnd namespace lease) = has_lease s.leases namespace lease ≡ true
+CanChange s (Sweep place namespace moment ids freed) = IsSweep s place namespace moment ids freed
 CanChange s change = Unit {0}

@@ -100,6 +100,13 @@ impl<N: StoreName> Accounts<N> {
         self.state.sessions += 1;
         self.state.entries += 1;
     }
+
+    /// No session is open: the next one has the number 0. Takes no memory. The cost is constant.
+    pub fn end_sessions(&mut self)
+        ensures { self.new ≡ record self.old { sessions = 0 } }
+    {
+        self.state.sessions = 0;
+    }
 }
 
 // A usage for each namespace, by its place.

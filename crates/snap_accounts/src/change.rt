@@ -15,7 +15,7 @@ ghost use Rattle.snap_accounts.specs.Vacant.{IsSite};
 
 use crate::accounts::Accounts;
 use snap_call::limits::MAX_ID;
-use snap_call::{Call, Chain, Refusal, Reply, is_key};
+use snap_call::{Call, Chain, Ids, Namespace, Refusal, Reply, is_key};
 use snap_layer::{Layer, Shared};
 use snap_ledger::StoreName;
 use snap_path::limits::DEFAULT_MODE;
@@ -41,6 +41,37 @@ pub enum Change {
         place: usize,
         key: Text,
         labels: Labels,
+    },
+    /// The namespace at this place, with another limit.
+    Limit {
+        place: usize,
+        namespace: Namespace,
+    },
+    /// A lease more, which names nothing.
+    Lease {
+        namespace: Text,
+        lease: Text,
+        until: Option<u64>,
+    },
+    /// A name more in a lease.
+    LeaseName {
+        namespace: Text,
+        lease: Text,
+        name: Text,
+    },
+    /// A lease goes, with its names.
+    LeaseEnd {
+        namespace: Text,
+        lease: Text,
+    },
+    /// A sweep of the namespace, which has this place, at a moment: the snapshots of these ids go, for
+    /// which it is charged so much, and its leases that have ended.
+    Sweep {
+        place: usize,
+        namespace: Text,
+        moment: u64,
+        ids: Ids,
+        freed: Usage,
     },
 }
 
@@ -151,9 +182,9 @@ impl<N: StoreName> Accounts<N> {
     fn plan_view(
         &self,
         alloc: Global,
-        namespace: &str,
-        key: &str,
-        parent: &str,
+        namespace: &Text,
+        key: &Text,
+        parent: &Text,
         labels: &Labels,
     ) -> Result<(Reply, Change), AllocError>
         requires entries { self.now.entries < 2 ^ 63 }
@@ -161,6 +192,7 @@ impl<N: StoreName> Accounts<N> {
         ensures recorded { IfOk result (λ p. IsInEntry p.0) }
         ensures possible { IfOk result (λ p. CanChange self.now p.1) }
     {
+        let (namespace, key, parent) = (namespace.as_str(), key.as_str(), parent.as_str());
         match self.view_place(namespace, key, parent, labels) {
             Ok(place) => self.view_at(alloc, place, key, parent, labels),
             Err(why) => Ok((Reply::Refused(why), Change::Nothing)),
@@ -262,44 +294,14 @@ impl<N: StoreName> Accounts<N> {
         }
     }
 
-    /// The reply to a plain call, and what the call changes, which [`Accounts::carry_out`] does.
-    ///
-    /// `Stat` has the info of a snapshot, `Usage` what it is charged, in blocks of 4096 bytes and
-    /// inodes, `Mounts` the mounts that show it, `View` the id of the new view and those of its
-    /// ancestors, `Remove` what the snapshot was charged, `Update` the info with the labels after it,
-    /// `Walk` a page of infos. The refusals are those of [`snap_call`]'s `step`, in its order. Takes memory
-    /// for the reply and the change. The cost grows with the records and with the texts and labels of
-    /// those that are found; that of a removal with the leases and the names in them too, that of mounts
-    /// and of a view with the records times the ancestors.
-    pub fn plan(&self, alloc: Global, call: &Call) -> Result<(Reply, Change), AllocError>
+    // The reply to a call that changes nothing.
+    fn plan_ask(&self, alloc: Global, call: &Call) -> Result<(Reply, Change), AllocError>
         requires plain { IsPlain call.now }
-        requires entries { self.now.entries < 2 ^ 63 }
         ensures reply { IfOk result (λ p. step self.now call.now Nothing ≡ (changed self.now p.1, p.0)) }
         ensures recorded { IfOk result (λ p. IsInEntry p.0) }
         ensures possible { IfOk result (λ p. CanChange self.now p.1) }
     {
         let reply = match call {
-            Call::View {
-                namespace,
-                key,
-                parent,
-                labels,
-            } => {
-                return self.plan_view(
-                    alloc,
-                    namespace.as_str(),
-                    key.as_str(),
-                    parent.as_str(),
-                    labels,
-                );
-            }
-            Call::Remove { namespace, key } => return self.plan_removal(namespace.as_str(), key),
-            Call::Update {
-                namespace,
-                key,
-                labels,
-                paths,
-            } => return self.plan_update(namespace.as_str(), key, labels, paths.as_slice()),
             Call::Stat { namespace, key } => self.stat(namespace.as_str(), key.as_str())?,
             Call::Usage { namespace, key } => self.usage(namespace.as_str(), key.as_str()),
             Call::Mounts { namespace, key } => {
@@ -314,6 +316,55 @@ impl<N: StoreName> Accounts<N> {
             _ => return Err(AllocError),
         };
         Ok((reply, Change::Nothing))
+    }
+
+    /// The reply to a plain call, and what the call changes, which [`Accounts::carry_out`] does.
+    ///
+    /// `Stat` has the info of a snapshot, `Usage` what it is charged, in blocks of 4096 bytes and
+    /// inodes, `Mounts` the mounts that show it, `View` the id of the new view and those of its
+    /// ancestors, `Remove` what the snapshot was charged, `Update` the info with the labels after it,
+    /// `Walk` a page of infos, `Sweep` what goes; a limit and a lease are set without more. The refusals
+    /// are those of [`snap_call`]'s `step`, in its order. Takes memory for the reply and the change. The
+    /// cost grows with the records and with the texts and labels of those that are found; that of mounts
+    /// and of a view with the records times the ancestors, that of a removal with the leases and the
+    /// names in them too, that of a call on a lease with the leases, and that of a sweep is that of
+    /// [`plan_sweep`](snap_call::State::plan_sweep).
+    pub fn plan(&self, alloc: Global, call: &Call) -> Result<(Reply, Change), AllocError>
+        requires plain { IsPlain call.now }
+        requires entries { self.now.entries < 2 ^ 63 }
+        ensures reply { IfOk result (λ p. step self.now call.now Nothing ≡ (changed self.now p.1, p.0)) }
+        ensures recorded { IfOk result (λ p. IsInEntry p.0) }
+        ensures possible { IfOk result (λ p. CanChange self.now p.1) }
+    {
+        match call {
+            Call::View {
+                namespace,
+                key,
+                parent,
+                labels,
+            } => self.plan_view(alloc, namespace, key, parent, labels),
+            Call::Remove { namespace, key } => self.plan_removal(namespace.as_str(), key),
+            Call::Update {
+                namespace,
+                key,
+                labels,
+                paths,
+            } => self.plan_update(namespace.as_str(), key, labels, paths.as_slice()),
+            Call::SetLimit { namespace, limit } => self.plan_limit(namespace, *limit),
+            Call::LeaseCreate {
+                namespace,
+                lease,
+                until,
+            } => self.plan_lease(namespace, lease, *until),
+            Call::LeaseAdd {
+                namespace,
+                lease,
+                name,
+            } => self.plan_lease_name(namespace, lease, name),
+            Call::LeaseRelease { namespace, lease } => self.plan_lease_end(namespace, lease),
+            Call::Sweep { namespace, moment } => self.plan_sweep(alloc, namespace, *moment),
+            _ => self.plan_ask(alloc, call),
+        }
     }
 
     // The record of a view is one more.
@@ -357,8 +408,9 @@ impl<N: StoreName> Accounts<N> {
         self.state.entries = number;
     }
 
-    /// Makes the change, and counts an entry. Takes memory for the place of a view; where that is
-    /// refused, nothing changes. The cost grows with the records.
+    /// Makes the change, and counts an entry. Takes memory for the place of a view, for a lease and for a
+    /// name that is new to its lease; where that is refused, nothing changes. The cost grows with the
+    /// records, or with the leases where these change, or with both for a sweep.
     pub fn carry_out(&mut self, change: Change) -> Result<(), AllocError>
         requires possible { CanChange self.old change }
         requires entries { self.old.entries < 2 ^ 63 }
@@ -371,6 +423,27 @@ impl<N: StoreName> Accounts<N> {
             Change::View(snapshot) => self.add_view(snapshot)?,
             Change::Removal { place, key } => self.remove(place, key.as_str()),
             Change::Labels { place, key, labels } => self.relabel(place, key.as_str(), labels),
+            Change::Limit { place, namespace } => self.limit(place, namespace),
+            Change::Lease {
+                namespace,
+                lease,
+                until,
+            } => self.add_lease(namespace.as_str(), lease.as_str(), until)?,
+            Change::LeaseName {
+                namespace,
+                lease,
+                name,
+            } => self.add_lease_name(namespace.as_str(), lease.as_str(), name.as_str())?,
+            Change::LeaseEnd { namespace, lease } => {
+                self.end_lease(namespace.as_str(), lease.as_str());
+            }
+            Change::Sweep {
+                place,
+                namespace,
+                moment,
+                ids,
+                freed,
+            } => self.sweep(place, namespace.as_str(), moment, &ids, freed),
         }
         Ok(())
     }

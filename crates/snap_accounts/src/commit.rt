@@ -1,12 +1,12 @@
 // A commit of an open snapshot.
-ghost use Rattle.std.specs.Prelude.{◌≡◌, ◌<◌, ◌+◌, ◌^◌, ◌&&◌, length, true, false, None, OnOk, IfErr};
+ghost use Rattle.std.specs.Prelude.{◌≡◌, ◌<◌, ◌+◌, ◌^◌, ◌&&◌, length, true, false, OnOk, OnErr, IfOk, IfErr};
 ghost use Rattle.std.specs.Option.{option_map_or};
 ghost use Rattle.snap_layer.specs.Tree.{Tree};
 ghost use Rattle.snap_usage.specs.Counted.{Covers, count_of};
 ghost use Rattle.snap_ledger.specs.States.{minus, plus};
 ghost use Rattle.snap_call.specs.Forms.{is_key};
 ghost use Rattle.snap_call.specs.Records.{charge_of, charge_at, active_at, has_key, open_count};
-ghost use Rattle.snap_call.specs.Step.{commit_as, refused, IsCovered};
+ghost use Rattle.snap_call.specs.Step.{commit_as, has_named, refused, IsCovered};
 ghost use Rattle.snap_call.specs.declared.reply.Reply.TheVariants.{Committed};
 ghost use Rattle.snap_accounts.specs.Entries.{IsRecorded};
 ghost use Rattle.snap_accounts.specs.Totals.{place_if};
@@ -33,25 +33,27 @@ fn is_formed(name: &str, lease: &Option<Text>) -> bool
 impl<N: StoreName> Accounts<N> {
     /// Why the snapshot of an open slot can't be committed under the name, if it can't. In this order:
     /// `BadArgument` for a name or a lease that has not its form; `AlreadyExists` where its namespace has
-    /// the name; `NoLease` where a lease is named. Takes no memory. The cost grows with the records.
+    /// the name; `NoLease` where it has not the lease. Takes no memory. The cost grows with the records
+    /// and the leases.
     pub fn check_commit(&self, slot: u64, name: &str, lease: &Option<Text>) -> Result<(), Refusal>
         requires { (charge_at slot self.now.records).issued ≡ true }
-        ensures formed { OnOk result (is_key name.now ≡ true) }
+        ensures formed { OnOk result ((is_key name.now && option_map_or is_key lease.now true) ≡ true) }
         ensures free { OnOk result (has_key (place_if (active_at slot self.now.records)) name.now self.now.records ≡ false) }
-        ensures none { OnOk result (lease.now ≡ None) }
+        ensures named { OnOk result (has_named self.now (place_if (active_at slot self.now.records)) lease.now ≡ true) }
         ensures recorded { IfErr result IsRecorded }
         ensures refused { IfErr result (λ why. (layer : Tree) → commit_as self.now slot name.now lease.now layer (active_at slot self.now.records) ≡ refused self.now why) }
     {
         if !is_formed(name, lease) {
             return Err(Refusal::BadArgument);
         }
-        if self.state().records.has_key(self.place(slot), name) {
+        let place = self.place(slot);
+        if self.state().records.has_key(place, name) {
             return Err(Refusal::AlreadyExists);
         }
-        match lease {
-            Some(_) => Err(Refusal::NoLease),
-            None => Ok(()),
+        if !self.state().has_named(place, lease) {
+            return Err(Refusal::NoLease);
         }
+        Ok(())
     }
 
     // The charge of the namespace at the place, once what holds so much is charged the count.
@@ -65,21 +67,32 @@ impl<N: StoreName> Accounts<N> {
         sum(rest, count, self.state().limit_at(place))
     }
 
-    /// Makes the snapshot of the share's slot a committed one of this name and layer, frees the slot and
-    /// counts an entry. Its namespace is charged for the count of the layer, which is the answer, and no
-    /// longer for the rest of the share. [`Accounts::check_commit`] tests the name.
+    /// Makes the snapshot of the share's slot a committed one of this name and layer, names it in the
+    /// lease, where one is given, frees the slot and counts an entry. Its namespace is charged for the
+    /// count of the layer, which is the answer, and no longer for the rest of the share.
+    /// [`Accounts::check_commit`] tests the name and the lease.
     ///
-    /// Takes no memory. The cost grows with the records and with the layer.
-    pub fn commit(&mut self, share: Share<N>, name: Text, layer: Shared) -> Usage
+    /// Takes memory for the name in the lease alone; where that is refused, nothing changes, and the share
+    /// and the layer come back. The cost grows with the records, the leases and the layer.
+    pub fn commit(
+        &mut self,
+        share: Share<N>,
+        name: Text,
+        lease: &Option<Text>,
+        layer: Shared,
+    ) -> Result<Usage, (Share<N>, Shared)>
         requires slot { share.slot < 64 }
         requires entries { self.old.entries < 2 ^ 63 }
         requires covers { Covers share.usage (count_of layer) }
-        requires formed { is_key name ≡ true }
+        requires formed { (is_key name && option_map_or is_key lease.now true) ≡ true }
         requires free { has_key (place_if (active_at share.slot self.old.records)) name self.old.records ≡ false }
+        requires named { has_named self.old (place_if (active_at share.slot self.old.records)) lease.now ≡ true }
         ensures allowed { IsCovered share.id (count_of layer) (active_at share.slot self.old.records) }
-        ensures step { commit_as self.old share.slot name None layer (active_at share.slot self.old.records) ≡ (self.new, Committed share.id result) }
-        ensures count { result ≡ count_of layer }
-        ensures open { open_count self.new.records + 1 ≡ open_count self.old.records }
+        ensures step { IfOk result (λ usage. commit_as self.old share.slot name lease.now layer (active_at share.slot self.old.records) ≡ (self.new, Committed share.id usage)) }
+        ensures count { IfOk result (λ usage. usage ≡ count_of layer) }
+        ensures open { OnOk result (open_count self.new.records + 1 ≡ open_count self.old.records) }
+        ensures unchanged { OnErr result (self.new ≡ self.old) }
+        ensures returned { IfErr result (λ back. (back.0 ≡ share) × (back.1 ≡ layer)) }
     {
         let mut share = share;
         let slot = share.slot();
@@ -88,11 +101,14 @@ impl<N: StoreName> Accounts<N> {
         let usage = count(layer.layer());
         let after = self.total_with(place, held, usage);
         let number = self.state.entries + 1;
+        let Ok(()) = self.state.name_in(place, name.as_str(), lease) else {
+            return Err((share, layer));
+        };
         self.totals.set(place, after);
         self.slots.spend(share);
         self.state.records.commit(slot, name, layer, number);
         self.opened -= 1;
         self.state.entries = number;
-        usage
+        Ok(usage)
     }
 }

@@ -12,8 +12,10 @@ mod change;
 mod charge;
 mod commit;
 mod info;
+mod lease;
 mod prepare;
 mod slots;
+mod sweep;
 
 pub use accounts::Accounts;
 pub use change::Change;

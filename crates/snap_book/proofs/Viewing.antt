@@ -95,9 +95,7 @@ granted_placed s namespace key parent labels r reply v (Err why) at e can is = a
 pub granted_view : (s : State) (namespace key parent : Bytes) (labels : List Label) (change : Change) (reply : Reply) (v : ViewedValue)
     → view s namespace key parent labels ≡ (changed s change, reply) → CanChange s change → IsViewOf change v → IsGranted s namespace parent reply v
 granted_view s namespace key parent labels (View r) reply v e can is = granted_placed s namespace key parent labels r reply v (place_for s namespace key parent labels) refl e can is
-granted_view s namespace key parent labels Nothing reply v e can is = absurd is
-granted_view s namespace key parent labels (Removal place k) reply v e can is = absurd is
-granted_view s namespace key parent labels (Labels place k given) reply v e can is = absurd is
+granted_view s namespace key parent labels change reply v e can is = absurd is
 
 -- what the caller of a call View gets by its reply and its change
 pub granted_answer : (s : State) (namespace key parent : Bytes) (labels : List Label) (call : Call) (change : Change) (reply : Reply) (answer : Result ViewedValue Refusal) → call ≡ calls.View namespace key parent labels

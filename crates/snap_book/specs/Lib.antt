@@ -1,6 +1,7 @@
 pub mod Opening
 pub mod Slot
 pub mod Book
+pub mod Round
 pub mod Active
 pub mod Held
 pub mod Files

@@ -1,11 +1,12 @@
 // A commit of an open snapshot.
-ghost use Rattle.std.specs.Prelude.{◌≡◌, ◌<◌, ◌≤◌, ◌+◌, ◌^◌, ◌&&◌, ◌↔◌, length, true, false, None, IfOk, OnOk, IfErr};
+ghost use Rattle.std.specs.Prelude.{◌≡◌, ◌<◌, ◌≤◌, ◌+◌, ◌^◌, ◌&&◌, ◌↔◌, length, true, false, IfOk, OnOk, IfErr};
+ghost use Rattle.std.specs.Option.{option_map_or};
 ghost use Rattle.snap_layer.specs.Tree.{Tree};
 ghost use Rattle.snap_usage.specs.Counted.{Covers, count_of};
 ghost use Rattle.snap_ledger.specs.States.{Meets};
 ghost use Rattle.snap_call.specs.Forms.{is_key};
 ghost use Rattle.snap_call.specs.Records.{charge_of, charge_at, active_at, has_key, open_count};
-ghost use Rattle.snap_call.specs.Step.{commit_as, refused, IsCovered};
+ghost use Rattle.snap_call.specs.Step.{commit_as, has_named, refused, IsCovered};
 ghost use Rattle.snap_call.specs.declared.reply.Reply.TheVariants.{Committed};
 ghost use Rattle.snap_call.specs.Journal.{entry};
 ghost use Rattle.snap_call.specs.Step.{step, IsAllowed};
@@ -91,14 +92,16 @@ impl<N: StoreName> Book<N> {
     fn settle(
         &mut self,
         settlement: Settlement,
+        lease: &Option<Text>,
         sealed: Sealed<N>,
     ) -> Result<Usage, (Refusal, Sealed<N>)>
-        requires formed { is_key settlement.name ≡ true }
+        requires formed { (is_key settlement.name && option_map_or is_key lease.now true) ≡ true }
+        requires named { has_named self.old.state (place_if (active_at sealed.share.slot self.old.state.records)) lease.now ≡ true }
         requires free { has_key (place_if (active_at sealed.share.slot self.old.state.records)) settlement.name self.old.state.records ≡ false }
         requires copy { settlement.copy ≡ settlement.entry }
         requires allowed { IsAllowed self.old.state settlement.entry.call settlement.entry.given }
         requires reply { settlement.entry.reply ≡ Committed sealed.share.id (count_of sealed.layer) }
-        requires granted { step self.old.state settlement.entry.call settlement.entry.given ≡ commit_as self.old.state sealed.share.slot settlement.name None sealed.layer (active_at sealed.share.slot self.old.state.records) }
+        requires granted { step self.old.state settlement.entry.call settlement.entry.given ≡ commit_as self.old.state sealed.share.slot settlement.name lease.now sealed.layer (active_at sealed.share.slot self.old.state.records) }
         ensures granted { OnOk result (Recorded self.old self.new settlement.entry.session settlement.entry.call settlement.entry.given settlement.entry.reply) }
         ensures count { IfOk result (λ u. u ≡ count_of sealed.layer) }
         ensures unchanged { IfErr result (λ back. (self.new ≡ self.old) × (back.1 ≡ sealed)) }
@@ -110,15 +113,28 @@ impl<N: StoreName> Book<N> {
         }
         let Settlement { name, entry, copy } = settlement;
         let Sealed {
-            namespace: _,
-            key: _,
-            lowers: _,
+            namespace,
+            key,
+            lowers,
             layer,
             share,
         } = sealed;
-        let usage = self.accounts.commit(share, name, layer);
-        self.journal.push(entry, copy);
-        Ok(usage)
+        match self.accounts.commit(share, name, lease, layer) {
+            Ok(usage) => {
+                self.journal.push(entry, copy);
+                Ok(usage)
+            }
+            Err((share, layer)) => {
+                let sealed = Sealed {
+                    namespace,
+                    key,
+                    lowers,
+                    layer,
+                    share,
+                };
+                Err((Refusal::OutOfMemory, sealed))
+            }
+        }
     }
 
     // A commit that nothing refuses but memory.
@@ -128,13 +144,15 @@ impl<N: StoreName> Book<N> {
         call: Call,
         layer: Shared,
         name: &str,
+        lease: &Option<Text>,
         sealed: Sealed<N>,
     ) -> Result<Usage, (Refusal, Sealed<N>)>
         requires layer { layer ≡ sealed.layer }
-        requires formed { is_key name.now ≡ true }
+        requires formed { (is_key name.now && option_map_or is_key lease.now true) ≡ true }
+        requires named { has_named self.old.state (place_if (active_at sealed.share.slot self.old.state.records)) lease.now ≡ true }
         requires free { has_key (place_if (active_at sealed.share.slot self.old.state.records)) name.now self.old.state.records ≡ false }
         requires allowed { IsAllowed self.old.state call (LayerGiven sealed.layer) }
-        requires granted { step self.old.state call (LayerGiven sealed.layer) ≡ commit_as self.old.state sealed.share.slot name.now None sealed.layer (active_at sealed.share.slot self.old.state.records) }
+        requires granted { step self.old.state call (LayerGiven sealed.layer) ≡ commit_as self.old.state sealed.share.slot name.now lease.now sealed.layer (active_at sealed.share.slot self.old.state.records) }
         ensures granted { OnOk result (Recorded self.old self.new session call (LayerGiven sealed.layer) (Committed sealed.share.id (count_of sealed.layer))) }
         ensures count { IfOk result (λ u. u ≡ count_of sealed.layer) }
         ensures unchanged { IfErr result (λ back. (self.new ≡ self.old) × (back.1 ≡ sealed)) }
@@ -145,7 +163,7 @@ impl<N: StoreName> Book<N> {
         let Ok(settlement) = settlement_of(self.alloc, session, call, id, name, layer) else {
             return Err((Refusal::OutOfMemory, sealed));
         };
-        self.settle(settlement, sealed)
+        self.settle(settlement, lease, sealed)
     }
 
     // Commits a snapshot that its call names, or notes why not.
@@ -169,7 +187,7 @@ impl<N: StoreName> Book<N> {
         ensures full { IsRefusedWith result JournalFull → self.old.limit ≤ length self.old.journal + open_count self.old.state.records }
     {
         match self.accounts.check_commit(sealed.share.slot(), name, lease) {
-            Ok(()) => self.grant_commit(session, call, layer, name, sealed),
+            Ok(()) => self.grant_commit(session, call, layer, name, lease, sealed),
             Err(why) => {
                 let why = self.refuse(session, call, Given::Layer(layer), why);
                 Err((why, sealed))
@@ -206,13 +224,14 @@ impl<N: StoreName> Book<N> {
 
     /// Commits the snapshot under the name, with the parent, the id and the labels that it has
     /// (containerd's `Snapshotter.Commit`). Its namespace is charged for the count of its layer, which
-    /// is the answer, and no longer for its spare. There are no leases yet.
+    /// is the answer, and no longer for its spare. The lease, where one is given, gets the name, whether
+    /// it is live or has ended.
     ///
     /// `JournalFull` and `OutOfMemory` as for [`Book::prepare`], but one entry is enough; these two
     /// are not recorded. Then, in this order: `BadArgument` for a name or a lease that has not its
     /// form; `AlreadyExists` where the namespace has the name, the snapshot's own key among them;
-    /// `NoLease` where a lease is named. Each refusal gives the snapshot back as it was. The cost grows
-    /// with the records and with the layer.
+    /// `NoLease` where the namespace has not the lease. Each refusal gives the snapshot back as it was.
+    /// The cost grows with the records, the leases and the layer.
     pub fn commit(
         &mut self,
         session: u64,

@@ -105,6 +105,17 @@ impl Journal {
         }
     }
 
+    // No entries, at another state. It takes no memory.
+    pub(crate) fn begin(&mut self, state: &State, limit: u64)
+        requires { limit ≤ 1048576 }
+        ensures { self.new ≡ record { entries = []; opening = state.now; limit = limit; copy = None; room = self.new.room } }
+    {
+        self.entries.clear();
+        self.opening.set(state);
+        self.limit = limit;
+        self.copy = None;
+    }
+
     // The limit is below so many entries more beside one for each open snapshot.
     pub(crate) fn is_full(&self, owed: u64, more: u64) -> bool
         requires { length self.now.entries + owed ≤ self.now.limit }

@@ -75,14 +75,20 @@ impl<N: StoreName> Book<N> {
 
     /// Does a call that takes no snapshot out of its writer's hands and puts none into them: `View`,
     /// `Remove`, `Update`, `Stat`, `Usage`, `Mounts` or `Walk`, as containerd's `snapshots.Snapshotter`
-    /// has them.
+    /// has them, `LeaseCreate`, `LeaseAdd` or `LeaseRelease`, as its `leases.Manager` has them, `SetLimit`
+    /// or `Sweep`.
     ///
     /// A view is a new snapshot without a slot and without a charge; its reply has its id and those of
     /// its ancestors. `Remove` takes a view or a committed snapshot away and answers what its namespace
     /// is no longer charged, in blocks of 4096 bytes and inodes, 0/0 for a view. `Update` changes labels
     /// by field paths and answers the info after it; `Stat` answers the info of a snapshot, `Usage` what
     /// it is charged, `Mounts` the mounts that show it, `Walk` the infos of the snapshots of a namespace
-    /// that come after a key and match a filter, at most 64 of them.
+    /// that come after a key and match a filter, at most 64 of them. `SetLimit` gives a namespace another
+    /// limit. A lease keeps the committed snapshots that it names from being removed, until it is released
+    /// or a sweep takes it; `LeaseAdd` of a name that is there already changes nothing. `Sweep` takes the
+    /// namespace's leases away that have ended at the moment, and those of its committed snapshots that
+    /// neither an active snapshot, a view nor a live lease reaches; it answers their names in byte order,
+    /// the number of leases that went, and what the namespace is no longer charged.
     ///
     /// `JournalFull` where each further entry is kept for an open snapshot's end, and then
     /// `OutOfMemory` where memory for the reply, the change or the entry is refused; these two are not
@@ -96,10 +102,15 @@ impl<N: StoreName> Book<N> {
     /// than 64 labels would be left. `Stat`, `Usage` and `Mounts`: `BadArgument`, `NoNamespace`,
     /// `NotFound`, and `NotActive` for the mounts of a committed snapshot. `Walk`: `BadArgument` for a
     /// page of none or of more than 64 infos, or a start of more than 1024 bytes, then `NoNamespace`.
+    /// `SetLimit`: `BadArgument` above 2^40 of a quantity, `NoNamespace`, `BelowCharge` where the limit
+    /// does not cover what the namespace is charged. The calls on a lease: `BadArgument` for a lease or a
+    /// name that has not its form, `NoNamespace`; then `LeaseCreate` `LeaseExists`, `LeaseAdd` `NotFound`,
+    /// `NotCommitted` and `NoLease`, `LeaseRelease` `NoLease`. `Sweep`: `NoNamespace` alone.
     ///
     /// Its cost grows with the records, and with the texts and labels of those that are found; that of a
     /// removal with the leases and the names in them too, that of mounts and of a view with the records
-    /// times the ancestors.
+    /// times the ancestors, that of a call on a lease with the leases and the records, that of a sweep
+    /// with the leases and their names, and with the records times the logarithm of their number.
     pub fn do_call(&mut self, session: u64, call: Call) -> Reply
         requires { IsPlain call }
         ensures answered { AnsweredBy self.old self.new session call Nothing result }

@@ -87,6 +87,7 @@ no_float (answers.Infos infos) = both_are _ _ (infos_have_none infos) refl
 no_float (answers.Mounts mounts) = both_are _ _ (mounts_have_none mounts) refl
 no_float (answers.Seen seen) = both_are _ _ (shown_has_none seen) refl
 no_float (answers.Names names) = both_are _ _ (texts_have_none names) refl
+no_float (answers.Swept removed leases freed) = both_are _ _ (texts_have_none removed) refl
 no_float (answers.Report entries actives records totals) = both_are _ _ (members_have_none usage_data (λ usage. refl) totals no_members refl) refl
 no_float (answers.Refused refusal) = refusal_has_none refusal
 no_float answer = refl

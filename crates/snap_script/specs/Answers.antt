@@ -124,6 +124,10 @@ answer_data (answers.Info info) = object (only (codes "info") (info_data info))
 answer_data (answers.Usage usage) = object (only (codes "usage") (usage_data usage))
 answer_data (answers.Mounts mounts) = object (only (codes "mounts") (array (items_of (map mount_data mounts))))
 answer_data (answers.Infos infos) = object (only (codes "infos") (array (items_of (map info_data infos))))
+answer_data (answers.Swept removed leases freed) = object
+    (member (codes "freed") (usage_data freed)
+    (member (codes "leases") (number_data leases)
+    (only (codes "removed") (array (items_of (map string removed))))))
 answer_data (answers.Changed count share) = object (member (codes "count") (usage_data count) (only (codes "share") (usage_data share)))
 answer_data (answers.Seen seen) = object (only (codes "seen") (shown_data seen))
 answer_data (answers.Names names) = object (only (codes "names") (array (items_of (map string names))))
@@ -142,6 +146,7 @@ answer_data (answers.Refused refusal) = error_data (refusal_name refusal) (codes
 answer_data (answers.Failed error) = error_data (error_name error) (codes "file")
 answer_data answers.NoSession = error_data (codes "NoSession") (codes "world")
 answer_data answers.NoHand = error_data (codes "NoHand") (codes "world")
+answer_data answers.StillOut = error_data (codes "StillOut") (codes "world")
 
 -- the line of an answer: its text with no space between, and a line feed
 unfoldable pub answer_line : Answer → List ℕ

@@ -6,6 +6,7 @@ use Rattle.std.specs.Map.{lookup}
 use Rattle.std.specs.Str.{bytes_eq}
 use Rattle.serde_json.specs.Data.{Data}
 use Rattle.serde_json.specs.Find.{as_str}
+use Rattle.snap_usage.specs.declared.usage.Usage.{Usage}
 use Rattle.snap_record.specs.Labels.{Bytes}
 use Rattle.snap_record.specs.declared.filter.Filter.{Filter}
 use Rattle.snap_call.specs.declared.call.Call.TheVariants as calls
@@ -31,6 +32,14 @@ text field line = required as_str field line
 -- the snapshot that a command names: its namespace and its key
 unfoldable pub named : Data → Result (Bytes × Bytes) Fault
 named line = do namespace ← text fields.Namespace line; key ← text fields.Key line; Ok (namespace, key)
+
+-- the lease that a command names: its namespace and its name
+unfoldable pub lease_of : Data → Result (Bytes × Bytes) Fault
+lease_of line = do namespace ← text fields.Namespace line; lease ← text fields.Lease line; Ok (namespace, lease)
+
+-- the limit that a command names
+unfoldable pub limit_of : Data → Result Usage Fault
+limit_of line = do blocks ← required as_natural fields.Blocks line; inodes ← required as_natural fields.Inodes line; Ok (record { blocks = blocks; inodes = inodes })
 
 -- the operation of a file command, with the texts of its paths; the mode of a new directory is octal 755 and that of a new file octal 644 where it is absent
 unfoldable pub file_command_of : FileVerb → Data → Result FileCommand Fault
@@ -66,6 +75,7 @@ filter_of line = do
 unfoldable pub command_of : Verb → Data → Result Command Fault
 command_of verbs.Open line = open_of line
 command_of verbs.Session line = Ok commands.Session
+command_of verbs.Reopen line = do Ok (commands.Reopen (← optional as_natural fields.Journal (Ok 1048576) line))
 command_of verbs.Prepare line = do s ← named line; Ok (commands.Call (calls.Prepare s.0 s.1 (← text fields.Parent line) (← optional as_labels fields.Labels (Ok []) line)))
 command_of verbs.View line = do s ← named line; Ok (commands.Call (calls.View s.0 s.1 (← text fields.Parent line) (← optional as_labels fields.Labels (Ok []) line)))
 command_of verbs.Charge line = do s ← named line; need ← required as_usage fields.Need line; Ok (commands.Charge s.0 s.1 need (← optional as_usage fields.Want (Ok need) line))
@@ -78,6 +88,11 @@ command_of verbs.Update line = do s ← named line; Ok (commands.Call (calls.Upd
 command_of verbs.Usage line = do s ← named line; Ok (commands.Call (calls.Usage s.0 s.1))
 command_of verbs.Mounts line = do s ← named line; Ok (commands.Call (calls.Mounts s.0 s.1))
 command_of verbs.Walk line = do Ok (commands.Call (calls.Walk (← text fields.Namespace line) (← optional as_str fields.After (Ok []) line) (← optional as_natural fields.Most (Ok 64) line) (← filter_of line)))
+command_of verbs.Limit line = do Ok (commands.Call (calls.SetLimit (← text fields.Namespace line) (← limit_of line)))
+command_of verbs.LeaseCreate line = do l ← lease_of line; Ok (commands.Call (calls.LeaseCreate l.0 l.1 (← given as_natural fields.Until line)))
+command_of verbs.LeaseAdd line = do l ← lease_of line; Ok (commands.Call (calls.LeaseAdd l.0 l.1 (← text fields.Name line)))
+command_of verbs.LeaseRelease line = do l ← lease_of line; Ok (commands.Call (calls.LeaseRelease l.0 l.1))
+command_of verbs.Sweep line = do Ok (commands.Call (calls.Sweep (← text fields.Namespace line) (← required as_natural fields.Moment line)))
 command_of (verbs.File verb) line = do s ← named line; Ok (commands.File s.0 s.1 (← file_command_of verb line) (← optional as_usage fields.Extra (Ok (record { blocks = 0; inodes = 0 })) line))
 command_of (verbs.Lookup asked) line = do s ← named line; Ok (commands.Lookup s.0 s.1 asked (← text fields.Path line))
 command_of verbs.Report line = Ok commands.Report
@@ -87,6 +102,7 @@ abbrev pub words : List (List ℕ × Verb)
 words =
     (codes "open", verbs.Open)
     ∷ (codes "session", verbs.Session)
+    ∷ (codes "reopen", verbs.Reopen)
     ∷ (codes "prepare", verbs.Prepare)
     ∷ (codes "view", verbs.View)
     ∷ (codes "charge", verbs.Charge)
@@ -99,6 +115,11 @@ words =
     ∷ (codes "usage", verbs.Usage)
     ∷ (codes "mounts", verbs.Mounts)
     ∷ (codes "walk", verbs.Walk)
+    ∷ (codes "limit", verbs.Limit)
+    ∷ (codes "lease_create", verbs.LeaseCreate)
+    ∷ (codes "lease_add", verbs.LeaseAdd)
+    ∷ (codes "lease_release", verbs.LeaseRelease)
+    ∷ (codes "sweep", verbs.Sweep)
     ∷ (codes "mkdir", verbs.File file_verbs.Mkdir)
     ∷ (codes "create", verbs.File file_verbs.Create)
     ∷ (codes "write", verbs.File file_verbs.Write)

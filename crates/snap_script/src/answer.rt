@@ -4,7 +4,7 @@ ghost use Rattle.snap_script.specs.Answers.{answer_data, answer_line};
 
 use crate::values::{
     changed, committed, done, error, error_name, freed, head, info, infos, mounts, names, path,
-    prepared, refused, report, seen, session, share, usage, viewed,
+    prepared, refused, report, seen, session, share, swept, usage, viewed,
 };
 use serde_json::Value;
 use snap_call::Refusal;
@@ -30,7 +30,8 @@ pub enum Shown {
 /// What a line of a script is answered.
 #[derive(Debug, Drop)]
 pub enum Answer {
-    /// A store was opened: `{"ok":true}`.
+    /// A store was opened, its next round was begun, a limit was set, or a lease was made, added to or
+    /// released: `{"ok":true}`.
     Done,
     /// The number of the session that was opened: `{"session":1}`.
     Session(u64),
@@ -64,6 +65,13 @@ pub enum Answer {
     Mounts(Sequence<Mount>),
     /// The infos of the snapshots that a walk gives: `{"infos":[{..},{..}]}`.
     Infos(Sequence<Info>),
+    /// What a sweep took away: what the snapshots were charged, how many leases went, and the keys of the
+    /// snapshots in byte order: `{"freed":[2,2],"leases":1,"removed":["c"]}`.
+    Swept {
+        removed: Sequence<Text>,
+        leases: u64,
+        freed: Usage,
+    },
     /// The layer's count and the snapshot's charge after a file command:
     /// `{"count":[2,2],"share":[2,2]}`.
     Changed {
@@ -99,6 +107,8 @@ pub enum Answer {
     NoSession,
     /// Nobody holds such a snapshot, or it is sealed: `{"error":"NoHand","from":"world"}`.
     NoHand,
+    /// A snapshot is open, so no round can be begun: `{"error":"StillOut","from":"world"}`.
+    StillOut,
 }
 
 impl Answer {
@@ -117,6 +127,11 @@ impl Answer {
             Answer::Usage(amount) => usage(alloc, *amount),
             Answer::Mounts(own) => mounts(alloc, own.as_slice()),
             Answer::Infos(own) => infos(alloc, own.as_slice()),
+            Answer::Swept {
+                removed,
+                leases,
+                freed,
+            } => swept(alloc, removed.as_slice(), *leases, *freed),
             Answer::Changed { count, share } => changed(alloc, *count, *share),
             Answer::Seen(shown) => seen(alloc, shown),
             Answer::Names(own) => names(alloc, own.as_slice()),
@@ -132,6 +147,7 @@ impl Answer {
             Answer::Failed(own) => error(alloc, error_name(*own), "file"),
             Answer::NoSession => error(alloc, "NoSession", "world"),
             Answer::NoHand => error(alloc, "NoHand", "world"),
+            Answer::StillOut => error(alloc, "StillOut", "world"),
         }
     }
 

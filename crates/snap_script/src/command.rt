@@ -19,8 +19,13 @@ pub enum Command {
     },
     /// Opens a session.
     Session,
+    /// Begins the next round, and opens its session 0. The journal has at most so many entries.
+    Reopen {
+        journal: u64,
+    },
     /// A call that the line has all of: `Prepare`, `View`, `Remove`, `Stat`, `Update`, `Usage`, `Mounts`
-    /// or `Walk`, as containerd's `Snapshotter` has them.
+    /// or `Walk`, as containerd's `Snapshotter` has them, `SetLimit`, `Sweep`, or one on a lease, as its
+    /// `leases.Manager` has them.
     Call(Call),
     /// Charges an active snapshot for the wanted amount, or for the needed one.
     Charge {

@@ -31,6 +31,12 @@ pub enum Field {
     Want,
     Name,
     Lease,
+    /// The last moment of a lease.
+    Until,
+    /// `now`, a moment.
+    Moment,
+    Blocks,
+    Inodes,
     Path,
     Mode,
     Offset,
@@ -92,6 +98,10 @@ impl Field {
             Field::Want => "want",
             Field::Name => "name",
             Field::Lease => "lease",
+            Field::Until => "until",
+            Field::Moment => "now",
+            Field::Blocks => "blocks",
+            Field::Inodes => "inodes",
             Field::Path => "path",
             Field::Mode => "mode",
             Field::Offset => "offset",

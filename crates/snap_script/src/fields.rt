@@ -34,6 +34,16 @@ pub(crate) fn number_or(default: u64, field: Field, line: &Value) -> Result<u64,
     }
 }
 
+/// A number, if there is one.
+pub(crate) fn optional_number(field: Field, line: &Value) -> Result<Option<u64>, Fault>
+    ensures { result ≡ given as_natural field (view line.now) }
+{
+    match find(field, line) {
+        Some(value) => Ok(Some(value.as_u64().ok_or(Fault::BadField(field))?)),
+        None => Ok(None),
+    }
+}
+
 /// A number that must be there.
 pub(crate) fn required_number(field: Field, line: &Value) -> Result<u64, Fault>
     ensures { result ≡ required as_natural field (view line.now) }

@@ -1,16 +1,17 @@
 // The commands of lines, read from their values.
+ghost use Rattle.std.specs.Prelude.{◌≡◌};
 ghost use Rattle.serde_json.specs.View.{view};
 ghost use Rattle.snap_script.specs.declared.verb.Verb.TheVariants as verbs;
 ghost use Rattle.snap_script.specs.declared.verb.FileVerb.TheVariants as file_verbs;
-ghost use Rattle.snap_script.specs.Commands.{named, open_of, filter_of, file_command_of, command_of};
+ghost use Rattle.snap_script.specs.Commands.{named, open_of, filter_of, lease_of, limit_of, file_command_of, command_of};
 ghost use Rattle.snap_script.specs.Gives.{Gives};
 
 use crate::command::{Command, FileCommand, Lookup};
-use crate::fault::{Field, ReadError};
+use crate::fault::{Fault, Field, ReadError};
 use crate::fields::{
     content, label_filters, labels, lent_text, mode_or, namespaces, number_or, optional_kind,
-    optional_text, paths, required_labels, required_mode, required_number, required_usage, text,
-    text_or_empty, usage_or,
+    optional_number, optional_text, paths, required_labels, required_mode, required_number,
+    required_usage, text, text_or_empty, usage_or,
 };
 use crate::verb::{FileVerb, Verb};
 use serde_json::Value;
@@ -55,6 +56,14 @@ fn open(alloc: Global, line: &Value) -> Result<Command, ReadError>
         first_id: FIRST_ID,
     };
     Ok(Command::Open { config })
+}
+
+#[tactic(auto, unfolding(crate::specs::Commands::command_of))]
+fn reopen(line: &Value) -> Result<Command, ReadError>
+    ensures { Gives (λ c. c) result (command_of verbs.Reopen (view line.now)) }
+{
+    let journal = number_or(MAX_JOURNAL, Field::Journal, line)?;
+    Ok(Command::Reopen { journal })
 }
 
 #[tactic(auto, unfolding(crate::specs::Commands::command_of))]
@@ -184,6 +193,78 @@ fn walk(alloc: Global, line: &Value) -> Result<Command, ReadError>
         most: number_or(PAGE, Field::Most, line)?,
         asked: filter(alloc, line)?,
     }))
+}
+
+/// The namespace and the name of the lease that a command names.
+#[tactic(auto, unfolding(crate::specs::Commands::lease_of))]
+fn leased(alloc: Global, line: &Value) -> Result<(Text, Text), ReadError>
+    ensures { Gives (λ lease. lease) result (lease_of (view line.now)) }
+{
+    let namespace = text(alloc, Field::Namespace, line)?;
+    let lease = text(alloc, Field::Lease, line)?;
+    Ok((namespace, lease))
+}
+
+/// The limit that a command names.
+#[tactic(auto, unfolding(crate::specs::Commands::limit_of))]
+fn limited(line: &Value) -> Result<Usage, Fault>
+    ensures { result ≡ limit_of (view line.now) }
+{
+    let blocks = required_number(Field::Blocks, line)?;
+    let inodes = required_number(Field::Inodes, line)?;
+    Ok(Usage { blocks, inodes })
+}
+
+#[tactic(auto, unfolding(crate::specs::Commands::command_of))]
+fn set_limit(alloc: Global, line: &Value) -> Result<Command, ReadError>
+    ensures { Gives (λ c. c) result (command_of verbs.Limit (view line.now)) }
+{
+    let namespace = text(alloc, Field::Namespace, line)?;
+    let limit = limited(line)?;
+    Ok(Command::Call(Call::SetLimit { namespace, limit }))
+}
+
+#[tactic(auto, unfolding(crate::specs::Commands::command_of))]
+fn lease_create(alloc: Global, line: &Value) -> Result<Command, ReadError>
+    ensures { Gives (λ c. c) result (command_of verbs.LeaseCreate (view line.now)) }
+{
+    let (namespace, lease) = leased(alloc, line)?;
+    let until = optional_number(Field::Until, line)?;
+    Ok(Command::Call(Call::LeaseCreate {
+        namespace,
+        lease,
+        until,
+    }))
+}
+
+#[tactic(auto, unfolding(crate::specs::Commands::command_of))]
+fn lease_add(alloc: Global, line: &Value) -> Result<Command, ReadError>
+    ensures { Gives (λ c. c) result (command_of verbs.LeaseAdd (view line.now)) }
+{
+    let (namespace, lease) = leased(alloc, line)?;
+    let name = text(alloc, Field::Name, line)?;
+    Ok(Command::Call(Call::LeaseAdd {
+        namespace,
+        lease,
+        name,
+    }))
+}
+
+#[tactic(auto, unfolding(crate::specs::Commands::command_of))]
+fn lease_release(alloc: Global, line: &Value) -> Result<Command, ReadError>
+    ensures { Gives (λ c. c) result (command_of verbs.LeaseRelease (view line.now)) }
+{
+    let (namespace, lease) = leased(alloc, line)?;
+    Ok(Command::Call(Call::LeaseRelease { namespace, lease }))
+}
+
+#[tactic(auto, unfolding(crate::specs::Commands::command_of))]
+fn sweep(alloc: Global, line: &Value) -> Result<Command, ReadError>
+    ensures { Gives (λ c. c) result (command_of verbs.Sweep (view line.now)) }
+{
+    let namespace = text(alloc, Field::Namespace, line)?;
+    let moment = required_number(Field::Moment, line)?;
+    Ok(Command::Call(Call::Sweep { namespace, moment }))
 }
 
 #[tactic(auto, unfolding(crate::specs::Commands::command_of))]
@@ -343,6 +424,7 @@ pub(crate) fn command_of(alloc: Global, verb: Verb, line: &Value) -> Result<Comm
     match verb {
         Verb::Open => open(alloc, line),
         Verb::Session => Ok(Command::Session),
+        Verb::Reopen => reopen(line),
         Verb::Prepare => prepare(alloc, line),
         Verb::View => view(alloc, line),
         Verb::Charge => charge(alloc, line),
@@ -355,6 +437,11 @@ pub(crate) fn command_of(alloc: Global, verb: Verb, line: &Value) -> Result<Comm
         Verb::Usage => usage(alloc, line),
         Verb::Mounts => mounts(alloc, line),
         Verb::Walk => walk(alloc, line),
+        Verb::Limit => set_limit(alloc, line),
+        Verb::LeaseCreate => lease_create(alloc, line),
+        Verb::LeaseAdd => lease_add(alloc, line),
+        Verb::LeaseRelease => lease_release(alloc, line),
+        Verb::Sweep => sweep(alloc, line),
         Verb::File(verb) => file(alloc, verb, line),
         Verb::Lookup(own) => lookup(alloc, own, line),
         Verb::Report => Ok(Command::Report),

@@ -179,6 +179,19 @@ pub(crate) fn committed(alloc: Global, id: u32, usage: Usage) -> Result<Value, A
     json!(in alloc; {"id": id, "usage": usage})
 }
 
+pub(crate) fn swept(
+    alloc: Global,
+    removed: &[Text],
+    leases: u64,
+    freed: Usage,
+) -> Result<Value, AllocError>
+    ensures { IfOk result (λ v. view v ≡ answer_data (answers.Swept removed.now leases freed)) }
+{
+    let freed = usage_value(alloc, freed)?;
+    let removed = texts_value(alloc, removed)?;
+    json!(in alloc; {"freed": freed, "leases": leases, "removed": removed})
+}
+
 pub(crate) fn freed(alloc: Global, freed: Usage) -> Result<Value, AllocError>
     ensures { IfOk result (λ v. view v ≡ answer_data (answers.Freed freed)) }
 {

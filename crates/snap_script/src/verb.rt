@@ -10,6 +10,7 @@ use crate::command::Lookup;
 pub(crate) enum Verb {
     Open,
     Session,
+    Reopen,
     Prepare,
     View,
     Charge,
@@ -22,6 +23,11 @@ pub(crate) enum Verb {
     Usage,
     Mounts,
     Walk,
+    Limit,
+    LeaseCreate,
+    LeaseAdd,
+    LeaseRelease,
+    Sweep,
     File(FileVerb),
     Lookup(Lookup),
     Report,
@@ -43,9 +49,10 @@ pub(crate) enum FileVerb {
 }
 
 /// The words of the commands.
-const WORDS: [(&str, Verb); 29] = [
+const WORDS: [(&str, Verb); 35] = [
     ("open", Verb::Open),
     ("session", Verb::Session),
+    ("reopen", Verb::Reopen),
     ("prepare", Verb::Prepare),
     ("view", Verb::View),
     ("charge", Verb::Charge),
@@ -58,6 +65,11 @@ const WORDS: [(&str, Verb); 29] = [
     ("usage", Verb::Usage),
     ("mounts", Verb::Mounts),
     ("walk", Verb::Walk),
+    ("limit", Verb::Limit),
+    ("lease_create", Verb::LeaseCreate),
+    ("lease_add", Verb::LeaseAdd),
+    ("lease_release", Verb::LeaseRelease),
+    ("sweep", Verb::Sweep),
     ("mkdir", Verb::File(FileVerb::Mkdir)),
     ("create", Verb::File(FileVerb::Create)),
     ("write", Verb::File(FileVerb::Write)),

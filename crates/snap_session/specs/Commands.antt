@@ -28,6 +28,9 @@ use Rattle.snap_world.specs.declared.step.Answer.TheVariants as step_answers
 use Rattle.snap_world.specs.World.{WorldValue}
 use Rattle.snap_world.specs.Move.{move}
 use Rattle.snap_world.specs.Stacks.{stack_of}
+use Rattle.snap_world.specs.declared.round.ReopenFault.{ReopenFault}
+use Rattle.snap_world.specs.declared.round.ReopenFault.TheVariants as faults
+use Rattle.snap_world.specs.Round.{reopen_answer, reopened}
 use Rattle.snap_script.specs.declared.answer.Shown.{Shown}
 use Rattle.snap_script.specs.declared.answer.Shown.TheVariants as shown
 use Rattle.snap_script.specs.declared.answer.Answer.{Answer}
@@ -55,6 +58,8 @@ told session slot w (step_answers.Reply (replies.Info info)) = answers.Info info
 told session slot w (step_answers.Reply (replies.Usage usage)) = answers.Usage usage
 told session slot w (step_answers.Reply (replies.Mounts mounts)) = answers.Mounts mounts
 told session slot w (step_answers.Reply (replies.Page infos)) = answers.Infos infos
+told session slot w (step_answers.Reply replies.Done) = answers.Done
+told session slot w (step_answers.Reply (replies.Swept removed leases freed)) = answers.Swept removed leases freed
 told session slot w (step_answers.Reply (replies.Refused why)) = answers.Refused why
 told session slot w (step_answers.File (Ok done)) = answers.Changed (count_at slot w) (share_at slot w)
 told session slot w (step_answers.File (Err e)) = answers.Failed e
@@ -139,6 +144,26 @@ abbrev pub lookup : Lookup → Result Names FsError → Result (List Tree) Refus
 lookup asked path (Ok layers) = found_or_failed (looked_up asked layers) path
 lookup asked path (Err why) = answers.Refused why
 
+-- ---- the next round
+
+-- a session was opened
+abbrev pub is_started : StepAnswer → Bool
+is_started (step_answers.Reply replies.Opened) = true
+is_started answer = false
+
+-- after the step that opens session 0: the round stands, also where the session was refused
+abbrev pub round_opened : WorldValue × StepAnswer → WorldValue × Answer
+round_opened after = (after.0, if is_started after.1 then answers.Done else told 0 0 after.0 after.1)
+
+-- the next round and its session 0, or why there is none
+abbrev pub if_reopened : WorldValue → ℕ → Result Unit ReopenFault → WorldValue × Answer
+if_reopened w journal (Ok done) = round_opened (move (reopened w journal) (Locked 0 calls.Session))
+if_reopened w journal (Err faults.StillOut) = (w, answers.StillOut)
+if_reopened w journal (Err (faults.Book why)) = (w, answers.Refused why)
+
+abbrev pub reopen : WorldValue → ℕ → WorldValue × Answer
+reopen w journal = if_reopened w journal (reopen_answer w journal)
+
 -- ---- commands on a store
 
 -- entries of the round, open snapshots, records, totals
@@ -149,6 +174,7 @@ report s = answers.Report (length s.world.journal) (open_count s.world.state.rec
 abbrev pub on_store : OpenedValue → ℕ → Command → WorldValue × Answer
 on_store s n (commands.Open config) = (s.world, answers.Refused BadArgument)
 on_store s n commands.Session = stepped s.world.state.sessions 0 (Locked s.world.state.sessions calls.Session) s.world
+on_store s n (commands.Reopen journal) = reopen s.world journal
 on_store s n (commands.Call call) = stepped n 0 (Locked n call) s.world
 on_store s n (commands.Charge namespace key need want) = on_key s.world namespace key (λ slot id. stepped n slot (Locked n (calls.Charge slot id need want)) s.world)
 on_store s n (commands.Trim namespace key) = on_key s.world namespace key (λ slot id. stepped n slot (Locked n (calls.Trim slot id)) s.world)
@@ -159,11 +185,6 @@ on_store s n (commands.Lookup namespace key asked path) = (s.world, lookup asked
 on_store s n commands.Report = (s.world, report s)
 
 -- ---- opening
-
--- a session was opened
-abbrev pub is_started : StepAnswer → Bool
-is_started (step_answers.Reply replies.Opened) = true
-is_started answer = false
 
 -- the store stands where its first session was opened
 abbrev pub started : List Bytes → WorldValue × StepAnswer → Option OpenedValue × Answer

@@ -10,6 +10,7 @@ mod file_commands;
 mod lookups;
 mod opened;
 mod reader;
+mod round;
 mod run;
 mod script;
 mod step;

@@ -6,6 +6,7 @@ ghost use Rattle.snap_session.specs.Commands.{kept, on_store, report};
 use crate::calls::{charge, commit, discard, session, trim};
 use crate::file_commands::file;
 use crate::lookups::lookup;
+use crate::round::reopen;
 use crate::step::called;
 use snap_call::{Namespace, Refusal};
 use snap_ledger::StoreName;
@@ -91,6 +92,7 @@ fn on_store<N: StoreName>(
     match command {
         Command::Open { config: _ } => Ok(Answer::Refused(Refusal::BadArgument)),
         Command::Session => session(world),
+        Command::Reopen { journal } => reopen(world, journal),
         Command::Call(call) => called(world, n, 0, call),
         Command::Charge {
             namespace,

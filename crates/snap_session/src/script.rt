@@ -1,19 +1,19 @@
 ghost use Rattle.std.specs.Prelude.{◌≡◌, IfOk, None, true, is_some};
 ghost use Rattle.snap_call.specs.Forms.{is_config};
-ghost use Rattle.snap_world.specs.declared.step.Answer.TheVariants as step_answers;
 ghost use Rattle.snap_call.specs.declared.call.Call.TheVariants as calls;
 ghost use Rattle.snap_world.specs.declared.step.Step.TheVariants.{Locked};
 ghost use Rattle.snap_world.specs.Move.{move};
-ghost use Rattle.snap_session.specs.Commands.{is_started, started, store_opened, done};
+ghost use Rattle.snap_session.specs.Commands.{started, store_opened, done};
 ghost use Rattle.snap_session.specs.Opened.{new_world};
 
 use crate::opened::{Opened, names_of};
+use crate::round::is_started;
 use crate::step::{take_step, told};
-use snap_call::{Call, Config, Refusal, Reply};
+use snap_call::{Call, Config, Refusal};
 use snap_ledger::{NewTable, StoreName};
 use snap_record::{Sequence, Text};
 use snap_script::{Answer, Command};
-use snap_world::{Answer as StepAnswer, NoMemory, Step, World};
+use snap_world::{NoMemory, Step, World};
 use std::alloc::Global;
 use std::marker::Model;
 
@@ -36,24 +36,6 @@ impl<N: StoreName> Model for Script<N> {
     ghost view = { λ s. s.store };
 
     ghost invariant = { λ s. IfSome s.table (λ t. t ≡ N.table) };
-}
-
-fn is_start(reply: &Reply) -> bool
-    ensures { result ≡ is_started (step_answers.Reply reply.now) }
-{
-    match reply {
-        Reply::Opened => true,
-        _ => false,
-    }
-}
-
-fn is_started(answer: &StepAnswer) -> bool
-    ensures { result ≡ is_started answer.now }
-{
-    match answer {
-        StepAnswer::Reply(reply) => is_start(reply),
-        _ => false,
-    }
 }
 
 impl<N: StoreName> Script<N> {

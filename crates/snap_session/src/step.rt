@@ -92,6 +92,16 @@ fn told_reply<N: StoreName>(session: u64, slot: u64, world: &World<N>, reply: Re
         Reply::Usage(usage) => Answer::Usage(usage),
         Reply::Mounts(mounts) => Answer::Mounts(mounts),
         Reply::Page(infos) => Answer::Infos(infos),
+        Reply::Done => Answer::Done,
+        Reply::Swept {
+            removed,
+            leases,
+            freed,
+        } => Answer::Swept {
+            removed,
+            leases,
+            freed,
+        },
         Reply::Refused(why) => Answer::Refused(why),
     }
 }

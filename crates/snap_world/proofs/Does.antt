@@ -122,6 +122,21 @@ plain_does old new hands n call reply asks answered full = at call asks answered
     at (calls.Walk namespace after most asked) a h =
         ⊎_elim (λ e. inl e) (λ e. inr (ap answers.Reply e.0, (e.1, ap (λ (b : BookValue). world_of b hands) e.2)))
         (admits old new hands hands hands 1 n (calls.Walk namespace after most asked) Nothing (λ r. hands) reply (ends old new n (calls.Walk namespace after most asked) Nothing reply h) full_here refl refl)
+    at (calls.SetLimit namespace limit) a h =
+        ⊎_elim (λ e. inl e) (λ e. inr (ap answers.Reply e.0, (e.1, ap (λ (b : BookValue). world_of b hands) e.2)))
+        (admits old new hands hands hands 1 n (calls.SetLimit namespace limit) Nothing (λ r. hands) reply (ends old new n (calls.SetLimit namespace limit) Nothing reply h) full_here refl refl)
+    at (calls.LeaseCreate namespace lease until) a h =
+        ⊎_elim (λ e. inl e) (λ e. inr (ap answers.Reply e.0, (e.1, ap (λ (b : BookValue). world_of b hands) e.2)))
+        (admits old new hands hands hands 1 n (calls.LeaseCreate namespace lease until) Nothing (λ r. hands) reply (ends old new n (calls.LeaseCreate namespace lease until) Nothing reply h) full_here refl refl)
+    at (calls.LeaseAdd namespace lease name) a h =
+        ⊎_elim (λ e. inl e) (λ e. inr (ap answers.Reply e.0, (e.1, ap (λ (b : BookValue). world_of b hands) e.2)))
+        (admits old new hands hands hands 1 n (calls.LeaseAdd namespace lease name) Nothing (λ r. hands) reply (ends old new n (calls.LeaseAdd namespace lease name) Nothing reply h) full_here refl refl)
+    at (calls.LeaseRelease namespace lease) a h =
+        ⊎_elim (λ e. inl e) (λ e. inr (ap answers.Reply e.0, (e.1, ap (λ (b : BookValue). world_of b hands) e.2)))
+        (admits old new hands hands hands 1 n (calls.LeaseRelease namespace lease) Nothing (λ r. hands) reply (ends old new n (calls.LeaseRelease namespace lease) Nothing reply h) full_here refl refl)
+    at (calls.Sweep namespace moment) a h =
+        ⊎_elim (λ e. inl e) (λ e. inr (ap answers.Reply e.0, (e.1, ap (λ (b : BookValue). world_of b hands) e.2)))
+        (admits old new hands hands hands 1 n (calls.Sweep namespace moment) Nothing (λ r. hands) reply (ends old new n (calls.Sweep namespace moment) Nothing reply h) full_here refl refl)
     at call a h = absurd a
 
 -- a plain call, where the journal is full
@@ -139,6 +154,11 @@ plain_in_vain w n call asks full = at call asks
     at (calls.Remove namespace key) a = inl (ap (λ (b : Bool). if b then (w, answers.Reply (Refused JournalFull)) else recorded w n (calls.Remove namespace key) Nothing (λ reply. w.hands)) no_room)
     at (calls.Update namespace key labels paths) a = inl (ap (λ (b : Bool). if b then (w, answers.Reply (Refused JournalFull)) else recorded w n (calls.Update namespace key labels paths) Nothing (λ reply. w.hands)) no_room)
     at (calls.Walk namespace after most asked) a = inl (ap (λ (b : Bool). if b then (w, answers.Reply (Refused JournalFull)) else recorded w n (calls.Walk namespace after most asked) Nothing (λ reply. w.hands)) no_room)
+    at (calls.SetLimit namespace limit) a = inl (ap (λ (b : Bool). if b then (w, answers.Reply (Refused JournalFull)) else recorded w n (calls.SetLimit namespace limit) Nothing (λ reply. w.hands)) no_room)
+    at (calls.LeaseCreate namespace lease until) a = inl (ap (λ (b : Bool). if b then (w, answers.Reply (Refused JournalFull)) else recorded w n (calls.LeaseCreate namespace lease until) Nothing (λ reply. w.hands)) no_room)
+    at (calls.LeaseAdd namespace lease name) a = inl (ap (λ (b : Bool). if b then (w, answers.Reply (Refused JournalFull)) else recorded w n (calls.LeaseAdd namespace lease name) Nothing (λ reply. w.hands)) no_room)
+    at (calls.LeaseRelease namespace lease) a = inl (ap (λ (b : Bool). if b then (w, answers.Reply (Refused JournalFull)) else recorded w n (calls.LeaseRelease namespace lease) Nothing (λ reply. w.hands)) no_room)
+    at (calls.Sweep namespace moment) a = inl (ap (λ (b : Bool). if b then (w, answers.Reply (Refused JournalFull)) else recorded w n (calls.Sweep namespace moment) Nothing (λ reply. w.hands)) no_room)
     at call a = absurd a
 
 -- a plain call wants memory only where the journal has room
@@ -156,6 +176,11 @@ plain_left w call asks room = at call asks
     at (calls.Remove namespace key) a = (free, refl)
     at (calls.Update namespace key labels paths) a = (free, refl)
     at (calls.Walk namespace after most asked) a = (free, refl)
+    at (calls.SetLimit namespace limit) a = (free, refl)
+    at (calls.LeaseCreate namespace lease until) a = (free, refl)
+    at (calls.LeaseAdd namespace lease name) a = (free, refl)
+    at (calls.LeaseRelease namespace lease) a = (free, refl)
+    at (calls.Sweep namespace moment) a = (free, refl)
     at call a = absurd a
 
 pub prepare_does : (old new : BookValue) (hands after : List (Option HandValue)) (n : ℕ) (namespace key parent : Bytes) (labels : List Label) (reply : Reply) → AnsweredBy old new n (calls.Prepare namespace key parent labels) Nothing reply

@@ -1,6 +1,6 @@
 -- Each step keeps the hands those of the open slots.
 use Rattle.std.proofs.Common.{◌≡◌, ◌≢◌, inl, inr, ℕ, ◌+◌, ◌≤◌, ◌<◌, List, length, true, false, Bool, Option, None, Some, eqb, refl, sym, ap, ◌∙◌, subst, ⊎_elim, arith, length-set}
-use Rattle.std.specs.Prelude.{if◌then◌else◌, ◌&&◌, nat_le, nat_lt, max, Result, Ok, Err, IsSome}
+use Rattle.std.specs.Prelude.{if◌then◌else◌, ◌&&◌, not, nat_le, nat_lt, max, Result, Ok, Err, IsSome}
 use Rattle.std.specs.List.{AllByRecursion}
 use Rattle.std.proofs.Math.Nat.{le-max_left}
 use Rattle.std.proofs.lemmas.Bool.{ltb-true}
@@ -17,23 +17,26 @@ use Rattle.snap_call.specs.declared.call.Call.{Call}
 use Rattle.snap_call.specs.declared.call.Call.TheVariants as calls
 use Rattle.snap_call.specs.declared.call.Given.{Given}
 use Rattle.snap_call.specs.declared.call.Given.TheVariants.{Nothing, Count, Layer}
-use Rattle.snap_call.specs.declared.refusal.Refusal.TheVariants.{NoNamespace, NoLease}
+use Rattle.snap_call.specs.declared.refusal.Refusal.TheVariants.{NoNamespace}
 use Rattle.snap_call.specs.declared.refusal.Refusal.{Refusal}
 use Rattle.snap_call.specs.declared.reply.Reply.{Reply}
 use Rattle.snap_call.specs.declared.reply.Reply.TheVariants as replies
 use Rattle.snap_call.specs.declared.state.State.{State}
 use Rattle.snap_call.specs.Good.{Good}
-use Rattle.snap_call.specs.Records.{active_at, has_children, has_key, is_active, is_named, is_slot, recharged, record_at, relabelled, with_record, without_key, without_slot, committed_as}
-use Rattle.snap_call.specs.Forms.{is_key, is_page, is_start}
+use Rattle.snap_call.specs.Records.{active_at, charge_of, has_children, has_key, is_active, is_committed, is_named, is_slot, recharged, record_at, relabelled, with_record, without_key, without_slot, committed_as}
+use Rattle.snap_call.specs.Forms.{is_key, is_limit, is_page, is_start}
+use Rattle.snap_call.specs.Reached.{unswept}
 use Rattle.snap_call.specs.State.{ancestors, layers_of, place_of}
-use Rattle.snap_call.specs.Step.{IsAllowed, IsCovered, IsOpen, ask, ask_record, charge, charge_to, commit_as, committed as committed_state, discard, greater, new_active, one, prepare_at, prepared as prepared_state, refused, session, step, trim, place_for, slot_for, unless_refused, mounts, new_view, view_at, view, remove_record, remove_at, remove, update_record, update_at, update, walk_at, walk}
+use Rattle.snap_call.specs.Step.{IsAllowed, IsCovered, IsOpen, has_named, in_namespace, lease_add, lease_add_record, lease_create, lease_release, set_limit, sweep, sweep_at, ask, ask_record, charge, charge_to, commit_as, committed as committed_state, discard, greater, new_active, one, prepare_at, prepared as prepared_state, refused, session, step, trim, place_for, slot_for, unless_refused, mounts, new_view, view_at, view, remove_record, remove_at, remove, update_record, update_at, update, walk_at, walk}
 use Rattle.snap_call.proofs.Alike.{AreAlike, bare, bare-relabelled, alike-active_at, alike-active_at_None, alike-layers}
-use Rattle.snap_call.proofs.Chains.{chain, Every, every, IsOther, Keeps, Keeps-after, Keeps-recharged, Keeps-with_record, Keeps-without_slot, chain-found, keeps-ancestors, keeps-without_key, on_other}
-use Rattle.snap_call.proofs.Kept.{covers-Covers, good_step}
+use Rattle.snap_call.proofs.Chains.{chain, Every, OnParent, every, on_parent, IsOther, Keeps, Keeps-after, Keeps-recharged, Keeps-with_record, Keeps-without_slot, chain-found, keeps-ancestors, keeps-without_key, on_other}
+use Rattle.snap_call.proofs.Keeping.{covers-Covers}
+use Rattle.snap_call.proofs.Kept.{good_step}
 use Rattle.snap_call.proofs.Lists.{active_at-all}
 use Rattle.snap_call.proofs.Ordered.{has_key-without}
 use Rattle.snap_call.proofs.Lowest.{lowest_free-Some}
 use Rattle.snap_call.proofs.Places.{IsPlace, IsSlotFor, place_for-Ok, slot_for-Ok}
+use Rattle.snap_call.proofs.Sweeping.{active-ancestors, active_at-unswept}
 use Rattle.snap_call.proofs.Slots.{Active-is_slot, is_slot-other, active_at-with_record_own, active_at-with_record_other, active_at-without_slot_own, active_at-without_slot_other, active_at-without_idle, active_at-recharged_own, active_at-recharged_other, active_at-committed_own, active_at-committed_other}
 use Rattle.std.specs.Option.{option_map, option_map_or, is_some}
 use Rattle.snap_merge.specs.declared.error.FsError.TheVariants.{NeedsCharge}
@@ -75,14 +78,14 @@ same_here rs k r e = refl
 -- where all committed records are kept
 same_where : (rs ts : List Record) → AreChained rs → Keeps rs ts → AreSame rs ts
 same_where rs ts chained keeps k r e =
-    ap layers_of (keeps-ancestors Every rs ts (every rs ts keeps) r.namespace r.parent tt (active_at-all (λ t. IsSome (chain rs t)) k rs r e chained))
+    ap layers_of (keeps-ancestors Every rs ts (every rs ts keeps) r.namespace r.parent (on_parent Every r.namespace r.parent tt) (active_at-all (λ t. IsSome (chain rs t)) k rs r e chained))
 
 -- where a key goes that no record is on
 same_without : (rs : List Record) (place : ℕ) (key : Bytes) → AreChained rs → has_children place key rs ≡ false → AreSame rs (without_key place key rs)
 same_without rs place key chained childless k r e =
     ap layers_of
     (keeps-ancestors (IsOther place key) rs (without_key place key rs) (keeps-without_key place key rs childless) r.namespace r.parent
-    (active_at-all (λ t. IsOther place key t.namespace t.parent) k rs r e (on_other place key rs childless))
+    (active_at-all (λ t. OnParent (IsOther place key) t.namespace t.parent) k rs r e (on_other place key rs childless))
     (active_at-all (λ t. IsSome (chain rs t)) k rs r e chained))
 
 module _ (rs ts : List Record) (same_lowers : AreSame rs ts) where
@@ -206,13 +209,12 @@ left_trim s slot hands h r good agree low stands is =
     (recharges slot (count_of h.snapshot.layer) hands s.records h r good.chains agree low stands is (record { blocks = omega arith; inodes = omega arith }))
 
 left_under : (s : State) (slot : ℕ) (name : Bytes) (lease : Option Bytes) (hands : List (Option HandValue)) (h : HandValue) (r : Record) → Good s → AgreeAll hands s.records → slot < length hands → active_at slot s.records ≡ Some r → IsHandOf slot s.records h r → has_key r.namespace name s.records ≡ false
-    → Left (λ reply. with_hand slot (committed_hand h.snapshot reply) hands) (if is_some lease then refused s NoLease else committed_state s slot name h.snapshot.layer r)
-left_under s slot name None hands h r good agree low stands is new =
+    → Left (λ reply. with_hand slot (committed_hand h.snapshot reply) hands) (committed_state s slot name lease h.snapshot.layer r)
+left_under s slot name lease hands h r good agree low stands is new =
     let c : Record = committed_as name h.snapshot.layer (s.entries + 1) r in
     let us : List Record = without_slot slot s.records in
     goes s.records (with_record c us) (same_where s.records (with_record c us) good.chains (Keeps-after s.records us (with_record c us) (Keeps-without_slot slot s.records) (Keeps-with_record c us (has_key-without (is_slot slot) r.namespace name s.records new)))) slot hands agree low
     (active_at-committed_own slot name h.snapshot.layer (s.entries + 1) s.records r good.slots) (λ k ne. active_at-committed_other slot k name h.snapshot.layer (s.entries + 1) s.records r ne)
-left_under s slot name (Some lease) hands h r good agree low stands is new = seals slot hands s.records h r good.chains agree low stands is
 
 left_commit : (s : State) (slot : ℕ) (name : Bytes) (lease : Option Bytes) (hands : List (Option HandValue)) (h : HandValue) (r : Record) → Good s → AgreeAll hands s.records → slot < length hands → active_at slot s.records ≡ Some r → IsHandOf slot s.records h r
     → Left (λ reply. with_hand slot (committed_hand h.snapshot reply) hands) (commit_as s slot name lease h.snapshot.layer (active_at slot s.records))
@@ -221,7 +223,8 @@ left_commit s slot name lease hands h r good agree low stands is =
     let refuses = seals slot hands s.records h r good.chains agree low stands is in
     subst (λ (o : Option Record). Left f (commit_as s slot name lease h.snapshot.layer o)) (sym stands)
     (cases_if (Left f) (is_key name && option_map_or is_key lease true) _ _
-    (λ formed. cases_if (Left f) (has_key r.namespace name s.records) _ _ (λ taken. refuses) (λ new. left_under s slot name lease hands h r good agree low stands is new))
+    (λ formed. cases_if (Left f) (has_key r.namespace name s.records) _ _ (λ taken. refuses)
+    (λ new. cases_if (Left f) (has_named s r.namespace lease) _ _ (λ named. left_under s slot name lease hands h r good agree low stands is new) (λ unnamed. refuses)))
     (λ bad. refuses))
 
 left_discard : (s : State) (slot : ℕ) (hands : List (Option HandValue)) (r : Record) → Good s → AgreeAll hands s.records → slot < length hands → active_at slot s.records ≡ Some r
@@ -299,6 +302,44 @@ left_walk : (s : State) (hands : List (Option HandValue)) (namespace after : Byt
 left_walk s hands namespace after most asked agree =
     cases_if (Left (λ reply. hands)) (is_start after && is_page most) _ _ (λ formed. left_walk_at s hands after most asked (place_of namespace s.namespaces) agree) (λ bad. agree)
 
+-- a call that leaves the records as they are, once its namespace was found
+left_in_namespace : (s : State) (hands : List (Option HandValue)) (namespace : Bytes) (next : ℕ → State × Reply) → AgreeAll hands s.records → ((place : ℕ) → Left (λ reply. hands) (next place)) → Left (λ reply. hands) (in_namespace s namespace next)
+left_in_namespace s hands namespace next agree here = by (place_of namespace s.namespaces)
+  where
+    by : (o : Option ℕ) → Left (λ reply. hands) (option_map_or next o (refused s NoNamespace))
+    by None = agree
+    by (Some place) = here place
+
+left_set_limit : (s : State) (hands : List (Option HandValue)) (namespace : Bytes) (limit : Usage) → AgreeAll hands s.records → Left (λ reply. hands) (set_limit s namespace limit)
+left_set_limit s hands namespace limit agree =
+    cases_if (Left (λ reply. hands)) (is_limit limit) _ _
+    (λ formed. left_in_namespace s hands namespace _ agree (λ place. cases_if (Left (λ reply. hands)) (covers limit (charge_of place s.records)) _ _ (λ covered. agree) (λ below. agree))) (λ bad. agree)
+
+left_lease_create : (s : State) (hands : List (Option HandValue)) (namespace lease : Bytes) (until : Option ℕ) → AgreeAll hands s.records → Left (λ reply. hands) (lease_create s namespace lease until)
+left_lease_create s hands namespace lease until agree =
+    cases_if (Left (λ reply. hands)) (is_key lease) _ _
+    (λ formed. left_in_namespace s hands namespace _ agree (λ place. cases_if (Left (λ reply. hands)) _ _ _ (λ there. agree) (λ new. agree))) (λ bad. agree)
+
+left_lease_add_record : (s : State) (hands : List (Option HandValue)) (namespace lease name : Bytes) (o : Option Record) → AgreeAll hands s.records → Left (λ reply. hands) (lease_add_record s namespace lease name o)
+left_lease_add_record s hands namespace lease name None agree = agree
+left_lease_add_record s hands namespace lease name (Some r) agree =
+    cases_if (Left (λ reply. hands)) (not (is_committed r.content)) _ _ (λ other. agree) (λ is. cases_if (Left (λ reply. hands)) _ _ _ (λ none. agree) (λ there. agree))
+
+left_lease_add : (s : State) (hands : List (Option HandValue)) (namespace lease name : Bytes) → AgreeAll hands s.records → Left (λ reply. hands) (lease_add s namespace lease name)
+left_lease_add s hands namespace lease name agree =
+    cases_if (Left (λ reply. hands)) (is_key lease && is_key name) _ _
+    (λ formed. left_in_namespace s hands namespace _ agree (λ place. left_lease_add_record s hands namespace lease name (record_at place name s.records) agree)) (λ bad. agree)
+
+left_lease_release : (s : State) (hands : List (Option HandValue)) (namespace lease : Bytes) → AgreeAll hands s.records → Left (λ reply. hands) (lease_release s namespace lease)
+left_lease_release s hands namespace lease agree =
+    cases_if (Left (λ reply. hands)) (is_key lease) _ _
+    (λ formed. left_in_namespace s hands namespace _ agree (λ place. cases_if (Left (λ reply. hands)) _ _ _ (λ there. agree) (λ none. agree))) (λ bad. agree)
+
+left_sweep : (s : State) (hands : List (Option HandValue)) (namespace : Bytes) (moment : ℕ) → Good s → AgreeAll hands s.records → Left (λ reply. hands) (sweep s namespace moment)
+left_sweep s hands namespace moment good agree =
+    left_in_namespace s hands namespace (sweep_at s namespace moment) agree
+    (λ place. agree_on s.records (unswept s namespace place moment) (λ k r e. ap layers_of (active-ancestors s namespace place moment good k r e)) hands agree (active_at-unswept s namespace place moment))
+
 left_session : (s : State) (hands : List (Option HandValue)) → AgreeAll hands s.records → Left (λ reply. hands) (session s)
 left_session s hands agree = cases_if (Left (λ reply. hands)) (nat_lt s.sessions 65536) _ _ (λ e. agree) (λ e. agree)
 
@@ -312,7 +353,7 @@ left_room s namespace key parent labels place slot hands good agree places is fo
     let own : is_slot slot new ≡ true = Active-is_slot slot one new refl in
     let low : slot < length hands = (let p = lowest.0 in omega (arith, places)) in
     let hand : HandValue = new_hand key parent s.records s.next_id slot place in
-    let same : layers_of (ancestors place parent s.records) ≡ layers_of (ancestors place parent ts) = ap layers_of (sym (keeps-ancestors Every s.records ts (every s.records ts keeps) place parent tt (chain-found s.records place parent is.deep))) in
+    let same : layers_of (ancestors place parent s.records) ≡ layers_of (ancestors place parent ts) = ap layers_of (sym (keeps-ancestors Every s.records ts (every s.records ts keeps) place parent (on_parent Every place parent tt) (chain-found s.records place parent is.deep))) in
     agree_set s.records ts (same_where s.records ts good.chains keeps) slot (Some hand) hands agree low
     (subst (λ (x : Option Record). AgreesAt slot ts (Some hand) x) (sym (active_at-with_record_own slot new s.records own lowest.1))
     (record { namespace = refl; key = refl; lowers = same; slot = refl; id = refl; usage = refl; covers = record { blocks = omega arith; inodes = omega arith } }))
@@ -391,6 +432,8 @@ fits_called w n (calls.Prepare namespace key parent labels) fit =
     places (replies.Usage usage) = fit.places
     places (replies.Mounts own) = fit.places
     places (replies.Page infos) = fit.places
+    places replies.Done = fit.places
+    places (replies.Swept removed leases freed) = fit.places
     places (replies.Refused why) = fit.places
 fits_called w n (calls.Charge slot id need want) fit =
     fits_on_hand w slot (is_working id) _ fit
@@ -435,6 +478,21 @@ fits_called w n (calls.Update namespace key labels paths) fit =
 fits_called w n (calls.Walk namespace after most asked) fit =
     fits_admitted w 1 w.hands _ fit
     (fits_recorded w n (calls.Walk namespace after most asked) Nothing (λ reply. w.hands) fit tt (λ r. fit.places) (left_walk w.state w.hands namespace after most asked fit.hands))
+fits_called w n (calls.SetLimit namespace limit) fit =
+    fits_admitted w 1 w.hands _ fit
+    (fits_recorded w n (calls.SetLimit namespace limit) Nothing (λ reply. w.hands) fit tt (λ r. fit.places) (left_set_limit w.state w.hands namespace limit fit.hands))
+fits_called w n (calls.LeaseCreate namespace lease until) fit =
+    fits_admitted w 1 w.hands _ fit
+    (fits_recorded w n (calls.LeaseCreate namespace lease until) Nothing (λ reply. w.hands) fit tt (λ r. fit.places) (left_lease_create w.state w.hands namespace lease until fit.hands))
+fits_called w n (calls.LeaseAdd namespace lease name) fit =
+    fits_admitted w 1 w.hands _ fit
+    (fits_recorded w n (calls.LeaseAdd namespace lease name) Nothing (λ reply. w.hands) fit tt (λ r. fit.places) (left_lease_add w.state w.hands namespace lease name fit.hands))
+fits_called w n (calls.LeaseRelease namespace lease) fit =
+    fits_admitted w 1 w.hands _ fit
+    (fits_recorded w n (calls.LeaseRelease namespace lease) Nothing (λ reply. w.hands) fit tt (λ r. fit.places) (left_lease_release w.state w.hands namespace lease fit.hands))
+fits_called w n (calls.Sweep namespace moment) fit =
+    fits_admitted w 1 w.hands _ fit
+    (fits_recorded w n (calls.Sweep namespace moment) Nothing (λ reply. w.hands) fit tt (λ r. fit.places) (left_sweep w.state w.hands namespace moment fit.good fit.hands))
 
 -- an operation under the share leaves a layer that the share covers
 within : (share : Usage) (o : Outcome) (next : Tree) → within_share share o ≡ Ok next → Covers share (count_of next)

@@ -6,4 +6,5 @@ mod Hold
 mod Does
 mod Fitting
 mod Opened
+mod Rounds
 mod Running

@@ -3,3 +3,4 @@ pub mod Hand
 pub mod Move
 pub mod Runs
 pub mod Stacks
+pub mod Round

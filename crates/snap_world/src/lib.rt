@@ -5,9 +5,11 @@
 #![tactic(auto)]
 
 mod hands;
+mod round;
 mod step;
 mod world;
 
+pub use round::ReopenFault;
 pub use snap_call::{Call, Config, Entry, Given, Namespace, Refusal, Reply};
 pub use snap_merge::FsError;
 pub use snap_record::{Info, Kind, Labels, Record};

@@ -336,6 +336,28 @@ impl<N: StoreName> Hands<N> {
                 most: _,
                 asked: _,
             } => self.plain(book, session, call),
+            Call::SetLimit {
+                namespace: _,
+                limit: _,
+            } => self.plain(book, session, call),
+            Call::LeaseCreate {
+                namespace: _,
+                lease: _,
+                until: _,
+            } => self.plain(book, session, call),
+            Call::LeaseAdd {
+                namespace: _,
+                lease: _,
+                name: _,
+            } => self.plain(book, session, call),
+            Call::LeaseRelease {
+                namespace: _,
+                lease: _,
+            } => self.plain(book, session, call),
+            Call::Sweep {
+                namespace: _,
+                moment: _,
+            } => self.plain(book, session, call),
         }
     }
 

@@ -49,7 +49,7 @@ impl<T: Drop> From<AllocFailed<T>> for NoMemory {
 /// It goes from one state to the next by steps, each of which is a call of a session on the store or
 /// an operation on the layer of an open snapshot. Dropping it discards its open snapshots.
 pub struct World<N: StoreName> {
-    book: Book<N>,
+    pub(crate) book: Book<N>,
     hands: Hands<N>,
 }
 

@@ -9,4 +9,8 @@ mod book;
 #[cfg(test)]
 mod call;
 #[cfg(test)]
+mod lease;
+#[cfg(test)]
 mod life;
+#[cfg(test)]
+mod round;

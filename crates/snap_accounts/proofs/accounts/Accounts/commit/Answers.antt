@@ -1,4 +1,4 @@
-use Rattle.std.proofs.Common.{◌≡◌, ◌+◌, List, set, Some, false, refl, sym, ap, ◌∙◌, subst, arith}
+use Rattle.std.proofs.Common.{◌≡◌, ◌+◌, ◌-◌, List, set, Some, false, refl, sym, ap, ◌∙◌, subst, arith}
 use Rattle.snap_usage.specs.declared.usage.Usage.{Usage}
 use Rattle.snap_usage.specs.Counted.{Covers, count_of}
 use Rattle.snap_layer.specs.Tree.{Tree}
@@ -10,13 +10,15 @@ use Rattle.std.specs.Prelude.{Option}
 use Rattle.snap_call.specs.declared.state.State.{State}
 use Rattle.snap_call.specs.Good.{Good}
 use Rattle.snap_call.specs.Records.{charge_of, charge_at, active_at, has_key, with_record, without_slot, committed_as, open_count}
+use Rattle.snap_call.specs.Step.{leases_after}
 use Rattle.snap_call.proofs.Sums.{charge_with}
 use Rattle.snap_call.proofs.Slots.{charge_at-issued}
 use Rattle.snap_call.proofs.Counts.{open_count-committed, open_count-some}
-use Rattle.snap_call.proofs.Kept.{good_committed}
+use Rattle.snap_call.proofs.Keeping.{good_committed}
+use Rattle.snap_accounts.specs.Accounts.{AreAccounts}
 use Rattle.snap_accounts.specs.Totals.{place_if}
 use Rattle.snap_accounts.proofs.Accounting.{accounts_committed}
-use Rattle.snap_accounts.proofs.Commits.{commits}
+use Rattle.snap_accounts.proofs.Commits.{commits_from}
 use Rattle.snap_accounts.proofs.accounts.Accounts.commit.Goals as goal
 
 pub overflow_sub-self : goal.overflow_sub-self
@@ -34,14 +36,15 @@ returns-clause-open g c =
     let slot = c.args.share.slot in
     let same = c.self.view_is ∙ c.meet-held.ensures.same in
     let found = charge_at-issued slot s.records (ap (λ (u : State). (charge_at slot u.records).issued) same ∙ c.meet-held.ensures.met.0) in
-    let is = commits c.slot-slot.result slot c.args.name c.args.layer (s.entries + 1) s.records c.commit.new.self found.0 c.slot-slot.ensures found.1 c.commit.ensures in
+    let is = commits_from c.slot-slot.result slot c.args.name c.args.layer (s.entries + 1) s.records c.name_in.new.self.records c.commit.new.self found.0 c.slot-slot.ensures found.1 (ap (λ (u : State). u.records) c.in-Ok.ensures.ok) c.commit.ensures in
     ap (λ (l : List Record). open_count l + 1) is ∙ (open_count-committed slot c.args.name c.args.layer (s.entries + 1) s.records found.0 found.1 ∙ ap (λ (u : State). open_count u.records) same)
 
-pub invariant_of-self : goal.invariant_of-self
-invariant_of-self g c =
+pub invariant_of-self-2 : goal.invariant_of-self-2
+invariant_of-self-2 g c =
     let s = c.self.inside.state in
     let slot = c.args.share.slot in
     let name : Bytes = c.args.name in
+    let lease : Option Bytes = c.args.lease.now in
     let layer : Tree = c.args.layer in
     let same = c.self.view_is ∙ c.meet-held.ensures.same in
     let found = charge_at-issued slot s.records (ap (λ (u : State). (charge_at slot u.records).issued) same ∙ c.meet-held.ensures.met.0) in
@@ -54,13 +57,17 @@ invariant_of-self g c =
     let after : c.total_with-after.result ≡ charge_with r (count_of layer) s.records = c.total_with-after.ensures ∙ (λ i. plus (minus (charge_of (place i) (sym c.self.view_is i).records) (sym held i)) (count i)) in
     let free : has_key r.namespace name s.records ≡ false =
     ap (λ (o : Option Record). has_key (place_if o) name s.records) (sym e) ∙ (ap (λ (u : State). has_key (place_if (active_at slot u.records)) name u.records) same ∙ c.requires.free) in
-    let is : c.commit.new.self ≡ with_record (committed_as name layer (s.entries + 1) r) (without_slot slot s.records) = commits c.slot-slot.result slot name layer (s.entries + 1) s.records c.commit.new.self r c.slot-slot.ensures e c.commit.ensures in
+    let text : c.as_str.result.now ≡ name = c.as_str.ensures in
+    let named : c.name_in.new.self ≡ record s { leases = leases_after s r.namespace name lease } = c.in-Ok.ensures.ok ∙ (λ i. record s { leases = leases_after s (place i) (text i) lease }) in
+    let is : c.commit.new.self ≡ with_record (committed_as name layer (s.entries + 1) r) (without_slot slot s.records) =
+    commits_from c.slot-slot.result slot name layer (s.entries + 1) s.records c.name_in.new.self.records c.commit.new.self r c.slot-slot.ensures e (ap (λ (u : State). u.records) c.in-Ok.ensures.ok) c.commit.ensures in
     let less = open_count-committed slot name layer (s.entries + 1) s.records r e in
     let left = ap open_count is in
-    let good = good_committed s slot name layer r c.self.invariant.good e free (subst (λ (u : Usage). Covers u (count_of layer)) (sym own) c.requires.covers) in
-    accounts_committed s _ c.self.inside.totals _ c.self.inside.slots _ c.self.inside.opened _ slot (s.entries + 1) name layer r c.self.invariant
-    (subst (λ (l : List Record). Good (record s { records = l; entries = s.entries + 1 })) (sym is) good)
+    let good = good_committed s slot name lease layer r c.self.invariant.good e free (subst (λ (u : Usage). Covers u (count_of layer)) (sym own) c.requires.covers) in
+    subst (λ (u : State). AreAccounts (record u { records = c.commit.new.self; entries = s.entries + 1 }) c.set.new.self c.spend.new.self (c.self.inside.opened - 1)) (sym named)
+    (accounts_committed s (record s { records = c.commit.new.self; leases = leases_after s r.namespace name lease; entries = s.entries + 1 }) c.self.inside.totals _ c.self.inside.slots _ c.self.inside.opened (c.self.inside.opened - 1) slot (s.entries + 1) name layer r c.self.invariant
+    (subst (λ (l : List Record). Good (record s { records = l; leases = leases_after s r.namespace name lease; entries = s.entries + 1 })) (sym is) good)
     e c.requires.slot refl is
     (omega (arith, less, left, c.self.invariant.open_are))
     (c.set.ensures ∙ (λ i. set c.self.inside.totals (place i) (after i)))
-    (c.spend.ensures.charges ∙ ap (λ (x : ShareState). set c.self.inside.slots x.slot (free_charge x.slot)) c.meet-held.ensures.share)
+    (c.spend.ensures.charges ∙ ap (λ (x : ShareState). set c.self.inside.slots x.slot (free_charge x.slot)) c.meet-held.ensures.share))

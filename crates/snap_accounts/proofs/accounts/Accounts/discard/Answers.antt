@@ -7,7 +7,7 @@ use Rattle.snap_call.specs.Good.{Good}
 use Rattle.snap_call.specs.Records.{charge_of, charge_at, active_at, without_slot, open_count}
 use Rattle.snap_call.proofs.Slots.{charge_at-issued}
 use Rattle.snap_call.proofs.Counts.{open_count-without_slot, open_count-some}
-use Rattle.snap_call.proofs.Kept.{good_discarded}
+use Rattle.snap_call.proofs.Keeping.{good_discarded}
 use Rattle.snap_accounts.specs.Totals.{place_if}
 use Rattle.snap_accounts.proofs.Accounting.{accounts_freed}
 use Rattle.snap_accounts.proofs.accounts.Accounts.discard.Goals as goal

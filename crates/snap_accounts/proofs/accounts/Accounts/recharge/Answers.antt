@@ -12,7 +12,7 @@ use Rattle.snap_call.specs.Step.{fits as fits_in}
 use Rattle.snap_call.proofs.Sums.{charge_with}
 use Rattle.snap_call.proofs.Slots.{charge_at-issued}
 use Rattle.snap_call.proofs.Counts.{open_count-recharged}
-use Rattle.snap_call.proofs.Kept.{covers-Covers, good_recharged}
+use Rattle.snap_call.proofs.Keeping.{covers-Covers, good_recharged}
 use Rattle.snap_accounts.specs.Totals.{place_if}
 use Rattle.snap_accounts.proofs.Accounting.{accounts_recharged}
 use Rattle.snap_accounts.proofs.accounts.Accounts.recharge.Goals as goal

@@ -1,4 +1,4 @@
-use Rattle.snap_call.proofs.Kept.{place_of-below}
+use Rattle.snap_call.proofs.Keeping.{place_of-below}
 use Rattle.snap_call.proofs.Places.{place_for-Ok}
 use Rattle.snap_accounts.proofs.Prepared.{vacant}
 use Rattle.snap_accounts.proofs.accounts.Accounts.vacancy.Goals as goal

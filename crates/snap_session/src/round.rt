@@ -1,0 +1,53 @@
+// The next round of a store.
+ghost use Rattle.std.specs.Prelude.{◌≡◌, IfOk};
+ghost use Rattle.snap_call.specs.declared.call.Call.TheVariants as calls;
+ghost use Rattle.snap_world.specs.declared.step.Answer.TheVariants as step_answers;
+ghost use Rattle.snap_world.specs.declared.step.Step.TheVariants.{Locked};
+ghost use Rattle.snap_world.specs.Move.{move};
+ghost use Rattle.snap_session.specs.Commands.{round_opened, is_started, reopen};
+
+use crate::step::{take_step, told};
+use snap_call::{Call, Reply};
+use snap_ledger::StoreName;
+use snap_script::Answer;
+use snap_world::{Answer as StepAnswer, NoMemory, ReopenFault, Step, World};
+
+fn is_start(reply: &Reply) -> bool
+    ensures { result ≡ is_started (step_answers.Reply reply.now) }
+{
+    match reply {
+        Reply::Opened => true,
+        _ => false,
+    }
+}
+
+pub(crate) fn is_started(answer: &StepAnswer) -> bool
+    ensures { result ≡ is_started answer.now }
+{
+    match answer {
+        StepAnswer::Reply(reply) => is_start(reply),
+        _ => false,
+    }
+}
+
+// Session 0 of a round that was begun.
+fn open_round<N: StoreName>(world: &mut World<N>) -> Result<Answer, NoMemory>
+    ensures { IfOk result (λ answer. round_opened (move world.old (Locked 0 calls.Session)) ≡ (world.new, answer)) }
+{
+    let answer = take_step(world, &Step::Locked(0, Call::Session))?;
+    if is_started(&answer) {
+        return Ok(Answer::Done);
+    }
+    Ok(told(0, 0, world, answer))
+}
+
+// The next round, and its session 0.
+pub(crate) fn reopen<N: StoreName>(world: &mut World<N>, journal: u64) -> Result<Answer, NoMemory>
+    ensures { IfOk result (λ answer. reopen world.old journal ≡ (world.new, answer)) }
+{
+    match world.reopen(journal) {
+        Ok(()) => open_round(world),
+        Err(ReopenFault::StillOut) => Ok(Answer::StillOut),
+        Err(ReopenFault::Book(why)) => Ok(Answer::Refused(why)),
+    }
+}

@@ -1,0 +1,41 @@
+// The next round of a world.
+ghost use Rattle.std.specs.Prelude.{◌≡◌, OnOk, OnErr};
+ghost use Rattle.snap_world.specs.Round.{reopen_answer, reopened};
+
+use crate::world::World;
+use snap_call::Refusal;
+use snap_ledger::StoreName;
+use thiserror::Error;
+
+/// Why no round was begun.
+#[derive(Clone, Copy, Debug, PartialEq, Eq, Error)]
+pub enum ReopenFault {
+    /// A snapshot is open.
+    #[error("a snapshot is open")]
+    StillOut,
+    /// The store refuses it.
+    #[error("{0}")]
+    Book(Refusal),
+}
+
+impl<N: StoreName> World<N> {
+    /// Begins the next round, whose journal has at most so many entries: it is empty, and sessions are
+    /// counted from 0 again. All snapshots stay, and what they show.
+    ///
+    /// `StillOut` where a snapshot is open, and else the refusal of
+    /// [`Book::next_round`](snap_book::Book::next_round); the world is then as it was. No entry is made.
+    /// Takes no memory. The cost is that of dropping the entries of the round that ends.
+    pub fn reopen(&mut self, journal: u64) -> Result<(), ReopenFault>
+        ensures answer { result ≡ reopen_answer self.old journal }
+        ensures began { OnOk result (self.new ≡ reopened self.old journal) }
+        ensures same { OnErr result (self.new ≡ self.old) }
+    {
+        if self.book.open_slots() > 0 {
+            return Err(ReopenFault::StillOut);
+        }
+        match self.book.next_round(journal) {
+            Ok(()) => Ok(()),
+            Err(why) => Err(ReopenFault::Book(why)),
+        }
+    }
+}
