@@ -2,7 +2,7 @@
 ghost use Rattle.std.specs.Prelude.{◌≡◌, ◌<◌, ◌^◌, ◌+◌, ◌++◌, ◌∷◌, [], IfOk, IfErr, OnOk, OnErr, IsSome, Option, ℕ, true, false};
 ghost use Rattle.snap_lease.specs.Lease.{empty_lease};
 ghost use Rattle.snap_lease.specs.Leases.{has_lease, with_name_added, without_lease};
-ghost use Rattle.snap_call.specs.Records.{is_committed, open_count};
+ghost use Rattle.snap_call.specs.Records.{open_count};
 ghost use Rattle.snap_call.specs.Step.{lease_add, lease_create, lease_release, leasing, limited_at, refused, set_limit};
 ghost use Rattle.snap_call.specs.declared.reply.Reply.TheVariants.{Done};
 ghost use Rattle.snap_accounts.specs.Changes.{CanChange, IsLimitFor, IsName, IsSpace, changed};
@@ -10,22 +10,11 @@ ghost use Rattle.snap_accounts.specs.Entries.{IsInEntry, IsRecorded};
 
 use crate::accounts::Accounts;
 use crate::change::Change;
-use snap_call::{Namespace, Refusal, Reply, is_key, is_limit};
+use snap_call::{Namespace, Refusal, Reply, is_committed, is_key, is_limit};
 use snap_ledger::StoreName;
-use snap_record::{Content, Record, Text};
+use snap_record::Text;
 use snap_usage::Usage;
 use std::alloc::AllocError;
-
-// Whether the snapshot is a committed one.
-fn is_committed(snapshot: &Record) -> bool
-    ensures { result ≡ is_committed snapshot.now.content }
-{
-    match &snapshot.content {
-        Content::View { .. } => false,
-        Content::Active { .. } => false,
-        Content::Committed { .. } => true,
-    }
-}
 
 impl<N: StoreName> Accounts<N> {
     // The place of a namespace that can have the limit, or why it can't.

@@ -5,11 +5,8 @@ ghost use Rattle.snap_book.specs.Round.{round_answer, next_round};
 
 use crate::book::Book;
 use snap_call::Refusal;
-use snap_call::limits::MAX_JOURNAL;
+use snap_call::limits::{MAX_ENTRY, MAX_JOURNAL};
 use snap_ledger::StoreName;
-
-/// The numbers of entries end at 2^62.
-const MAX_ENTRIES: u64 = 4_611_686_018_427_387_904;
 
 impl<N: StoreName> Book<N> {
     /// Begins the next round, whose journal has at most so many entries: it is empty, and sessions are
@@ -28,7 +25,7 @@ impl<N: StoreName> Book<N> {
         if journal > MAX_JOURNAL {
             return Err(Refusal::BadArgument);
         }
-        if self.accounts.state().entries + journal > MAX_ENTRIES {
+        if self.accounts.state().entries + journal > MAX_ENTRY {
             return Err(Refusal::NumbersSpent);
         }
         self.accounts.end_sessions();

@@ -16,8 +16,8 @@ pub struct Chain {
     pub layers: Sequence<Shared>,
 }
 
-/// Whether the snapshot is a committed one.
-pub(crate) fn is_committed(snapshot: &Record) -> bool
+/// Whether the snapshot is a committed one. Takes no memory.
+pub fn is_committed(snapshot: &Record) -> bool
     ensures { result ≡ is_committed snapshot.now.content }
 {
     match &snapshot.content {

@@ -45,11 +45,4 @@ impl Ids {
     {
         self.set.contains(&id)
     }
-
-    /// The ids, in the order in which they came, without a copy. Takes no memory. The cost is constant.
-    pub fn as_slice(&self) -> &[u32]
-        ensures { result.now ≡ self.now }
-    {
-        self.set.as_slice()
-    }
 }

@@ -20,7 +20,7 @@ mod state;
 mod sweep;
 
 pub use call::{Call, Given};
-pub use chain::Chain;
+pub use chain::{Chain, is_committed};
 pub use config::{Config, Namespace};
 pub use entry::Entry;
 pub use forms::{is_key, is_limit, is_page, is_parent, is_start};

@@ -27,3 +27,6 @@ pub const MAX_SESSIONS: u64 = 65_536;
 
 /// The greatest id of a snapshot.
 pub const MAX_ID: u64 = 4_294_967_295;
+
+/// The greatest number of an entry: 2^62.
+pub const MAX_ENTRY: u64 = 4_611_686_018_427_387_904;

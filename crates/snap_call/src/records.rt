@@ -147,7 +147,7 @@ impl Records {
     pub fn remove_ids(&mut self, ids: &Ids)
         ensures { self.new ≡ filter (λ r. not (has_id r.id ids.now)) self.old }
     {
-        self.list.retain(|snapshot| !has_id(snapshot, ids));
+        self.list.retain(|snapshot| !ids.has(snapshot.id));
     }
 
     /// Charges the record of a slot for so much. Where the slot is not open, the records are as
@@ -256,13 +256,6 @@ fn is_named(snapshot: &Record, place: usize, key: &str) -> bool
     ensures { result ≡ is_named place key.now snapshot.now }
 {
     snapshot.namespace == place && snapshot.key.as_str() == key
-}
-
-/// Whether the record's id is one of these.
-fn has_id(snapshot: &Record, ids: &Ids) -> bool
-    ensures { result ≡ has_id snapshot.now.id ids.now }
-{
-    ids.has(snapshot.id)
 }
 
 /// Whether the record is in the namespace at this place and on this parent.

@@ -302,62 +302,7 @@ impl<N: StoreName> Hands<N> {
                 lease,
             } => self.commit(book, session, *slot, *id, name.as_str(), lease),
             Call::Discard { slot, id } => self.discard(book, session, *slot, *id),
-            Call::Stat {
-                namespace: _,
-                key: _,
-            } => self.plain(book, session, call),
-            Call::Usage {
-                namespace: _,
-                key: _,
-            } => self.plain(book, session, call),
-            Call::Mounts {
-                namespace: _,
-                key: _,
-            } => self.plain(book, session, call),
-            Call::View {
-                namespace: _,
-                key: _,
-                parent: _,
-                labels: _,
-            } => self.plain(book, session, call),
-            Call::Remove {
-                namespace: _,
-                key: _,
-            } => self.plain(book, session, call),
-            Call::Update {
-                namespace: _,
-                key: _,
-                labels: _,
-                paths: _,
-            } => self.plain(book, session, call),
-            Call::Walk {
-                namespace: _,
-                after: _,
-                most: _,
-                asked: _,
-            } => self.plain(book, session, call),
-            Call::SetLimit {
-                namespace: _,
-                limit: _,
-            } => self.plain(book, session, call),
-            Call::LeaseCreate {
-                namespace: _,
-                lease: _,
-                until: _,
-            } => self.plain(book, session, call),
-            Call::LeaseAdd {
-                namespace: _,
-                lease: _,
-                name: _,
-            } => self.plain(book, session, call),
-            Call::LeaseRelease {
-                namespace: _,
-                lease: _,
-            } => self.plain(book, session, call),
-            Call::Sweep {
-                namespace: _,
-                moment: _,
-            } => self.plain(book, session, call),
+            _ => self.plain(book, session, call),
         }
     }
 
