@@ -26,7 +26,7 @@ use Rattle.snap_call.proofs.Lists.{all-map, all-with_record, none-passes}
 use Rattle.snap_call.proofs.Ordered.{record_cmp_total, tied-is_named}
 use Rattle.snap_call.proofs.Places.{place_for-Ok}
 use Rattle.snap_accounts.specs.declared.change.Change.{Change}
-use Rattle.snap_accounts.specs.declared.change.Change.TheVariants.{Nothing, View, Removal, Labels}
+use Rattle.snap_accounts.specs.declared.change.Change.TheVariants.{View}
 use Rattle.snap_accounts.specs.Changes.{CanChange, changed}
 use Rattle.snap_book.specs.Book.{BookValue, Recorded}
 use Rattle.snap_book.specs.Viewed.{ViewedValue, IsViewOf}

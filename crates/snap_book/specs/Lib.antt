@@ -6,3 +6,4 @@ pub mod Active
 pub mod Held
 pub mod Files
 pub mod Viewed
+pub mod Wanted

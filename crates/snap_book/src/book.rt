@@ -9,7 +9,7 @@ ghost use Rattle.snap_call.specs.declared.reply.Reply.TheVariants.{Opened};
 ghost use Rattle.snap_call.specs.declared.refusal.Refusal.TheVariants.{JournalFull, BadArgument, NumbersSpent, OutOfMemory};
 ghost use Rattle.snap_book.specs.Book.{IsLast, IsOpening, Recorded, RefusedBy};
 ghost use Rattle.snap_call.specs.Forms.{is_config};
-ghost use Rattle.snap_call.specs.State.{opening, place_of};
+ghost use Rattle.snap_call.specs.State.{opening, place_of, name_at};
 ghost use Rattle.snap_call.specs.Totals.{counts_and_shares};
 ghost use Rattle.snap_accounts.specs.Changes.{CanChange, changed};
 ghost use Rattle.snap_accounts.specs.Entries.{IsUnrecorded, IsRecorded};
@@ -146,6 +146,14 @@ impl<N: StoreName> Book<N> {
             Some(place) => Some(self.accounts.total(place)),
             None => None,
         }
+    }
+
+    /// The name of the namespace at a place among those of the configuration, from 0; no text past the last
+    /// one. Takes no memory. The cost is constant.
+    pub fn namespace_at(&self, place: usize) -> &str
+        ensures { result.now ≡ name_at place self.now.state.namespaces }
+    {
+        self.accounts.state().name_at(place)
     }
 
     /// The record of the snapshot of this key. `NoNamespace` where the store has no such namespace, then

@@ -9,13 +9,46 @@ ghost use Rattle.snap_call.specs.declared.reply.Reply.TheVariants.{Charged, Trim
 ghost use Rattle.snap_call.specs.declared.refusal.Refusal.TheVariants.{JournalFull};
 ghost use Rattle.snap_book.specs.Book.{Recorded, RefusedBy};
 ghost use Rattle.snap_book.specs.Held.{share_of};
+ghost use Rattle.snap_book.specs.Wanted.{more, needed_by, wanted};
 
 use crate::active::{Active, Held};
 use crate::book::Book;
 use crate::journal::{charge_entry, discard_entry, trim_entry};
+use snap_call::limits::MAX_LIMIT;
 use snap_call::{Refusal, Reply};
 use snap_ledger::StoreName;
+use snap_merge::FsError;
 use snap_usage::Usage;
+
+/// What the snapshot has to be charged for before its operation can be done, where that is its error. Takes
+/// no memory. The cost is constant.
+pub fn needed_by(error: FsError) -> Option<Usage>
+    ensures { result ≡ needed_by error }
+{
+    match error {
+        FsError::NeedsCharge(need) => Some(need),
+        _ => None,
+    }
+}
+
+// What is needed and the extra, which is cut to the greatest limit first.
+fn more(need: u64, extra: u64) -> u64
+    ensures { result ≡ more need extra }
+{
+    need.saturating_add(extra.min(MAX_LIMIT))
+}
+
+/// What a writer wants of a charge that needs so much, to have an extra amount to spare: the sum, in
+/// blocks of 4096 bytes and inodes. Of the extra at most 2^40 of each quantity count, the greatest limit
+/// of a namespace, and a sum past 2^64 - 1 is that number. Takes no memory. The cost is constant.
+pub fn wanted(need: Usage, extra: Usage) -> Usage
+    ensures { result ≡ wanted need extra }
+{
+    Usage {
+        blocks: more(need.blocks, extra.blocks),
+        inodes: more(need.inodes, extra.inodes),
+    }
+}
 
 impl<N: StoreName> Book<N> {
     /// Charges the snapshot for the wanted amount where its namespace's limit covers that, else for

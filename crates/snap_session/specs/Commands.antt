@@ -1,12 +1,11 @@
 -- What a command of a script answers, and the store after it; cited by the public clauses of `act` and, through Script.antt, of `replay`.
 -- Cited by `replay_within`, `replay`, `Script::act`.
-use Rattle.std.specs.Prelude.{ℕ, ◌+◌, min, Bool, true, false, List, length, map, take, Option, None, Some, Result, Ok, Err, if◌then◌else◌}
+use Rattle.std.specs.Prelude.{ℕ, Bool, true, false, List, length, map, take, Option, None, Some, Result, Ok, Err, if◌then◌else◌}
 use Rattle.std.specs.Option.{option_map, option_map_or}
 use Rattle.snap_path.specs.Text.{Names}
 use Rattle.snap_layer.specs.Tree.{Tree}
 use Rattle.snap_usage.specs.declared.usage.Usage.{Usage}
 use Rattle.snap_merge.specs.declared.error.FsError.{FsError}
-use Rattle.snap_merge.specs.declared.error.FsError.TheVariants.{NeedsCharge}
 use Rattle.snap_merge.specs.Objects.{Object, dir, file, symlink, seen}
 use Rattle.snap_merge.specs.Listing.{listing}
 use Rattle.snap_merge.specs.Reading.{reading}
@@ -21,6 +20,7 @@ use Rattle.snap_call.specs.declared.reply.Reply.TheVariants as replies
 use Rattle.snap_call.specs.Forms.{is_config}
 use Rattle.snap_call.specs.Records.{open_count}
 use Rattle.snap_book.specs.Slot.{slot_of}
+use Rattle.snap_book.specs.Wanted.{needed_by, wanted}
 use Rattle.snap_world.specs.declared.step.Step.{Step}
 use Rattle.snap_world.specs.declared.step.Step.TheVariants.{Locked, Hand}
 use Rattle.snap_world.specs.declared.step.Answer.{Answer as StepAnswer}
@@ -87,17 +87,9 @@ on_key w namespace key next = if_found w next (slot_of w.state namespace key)
 
 -- ---- file commands
 
--- the need, and what is wanted beyond it: at most 2^40 of each quantity; numbers end at 2^64 - 1
-abbrev pub more : ℕ → ℕ → ℕ
-more need extra = min (need + min extra 1099511627776) 18446744073709551615
-
--- more of both quantities
-abbrev pub wanted : Usage → Usage → Usage
-wanted need extra = record { blocks = more need.blocks extra.blocks; inodes = more need.inodes extra.inodes }
-
 -- the charge that an operation needs
 abbrev pub need_of : StepAnswer → Option Usage
-need_of (step_answers.File (Err (NeedsCharge need))) = Some need
+need_of (step_answers.File (Err e)) = needed_by e
 need_of answer = None
 
 -- a charge was granted

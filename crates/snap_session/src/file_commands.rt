@@ -4,11 +4,11 @@ ghost use Rattle.snap_world.specs.declared.step.Step.TheVariants.{Hand};
 ghost use Rattle.snap_world.specs.declared.step.Answer.TheVariants as step_answers;
 ghost use Rattle.snap_world.specs.Move.{move};
 ghost use Rattle.snap_script.specs.Operations.{operation_of};
-ghost use Rattle.snap_session.specs.Commands.{on_key, more, wanted, need_of, is_charged, retried, tried, performed};
+ghost use Rattle.snap_session.specs.Commands.{on_key, need_of, is_charged, retried, tried, performed};
 
 use crate::calls::found;
 use crate::step::{stepped, take_step, told};
-use snap_call::limits::MAX_LIMIT;
+use snap_book::{needed_by, wanted};
 use snap_call::{Call, Reply};
 use snap_ledger::StoreName;
 use snap_merge::FsError;
@@ -19,38 +19,12 @@ use snap_usage::Usage;
 use snap_world::{Answer as StepAnswer, NoMemory, Step, World};
 use std::alloc::Global;
 
-// What is needed and the extra, which is cut to the greatest limit first.
-fn more(need: u64, extra: u64) -> u64
-    ensures { result ≡ more need extra }
-{
-    need.saturating_add(extra.min(MAX_LIMIT))
-}
-
-// The need and the extra amount.
-fn wanted(need: Usage, extra: Usage) -> Usage
-    ensures { result ≡ wanted need extra }
-{
-    Usage {
-        blocks: more(need.blocks, extra.blocks),
-        inodes: more(need.inodes, extra.inodes),
-    }
-}
-
-fn need_by(error: FsError) -> Option<Usage>
-    ensures { result ≡ need_of (step_answers.File (Err error)) }
-{
-    match error {
-        FsError::NeedsCharge(need) => Some(need),
-        _ => None,
-    }
-}
-
 // The charge that the operation needs.
 fn need_of(answer: &StepAnswer) -> Option<Usage>
     ensures { result ≡ need_of answer.now }
 {
     match answer {
-        StepAnswer::File(Err(error)) => need_by(*error),
+        StepAnswer::File(Err(error)) => needed_by(*error),
         _ => None,
     }
 }

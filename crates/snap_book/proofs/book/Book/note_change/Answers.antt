@@ -1,6 +1,5 @@
-use Rattle.std.proofs.Common.{◌≡◌, refl, sym, ap, ◌∙◌, subst, arith}
+use Rattle.std.proofs.Common.{◌≡◌, refl, sym, ◌∙◌, subst, arith}
 use Rattle.snap_call.specs.declared.entry.Entry.{Entry}
-use Rattle.snap_call.specs.declared.state.State.{State}
 use Rattle.snap_call.specs.Step.{step, IsAllowed}
 use Rattle.snap_accounts.specs.Changes.{CanChange, changed}
 use Rattle.snap_book.specs.Book.{BookValue}
