@@ -1,0 +1,11 @@
+//! Sessions of a store with their tapes, and the comparison of the tapes with the journal.
+#![tactic(auto)]
+
+mod check;
+mod mismatch;
+mod seats;
+mod session;
+
+pub use check::{SessionsFault, check_sessions};
+pub use mismatch::{Mismatch, first_mismatch};
+pub use session::Session;
