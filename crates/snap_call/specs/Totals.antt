@@ -1,5 +1,5 @@
 -- What a namespace's charge is the sum of.
--- Cited by `Book::totals`, `World::totals`.
+-- Cited by `Book::totals`, `Store::close`, `Closed::totals` and others.
 use Rattle.std.specs.Prelude.{ℕ, ◌==◌, if◌then◌else◌, List, [], ◌∷◌}
 use Rattle.snap_usage.specs.declared.usage.Usage.{Usage}
 use Rattle.snap_usage.specs.Counted.{count_of, no_usage}

@@ -1,0 +1,4 @@
+pub mod Noted
+pub mod Replies
+pub mod Handed
+pub mod Closing

@@ -1,0 +1,33 @@
+use Rattle.std.proofs.Common.{ℕ, length, sym, ap, ◌∙◌, subst}
+use Rattle.snap_call.specs.declared.call.Call.TheVariants as calls
+use Rattle.snap_call.specs.declared.call.Given.TheVariants.{Nothing}
+use Rattle.snap_call.specs.declared.reply.Reply.TheVariants.{Prepared}
+use Rattle.snap_call.specs.State.{ancestors, ids_of}
+use Rattle.snap_book.specs.Book.{BookValue, Recorded}
+use Rattle.snap_tape.specs.Tapes.{SessionValue, Taped}
+use Rattle.snap_store.proofs.Handed.{no_base, one_for_each}
+use Rattle.snap_store.proofs.Noted.{taped}
+use Rattle.snap_store.proofs.store.Store.prepare.Goals as goal
+
+pub returns-in-Ok-clause-granted : goal.returns-in-Ok-clause-granted
+returns-in-Ok-clause-granted g c =
+    let b = c.deref_mut.result.now in
+    let a = c.in-Ok.active in
+    let e = c.in-Ok.ensures in
+    let parent = c.args.parent.now in
+    let call = calls.Prepare c.args.namespace.now c.args.key.now parent c.args.labels.now in
+    let reply = Prepared a.share.id a.share.slot (ids_of (ancestors a.namespace parent b.state.records)) in
+    let recorded = subst (λ (n : ℕ). Recorded b c.prepare.new.self n call Nothing reply) c.number.ensures e.granted in
+    let copied = c.take_entry.ensures.entry ∙ ap (λ (x : BookValue). x.copy) c.deref_mut-in-Ok.ensures.value in
+    record {
+      met = b.state;
+      place = e.namespace;
+      taped = subst (λ (s : SessionValue). Taped c.args.session.now s call Nothing reply) (sym c.note.ensures.entry)
+          (taped c.args.session.now c.reserve.new.self b c.prepare.new.self call Nothing reply c.take_entry.result c.reserve.ensures.same c.in_ok-reserve.ensures.room recorded copied);
+      key = e.key;
+      lowers = e.lowers;
+      each = ap length e.lowers ∙ one_for_each a.namespace parent b.state.records;
+      base = λ none. e.lowers ∙ no_base a.namespace parent b.state.records none;
+      layer = e.layer;
+      usage = e.usage;
+    }

@@ -1,0 +1,48 @@
+-- What a close finds of a book and the sessions that are handed in, and what is known of a closed store.
+-- Cited by `close_cause`, `Store::close`.
+use Rattle.std.specs.Prelude.{◌≡◌, ℕ, ◌<◌, List, map, filter, All, Option, None, Some, Ok, Err}
+use Rattle.snap_call.specs.declared.state.State.{State}
+use Rattle.snap_call.specs.Good.{Good}
+use Rattle.snap_call.specs.Journal.{Replays}
+use Rattle.snap_call.specs.Records.{charge_of, is_active, open_count}
+use Rattle.snap_call.specs.State.{name_at}
+use Rattle.snap_call.specs.Totals.{counted_in, sum_of}
+use Rattle.snap_book.specs.Book.{BookValue, IsOpening}
+use Rattle.snap_tape.specs.Sessions.{AreAll, IsCheck, IsOwn}
+use Rattle.snap_tape.specs.Tapes.{SessionValue}
+use Rattle.snap_tape.specs.declared.check.SessionsFault.TheVariants as faults
+use Rattle.snap_store.specs.declared.cause.OpenKey.{OpenKey}
+use Rattle.snap_store.specs.declared.cause.Cause.{Cause}
+use Rattle.snap_store.specs.declared.cause.Cause.TheVariants.{StillOut, SessionsMissing, TapeMismatch, OutOfMemory}
+
+-- ---- why a store is not closed
+
+-- the namespaces and the keys of the active snapshots, in the order of the records
+abbrev pub open_keys : State → List OpenKey
+open_keys s = map (λ r. record { namespace = name_at r.namespace s.namespaces; key = r.key }) (filter (λ r. is_active r.content) s.records)
+
+-- a snapshot is open, and these are the keys of all that are; or none is, and it is what the sessions' check says
+abbrev pub IsCause : BookValue → List SessionValue → Option Cause → Type 0
+IsCause b sessions None = (open_count b.state.records ≡ 0) × IsCheck b.journal sessions (Ok tt)
+IsCause b sessions (Some (StillOut keys)) = (0 < open_count b.state.records) × (keys ≡ open_keys b.state)
+IsCause b sessions (Some SessionsMissing) = (open_count b.state.records ≡ 0) × IsCheck b.journal sessions (Err faults.Missing)
+IsCause b sessions (Some (TapeMismatch m)) = (open_count b.state.records ≡ 0) × IsCheck b.journal sessions (Err (faults.Mismatch m))
+IsCause b sessions (Some OutOfMemory) = ⊥
+
+-- ---- a closed store
+
+-- what holds of every book: the round began at a good state without open snapshots and sessions, and the journal leads, one step for each entry, from there to this state, which is good
+pub record IsKept (b : BookValue) : Type 0 where
+  pub began : IsOpening b.opening
+  pub replays : Replays b.opening b.journal b.state
+  pub good : Good b.state
+
+-- all of a closed store: the sessions are all those of the round; no snapshot is open; the round began at a good state without open snapshots and sessions, from which the journal leads, one step for each entry, to this state, which is good; each session's tape is its own entries; and what each namespace is charged is the sum of the blocks and inodes counted over its committed layers
+pub record IsClosed (b : BookValue) (sessions : List SessionValue) : Type 0 where
+  pub all : AreAll b.journal sessions
+  pub idle : open_count b.state.records ≡ 0
+  pub began : IsOpening b.opening
+  pub replays : Replays b.opening b.journal b.state
+  pub good : Good b.state
+  pub tapes : All (IsOwn b.journal) sessions
+  pub totals : (place : ℕ) → charge_of place b.state.records ≡ sum_of counted_in place b.state.records

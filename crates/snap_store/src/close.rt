@@ -1,0 +1,140 @@
+// The close of a store, and the next round.
+ghost use Rattle.std.specs.Prelude.{◌≡◌, IfOk, OnOk, IfErr, Ok, Err};
+ghost use Rattle.std.specs.Option.{option_map};
+ghost use Rattle.snap_call.specs.Records.{charge_of, open_count};
+ghost use Rattle.snap_call.specs.State.{place_of};
+ghost use Rattle.snap_call.specs.Totals.{counted_in, sum_of};
+ghost use Rattle.snap_book.specs.Round.{round_answer};
+ghost use Rattle.snap_store.specs.Closing.{IsClosed, IsKept};
+
+use crate::cause::{Cause, close_cause};
+use crate::store::Store;
+use snap_book::{Book, Entry, Refusal};
+use snap_ledger::StoreName;
+use snap_record::Record;
+use snap_tape::Session;
+use snap_usage::Usage;
+use std::alloc::Global;
+use std::marker::Model;
+
+/// A store that is closed: no snapshot is open, and no session calls it.
+#[derive(Drop)]
+pub struct Closed<N: StoreName> {
+    alloc: Global,
+    book: Book<N>,
+}
+
+impl<N: StoreName> Model for Closed<N> {
+    ghost use Rattle.std.specs.Prelude.{◌≡◌};
+    ghost use Rattle.snap_call.specs.Records.{open_count};
+    ghost use Rattle.snap_book.specs.Book.{BookValue};
+
+    ghost Value = { BookValue };
+
+    ghost view = { λ c. c.book };
+
+    ghost invariant = { λ c. open_count c.book.state.records ≡ 0 };
+}
+
+/// A store that was not closed, as it was: the store, the sessions that were handed in, and why.
+#[derive(Drop)]
+pub struct NotClosed<N: StoreName> {
+    pub store: Store<N>,
+    pub sessions: Vec<Session>,
+    pub cause: Cause,
+}
+
+/// A closed store of which no next round was opened, as it was, and why.
+#[derive(Drop)]
+pub struct NotOpened<N: StoreName> {
+    pub closed: Closed<N>,
+    pub refusal: Refusal,
+}
+
+impl<N: StoreName> Store<N> {
+    /// Closes the store, once all its sessions are joined and all its snapshots spent, and tells what each
+    /// namespace is charged: exactly the blocks and inodes counted over its remaining layers.
+    ///
+    /// `NotClosed`, with the store and the sessions as they were, for the first [`Cause`] that holds. No entry
+    /// is made, and no lock is waited for, since nobody else has the store. Takes memory for a place and a
+    /// number of each session, or for the list of open snapshots. The cost is one pass over the journal and
+    /// the tapes, as [`close_cause`] has it.
+    pub fn close(self, sessions: Vec<Session>) -> Result<Closed<N>, NotClosed<N>>
+        // Ok: all that holds of a closed store, in one record.
+        ensures closed { IfOk result (λ closed. IsClosed closed sessions.items) }
+        ensures returned { IfErr result (λ back. back.sessions ≡ sessions) }
+    {
+        let (alloc, book) = self.into_book();
+        match close_cause(alloc, &book, sessions.as_slice()) {
+            Ok(None) => Ok(Closed::of(alloc, book)),
+            Ok(Some(cause)) => Err(NotClosed {
+                store: Store::of(alloc, book),
+                sessions,
+                cause,
+            }),
+            Err(_) => Err(NotClosed {
+                store: Store::of(alloc, book),
+                sessions,
+                cause: Cause::OutOfMemory,
+            }),
+        }
+    }
+
+    /// Opens the next round over the same snapshots, leases, limits and ids: its journal is empty and has at
+    /// most so many entries, and sessions are counted from 0 again.
+    ///
+    /// `BadArgument` where the journal would be above 1,048,576 entries, then `NumbersSpent` where the numbers
+    /// of its entries could pass 2^62; the closed store comes back as it was. Takes no memory. The cost is
+    /// that of dropping the entries of the round that ends.
+    pub fn reopen(closed: Closed<N>, journal: u64) -> Result<Store<N>, NotOpened<N>>
+        ensures opened { OnOk result (round_answer closed.state journal ≡ Ok tt) }
+        ensures refused { IfErr result (λ back. round_answer closed.state journal ≡ Err back.refusal) }
+        ensures same { IfErr result (λ back. back.closed ≡ closed) }
+    {
+        let Closed { alloc, mut book } = closed;
+        match book.next_round(journal) {
+            Ok(()) => Ok(Store::of(alloc, book)),
+            Err(refusal) => Err(NotOpened {
+                closed: Closed { alloc, book },
+                refusal,
+            }),
+        }
+    }
+}
+
+impl<N: StoreName> Closed<N> {
+    // The closed store of a book.
+    fn of(alloc: Global, book: Book<N>) -> Closed<N>
+        requires { open_count book.state.records ≡ 0 }
+        ensures closed { result ≡ book }
+        ensures kept { IsKept book }
+    {
+        let _records = book.records();
+        Closed { alloc, book }
+    }
+
+    /// What the namespace is charged, in blocks of 4096 bytes and inodes: the sum of the counts over its
+    /// committed layers. `None` where the store has no such namespace. Takes no memory. The cost grows with
+    /// the number of namespaces.
+    pub fn totals(&self, namespace: &str) -> Option<Usage>
+        ensures counts { result ≡ option_map (λ place. sum_of counted_in place self.now.state.records) (place_of namespace.now self.now.state.namespaces) }
+        ensures charge { result ≡ option_map (λ place. charge_of place self.now.state.records) (place_of namespace.now self.now.state.namespaces) }
+    {
+        self.book.totals(namespace)
+    }
+
+    /// The records of all snapshots, in order of their namespaces' places and the bytes of their keys; none is
+    /// active. Takes no memory. The cost is constant.
+    pub fn records(&self) -> &[Record]
+        ensures { result.now ≡ self.now.state.records }
+    {
+        self.book.records()
+    }
+
+    /// The entries of the round. Takes no memory. The cost is constant.
+    pub fn journal(&self) -> &[Entry]
+        ensures { result.now ≡ self.now.journal }
+    {
+        self.book.journal()
+    }
+}

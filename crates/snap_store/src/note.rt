@@ -1,0 +1,33 @@
+// Which calls left an entry, by their answers.
+ghost use Rattle.std.specs.Prelude.{◌≡◌, None, if◌then◌else◌};
+ghost use Rattle.snap_tape.specs.Tapes.{is_recorded, is_noted};
+
+use snap_book::{Book, Entry, Refusal, Reply};
+use snap_ledger::StoreName;
+
+// A refused call left an entry, but where the journal is full or memory is refused.
+pub(crate) fn is_recorded(why: Refusal) -> bool
+    ensures { result ≡ is_recorded why }
+{
+    match why {
+        Refusal::JournalFull | Refusal::OutOfMemory => false,
+        _ => true,
+    }
+}
+
+// So did a call with this reply.
+pub(crate) fn is_noted(reply: &Reply) -> bool
+    ensures { result ≡ is_noted reply.now }
+{
+    match reply {
+        Reply::Refused(why) => is_recorded(*why),
+        _ => true,
+    }
+}
+
+// The copy of the last entry, where the last call left one.
+pub(crate) fn entry_of<N: StoreName>(book: &mut Book<N>, is_there: bool) -> Option<Entry>
+    ensures { result ≡ (if is_there then book.old.copy else None) }
+{
+    if is_there { book.take_entry() } else { None }
+}

@@ -1,0 +1,265 @@
+// A store: its book behind the lock, and the calls that hand snapshots out and take them back.
+ghost use Rattle.std.specs.Prelude.{◌≡◌, ◌≤◌, ◌+◌, ◌⊎◌, ◌∷◌, ◌<◌, [], false, IfOk, IfErr, OnOk, IsErrOf, ◌↔◌};
+ghost use Rattle.snap_usage.specs.Counted.{count_of};
+ghost use Rattle.snap_call.specs.Forms.{is_config};
+ghost use Rattle.snap_call.specs.Journal.{entry};
+ghost use Rattle.snap_call.specs.declared.call.Call.TheVariants as calls;
+ghost use Rattle.snap_call.specs.declared.call.Given.TheVariants.{Nothing, Count, Layer as LayerGiven};
+ghost use Rattle.snap_call.specs.declared.refusal.Refusal.TheVariants.{BadArgument, JournalFull, NumbersSpent, OutOfMemory};
+ghost use Rattle.snap_call.specs.declared.reply.Reply.TheVariants as replies;
+ghost use Rattle.snap_book.specs.Held.{share_of};
+ghost use Rattle.snap_tape.specs.Tapes.{RefusedOn, Taped};
+ghost use Rattle.snap_store.specs.Values.{IsChargedTo, IsPrepared, IsViewed};
+
+use crate::note::{entry_of, is_recorded};
+use snap_book::{Active, Book, Config, Held, Refusal, Sealed, Viewed};
+use snap_ledger::{NewTable, StoreName};
+use snap_record::{Labels, Text};
+use snap_tape::Session;
+use snap_usage::Usage;
+use std::alloc::Global;
+use std::sync::{Mutex, Wait};
+
+/// A store of snapshots: a [`Book`] behind one lock, which any number of threads call at once, each by a
+/// [`Session`] of its own.
+///
+/// Each call makes room for one entry on its session's tape, waits for the lock, makes the book's call under
+/// it, and puts a copy of the call's entry on the tape. No call lends the lock or the book, so nothing else
+/// waits for it: the calls of an [`Active`], a [`Sealed`] and a [`Viewed`] take no runtime.
+///
+/// `OutOfMemory` where room on the tape is refused, before the lock is taken, and where the book's call
+/// answers it; `JournalFull` where each entry that is left is kept for the end of an open snapshot. These two
+/// leave no entry, neither in the journal nor on the tape; every other refusal is recorded in both. Each
+/// returns only if it gets the lock. The cost is that of the book's call.
+#[derive(Drop)]
+pub struct Store<N: StoreName> {
+    pub(crate) alloc: Global,
+    pub(crate) book: Mutex<Book<N>>,
+}
+
+impl<N: StoreName> Store<N> {
+    // The store of a book.
+    pub(crate) fn of(alloc: Global, book: Book<N>) -> Store<N> {
+        Store {
+            alloc,
+            book: Mutex::new(book),
+        }
+    }
+
+    // Its book, out of the lock.
+    pub(crate) fn into_book(self) -> (Global, Book<N>) {
+        let Store { alloc, book } = self;
+        (alloc, book.into_inner())
+    }
+
+    /// A store with the namespaces of the configuration and no snapshots, in a round without sessions.
+    ///
+    /// `BadArgument` where a part of the configuration has not its form; `OutOfMemory` where memory is
+    /// refused. It waits for nobody.
+    pub fn open(alloc: Global, table: NewTable, config: Config) -> Result<Store<N>, Refusal>
+        requires { table ≡ N.table }
+        ensures bad { IsErrOf result BadArgument ↔ (is_config config ≡ false) }
+        ensures err { IfErr result (λ why. (why ≡ BadArgument) ⊎ (why ≡ OutOfMemory)) }
+    {
+        let book = Book::open(alloc, table, config)?;
+        Ok(Store::of(alloc, book))
+    }
+
+    /// Opens a session of the round. Its tape begins with the entry of this call.
+    ///
+    /// `OutOfMemory` and `JournalFull` as for every call; `NumbersSpent` after 65,536 sessions of the round.
+    /// None of them is recorded, and no session is opened.
+    pub fn session<R: Wait>(&self, rt: &R) -> Result<Session, Refusal>
+        ensures opened { IfOk result (λ s. s.tape ≡ entry s.number calls.Session Nothing replies.Opened ∷ []) }
+        ensures err { IfErr result (λ why. (why ≡ JournalFull) ⊎ ((why ≡ OutOfMemory) ⊎ (why ≡ NumbersSpent))) }
+    {
+        let mut tape = Vec::new(self.alloc);
+        tape.reserve(1)?;
+        let mut book = self.book.lock(rt);
+        let number = book.open_session()?;
+        let Some(entry) = book.take_entry() else {
+            unreachable!()
+        };
+        tape.push_reserved(entry);
+        Ok(Session::of(number, tape))
+    }
+
+    /// Makes an active snapshot in the lowest free slot, charged 1/1 for its root, over a parent or over
+    /// nothing (containerd's `Snapshotter.Prepare`), as [`Book::prepare`] does.
+    ///
+    /// `JournalFull` where an entry for the call and one for the snapshot's end are not left. The other
+    /// refusals, after `OutOfMemory`: `BadArgument`, `NoNamespace`, `NotFound` for the parent,
+    /// `AlreadyExists`, `NotCommitted`, `TooDeep`, `TooManyActives`, `OverLimit`, `NumbersSpent`.
+    pub fn prepare<R: Wait>(
+        &self,
+        rt: &R,
+        session: &mut Session,
+        namespace: &str,
+        key: &str,
+        parent: &str,
+        labels: &Labels,
+    ) -> Result<Active<N>, Refusal>
+        // Ok: the entry is on the tape, and the snapshot is the step's.
+        ensures granted { IfOk result (λ a. IsPrepared session.old session.new namespace.now key.now parent.now labels.now a) }
+        ensures refused { IfErr result (λ why. RefusedOn session.old session.new (calls.Prepare namespace.now key.now parent.now labels.now) Nothing why) }
+        ensures room { session.old.spare ≤ session.new.spare + 1 }
+    {
+        session.reserve(1)?;
+        let mut book = self.book.lock(rt);
+        match book.prepare(session.number(), namespace, key, parent, labels) {
+            Ok(active) => {
+                session.note(book.take_entry());
+                Ok(active)
+            }
+            Err(why) => {
+                session.note(entry_of(&mut book, is_recorded(why)));
+                Err(why)
+            }
+        }
+    }
+
+    /// Makes a view of a parent or of nothing (containerd's `Snapshotter.View`), as [`Book::view`] does.
+    ///
+    /// Refusals, after `JournalFull` and `OutOfMemory`: `BadArgument`, `NoNamespace`, `NotFound` for the
+    /// parent, `AlreadyExists`, `NotCommitted`, `TooDeep`, `NumbersSpent`.
+    pub fn view<R: Wait>(
+        &self,
+        rt: &R,
+        session: &mut Session,
+        namespace: &str,
+        key: &str,
+        parent: &str,
+        labels: &Labels,
+    ) -> Result<Viewed, Refusal>
+        ensures granted { IfOk result (λ v. IsViewed session.old session.new namespace.now key.now parent.now labels.now v) }
+        ensures refused { IfErr result (λ why. RefusedOn session.old session.new (calls.View namespace.now key.now parent.now labels.now) Nothing why) }
+        ensures room { session.old.spare ≤ session.new.spare + 1 }
+    {
+        session.reserve(1)?;
+        let mut book = self.book.lock(rt);
+        match book.view(session.number(), namespace, key, parent, labels) {
+            Ok(viewed) => {
+                session.note(book.take_entry());
+                Ok(viewed)
+            }
+            Err(why) => {
+                session.note(entry_of(&mut book, is_recorded(why)));
+                Err(why)
+            }
+        }
+    }
+
+    /// Charges the snapshot for the wanted amount where its namespace's limit covers that, else for the
+    /// needed one, in blocks of 4096 bytes and inodes; never for less than it is charged already.
+    ///
+    /// Refusals, after `JournalFull` and `OutOfMemory`: `OverLimit` with what is free. After each the
+    /// snapshot is as it was.
+    pub fn charge<R: Wait>(
+        &self,
+        rt: &R,
+        session: &mut Session,
+        active: &mut Active<N>,
+        need: Usage,
+        want: Usage,
+    ) -> Result<(), Refusal>
+        ensures granted { OnOk result (Taped session.old session.new (calls.Charge active.old.share.slot active.old.share.id need want) Nothing (replies.Charged active.new.share.usage)) }
+        ensures amount { OnOk result (IsChargedTo active.old.share.usage need want active.new.share.usage) }
+        ensures share { OnOk result (active.new ≡ record active.old { share = record active.old.share { usage = active.new.share.usage } }) }
+        ensures refused { IfErr result (λ why. RefusedOn session.old session.new (calls.Charge active.old.share.slot active.old.share.id need want) Nothing why) }
+        ensures room { session.old.spare ≤ session.new.spare + 1 }
+        ensures same { IfErr result (λ why. active.new ≡ active.old) }
+    {
+        session.reserve(1)?;
+        let mut book = self.book.lock(rt);
+        match book.charge(session.number(), active, need, want) {
+            Ok(()) => {
+                session.note(book.take_entry());
+                Ok(())
+            }
+            Err(why) => {
+                session.note(entry_of(&mut book, is_recorded(why)));
+                Err(why)
+            }
+        }
+    }
+
+    /// Lowers the snapshot's charge to the count of its layer.
+    ///
+    /// `JournalFull` and `OutOfMemory` alone; the snapshot is then as it was.
+    pub fn trim<R: Wait>(
+        &self,
+        rt: &R,
+        session: &mut Session,
+        active: &mut Active<N>,
+    ) -> Result<(), Refusal>
+        ensures granted { OnOk result (Taped session.old session.new (calls.Trim active.old.share.slot active.old.share.id) (Count (count_of active.old.layer)) replies.Trimmed) }
+        ensures share { OnOk result (active.new ≡ record active.old { share = record active.old.share { usage = count_of active.old.layer } }) }
+        ensures refused { IfErr result (λ why. RefusedOn session.old session.new (calls.Trim active.old.share.slot active.old.share.id) (Count (count_of active.old.layer)) why) }
+        ensures room { session.old.spare ≤ session.new.spare + 1 }
+        ensures same { IfErr result (λ why. active.new ≡ active.old) }
+    {
+        session.reserve(1)?;
+        let mut book = self.book.lock(rt);
+        match book.trim(session.number(), active) {
+            Ok(()) => {
+                session.note(book.take_entry());
+                Ok(())
+            }
+            Err(why) => {
+                session.note(entry_of(&mut book, is_recorded(why)));
+                Err(why)
+            }
+        }
+    }
+
+    /// Commits the snapshot under a name, and names it in a lease where one is given (containerd's
+    /// `Snapshotter.Commit`). The answer is what its layer takes, in blocks of 4096 bytes and inodes.
+    ///
+    /// Refusals, after `JournalFull` and `OutOfMemory`: `BadArgument`, `AlreadyExists`, `NoLease`. Each gives
+    /// the snapshot back as it was.
+    pub fn commit<R: Wait>(
+        &self,
+        rt: &R,
+        session: &mut Session,
+        name: &str,
+        lease: &Option<Text>,
+        sealed: Sealed<N>,
+    ) -> Result<Usage, (Refusal, Sealed<N>)>
+        ensures granted { IfOk result (λ usage. Taped session.old session.new (calls.Commit sealed.share.slot sealed.share.id name.now lease.now) (LayerGiven sealed.layer) (replies.Committed sealed.share.id usage)) }
+        ensures count { IfOk result (λ usage. usage ≡ count_of sealed.layer) }
+        ensures refused { IfErr result (λ back. RefusedOn session.old session.new (calls.Commit sealed.share.slot sealed.share.id name.now lease.now) (LayerGiven sealed.layer) back.0) }
+        ensures room { session.old.spare ≤ session.new.spare + 1 }
+        ensures same { IfErr result (λ back. back.1 ≡ sealed) }
+    {
+        if session.reserve(1).is_err() {
+            return Err((Refusal::OutOfMemory, sealed));
+        }
+        let mut book = self.book.lock(rt);
+        match book.commit(session.number(), name, lease, sealed) {
+            Ok(usage) => {
+                session.note(book.take_entry());
+                Ok(usage)
+            }
+            Err((why, sealed)) => {
+                session.note(entry_of(&mut book, is_recorded(why)));
+                Err((why, sealed))
+            }
+        }
+    }
+
+    /// Drops the snapshot and frees its slot. The answer is what it was charged, in blocks of 4096 bytes and
+    /// inodes.
+    ///
+    /// It has no refusal and takes no memory: its entry was kept when it was prepared, and the tape has room
+    /// for one entry, which [`Session::reserve`] makes and [`Session::spare`] tests.
+    pub fn discard<R: Wait>(&self, rt: &R, session: &mut Session, held: Held<N>) -> Usage
+        requires { 0 < session.old.spare }
+        ensures granted { Taped session.old session.new (calls.Discard (share_of held).slot (share_of held).id) Nothing (replies.Discarded result) }
+        ensures held { result ≡ (share_of held).usage }
+    {
+        let mut book = self.book.lock(rt);
+        let freed = book.discard(session.number(), held);
+        session.note(book.take_entry());
+        freed
+    }
+}
