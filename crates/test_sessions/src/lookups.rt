@@ -1,0 +1,85 @@
+// What a snapshot shows at a path.
+use crate::refused::Refused;
+use crate::round::Round;
+use snap_layer::Bytes;
+use snap_ledger::StoreName;
+use snap_merge::{Seen, Stack};
+use snap_path::Path;
+use snap_record::{Sequence, Text};
+use snap_script::{Answer, Lookup, Shown, path_of};
+use std::alloc::{AllocError, Global};
+use std::sync::Wait;
+
+// How many of a file's bytes are shown.
+const HEAD_BYTES: usize = 16;
+
+// What is seen, with its own target.
+fn shown_of(alloc: Global, seen: Seen<'_>) -> Result<Shown, AllocError> {
+    match seen {
+        Seen::Dir { mode } => Ok(Shown::Dir { mode }),
+        Seen::File { mode, bytes } => Ok(Shown::File {
+            mode,
+            size: bytes.len() as u64,
+        }),
+        Seen::Symlink { target } => Ok(Shown::Symlink {
+            target: Bytes::copy_of(alloc, target)?,
+        }),
+    }
+}
+
+fn look(alloc: Global, stack: &Stack<'_>, path: &Path) -> Result<Answer, Refused> {
+    match stack.look(path) {
+        Some(seen) => Ok(Answer::Seen(Some(shown_of(alloc, seen)?))),
+        None => Ok(Answer::Seen(None)),
+    }
+}
+
+// The file's first bytes, and how many it has.
+fn read(alloc: Global, stack: &Stack<'_>, path: &Path) -> Result<Answer, Refused> {
+    let bytes = stack.read(path)?;
+    let first = &bytes[..HEAD_BYTES.min(bytes.len())];
+    Ok(Answer::Head {
+        head: Bytes::copy_of(alloc, first)?,
+        size: bytes.len() as u64,
+    })
+}
+
+fn looked_up(
+    alloc: Global,
+    lookup: Lookup,
+    stack: &Stack<'_>,
+    path: &Path,
+) -> Result<Answer, Refused> {
+    match lookup {
+        Lookup::Look => look(alloc, stack, path),
+        Lookup::List => Ok(Answer::Names(Sequence::from(stack.list(alloc, path)?))),
+        Lookup::Read => read(alloc, stack, path),
+        Lookup::Resolve => Ok(Answer::Path(stack.resolve(alloc, path)?)),
+    }
+}
+
+impl<'a, N: StoreName, R: Wait> Round<'a, N, R> {
+    // The layers of an open snapshot, or of a view.
+    fn stack(&self, namespace: &str, key: &str) -> Result<Stack<'_>, Refused> {
+        if let Some(view) = self.known.view(namespace, key) {
+            return Ok(view.stack());
+        }
+        let place = self.found(namespace, key)?;
+        match self.hands.get(place) {
+            Some(hand) => Ok(hand.stack()),
+            None => Err(Refused::NoHand),
+        }
+    }
+
+    pub(crate) fn lookup(
+        &self,
+        namespace: &str,
+        key: &str,
+        asked: Lookup,
+        path: &Text,
+    ) -> Result<Answer, Refused> {
+        let stack = self.stack(namespace, key)?;
+        let path = path_of(self.alloc, path)?;
+        looked_up(self.alloc, asked, &stack, &path)
+    }
+}

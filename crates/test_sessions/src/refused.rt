@@ -1,0 +1,79 @@
+// Why a command is not carried out.
+use crate::stop::Stop;
+use snap_book::Refusal;
+use snap_merge::FsError;
+use snap_script::Answer;
+use snap_writers::RunError;
+use std::alloc::{AllocError, AllocFailed};
+
+#[derive(Clone, Copy, Debug, PartialEq, Eq)]
+pub(crate) enum Refused {
+    // The session isn't open.
+    NoSession,
+    // The snapshot is sealed.
+    NoHand,
+    // A snapshot is open, so the round goes on.
+    StillOut,
+    // The store's refusal.
+    Book(Refusal),
+    // An error of a file command or of a lookup.
+    File(FsError),
+}
+
+impl Refused {
+    // What the script is answered. Want of memory ends the run.
+    pub(crate) fn answer(self) -> Result<Answer, Stop> {
+        match self {
+            Refused::NoSession => Ok(Answer::NoSession),
+            Refused::NoHand => Ok(Answer::NoHand),
+            Refused::StillOut => Ok(Answer::StillOut),
+            Refused::Book(Refusal::OutOfMemory) => Err(Stop::NoMemory),
+            Refused::Book(why) => Ok(Answer::Refused(why)),
+            Refused::File(FsError::OutOfMemory) => Err(Stop::NoMemory),
+            Refused::File(error) => Ok(Answer::Failed(error)),
+        }
+    }
+}
+
+impl From<Refusal> for Refused {
+    ghost from_gives = { λ _ _. Unit {0} };
+
+    fn from(why: Refusal) -> Refused {
+        Refused::Book(why)
+    }
+}
+
+impl From<FsError> for Refused {
+    ghost from_gives = { λ _ _. Unit {0} };
+
+    fn from(error: FsError) -> Refused {
+        Refused::File(error)
+    }
+}
+
+impl From<RunError> for Refused {
+    ghost from_gives = { λ _ _. Unit {0} };
+
+    fn from(error: RunError) -> Refused {
+        match error {
+            RunError::File(error) => Refused::File(error),
+            RunError::Book(why) => Refused::Book(why),
+        }
+    }
+}
+
+impl From<AllocError> for Refused {
+    ghost from_gives = { λ _ _. Unit {0} };
+
+    fn from(_error: AllocError) -> Refused {
+        Refused::Book(Refusal::OutOfMemory)
+    }
+}
+
+impl<T: Drop> From<AllocFailed<T>> for Refused {
+    ghost from_gives = { λ _ _. Unit {0} };
+
+    fn from(_error: AllocFailed<T>) -> Refused {
+        Refused::Book(Refusal::OutOfMemory)
+    }
+}

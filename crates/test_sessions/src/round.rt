@@ -1,0 +1,106 @@
+// A round of a store: its sessions, and the open snapshots in the script's hands.
+use crate::hand::Hand;
+use crate::known::Known;
+use crate::refused::Refused;
+use snap_book::Refusal;
+use snap_ledger::StoreName;
+use snap_store::{Session, Store};
+use std::alloc::{AllocError, Global};
+use std::sync::Wait;
+
+// The most entries of a journal.
+const MAX_JOURNAL: u64 = 1_048_576;
+
+// The session n is at place n.
+#[derive(Drop)]
+pub(crate) struct Round<'a, N: StoreName, R: Wait> {
+    pub(crate) alloc: Global,
+    pub(crate) rt: &'a R,
+    pub(crate) store: &'a Store<N>,
+    pub(crate) known: Known,
+    pub(crate) sessions: Vec<Session>,
+    pub(crate) hands: Vec<Hand<'a, N, R>>,
+}
+
+// What is left of a round that has ended.
+#[derive(Drop)]
+pub(crate) struct Ended {
+    pub(crate) sessions: Vec<Session>,
+    pub(crate) known: Known,
+}
+
+// The session of this number.
+pub(crate) fn session_at(sessions: &mut Vec<Session>, n: u64) -> Result<&mut Session, Refused> {
+    match sessions.get_mut(n as usize) {
+        Some(session) => Ok(session),
+        None => Err(Refused::NoSession),
+    }
+}
+
+impl<'a, N: StoreName, R: Wait> Round<'a, N, R> {
+    // Without a session.
+    pub(crate) fn begin(
+        alloc: Global,
+        rt: &'a R,
+        store: &'a Store<N>,
+        known: Known,
+    ) -> Round<'a, N, R> {
+        Round {
+            alloc,
+            rt,
+            store,
+            known,
+            sessions: Vec::new(alloc),
+            hands: Vec::new(alloc),
+        }
+    }
+
+    // Opens a session: its number.
+    pub(crate) fn open_session(&mut self) -> Result<u64, Refused> {
+        let session = self.store.session(self.rt)?;
+        let number = session.number();
+        self.sessions.push(session)?;
+        Ok(number)
+    }
+
+    // The place of the hand that has the key.
+    pub(crate) fn found(&self, namespace: &str, key: &str) -> Result<usize, Refused> {
+        let place = self
+            .hands
+            .iter()
+            .position(|hand| hand.is_of(namespace, key));
+        match place {
+            Some(place) => Ok(place),
+            None => Err(Refused::Book(self.known.refusal(namespace, key))),
+        }
+    }
+
+    // Whether the next round, of so many entries, can begin.
+    pub(crate) fn check_end(&self, journal: u64) -> Result<(), Refused> {
+        if !self.hands.is_empty() {
+            return Err(Refused::StillOut);
+        }
+        if journal > MAX_JOURNAL {
+            return Err(Refused::Book(Refusal::BadArgument));
+        }
+        Ok(())
+    }
+
+    // Discards what is still held, by session 0.
+    pub(crate) fn end(self) -> Result<Ended, AllocError> {
+        let Round {
+            alloc: _,
+            rt: _,
+            store: _,
+            known,
+            mut sessions,
+            hands,
+        } = self;
+        if let Some(session) = sessions.first_mut() {
+            for hand in hands {
+                let _ = hand.discard(session)?;
+            }
+        }
+        Ok(Ended { sessions, known })
+    }
+}

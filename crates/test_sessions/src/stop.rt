@@ -1,0 +1,79 @@
+// Why a run ends before the end of its input.
+use snap_script::ReadError;
+use std::alloc::{AllocError, AllocFailed};
+use std::io::ErrorKind;
+use std::{fmt, io};
+
+#[derive(Clone, Copy, Debug, PartialEq, Eq)]
+pub(crate) enum Stop {
+    // The store was not closed, or no next round of it was opened.
+    NotClosed,
+    // A line is no command.
+    Line,
+    InputFailed,
+    OutputFailed,
+    NoMemory,
+}
+
+impl Stop {
+    pub(crate) fn status(self) -> u8 {
+        match self {
+            Stop::NotClosed => 1,
+            Stop::Line => 2,
+            Stop::InputFailed | Stop::OutputFailed => 3,
+            Stop::NoMemory => 4,
+        }
+    }
+}
+
+impl fmt::Display for Stop {
+    fn fmt<W: fmt::Write>(&self, f: &mut fmt::Formatter<W>) -> fmt::Result {
+        f.write_str(match self {
+            Stop::NotClosed => "the store is not closed",
+            Stop::Line => "a line is no command",
+            Stop::InputFailed => "input failed",
+            Stop::OutputFailed => "output failed",
+            Stop::NoMemory => "want of memory",
+        })
+    }
+}
+
+impl From<AllocError> for Stop {
+    ghost from_gives = { λ _ _. Unit {0} };
+
+    fn from(_error: AllocError) -> Stop {
+        Stop::NoMemory
+    }
+}
+
+impl<T: Drop> From<AllocFailed<T>> for Stop {
+    ghost from_gives = { λ _ _. Unit {0} };
+
+    fn from(_error: AllocFailed<T>) -> Stop {
+        Stop::NoMemory
+    }
+}
+
+impl From<ReadError> for Stop {
+    ghost from_gives = { λ _ _. Unit {0} };
+
+    fn from(error: ReadError) -> Stop {
+        match error {
+            ReadError::Fault(_) => Stop::Line,
+            ReadError::OutOfMemory => Stop::NoMemory,
+        }
+    }
+}
+
+// Of a read. Bytes that are no text are lines that are no commands.
+impl From<io::Error> for Stop {
+    ghost from_gives = { λ _ _. Unit {0} };
+
+    fn from(error: io::Error) -> Stop {
+        match error.kind() {
+            ErrorKind::OutOfMemory => Stop::NoMemory,
+            ErrorKind::InvalidData => Stop::Line,
+            _ => Stop::InputFailed,
+        }
+    }
+}
