@@ -1,7 +1,6 @@
 // File commands, with the charge that they need.
 ghost use Rattle.std.specs.Prelude.{◌≡◌, Err, IfOk};
 ghost use Rattle.snap_world.specs.declared.step.Step.TheVariants.{Hand};
-ghost use Rattle.snap_world.specs.declared.step.Answer.TheVariants as step_answers;
 ghost use Rattle.snap_world.specs.Move.{move};
 ghost use Rattle.snap_script.specs.Operations.{operation_of};
 ghost use Rattle.snap_session.specs.Commands.{on_key, need_of, is_charged, retried, tried, performed};

@@ -1,5 +1,5 @@
 // Why a store is not closed.
-ghost use Rattle.std.specs.Prelude.{◌≡◌, List, IfOk};
+ghost use Rattle.std.specs.Prelude.{◌≡◌, ◌<◌, List, IfOk, IfErr};
 ghost use Rattle.snap_call.specs.Records.{is_active, open_count};
 ghost use Rattle.snap_call.specs.State.{name_at};
 ghost use Rattle.snap_book.specs.Book.{BookValue};
@@ -116,7 +116,9 @@ pub fn close_cause<N: StoreName>(
     book: &Book<N>,
     sessions: &[Session],
 ) -> Result<Option<Cause>, NoMemory>
-    ensures { IfOk result (λ cause. IsCause book.now sessions.now cause) }
+    ensures cause { IfOk result (λ cause. IsCause book.now sessions.now cause) }
+    // Memory is taken for the list of what is open alone.
+    ensures memory { IfErr result (λ _. 0 < open_count book.now.state.records) }
 {
     if book.open_slots() > 0 {
         return Ok(Some(Cause::StillOut(open_keys(alloc, book)?)));

@@ -109,6 +109,7 @@ impl<N: StoreName> Closed<N> {
         ensures closed { result ≡ book }
         ensures kept { IsKept book }
     {
+        // The clauses of the records tell what the book keeps.
         let _records = book.records();
         Closed { alloc, book }
     }

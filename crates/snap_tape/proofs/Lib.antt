@@ -1,4 +1,4 @@
 pub mod Progressing
 pub mod Firsts
 pub mod Counting
-pub mod Seating
+pub mod Indexing

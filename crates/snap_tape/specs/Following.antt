@@ -26,10 +26,10 @@ pub record AreFollowed (journal : List Entry) (sessions : List SessionValue) (pr
   pub each : (i : ℕ) (s : SessionValue) (p : Progress) → slice_get sessions i ≡ Some s → slice_get progress i ≡ Some p → IsProgress s.tape (own journal s.number) p
 
 -- the place that stands at a number
-abbrev pub seat_in : List (Option ℕ) → ℕ → Option ℕ
-seat_in seats n = option_and_then (λ seat. seat) (slice_get seats n)
+abbrev pub index_in : List (Option ℕ) → ℕ → Option ℕ
+index_in indexes n = option_and_then (λ index. index) (slice_get indexes n)
 
 -- each session's place in a list stands at its number, and no other place stands there
-pub record AreSeats (sessions : List SessionValue) (seats : List (Option ℕ)) : Type 0 where
-  pub seat : (i : ℕ) (s : SessionValue) → slice_get sessions i ≡ Some s → seat_in seats s.number ≡ Some i
-  pub held : (n i : ℕ) → seat_in seats n ≡ Some i → (s : SessionValue) × (slice_get sessions i ≡ Some s) × (s.number ≡ n)
+pub record AreIndexes (sessions : List SessionValue) (indexes : List (Option ℕ)) : Type 0 where
+  pub index : (i : ℕ) (s : SessionValue) → slice_get sessions i ≡ Some s → index_in indexes s.number ≡ Some i
+  pub held : (n i : ℕ) → index_in indexes n ≡ Some i → (s : SessionValue) × (slice_get sessions i ≡ Some s) × (s.number ≡ n)

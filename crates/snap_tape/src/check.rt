@@ -4,8 +4,8 @@ ghost use Rattle.snap_call.specs.declared.entry.Entry.{Entry as EntryValue};
 ghost use Rattle.snap_tape.specs.Sessions.{AreAll, IsCheck, IsFirstMismatch};
 ghost use Rattle.snap_tape.specs.Tapes.{SessionValue};
 
-use crate::mismatch::{Mismatch, first_mismatch, first_seated};
-use crate::seats::{all_seats, are_known, are_once};
+use crate::mismatch::{Mismatch, first_mismatch, first_indexed};
+use crate::indexes::{all_indexes, are_known, are_once};
 use crate::session::Session;
 use snap_call::Entry;
 use std::alloc::{AllocError, Global};
@@ -31,20 +31,20 @@ fn checked(first: Option<Mismatch>) -> Result<(), SessionsFault>
 }
 
 // In one pass over the journal and the tapes.
-fn check_seated(
+fn check_indexed(
     alloc: Global,
     journal: &[Entry],
     sessions: &[Session],
 ) -> Result<Result<(), SessionsFault>, AllocError>
     ensures { IfOk result (λ check. IsCheck journal.now sessions.now check) }
 {
-    let Some(seats) = all_seats(alloc, sessions)? else {
+    let Some(indexes) = all_indexes(alloc, sessions)? else {
         return Ok(Err(SessionsFault::Missing));
     };
     if !are_known(journal, sessions.len()) {
         return Ok(Err(SessionsFault::Missing));
     }
-    let first = first_seated(alloc, journal, sessions, seats.as_slice())?;
+    let first = first_indexed(alloc, journal, sessions, indexes.as_slice())?;
     Ok(checked(first))
 }
 
@@ -71,7 +71,7 @@ pub fn check_sessions(
 ) -> Result<(), SessionsFault>
     ensures { IsCheck journal.now sessions.now result }
 {
-    match check_seated(alloc, journal, sessions) {
+    match check_indexed(alloc, journal, sessions) {
         Ok(check) => check,
         Err(_) => check_counted(journal, sessions),
     }

@@ -3,7 +3,7 @@
 
 mod check;
 mod mismatch;
-mod seats;
+mod indexes;
 mod session;
 
 pub use check::{SessionsFault, check_sessions};

@@ -3,10 +3,10 @@ ghost use Rattle.std.specs.Prelude.{◌≡◌, ◌++◌, ◌∷◌, [], List, If
 ghost use Rattle.snap_call.specs.Journal.{own};
 ghost use Rattle.snap_call.specs.declared.entry.Entry.{Entry as EntryValue};
 ghost use Rattle.snap_tape.specs.Sessions.{IsFirst, IsFirstMismatch};
-ghost use Rattle.snap_tape.specs.Following.{AreFollowed, AreSeats, IsDifference, IsProgress};
+ghost use Rattle.snap_tape.specs.Following.{AreFollowed, AreIndexes, IsDifference, IsProgress};
 ghost use Rattle.snap_tape.specs.Tapes.{SessionValue};
 
-use crate::seats::seat_in;
+use crate::indexes::index_in;
 use crate::session::Session;
 use snap_call::Entry;
 use std::alloc::{AllocError, Global};
@@ -139,17 +139,17 @@ pub fn first_mismatch(journal: &[Entry], sessions: &[Session]) -> Option<Mismatc
 // One entry more of the journal: its session's tape is compared one place further.
 fn follow_entry(
     sessions: &[Session],
-    seats: &[Option<usize>],
+    indexes: &[Option<usize>],
     progress: &mut [Progress],
     entry: &Entry,
 )
-    requires seats { AreSeats sessions.now seats.now }
+    requires indexes { AreIndexes sessions.now indexes.now }
     requires size { length progress.old ≡ length sessions.now }
     ensures size { length progress.new ≡ length progress.old }
     ensures followed { (seen : List EntryValue) → AreFollowed seen sessions.now progress.old → AreFollowed (seen ++ entry.now ∷ []) sessions.now progress.new }
 {
-    if let Some(seat) = seat_in(seats, entry.session) {
-        progress[seat] = progress[seat].next(sessions[seat].tape(), entry);
+    if let Some(index) = index_in(indexes, entry.session) {
+        progress[index] = progress[index].next(sessions[index].tape(), entry);
     }
 }
 
@@ -158,15 +158,15 @@ fn follow(
     alloc: Global,
     journal: &[Entry],
     sessions: &[Session],
-    seats: &[Option<usize>],
+    indexes: &[Option<usize>],
 ) -> Result<Vec<Progress>, AllocError>
-    requires { AreSeats sessions.now seats.now }
+    requires { AreIndexes sessions.now indexes.now }
     ensures size { IfOk result (λ progress. length progress.items ≡ length sessions.now) }
     ensures followed { IfOk result (λ progress. AreFollowed journal.now sessions.now progress.items) }
 {
     let mut progress = vec![in alloc; Progress::start(); sessions.len()]?;
     for entry in journal {
-        follow_entry(sessions, seats, progress.as_mut_slice(), entry);
+        follow_entry(sessions, indexes, progress.as_mut_slice(), entry);
     }
     Ok(progress)
 }
@@ -185,15 +185,15 @@ fn first_followed(sessions: &[Session], progress: &[Progress]) -> Option<Mismatc
 }
 
 // As `first_mismatch`, in one pass over the journal and the tapes.
-pub(crate) fn first_seated(
+pub(crate) fn first_indexed(
     alloc: Global,
     journal: &[Entry],
     sessions: &[Session],
-    seats: &[Option<usize>],
+    indexes: &[Option<usize>],
 ) -> Result<Option<Mismatch>, AllocError>
-    requires { AreSeats sessions.now seats.now }
+    requires { AreIndexes sessions.now indexes.now }
     ensures { IfOk result (λ first. IsFirstMismatch journal.now sessions.now first) }
 {
-    let progress = follow(alloc, journal, sessions, seats)?;
+    let progress = follow(alloc, journal, sessions, indexes)?;
     Ok(first_followed(sessions, progress.as_slice()))
 }

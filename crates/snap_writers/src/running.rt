@@ -1,5 +1,5 @@
 // An operation, with the charge that it needs.
-ghost use Rattle.std.specs.Prelude.{◌≡◌, ◌≤◌, ◌+◌, OnOk, OnErr, IfErr, Ok, Err};
+ghost use Rattle.std.specs.Prelude.{◌≡◌, ◌≤◌, ◌+◌, OnOk, OnErr, Ok, Err};
 ghost use Rattle.snap_merge.specs.declared.error.FsError.TheVariants.{NeedsCharge};
 ghost use Rattle.snap_upper.specs.After.{after};
 ghost use Rattle.snap_book.specs.Files.{worked};

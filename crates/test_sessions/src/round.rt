@@ -3,13 +3,11 @@ use crate::hand::Hand;
 use crate::known::Known;
 use crate::refused::Refused;
 use snap_book::Refusal;
+use snap_call::limits::MAX_JOURNAL;
 use snap_ledger::StoreName;
 use snap_store::{Session, Store};
 use std::alloc::{AllocError, Global};
 use std::sync::Wait;
-
-// The most entries of a journal.
-const MAX_JOURNAL: u64 = 1_048_576;
 
 // The session n is at place n.
 #[derive(Drop)]

@@ -4,7 +4,7 @@ use Rattle.std.proofs.lemmas.List.Elements.{All-replicate}
 use Rattle.snap_call.specs.declared.entry.Entry.{Entry}
 use Rattle.snap_tape.specs.Following.{AreFollowed, IsProgress}
 use Rattle.snap_tape.specs.declared.mismatch.Progress.{Progress}
-use Rattle.snap_tape.proofs.Seating.{follow_start, written_back, entries_more}
+use Rattle.snap_tape.proofs.Indexing.{follow_start, written_back, entries_more}
 use Rattle.snap_tape.proofs.mismatch.follow.Goals as goal
 
 pub loop-entry-init : goal.loop-entry-init

@@ -8,7 +8,7 @@ use Rattle.snap_store.proofs.store.Store.close.Goals as goal
 pub returns-in-Ok-None-clause-closed : goal.returns-in-Ok-None-clause-closed
 returns-in-Ok-None-clause-closed g c =
     let b = c.into_book-book.result.1 in
-    let found = rw c.in-Ok-None.field-0-is at c.in-Ok-None.ensures in
+    let found = rw c.in-Ok-None.field-0-is at c.in-Ok-None.ensures.cause in
     let kept = c.of.ensures.kept in
     let closed : IsClosed b c.as_slice.result.now = record {
       all = found.1.0;

@@ -2,7 +2,7 @@ use Rattle.std.specs.Prelude.{count_by}
 use Rattle.std.proofs.Common.{◌≡◌, rules}
 use borrow.Author.Count.{below_more}
 use Rattle.snap_tape.specs.Sessions.{has_number}
-use Rattle.snap_tape.proofs.seats.is_each_once.Goals as goal
+use Rattle.snap_tape.proofs.indexes.is_each_once.Goals as goal
 
 pub loop-number-preserved : goal.loop-number-preserved
 loop-number-preserved c =

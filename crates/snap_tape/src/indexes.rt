@@ -1,7 +1,7 @@
 // Whether the sessions that are handed in are all those of a round.
 ghost use Rattle.std.specs.Prelude.{◌≡◌, ℕ, ◌<◌, ◌↔◌, All, IfOk, IsTrue, IfSome, IfNone, IsSome, None, Some, if◌then◌else◌, count_by, length, slice_get, slice_set};
 ghost use Rattle.snap_tape.specs.Sessions.{AreOnce, has_number};
-ghost use Rattle.snap_tape.specs.Following.{AreSeats, seat_in};
+ghost use Rattle.snap_tape.specs.Following.{AreIndexes, index_in};
 
 use crate::session::Session;
 use snap_call::Entry;
@@ -53,23 +53,23 @@ pub(crate) fn are_once(sessions: &[Session]) -> bool
 }
 
 // The place of the session of this number.
-pub(crate) fn seat_in(seats: &[Option<usize>], number: u64) -> Option<usize>
-    ensures { result ≡ seat_in seats.now number }
+pub(crate) fn index_in(indexes: &[Option<usize>], number: u64) -> Option<usize>
+    ensures { result ≡ index_in indexes.now number }
 {
-    match seats.get(number as usize) {
-        Some(seat) => *seat,
+    match indexes.get(number as usize) {
+        Some(index) => *index,
         None => None,
     }
 }
 
 // Puts a place at the number, where none stands there yet.
-fn take_seat(seats: &mut [Option<usize>], number: u64, place: usize) -> bool
-    ensures free { IsTrue result ↔ (slice_get seats.old number ≡ Some None) }
-    ensures taken { seats.new ≡ (if result then slice_set seats.old number (Some place) else seats.old) }
+fn set_index(indexes: &mut [Option<usize>], number: u64, place: usize) -> bool
+    ensures free { IsTrue result ↔ (slice_get indexes.old number ≡ Some None) }
+    ensures taken { indexes.new ≡ (if result then slice_set indexes.old number (Some place) else indexes.old) }
 {
-    match seats.get(number as usize) {
+    match indexes.get(number as usize) {
         Some(None) => {
-            seats[number as usize] = Some(place);
+            indexes[number as usize] = Some(place);
             true
         }
         _ => false,
@@ -77,40 +77,40 @@ fn take_seat(seats: &mut [Option<usize>], number: u64, place: usize) -> bool
 }
 
 // The place of each session at its number; none where two have one number, or one has none of these.
-fn seats_of(alloc: Global, sessions: &[Session]) -> Result<Option<Vec<Option<usize>>>, AllocError>
-    ensures seats { IfOk result (λ seats. IfSome seats (λ seats. AreSeats sessions.now seats.items)) }
-    ensures size { IfOk result (λ seats. IfSome seats (λ seats. length seats.items ≡ length sessions.now)) }
-    ensures none { IfOk result (λ seats. IfNone seats (AreOnce sessions.now → ⊥)) }
+fn indexes_of(alloc: Global, sessions: &[Session]) -> Result<Option<Vec<Option<usize>>>, AllocError>
+    ensures indexes { IfOk result (λ indexes. IfSome indexes (λ indexes. AreIndexes sessions.now indexes.items)) }
+    ensures size { IfOk result (λ indexes. IfSome indexes (λ indexes. length indexes.items ≡ length sessions.now)) }
+    ensures none { IfOk result (λ indexes. IfNone indexes (AreOnce sessions.now → ⊥)) }
 {
-    let mut seats = vec![in alloc; None; sessions.len()]?;
+    let mut indexes = vec![in alloc; None; sessions.len()]?;
     for (place, session) in sessions.iter().enumerate() {
-        if !take_seat(seats.as_mut_slice(), session.number(), place) {
+        if !set_index(indexes.as_mut_slice(), session.number(), place) {
             return Ok(None);
         }
     }
-    Ok(Some(seats))
+    Ok(Some(indexes))
 }
 
 // No place is free.
-fn are_taken(seats: &[Option<usize>]) -> bool
-    ensures { IsTrue result ↔ All (λ seat. IsSome seat) seats.now }
+fn are_taken(indexes: &[Option<usize>]) -> bool
+    ensures { IsTrue result ↔ All (λ index. IsSome index) indexes.now }
 {
-    seats.iter().all(|seat| seat.is_some())
+    indexes.iter().all(|index| index.is_some())
 }
 
 // The place of each session at its number, where the numbers are 0 to n - 1, each once.
-pub(crate) fn all_seats(
+pub(crate) fn all_indexes(
     alloc: Global,
     sessions: &[Session],
 ) -> Result<Option<Vec<Option<usize>>>, AllocError>
-    ensures seats { IfOk result (λ seats. IfSome seats (λ seats. AreSeats sessions.now seats.items × AreOnce sessions.now)) }
-    ensures none { IfOk result (λ seats. IfNone seats (AreOnce sessions.now → ⊥)) }
+    ensures indexes { IfOk result (λ indexes. IfSome indexes (λ indexes. AreIndexes sessions.now indexes.items × AreOnce sessions.now)) }
+    ensures none { IfOk result (λ indexes. IfNone indexes (AreOnce sessions.now → ⊥)) }
 {
-    let Some(seats) = seats_of(alloc, sessions)? else {
+    let Some(indexes) = indexes_of(alloc, sessions)? else {
         return Ok(None);
     };
-    if are_taken(seats.as_slice()) {
-        Ok(Some(seats))
+    if are_taken(indexes.as_slice()) {
+        Ok(Some(indexes))
     } else {
         Ok(None)
     }

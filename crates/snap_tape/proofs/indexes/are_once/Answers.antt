@@ -1,4 +1,4 @@
-use Rattle.snap_tape.proofs.seats.are_once.Goals as goal
+use Rattle.snap_tape.proofs.indexes.are_once.Goals as goal
 
 pub returns-then-are_inside : goal.returns-then-are_inside
 returns-then-are_inside c = (

@@ -10,7 +10,7 @@ use Rattle.snap_call.specs.declared.entry.Entry.{Entry}
 use Rattle.snap_call.specs.Journal.{own}
 use Rattle.snap_tape.specs.Tapes.{SessionValue}
 use Rattle.snap_tape.specs.Sessions.{AreOnce, has_number}
-use Rattle.snap_tape.specs.Following.{AreFollowed, AreSeats, IsProgress, seat_in}
+use Rattle.snap_tape.specs.Following.{AreFollowed, AreIndexes, IsProgress, index_in}
 use Rattle.snap_tape.specs.declared.mismatch.Progress.{Progress}
 use Rattle.snap_tape.proofs.Counting.{one_alone, once_counted, stands}
 use Rattle.snap_tape.proofs.Firsts.{slice_get-take, taken_more}
@@ -57,60 +57,60 @@ same_or_not (suc a) (suc b) = by (same_or_not a b)
 
 -- ---- one session more
 
-seat_of-held : (seats : List (Option ℕ)) (n i : ℕ) → seat_in seats n ≡ Some i → slice_get seats n ≡ Some (Some i)
-seat_of-held seats n i e = by (slice_get seats n) refl
+index_of-held : (indexes : List (Option ℕ)) (n i : ℕ) → index_in indexes n ≡ Some i → slice_get indexes n ≡ Some (Some i)
+index_of-held indexes n i e = by (slice_get indexes n) refl
   where
-    by : (o : Option (Option ℕ)) → slice_get seats n ≡ o → slice_get seats n ≡ Some (Some i)
-    by None is = absurd (none (sym e ∙ ap (λ o. option_and_then (λ seat. seat) o) is))
+    by : (o : Option (Option ℕ)) → slice_get indexes n ≡ o → slice_get indexes n ≡ Some (Some i)
+    by None is = absurd (none (sym e ∙ ap (λ o. option_and_then (λ index. index) o) is))
       where
         none : Some i ≡ None → ⊥
         none h = absurd (cc)
-    by (Some o) is = is ∙ ap (λ p. Some p) (sym (ap (λ q. option_and_then (λ seat. seat) q) is) ∙ e)
+    by (Some o) is = is ∙ ap (λ p. Some p) (sym (ap (λ q. option_and_then (λ index. index) q) is) ∙ e)
 
-pub seat_more : (seen : List SessionValue) (seats : List (Option ℕ)) (s : SessionValue) → AreSeats seen seats → slice_get seats s.number ≡ Some None → AreSeats (seen ++ s ∷ []) (set seats s.number (Some (length seen)))
-seat_more seen seats s at free = record { seat = seat; held = held }
+pub index_more : (seen : List SessionValue) (indexes : List (Option ℕ)) (s : SessionValue) → AreIndexes seen indexes → slice_get indexes s.number ≡ Some None → AreIndexes (seen ++ s ∷ []) (set indexes s.number (Some (length seen)))
+index_more seen indexes s at free = record { index = index; held = held }
   where
-    within : s.number < length seats
-    within = slice_get_within seats s.number None free
+    within : s.number < length indexes
+    within = slice_get_within indexes s.number None free
 
-    vacant : seat_in seats s.number ≡ None
-    vacant = ap (λ o. option_and_then (λ seat. seat) o) free
+    vacant : index_in indexes s.number ≡ None
+    vacant = ap (λ o. option_and_then (λ index. index) o) free
 
     after : List (Option ℕ)
-    after = set seats s.number (Some (length seen))
+    after = set indexes s.number (Some (length seen))
 
-    here : seat_in (set seats s.number (Some (length seen))) s.number ≡ Some (length seen)
-    here = ap (λ o. option_and_then (λ seat. seat) o) (slice_get-set_same seats s.number (Some (length seen)) within)
+    here : index_in (set indexes s.number (Some (length seen))) s.number ≡ Some (length seen)
+    here = ap (λ o. option_and_then (λ index. index) o) (slice_get-set_same indexes s.number (Some (length seen)) within)
 
-    elsewhere : (n : ℕ) → n ≢ s.number → seat_in (set seats s.number (Some (length seen))) n ≡ seat_in seats n
-    elsewhere n ne = ap (λ o. option_and_then (λ seat. seat) o) (slice_get-set_other seats s.number n (Some (length seen)) ne)
+    elsewhere : (n : ℕ) → n ≢ s.number → index_in (set indexes s.number (Some (length seen))) n ≡ index_in indexes n
+    elsewhere n ne = ap (λ o. option_and_then (λ index. index) o) (slice_get-set_other indexes s.number n (Some (length seen)) ne)
 
-    seat : (i : ℕ) (t : SessionValue) → slice_get (seen ++ s ∷ []) i ≡ Some t → seat_in (set seats s.number (Some (length seen))) t.number ≡ Some i
-    seat i t e = by (snoc_cases seen s i t e)
+    index : (i : ℕ) (t : SessionValue) → slice_get (seen ++ s ∷ []) i ≡ Some t → index_in (set indexes s.number (Some (length seen))) t.number ≡ Some i
+    index i t e = by (snoc_cases seen s i t e)
       where
-        by : (slice_get seen i ≡ Some t) ⊎ ((i ≡ length seen) × (t ≡ s)) → seat_in (set seats s.number (Some (length seen))) t.number ≡ Some i
-        by (inl h) = elsewhere t.number (λ same. absurd (differ same)) ∙ at.seat i t h
+        by : (slice_get seen i ≡ Some t) ⊎ ((i ≡ length seen) × (t ≡ s)) → index_in (set indexes s.number (Some (length seen))) t.number ≡ Some i
+        by (inl h) = elsewhere t.number (λ same. absurd (differ same)) ∙ at.index i t h
           where
             differ : t.number ≡ s.number → ⊥
-            differ same = let e : Some i ≡ None = sym (at.seat i t h) ∙ (ap (λ n. seat_in seats n) same ∙ vacant) in absurd (cc)
-        by (inr h) = ap (λ (x : SessionValue). seat_in (set seats s.number (Some (length seen))) x.number) h.1 ∙ (here ∙ ap (λ n. Some n) (sym h.0))
+            differ same = let e : Some i ≡ None = sym (at.index i t h) ∙ (ap (λ n. index_in indexes n) same ∙ vacant) in absurd (cc)
+        by (inr h) = ap (λ (x : SessionValue). index_in (set indexes s.number (Some (length seen))) x.number) h.1 ∙ (here ∙ ap (λ n. Some n) (sym h.0))
 
-    held : (n i : ℕ) → seat_in (set seats s.number (Some (length seen))) n ≡ Some i → (t : SessionValue) × (slice_get (seen ++ s ∷ []) i ≡ Some t) × (t.number ≡ n)
+    held : (n i : ℕ) → index_in (set indexes s.number (Some (length seen))) n ≡ Some i → (t : SessionValue) × (slice_get (seen ++ s ∷ []) i ≡ Some t) × (t.number ≡ n)
     held n i e = by (same_or_not n s.number)
       where
         by : (n ≡ s.number) ⊎ (n ≢ s.number) → (t : SessionValue) × (slice_get (seen ++ s ∷ []) i ≡ Some t) × (t.number ≡ n)
         by (inl same) = (s, ap (λ k. slice_get (seen ++ s ∷ []) k) last ∙ slice_get-seam seen s, sym same)
           where
             last : i ≡ length seen
-            last = let f : Some i ≡ Some (length seen) = sym e ∙ (ap (λ k. seat_in (set seats s.number (Some (length seen))) k) same ∙ here) in cc
+            last = let f : Some i ≡ Some (length seen) = sym e ∙ (ap (λ k. index_in (set indexes s.number (Some (length seen))) k) same ∙ here) in cc
         by (inr ne) =
             let h = at.held n i (sym (elsewhere n ne) ∙ e) in
             (h.0, slice_get-append seen (s ∷ []) i (slice_get_within seen i h.0 h.1) ∙ h.1, h.2)
 
-pub no_seats : (n : ℕ) → AreSeats [] (replicate n None)
-no_seats n = record { seat = λ i s e. absurd (cc); held = λ m i e. absurd (none m n i e) }
+pub no_indexes : (n : ℕ) → AreIndexes [] (replicate n None)
+no_indexes n = record { index = λ i s e. absurd (cc); held = λ m i e. absurd (none m n i e) }
   where
-    none : (m n i : ℕ) → seat_in (replicate n None) m ≡ Some i → ⊥
+    none : (m n i : ℕ) → index_in (replicate n None) m ≡ Some i → ⊥
     none m zero i e = absurd (cc)
     none zero (suc n) i e = absurd (cc)
     none (suc m) (suc n) i e = none m n i e
@@ -134,10 +134,10 @@ twice sessions i k s t at_i at_k same ne once =
     let inside = subst (λ (x : SessionValue). x.number < length sessions) (get_or_from_slice_get sessions i s s at_i) (once.inside i s (slice_get_within sessions i s at_i)) in
     ne (one_alone (has_number s.number) sessions i k s t (once.once s.number inside) at_i at_k (passes s.number s refl) (passes s.number t same))
 
-pub missing : (sessions : List SessionValue) (seats : List (Option ℕ)) (n : ℕ) → AreSeats sessions seats → n < length sessions → seat_in seats n ≡ None → AreOnce sessions → ⊥
-missing sessions seats n at low none once =
+pub missing : (sessions : List SessionValue) (indexes : List (Option ℕ)) (n : ℕ) → AreIndexes sessions indexes → n < length sessions → index_in indexes n ≡ None → AreOnce sessions → ⊥
+missing sessions indexes n at low none once =
     let found = stands (has_number n) sessions (omega (arith, once.once n low)) in
-    let e : Some found.0 ≡ None = sym (at.seat found.0 found.1 found.2) ∙ (ap (λ m. seat_in seats m) (passed n found.1 found.3) ∙ none) in
+    let e : Some found.0 ≡ None = sym (at.index found.0 found.1 found.2) ∙ (ap (λ m. index_in indexes m) (passed n found.1 found.3) ∙ none) in
     absurd (cc)
 
 none_past : {A : Type 0} (xs : List A) (i : ℕ) → slice_get xs i ≡ None → length xs ≤ i
@@ -145,24 +145,24 @@ none_past [] i e = omega arith
 none_past (x ∷ xs) zero e = absurd (cc)
 none_past (x ∷ xs) (suc i) e = omega (arith, none_past xs i e)
 
-pub refused : (sessions : List SessionValue) (i : ℕ) (s : SessionValue) (seats : List (Option ℕ)) → AreSeats (take i sessions) seats → length seats ≡ length sessions → slice_get sessions i ≡ Some s
-    → (slice_get seats s.number ≡ Some None → ⊥) → AreOnce sessions → ⊥
-refused sessions i s seats at size there ne once = by (slice_get seats s.number) refl
+pub refused : (sessions : List SessionValue) (i : ℕ) (s : SessionValue) (indexes : List (Option ℕ)) → AreIndexes (take i sessions) indexes → length indexes ≡ length sessions → slice_get sessions i ≡ Some s
+    → (slice_get indexes s.number ≡ Some None → ⊥) → AreOnce sessions → ⊥
+refused sessions i s indexes at size there ne once = by (slice_get indexes s.number) refl
   where
-    by : (o : Option (Option ℕ)) → slice_get seats s.number ≡ o → ⊥
-    by None e = outside sessions i s there (omega (arith, size, none_past seats s.number e)) once
+    by : (o : Option (Option ℕ)) → slice_get indexes s.number ≡ o → ⊥
+    by None e = outside sessions i s there (omega (arith, size, none_past indexes s.number e)) once
     by (Some None) e = ne e
     by (Some (Some k)) e =
-        let held = at.held s.number k (ap (λ o. option_and_then (λ seat. seat) o) e) in
+        let held = at.held s.number k (ap (λ o. option_and_then (λ index. index) o) e) in
         let low : k < i = omega (arith, slice_get_within (take i sessions) k held.0 held.1, length-take i sessions) in
         twice sessions i k s held.0 there (sym (slice_get-take sessions i k low) ∙ held.1) held.2 (λ same. absurd (omega (arith, same, low))) once
 
-pub seated_more : (sessions : List SessionValue) (i : ℕ) (s : SessionValue) (seats : List (Option ℕ)) → i < length sessions → s ≡ get_or sessions i s → AreSeats (take i sessions) seats → slice_get seats s.number ≡ Some None
-    → AreSeats (take (i + 1) sessions) (set seats s.number (Some i))
-seated_more sessions i s seats low is at free =
+pub indexed_more : (sessions : List SessionValue) (i : ℕ) (s : SessionValue) (indexes : List (Option ℕ)) → i < length sessions → s ≡ get_or sessions i s → AreIndexes (take i sessions) indexes → slice_get indexes s.number ≡ Some None
+    → AreIndexes (take (i + 1) sessions) (set indexes s.number (Some i))
+indexed_more sessions i s indexes low is at free =
     let long : length (take i sessions) ≡ i = length-take-le i sessions (omega arith) in
-    subst (λ l. AreSeats l (set seats s.number (Some i))) (sym (taken_more sessions i s low is))
-    (subst (λ k. AreSeats (take i sessions ++ s ∷ []) (set seats s.number (Some k))) long (seat_more (take i sessions) seats s at free))
+    subst (λ l. AreIndexes l (set indexes s.number (Some i))) (sym (taken_more sessions i s low is))
+    (subst (λ k. AreIndexes (take i sessions ++ s ∷ []) (set indexes s.number (Some k))) long (index_more (take i sessions) indexes s at free))
 
 -- ---- sessions that are
 
@@ -170,31 +170,31 @@ taken_at : (o : Option ℕ) → IsSome o → (i : ℕ) × (o ≡ Some i)
 taken_at None h = absurd (cc)
 taken_at (Some i) h = (i, refl)
 
-pub taken_seat : (seats : List (Option ℕ)) (m : ℕ) → length seats ≡ m → All (λ seat. IsSome seat) seats → (n : ℕ) → n < m → (i : ℕ) × (seat_in seats n ≡ Some i)
-taken_seat seats m size all n low =
-    let h : n < length seats = omega arith in
-    let found = taken_at (get_or seats n None) (all n None h) in
-    (found.0, ap (λ o. option_and_then (λ seat. seat) o) (slice_get-get_or seats n None h) ∙ found.1)
+pub taken_index : (indexes : List (Option ℕ)) (m : ℕ) → length indexes ≡ m → All (λ index. IsSome index) indexes → (n : ℕ) → n < m → (i : ℕ) × (index_in indexes n ≡ Some i)
+taken_index indexes m size all n low =
+    let h : n < length indexes = omega arith in
+    let found = taken_at (get_or indexes n None) (all n None h) in
+    (found.0, ap (λ o. option_and_then (λ index. index) o) (slice_get-get_or indexes n None h) ∙ found.1)
 
 is_taken : (o : Option ℕ) (i : ℕ) → o ≡ Some i → IsSome o
 is_taken None i e = absurd (cc)
 is_taken (Some j) i e = refl
 
-pub all_taken : (sessions : List SessionValue) (seats : List (Option ℕ)) → AreSeats sessions seats → length seats ≡ length sessions → AreOnce sessions → All (λ seat. IsSome seat) seats
-all_taken sessions seats at size once k d h =
+pub all_taken : (sessions : List SessionValue) (indexes : List (Option ℕ)) → AreIndexes sessions indexes → length indexes ≡ length sessions → AreOnce sessions → All (λ index. IsSome index) indexes
+all_taken sessions indexes at size once k d h =
     let found = stands (has_number k) sessions (omega (arith, once.once k (omega arith))) in
-    let seat = at.seat found.0 found.1 found.2 in
-    let held = seat_of-held seats k found.0 (subst (λ n. seat_in seats n ≡ Some found.0) (passed k found.1 found.3) seat) in
-    is_taken (get_or seats k d) found.0 (get_or_from_slice_get seats k (Some found.0) d held)
+    let index = at.index found.0 found.1 found.2 in
+    let held = index_of-held indexes k found.0 (subst (λ n. index_in indexes n ≡ Some found.0) (passed k found.1 found.3) index) in
+    is_taken (get_or indexes k d) found.0 (get_or_from_slice_get indexes k (Some found.0) d held)
 
-pub seated_once : (sessions : List SessionValue) (seats : List (Option ℕ)) → AreSeats sessions seats → length seats ≡ length sessions → ((n : ℕ) → n < length sessions → (i : ℕ) × (seat_in seats n ≡ Some i)) → AreOnce sessions
-seated_once sessions seats at size full = record { inside = inside; once = once }
+pub indexed_once : (sessions : List SessionValue) (indexes : List (Option ℕ)) → AreIndexes sessions indexes → length indexes ≡ length sessions → ((n : ℕ) → n < length sessions → (i : ℕ) × (index_in indexes n ≡ Some i)) → AreOnce sessions
+indexed_once sessions indexes at size full = record { inside = inside; once = once }
   where
     inside : (k : ℕ) (d : SessionValue) → k < length sessions → (slice_index_or sessions k d).number < length sessions
     inside k d h =
         let there = slice_get-get_or sessions k d h in
-        let held = seat_of-held seats (slice_index_or sessions k d).number k (at.seat k (slice_index_or sessions k d) there) in
-        omega (arith, size, slice_get_within seats (slice_index_or sessions k d).number (Some k) held)
+        let held = index_of-held indexes (slice_index_or sessions k d).number k (at.index k (slice_index_or sessions k d) there) in
+        omega (arith, size, slice_get_within indexes (slice_index_or sessions k d).number (Some k) held)
 
     once : (n : ℕ) → n < length sessions → count_by (has_number n) sessions ≡ 1
     once n low =
@@ -203,9 +203,9 @@ seated_once sessions seats at size full = record { inside = inside; once = once 
         once_counted (has_number n) sessions mine.0 held.0 held.1 (passes n held.0 held.2)
         (λ k t there pass. alone mine.0 mine.1 k t there (passed n t pass))
       where
-        alone : (i : ℕ) → seat_in seats n ≡ Some i → (k : ℕ) (t : SessionValue) → slice_get sessions k ≡ Some t → t.number ≡ n → k ≡ i
-        alone i seat k t there is =
-            let e : Some k ≡ Some i = sym (at.seat k t there) ∙ (ap (λ m. seat_in seats m) is ∙ seat) in
+        alone : (i : ℕ) → index_in indexes n ≡ Some i → (k : ℕ) (t : SessionValue) → slice_get sessions k ≡ Some t → t.number ≡ n → k ≡ i
+        alone i index k t there is =
+            let e : Some k ≡ Some i = sym (at.index k t there) ∙ (ap (λ m. index_in indexes m) is ∙ index) in
             cc
 
 -- ---- one entry more of the journal
@@ -224,25 +224,25 @@ own_others seen e n other =
     own_append seen e n ∙ (ap (λ b. own seen n ++ cond b (e ∷ []) []) no ∙ append-nil (own seen n))
 
 -- no session has its number
-pub follow_none : (sessions : List SessionValue) (seats : List (Option ℕ)) (progress : List Progress) (e : Entry) → AreSeats sessions seats → seat_in seats e.session ≡ None → (seen : List Entry) → AreFollowed seen sessions progress → AreFollowed (seen ++ e ∷ []) sessions progress
-follow_none sessions seats progress e at none seen followed = record { size = followed.size; each = each }
+pub follow_none : (sessions : List SessionValue) (indexes : List (Option ℕ)) (progress : List Progress) (e : Entry) → AreIndexes sessions indexes → index_in indexes e.session ≡ None → (seen : List Entry) → AreFollowed seen sessions progress → AreFollowed (seen ++ e ∷ []) sessions progress
+follow_none sessions indexes progress e at none seen followed = record { size = followed.size; each = each }
   where
     each : (i : ℕ) (s : SessionValue) (p : Progress) → slice_get sessions i ≡ Some s → slice_get progress i ≡ Some p → IsProgress s.tape (own (seen ++ e ∷ []) s.number) p
     each i s p there here = subst (λ (l : List Entry). IsProgress s.tape l p) (sym (own_others seen e s.number differ)) (followed.each i s p there here)
       where
         differ : s.number ≡ e.session → ⊥
-        differ same = let f : Some i ≡ None = sym (at.seat i s there) ∙ (ap (λ n. seat_in seats n) same ∙ none) in absurd (cc)
+        differ same = let f : Some i ≡ None = sym (at.index i s there) ∙ (ap (λ n. index_in indexes n) same ∙ none) in absurd (cc)
 
 -- the session at a place has it
-pub follow_one : (sessions : List SessionValue) (seats : List (Option ℕ)) (progress : List Progress) (e : Entry) (k : ℕ) (t : SessionValue) (p q : Progress)
-    → AreSeats sessions seats → seat_in seats e.session ≡ Some k → slice_get sessions k ≡ Some t → slice_get progress k ≡ Some p
+pub follow_one : (sessions : List SessionValue) (indexes : List (Option ℕ)) (progress : List Progress) (e : Entry) (k : ℕ) (t : SessionValue) (p q : Progress)
+    → AreIndexes sessions indexes → index_in indexes e.session ≡ Some k → slice_get sessions k ≡ Some t → slice_get progress k ≡ Some p
     → ((seen : List Entry) → IsProgress t.tape seen p → IsProgress t.tape (seen ++ e ∷ []) q)
     → (seen : List Entry) → AreFollowed seen sessions progress → AreFollowed (seen ++ e ∷ []) sessions (set progress k q)
-follow_one sessions seats progress e k t p q at seat there here next seen followed = record { size = length-set progress k q ∙ followed.size; each = each }
+follow_one sessions indexes progress e k t p q at index there here next seen followed = record { size = length-set progress k q ∙ followed.size; each = each }
   where
     its : t.number ≡ e.session
     its =
-        let held = at.held e.session k seat in
+        let held = at.held e.session k index in
         let f : Some held.0 ≡ Some t = sym held.1 ∙ there in
         let same : held.0 ≡ t = cc in
         ap (λ (x : SessionValue). x.number) (sym same) ∙ held.2
@@ -269,7 +269,7 @@ follow_one sessions seats progress e k t p q at seat there here next seen follow
           where
             differ : i ≢ k → s.number ≡ e.session → ⊥
             differ ne same =
-                let f : Some i ≡ Some k = sym (at.seat i s at_i) ∙ (ap (λ n. seat_in seats n) same ∙ seat) in
+                let f : Some i ≡ Some k = sym (at.index i s at_i) ∙ (ap (λ n. index_in indexes n) same ∙ index) in
                 ne (cc)
 
 -- no entry yet

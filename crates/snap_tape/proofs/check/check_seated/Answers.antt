@@ -1,6 +1,0 @@
-use Rattle.snap_tape.proofs.check.check_seated.Goals as goal
-
-pub returns : goal.returns
-returns c =
-    let seats = rw c.in-Some.is at c.in_ok-seats.ensures.seats in
-    c.checked.ensures c.args.journal.now c.args.sessions.now (record { once = seats.1; known = c.are_known.ensures.0 c.if-not-are_known.false }) (c.in_ok-first.ensures)
