@@ -11,7 +11,7 @@ use Rattle.snap_call.specs.Journal.{Replays, own}
 use Rattle.snap_grants.specs.Grants.{Stored, Origin, AreKeeping, IsOrigin, AreOrigins, grants, grant_of, sum_below, AreBelow, TapesLaw}
 use Rattle.snap_grants.proofs.Law.{committed_law}
 
-sum_same : (n : ℕ) (f g : ℕ → ℕ) → ((k : ℕ) → k < n → f k ≡ g k) → sum_below n f ≡ sum_below n g
+pub sum_same : (n : ℕ) (f g : ℕ → ℕ) → ((k : ℕ) → k < n → f k ≡ g k) → sum_below n f ≡ sum_below n g
 sum_same zero f g same = refl
 sum_same (suc n) f g same =
     let a = sum_same n f g (λ k low. same k (omega (arith, low))) in
@@ -19,7 +19,7 @@ sum_same (suc n) f g same =
     omega (arith, a, b)
 
 -- one place has so much more
-sum_more : (n s more : ℕ) (f g : ℕ → ℕ) → s < n → (f s ≡ more + g s) → ((k : ℕ) → eqb s k ≡ false → f k ≡ g k) → sum_below n f ≡ more + sum_below n g
+pub sum_more : (n s more : ℕ) (f g : ℕ → ℕ) → s < n → (f s ≡ more + g s) → ((k : ℕ) → eqb s k ≡ false → f k ≡ g k) → sum_below n f ≡ more + sum_below n g
 sum_more zero s more f g low here there = absurd (omega (arith, low))
 sum_more (suc n) s more f g low here there = at (eqb s n) refl (λ below. sum_more n s more f g below here there)
   where
@@ -38,7 +38,7 @@ sum_more (suc n) s more f g low here there = at (eqb s n) refl (λ below. sum_mo
         at_most : (s ≡ n → ⊥) → s < n
         at_most ne = omega (arith, low, ne)
 
-nothing : (n : ℕ) → sum_below n (λ k. 0) ≡ 0
+pub nothing : (n : ℕ) → sum_below n (λ k. 0) ≡ 0
 nothing zero = refl
 nothing (suc n) = let a = nothing n in omega (arith, a)
 

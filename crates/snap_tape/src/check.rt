@@ -4,8 +4,8 @@ ghost use Rattle.snap_call.specs.declared.entry.Entry.{Entry as EntryValue};
 ghost use Rattle.snap_tape.specs.Sessions.{AreAll, IsCheck, IsFirstMismatch};
 ghost use Rattle.snap_tape.specs.Tapes.{SessionValue};
 
-use crate::mismatch::{Mismatch, first_mismatch, first_indexed};
 use crate::indexes::{all_indexes, are_known, are_once};
+use crate::mismatch::{Mismatch, first_indexed, first_mismatch};
 use crate::session::Session;
 use snap_call::Entry;
 use std::alloc::{AllocError, Global};

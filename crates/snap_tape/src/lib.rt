@@ -2,8 +2,8 @@
 #![tactic(auto)]
 
 mod check;
-mod mismatch;
 mod indexes;
+mod mismatch;
 mod session;
 
 pub use check::{SessionsFault, check_sessions};

@@ -1,1 +1,9 @@
 pub mod Needing
+pub mod Calling
+pub mod Every
+pub mod Walking
+pub mod Turning
+pub mod Sums
+pub mod Storing
+pub mod Weaving
+pub mod Reporting

@@ -1,1 +1,4 @@
 pub mod Run
+pub mod Jobs
+pub mod Going
+pub mod Starting

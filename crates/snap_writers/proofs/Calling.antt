@@ -1,0 +1,187 @@
+-- What calls leave on a worker's tape, one after another.
+use Rattle.std.specs.Prelude.{Any, IfOk, IfErr, get_or, take}
+use Rattle.std.specs.List.{AllByRecursion, AllZip}
+use Rattle.std.proofs.Common.{◌≡◌, ℕ, ◌+◌, ◌<◌, List, [], ◌∷◌, ◌++◌, length, Option, None, Some, Result, Ok, Err, refl, sym, ap, ◌∙◌, subst, arith, add-one, append-nil, length-append}
+use Rattle.std.proofs.Math.Seq.{take-suc}
+use Rattle.std.proofs.lemmas.List.{append_assoc, get_or_append_left, get_or-append-add}
+use Rattle.snap_layer.specs.Tree.{Tree}
+use Rattle.snap_usage.specs.Counted.{count_of}
+use Rattle.snap_usage.specs.declared.usage.Usage.{Usage}
+use Rattle.snap_merge.specs.declared.error.FsError.{FsError}
+use Rattle.snap_record.specs.Labels.{Bytes, Label}
+use Rattle.snap_upper.specs.declared.op.Op.{Op}
+use Rattle.snap_upper.specs.After.{Outcome, after}
+use Rattle.snap_call.specs.declared.call.Call.{Call}
+use Rattle.snap_call.specs.declared.call.Call.TheVariants as calls
+use Rattle.snap_call.specs.declared.call.Given.{Given}
+use Rattle.snap_call.specs.declared.call.Given.TheVariants.{Nothing, Layer}
+use Rattle.snap_call.specs.declared.entry.Entry.{Entry}
+use Rattle.snap_call.specs.declared.refusal.Refusal.{Refusal}
+use Rattle.snap_call.specs.declared.refusal.Refusal.TheVariants.{JournalFull, OutOfMemory}
+use Rattle.snap_call.specs.declared.reply.Reply.{Reply}
+use Rattle.snap_call.specs.declared.reply.Reply.TheVariants as replies
+use Rattle.snap_call.specs.Journal.{entry}
+use Rattle.snap_book.specs.Active.{ActiveValue}
+use Rattle.snap_book.specs.Wanted.{needed_by, wanted}
+use Rattle.snap_tape.specs.Tapes.{RefusedOn, SessionValue, Taped, Untaped}
+use Rattle.snap_store.specs.Values.{IsPrepared}
+use Rattle.snap_writers.specs.Run.{Follows, HasCharged, HasFailed, HasRun, IsSameSnapshot}
+use Rattle.snap_writers.specs.declared.running.RunError.{RunError}
+use Rattle.snap_writers.specs.declared.running.RunError.TheVariants.{File, Book}
+use Rattle.snap_writers.specs.declared.job.Ended.{Ended}
+use Rattle.snap_writers.specs.declared.job.Job.{Job}
+use Rattle.snap_writers.specs.Jobs.{Done, Granted, IsCommitOf, IsPrepareOf, IsWork, all_after, commit_by, commit_of, commits, then_after, with_end}
+use Rattle.snap_writers.specs.Going.{GoesOn, HasRunJob, IsFresh, IsReady, granted}
+
+-- ---- lists
+
+pub any_left : {A : Type 0} (P : A → Type 0) (xs ys : List A) → Any P xs → Any P (xs ++ ys)
+any_left P xs ys h = (h.0, h.1, omega (arith, h.2, length-append xs ys), get_or_append_left xs ys h.1 h.0 h.2 ∙ h.3, h.4)
+
+any_right : {A : Type 0} (P : A → Type 0) (xs ys : List A) → Any P ys → Any P (xs ++ ys)
+any_right P xs ys h = (length xs + h.0, h.1, omega (arith, h.2, length-append xs ys), get_or-append-add xs ys h.0 h.1 ∙ h.3, h.4)
+
+pub any_last : {A : Type 0} (P : A → Type 0) (xs : List A) (x : A) → P x → Any P (xs ++ x ∷ [])
+any_last P xs x h = any_right P xs (x ∷ []) (0, x, omega arith, refl, h)
+
+pub all_append : {A : Type 0} (P : A → Type 0) (xs ys : List A) → AllByRecursion P xs → AllByRecursion P ys → AllByRecursion P (xs ++ ys)
+all_append P [] ys p q = q
+all_append P (x ∷ xs) ys p q = (p.0, all_append P xs ys p.1 q)
+
+pub zip_append : {A B : Type 0} (R : A → B → Type 0) (xs xs' : List A) (ys ys' : List B) → AllZip R xs ys → AllZip R xs' ys' → AllZip R (xs ++ xs') (ys ++ ys')
+zip_append R [] xs' [] ys' p q = q
+zip_append R [] xs' (y ∷ ys) ys' p q = absurd p
+zip_append R (x ∷ xs) xs' [] ys' p q = absurd p
+zip_append R (x ∷ xs) xs' (y ∷ ys) ys' p q = (p.0, zip_append R xs xs' ys ys' p.1 q)
+
+pub zip_weaker : {A B : Type 0} (R S : A → B → Type 0) → ((x : A) (y : B) → R x y → S x y) → (xs : List A) (ys : List B) → AllZip R xs ys → AllZip S xs ys
+zip_weaker R S f [] [] p = tt
+zip_weaker R S f [] (y ∷ ys) p = absurd p
+zip_weaker R S f (x ∷ xs) [] p = absurd p
+zip_weaker R S f (x ∷ xs) (y ∷ ys) p = (f x y p.0, zip_weaker R S f xs ys p.1)
+
+-- ---- granted Commits
+
+commit_by_append : (id : ℕ) (name : Bytes) (lease : Option Bytes) (reply : Reply) (given : Given) (a b : List Granted) → commit_by id name lease reply given (a ++ b) ≡ commit_by id name lease reply given a ++ b
+commit_by_append id name lease (replies.Committed at usage) (Layer layer) a b = refl
+commit_by_append id name lease reply given a b = refl
+
+commit_of_append : (call : Call) (given : Given) (reply : Reply) (a b : List Granted) → commit_of call given reply (a ++ b) ≡ commit_of call given reply a ++ b
+commit_of_append (calls.Commit slot id name lease) given reply a b = commit_by_append id name lease reply given a b
+commit_of_append call given reply a b = refl
+
+pub commits_append : (xs ys : List Entry) → commits (xs ++ ys) ≡ commits xs ++ commits ys
+commits_append [] ys = refl
+commits_append (x ∷ xs) ys = ap (commit_of x.call x.given x.reply) (commits_append xs ys) ∙ commit_of_append x.call x.given x.reply (commits xs) (commits ys)
+
+commit_of_refused : (call : Call) (given : Given) (why : Refusal) → commit_of call given (replies.Refused why) [] ≡ []
+commit_of_refused (calls.Commit slot id name lease) given why = refl
+commit_of_refused call given why = refl
+
+-- a granted Commit of a tape is one of the tape with more behind it
+pub more_tape : (tape more : List Entry) (d : Done) (g : Granted) → IsCommitOf tape d g → IsCommitOf (tape ++ more) d g
+more_tape tape more d g is = record { end = is.end; prepared = any_left _ tape more is.prepared; made = is.made; usage = is.usage; count = is.count }
+
+-- ---- a call
+
+pub untaped : (old new : SessionValue) → Untaped old new → GoesOn old new []
+untaped old new same = record { number = same.number; more = []; tape = same.tape ∙ sym (append-nil old.tape); calls = tt; commits = refl }
+
+pub taped : (old new : SessionValue) (call : Call) (given : Given) (reply : Reply) → Taped old new call given reply → IsWork call → GoesOn old new (commit_of call given reply [])
+taped old new call given reply t work = record { number = t.number; more = entry old.number call given reply ∷ []; tape = t.tape; calls = (work, tt); commits = refl }
+
+pub refused : (old new : SessionValue) (call : Call) (given : Given) (why : Refusal) → RefusedOn old new call given why → IsWork call → GoesOn old new []
+refused old new call given JournalFull by work = untaped old new by
+refused old new call given OutOfMemory by work = untaped old new by
+refused old new call given why by work = subst (GoesOn old new) (commit_of_refused call given why) (taped old new call given (replies.Refused why) by work)
+
+-- ---- one after another
+
+pub stays : (old new : SessionValue) → new ≡ old → GoesOn old new []
+stays old new same = subst (λ (s : SessionValue). GoesOn old s []) (sym same) (record { number = refl; more = []; tape = sym (append-nil old.tape); calls = tt; commits = refl })
+
+pub then_on : (old mid new : SessionValue) (granted : List Granted) → GoesOn old mid [] → GoesOn mid new granted → GoesOn old new granted
+then_on old mid new granted p q = record {
+  number = q.number ∙ p.number;
+  more = p.more ++ q.more;
+  tape = q.tape ∙ (ap (λ (l : List Entry). l ++ q.more) p.tape ∙ append_assoc old.tape p.more q.more);
+  calls = all_append (λ e. IsWork e.call) p.more q.more p.calls q.calls;
+  commits = commits_append p.more q.more ∙ (ap (λ (l : List Granted). l ++ commits q.more) p.commits ∙ q.commits);
+}
+
+-- ---- an operation with its charge
+
+charged : (s t : SessionValue) (old new : ActiveValue) (op : Op) (need want : Usage) (result : Result Unit RunError) → HasCharged s t old new op need want result → GoesOn s t []
+charged s t old new op need want (Ok done) h = taped s t (calls.Charge old.share.slot old.share.id need want) Nothing (replies.Charged new.share.usage) h.0.taped tt
+charged s t old new op need want (Err (File e)) h = taped s t (calls.Charge old.share.slot old.share.id need want) Nothing (replies.Charged new.share.usage) h.1.taped tt
+charged s t old new op need want (Err (Book why)) h = refused s t (calls.Charge old.share.slot old.share.id need want) Nothing why h.0 tt
+
+failed : (s t : SessionValue) (old new : ActiveValue) (op : Op) (extra : Usage) (e : FsError) (need : Option Usage) (result : Result Unit RunError) → HasFailed s t old new op extra e need result → GoesOn s t []
+failed s t old new op extra e (Some need) result h = charged s t old new op need (wanted need extra) result h
+failed s t old new op extra e None result h = stays s t h.1
+
+followed : (s t : SessionValue) (old new : ActiveValue) (op : Op) (extra : Usage) (first : Outcome) (result : Result Unit RunError) → Follows s t old new op extra first result → GoesOn s t []
+followed s t old new op extra (Ok next) result h = stays s t h.1
+followed s t old new op extra (Err e) result h = failed s t old new op extra e (needed_by e) result h
+
+pub run_goes : (s t : SessionValue) (old new : ActiveValue) (op : Op) (extra : Usage) (result : Result Unit RunError) → HasRun s t old new op extra result → GoesOn s t []
+run_goes s t old new op extra result h = followed s t old new op extra h.first result h.follows
+
+-- ---- a prepare
+
+pub prepare_goes : (s t : SessionValue) (namespace key parent : Bytes) (labels : List Label) (answer : Result ActiveValue Refusal) → IfOk answer (λ a. IsPrepared s t namespace key parent labels a) → IfErr answer (λ why. RefusedOn s t (calls.Prepare namespace key parent labels) Nothing why) → GoesOn s t []
+prepare_goes s t namespace key parent labels (Ok a) granted none = taped s t (calls.Prepare namespace key parent labels) Nothing _ granted.taped tt
+prepare_goes s t namespace key parent labels (Err why) none by = refused s t (calls.Prepare namespace key parent labels) Nothing why by tt
+
+-- ---- a commit
+
+pub commit_goes : (s t : SessionValue) (a sealed : ActiveValue) (name text : Bytes) (lease : Option Bytes) (usage : Usage) → sealed ≡ a → text ≡ name → usage ≡ count_of sealed.layer → Taped s t (calls.Commit sealed.share.slot sealed.share.id text lease) (Layer sealed.layer) (replies.Committed sealed.share.id usage) → GoesOn s t (granted a name lease ∷ [])
+commit_goes s t a sealed name text lease usage is named counted call =
+    subst (λ (x : ActiveValue). GoesOn s t (granted x name lease ∷ [])) is
+    (subst (λ (n : Bytes). GoesOn s t (granted sealed n lease ∷ [])) named
+    (subst (λ (u : Usage). GoesOn s t (record { id = sealed.share.id; name = text; lease = lease; layer = sealed.layer; usage = u } ∷ [])) counted
+    (taped s t (calls.Commit sealed.share.slot sealed.share.id text lease) (Layer sealed.layer) (replies.Committed sealed.share.id usage) call tt)))
+
+-- ---- what is known of a snapshot, once the tape has gone on
+
+pub ready : (old new : SessionValue) (j : Job) (before after : ActiveValue) → IsFresh old.tape j before → GoesOn old new [] → IsSameSnapshot before after → all_after j.ops before.layer before.lowers ≡ Ok after.layer → IsReady new.tape j after
+ready old new j before after fresh goes same done = record {
+  prepared = subst (λ (l : List Entry). Any (IsPrepareOf j after.share.id) l) (sym goes.tape) (any_left (IsPrepareOf j after.share.id) old.tape goes.more (subst (λ id. Any (IsPrepareOf j id) old.tape) (sym same.id) fresh.prepared));
+  made = record { lowers = before.lowers; base = fresh.base; made = ap (λ (t : Tree). all_after j.ops t before.lowers) (sym fresh.layer) ∙ done };
+}
+
+-- a job that has no commit
+pub ends_so : (old new : SessionValue) (j : Job) (end : Ended) → with_end j end [] ≡ [] → GoesOn old new [] → HasRunJob old new j end
+ends_so old new j end none goes = record { granted = []; goes = goes; of = subst (λ (l : List Done). AllZip (IsCommitOf new.tape) l []) (sym none) tt }
+
+-- the tape went on before
+pub then_ended : (old mid new : SessionValue) (j : Job) (end : Ended) → GoesOn old mid [] → HasRunJob mid new j end → HasRunJob old new j end
+then_ended old mid new j end before job = record { granted = job.granted; goes = then_on old mid new job.granted before job.goes; of = job.of }
+
+-- ---- several operations
+
+then_after-then : (o : Outcome) (f g : Tree → Outcome) → then_after (then_after o f) g ≡ then_after o (λ t. then_after (f t) g)
+then_after-then (Ok t) f g = refl
+then_after-then (Err e) f g = refl
+
+then_after-same : (o : Outcome) (f g : Tree → Outcome) → ((t : Tree) → f t ≡ g t) → then_after o f ≡ then_after o g
+then_after-same (Ok t) f g same = same t
+then_after-same (Err e) f g same = refl
+
+all_after-append : (ops more : List Op) (layer : Tree) (lowers : List Tree) → all_after (ops ++ more) layer lowers ≡ then_after (all_after ops layer lowers) (λ t. all_after more t lowers)
+all_after-append [] more layer lowers = refl
+all_after-append (op ∷ ops) more layer lowers =
+    then_after-same (after op layer lowers) (λ t. all_after (ops ++ more) t lowers) (λ t. then_after (all_after ops t lowers) (λ u. all_after more u lowers)) (λ t. all_after-append ops more t lowers)
+    ∙ sym (then_after-then (after op layer lowers) (λ t. all_after ops t lowers) (λ u. all_after more u lowers))
+
+-- one operation more
+pub all_after-more : (ops : List Op) (i : ℕ) (op d : Op) (layer mid next : Tree) (lowers now : List Tree) → i < length ops → op ≡ get_or ops i d → now ≡ lowers → all_after (take i ops) layer lowers ≡ Ok mid → after op mid now ≡ Ok next → all_after (take (i + 1) ops) layer lowers ≡ Ok next
+all_after-more ops i op d layer mid next lowers now low is same before then =
+    let grown : take (i + 1) ops ≡ take i ops ++ get_or ops i d ∷ [] = rw add-one (take-suc ops i d low) in
+    ap (λ (l : List Op). all_after l layer lowers) grown
+    ∙ (all_after-append (take i ops) (get_or ops i d ∷ []) layer lowers
+    ∙ (ap (λ (o : Outcome). then_after o (λ t. all_after (get_or ops i d ∷ []) t lowers)) before
+    ∙ (ap (λ (o : Op). then_after (after o mid lowers) (λ t. Ok t)) (sym is) ∙ (ap (λ (l : List Tree). then_after (after op mid l) (λ t. Ok t)) (sym same) ∙ ap (λ (o : Outcome). then_after o (λ t. Ok t)) then))))
+
+pub same_snapshot : (a b c : ActiveValue) → IsSameSnapshot a b → IsSameSnapshot b c → IsSameSnapshot a c
+same_snapshot a b c p q = record { namespace = q.namespace ∙ p.namespace; key = q.key ∙ p.key; lowers = q.lowers ∙ p.lowers; slot = q.slot ∙ p.slot; id = q.id ∙ p.id }

@@ -1,0 +1,165 @@
+-- What a closed store has of the jobs of all workers.
+use Rattle.std.specs.Prelude.{◌==◌, All, cond, map, slice_get}
+use Rattle.std.specs.List.{AllByRecursion, AllZip}
+use Rattle.std.proofs.Common.{◌≡◌, ℕ, zero, suc, ◌+◌, ◌-◌, ◌<◌, ◌≤◌, Bool, true, false, List, [], ◌∷◌, length, Option, None, Some, refl, sym, ap, ◌∙◌, subst, arith}
+use Rattle.std.proofs.lemmas.Bool.{eqb-true, eq-eqb}
+use Rattle.std.proofs.lemmas.List.Elements.{All-head, All-tail}
+use Rattle.snap_call.specs.declared.entry.Entry.{Entry}
+use Rattle.snap_call.specs.Journal.{own}
+use Rattle.snap_book.specs.Book.{BookValue}
+use Rattle.snap_tape.specs.Sessions.{IsOwn, has_number}
+use Rattle.snap_tape.specs.Tapes.{SessionValue}
+use Rattle.snap_tape.proofs.Counting.{stands}
+use Rattle.snap_grants.specs.Grants.{AreKeeping, AreOrigins, IsKeeping, Origin, Stored, grants, origin_in, sum_below, worth}
+use Rattle.snap_grants.proofs.Origins.{origins}
+use Rattle.snap_grants.proofs.Tapes.{own_origins, tapes_law}
+use Rattle.snap_store.specs.Closing.{IsClosed}
+use Rattle.snap_writers.specs.declared.job.Job.{Job}
+use Rattle.snap_writers.specs.declared.job.Ended.{Ended}
+use Rattle.snap_writers.specs.declared.job.Worked.{Worked}
+use Rattle.snap_writers.specs.Jobs.{HaveWorked, IsStoredOf, IsWorked, commits, done, every, total}
+use Rattle.snap_writers.specs.Starting.{AreInOrder, AreWorked, Each, ends_at, sessions_of, with_session}
+use Rattle.snap_writers.proofs.Storing.{granted_total, stored_all, stored_of, tape_keeps}
+use Rattle.snap_writers.proofs.Sums.{over, over_once, sum_first}
+use Rattle.snap_writers.proofs.Weaving.{Woven, woven}
+
+-- ---- of each session
+
+all_rec : {A : Type 0} (P : A → Type 0) (xs : List A) → All P xs → AllByRecursion P xs
+all_rec P [] all = tt
+all_rec P (x ∷ xs) all = (All-head P x xs all, all_rec P xs (All-tail P x xs all))
+
+all_there : {A : Type 0} (P : A → Type 0) (xs : List A) (i : ℕ) (x : A) → AllByRecursion P xs → slice_get xs i ≡ Some x → P x
+all_there P [] i x all there = absurd (cc)
+all_there P (y ∷ ys) zero x all there = subst P (cc) all.0
+all_there P (y ∷ ys) (suc i) x all there = all_there P ys i x all.1 there
+
+all_map : {A : Type 0} (P Q : A → Type 0) → ((x : A) → P x → Q x) → (xs : List A) → AllByRecursion P xs → AllByRecursion Q xs
+all_map P Q f [] all = tt
+all_map P Q f (x ∷ xs) all = (f x all.0, all_map P Q f xs all.1)
+
+-- each session of the workers has calls that take nothing away
+kept_with : (jobs : List Job) (es : List Ended) (o : Option SessionValue) (rest : List SessionValue) → HaveWorked jobs es o → AllByRecursion (λ s. AreKeeping s.tape) rest → AllByRecursion (λ s. AreKeeping s.tape) (with_session o rest)
+kept_with jobs es None rest worked all = all
+kept_with jobs es (Some s) rest worked all = (tape_keeps jobs es s worked, all)
+
+sessions_keep : (jobs : List Job) (n m : ℕ) (ws : List Worked) → Each (λ k w. IsWorked jobs (k + 1) n w) m ws → AllByRecursion (λ s. AreKeeping s.tape) (sessions_of ws)
+sessions_keep jobs n m [] each = tt
+sessions_keep jobs n m (w ∷ ws) each = kept_with (every n (m + 1 - 1) jobs) w.ends w.session (sessions_of ws) each.0.session (sessions_keep jobs n (m + 1) ws each.1)
+
+-- ---- so the whole journal
+
+own_head : (e : Entry) (es : List Entry) → AreKeeping (own (e ∷ es) e.session) → IsKeeping e.call
+own_head e es all = (subst (λ (b : Bool). AreKeeping (cond b (e ∷ own es e.session) (own es e.session))) (eq-eqb e.session e.session refl) all).0
+
+own_rest : (e : Entry) (es : List Entry) (k : ℕ) (b : Bool) → AreKeeping (cond b (e ∷ own es k) (own es k)) → AreKeeping (own es k)
+own_rest e es k true all = all.1
+own_rest e es k false all = all
+
+keeps_all : (n : ℕ) (es : List Entry) → All (λ e. e.session < n) es → ((k : ℕ) → k < n → AreKeeping (own es k)) → AreKeeping es
+keeps_all n [] below each = tt
+keeps_all n (e ∷ es) below each = (
+  own_head e es (each e.session (All-head (λ x. x.session < n) e es below)),
+  keeps_all n es (All-tail (λ x. x.session < n) e es below) (λ k low. own_rest e es k (e.session == k) (each k low)),
+)
+
+journal_keeps : (b : BookValue) (sessions : List SessionValue) → IsClosed b sessions → AllByRecursion (λ s. AreKeeping s.tape) sessions → AreKeeping b.journal
+journal_keeps b sessions closed keep = keeps_all (length sessions) b.journal closed.all.known of
+  where
+    own_are : AllByRecursion (IsOwn b.journal) sessions
+    own_are = all_rec (IsOwn b.journal) sessions closed.tapes
+
+    of : (k : ℕ) → k < length sessions → AreKeeping (own b.journal k)
+    of k low =
+        let there = stands (has_number k) sessions (omega (arith, closed.all.once.once k low)) in
+        let s = there.1 in
+        let tape : s.tape ≡ own b.journal k = all_there (IsOwn b.journal) sessions there.0 s own_are there.2 ∙ ap (own b.journal) (eqb-true s.number k there.3) in
+        subst AreKeeping tape (all_there (λ (x : SessionValue). AreKeeping x.tape) sessions there.0 s keep there.2)
+
+-- ---- what is stored, worker by worker
+
+abbrev stored_by : (ℕ → Origin) → Option SessionValue → List Stored
+stored_by origin None = []
+stored_by origin (Some s) = map (stored_of origin) (commits s.tape)
+
+abbrev lists_at : (ℕ → Origin) → List Worked → ℕ → List Stored
+lists_at origin [] k = []
+lists_at origin (w ∷ ws) zero = stored_by origin w.session
+lists_at origin (w ∷ ws) (suc k) = lists_at origin ws k
+
+first_total : (h : Stored → ℕ) (origin : ℕ → Origin) (journal : List Entry) (o : Option SessionValue) (rest : List SessionValue) → AllByRecursion (IsOwn journal) (with_session o rest) → over (λ k. grants h origin (own journal k)) (with_session o rest) ≡ total h (stored_by origin o) + over (λ k. grants h origin (own journal k)) rest
+first_total h origin journal None rest are = omega arith
+first_total h origin journal (Some s) rest are = ap (λ n. n + over (λ k. grants h origin (own journal k)) rest) (ap (grants h origin) (sym are.0) ∙ granted_total h origin s.tape)
+
+rest_own : (journal : List Entry) (o : Option SessionValue) (rest : List SessionValue) → AllByRecursion (IsOwn journal) (with_session o rest) → AllByRecursion (IsOwn journal) rest
+rest_own journal None rest are = are
+rest_own journal (Some s) rest are = are.1
+
+by_workers : (h : Stored → ℕ) (origin : ℕ → Origin) (journal : List Entry) (ws : List Worked) → AllByRecursion (IsOwn journal) (sessions_of ws) → over (λ k. grants h origin (own journal k)) (sessions_of ws) ≡ sum_below (length ws) (λ k. total h (lists_at origin ws k))
+by_workers h origin journal [] are = refl
+by_workers h origin journal (w ∷ ws) are = omega (
+  arith,
+  first_total h origin journal w.session (sessions_of ws) are,
+  by_workers h origin journal ws (rest_own journal w.session (sessions_of ws) are),
+  sum_first (length ws) (λ k. total h (lists_at origin (w ∷ ws) k)),
+)
+
+stored_here : (origin : ℕ → Origin) (journal : List Entry) (jobs : List Job) (es : List Ended) (o : Option SessionValue) (rest : List SessionValue) → AreOrigins origin journal → AllByRecursion (IsOwn journal) (with_session o rest) → HaveWorked jobs es o → AllZip IsStoredOf (done jobs es) (stored_by origin o)
+stored_here origin journal jobs es None rest are own_are worked = subst (λ l. AllZip IsStoredOf l []) (sym worked) tt
+stored_here origin journal jobs es (Some s) rest are own_are worked = stored_all origin jobs es s (subst (AreOrigins origin) (sym own_are.0) (own_origins origin journal are s.number)) worked
+
+stored_at : (origin : ℕ → Origin) (journal : List Entry) (jobs : List Job) (n m k : ℕ) (ws : List Worked) → AreOrigins origin journal → AllByRecursion (IsOwn journal) (sessions_of ws) → Each (λ k w. IsWorked jobs (k + 1) n w) m ws → k < length ws → AllZip IsStoredOf (done (every n (m + k) jobs) (ends_at ws k)) (lists_at origin ws k)
+stored_at origin journal jobs n m k [] are own_are each low = absurd (omega (arith, low))
+stored_at origin journal jobs n m zero (w ∷ ws) are own_are each low =
+    let e : m + 1 - 1 ≡ m + 0 = omega arith in
+    subst (λ i. AllZip IsStoredOf (done (every n i jobs) w.ends) (stored_by origin w.session)) e (stored_here origin journal (every n (m + 1 - 1) jobs) w.ends w.session (sessions_of ws) are own_are each.0.session)
+stored_at origin journal jobs n m (suc k) (w ∷ ws) are own_are each low =
+    let e : m + 1 + k ≡ m + suc k = omega arith in
+    subst (λ i. AllZip IsStoredOf (done (every n i jobs) (ends_at ws k)) (lists_at origin ws k)) e (stored_at origin journal jobs n (m + 1) k ws are (rest_own journal w.session (sessions_of ws) own_are) each.1 (omega (arith, low)))
+
+-- ---- all of it
+
+pub record Stores (jobs : List Job) (ends : List Ended) (b : BookValue) : Type 0 where
+  pub stored : List Stored
+  pub of : AllZip IsStoredOf (done jobs ends) stored
+  pub committed : (h : Stored → ℕ) → worth h b.state ≡ worth h b.opening + total h stored
+
+pub stores : (jobs : List Job) (workers : ℕ) (ws : List Worked) (ends : List Ended) (b : BookValue) → 1 ≤ workers → AreWorked jobs workers ws → AreInOrder jobs workers ws ends → IsClosed b (sessions_of ws) → Stores jobs ends b
+stores jobs workers ws ends b some worked order closed = record { stored = all.stored; of = all.of; committed = law }
+  where
+    own_are : AllByRecursion (IsOwn b.journal) (sessions_of ws)
+    own_are = all_rec (IsOwn b.journal) (sessions_of ws) closed.tapes
+
+    keeps : AreKeeping b.journal
+    keeps = journal_keeps b (sessions_of ws) closed (sessions_keep jobs workers 0 ws worked.each)
+
+    origin : ℕ → Origin
+    origin = origin_in b.journal
+
+    are : AreOrigins origin b.journal
+    are = origins b.opening b.journal b.state keeps closed.replays
+
+    lists : ℕ → List Stored
+    lists = lists_at origin ws
+
+    size : workers ≡ suc (workers - 1)
+    size = omega (arith, some)
+
+    each : (k : ℕ) → k < workers → AllZip IsStoredOf (done (every workers k jobs) (every workers k ends)) (lists k)
+    each k low =
+        let e : 0 + k ≡ k = omega arith in
+        let here = stored_at origin b.journal jobs workers 0 k ws are own_are worked.each (omega (arith, low, worked.count)) in
+        subst (λ l. AllZip IsStoredOf (done (every workers k jobs) l) (lists k)) (sym (order.each k low)) (subst (λ i. AllZip IsStoredOf (done (every workers i jobs) (ends_at ws k)) (lists k)) e here)
+
+    all : Woven workers jobs ends lists
+    all = subst (λ n. Woven n jobs ends lists) (sym size) (woven (workers - 1) jobs ends lists order.count (subst (λ n. (k : ℕ) → k < n → AllZip IsStoredOf (done (every n k jobs) (every n k ends)) (lists k)) size each))
+
+    law : (h : Stored → ℕ) → worth h b.state ≡ worth h b.opening + total h all.stored
+    law h = omega (
+      arith,
+      tapes_law (length (sessions_of ws)) b.opening b.journal b.state closed.began.idle keeps closed.all.known closed.replays origin are h,
+      over_once (λ k. grants h origin (own b.journal k)) (sessions_of ws) closed.all.once,
+      by_workers h origin b.journal ws own_are,
+      all.total h,
+      ap (λ n. sum_below n (λ k. total h (lists k))) worked.count,
+    )

@@ -1,0 +1,140 @@
+-- How a worker goes on through its jobs.
+use Rattle.std.specs.List.{AllZip}
+use Rattle.std.proofs.Common.{◌≡◌, ℕ, zero, suc, ◌+◌, ◌<◌, List, [], ◌∷◌, ◌++◌, length, refl, sym, ap, ◌∙◌, subst, arith, append-nil, length-append}
+use Rattle.std.proofs.lemmas.List.{append_assoc, length-map, set_at}
+use Rattle.std.proofs.Math.ListN.{set}
+use Rattle.snap_call.specs.declared.call.Call.TheVariants as calls
+use Rattle.snap_call.specs.declared.call.Given.TheVariants.{Nothing}
+use Rattle.snap_call.specs.declared.entry.Entry.{Entry}
+use Rattle.snap_call.specs.declared.refusal.Refusal.{Refusal}
+use Rattle.snap_call.specs.declared.reply.Reply.TheVariants as replies
+use Rattle.snap_call.specs.Journal.{entry}
+use Rattle.snap_tape.specs.Tapes.{SessionValue}
+use Rattle.snap_writers.specs.declared.job.Job.{Job}
+use Rattle.snap_writers.specs.declared.job.Ended.{Ended}
+use Rattle.snap_writers.specs.declared.job.Ended.TheVariants as ended
+use Rattle.snap_writers.specs.declared.job.Worked.{Worked}
+use Rattle.snap_writers.specs.Jobs.{Done, Granted, HasWorked, IsCommitOf, IsWork, IsWorked, commits, done, with_end}
+use Rattle.snap_writers.specs.Going.{HasRunJob, IsGoing, none_run}
+use Rattle.snap_writers.specs.Starting.{unprepared}
+use Rattle.snap_writers.proofs.Calling.{all_append, commits_append, more_tape, zip_append, zip_weaker}
+
+pub done_none : {X : Type 0} (js : List Job) (xs : List X) → done js (none_run xs) ≡ []
+done_none [] xs = refl
+done_none (j ∷ js) [] = refl
+done_none (j ∷ js) (x ∷ xs) = done_none js xs
+
+pub done_unprepared : {X : Type 0} (js : List Job) (xs : List X) → done js (unprepared xs) ≡ []
+done_unprepared [] xs = refl
+done_unprepared (j ∷ js) [] = refl
+done_unprepared (j ∷ js) (x ∷ xs) = done_unprepared js xs
+
+pub length_none : (js : List Job) → length (none_run js) ≡ length js
+length_none js = length-map js (λ _. ended.NotRun)
+
+end_first : (j : Job) (e : Ended) (rest : List Done) → with_end j e rest ≡ with_end j e [] ++ rest
+end_first j (ended.Committed usage) rest = refl
+end_first j e rest = refl
+
+zip_none : (t : List Entry) (gs : List Granted) → AllZip (IsCommitOf t) [] gs → gs ≡ []
+zip_none t [] p = refl
+zip_none t (g ∷ gs) p = absurd p
+
+pub begins : (all : List Job) (s : SessionValue) (ends : List Ended) → ends ≡ none_run all → s.tape ≡ entry s.number calls.Session Nothing replies.Opened ∷ [] → IsGoing all all s ends 0
+begins all s ends are tape = record {
+  front = [];
+  count = omega arith;
+  behind = refl;
+  are = are;
+  rest = [];
+  tape = tape;
+  calls = tt;
+  committed = [];
+  done = λ es. refl;
+  of = subst (λ (l : List Entry). AllZip (IsCommitOf s.tape) [] (commits l)) (sym tape) tt;
+}
+
+-- a job is done
+pub goes : (all left : List Job) (j : Job) (s t : SessionValue) (ends : List Ended) (place : ℕ) (e : Ended) → IsGoing all (j ∷ left) s ends place → HasRunJob s t j e → IsGoing all left t (set ends place e) (place + 1)
+goes all left j s t ends place e was job = record {
+  front = was.front ++ e ∷ [];
+  count = omega (arith, was.count);
+  behind = length-append was.front (e ∷ []) ∙ omega (arith, was.behind);
+  are = ap (λ (es : List Ended). set es place e) was.are ∙ (set_at was.front ended.NotRun (none_run left) e place was.behind ∙ sym (append_assoc was.front (e ∷ []) (none_run left)));
+  rest = was.rest ++ job.goes.more;
+  tape = job.goes.tape ∙ (ap (λ (l : List Entry). l ++ job.goes.more) was.tape ∙ ap (λ n. entry n calls.Session Nothing replies.Opened ∷ (was.rest ++ job.goes.more)) (sym job.goes.number));
+  calls = all_append (λ x. IsWork x.call) was.rest job.goes.more was.calls job.goes.calls;
+  committed = was.committed ++ with_end j e [];
+  done = λ es.
+      ap (done all) (append_assoc was.front (e ∷ []) es)
+      ∙ (was.done (e ∷ es) ∙ (ap (λ (l : List Done). was.committed ++ l) (end_first j e (done left es)) ∙ sym (append_assoc was.committed (with_end j e []) (done left es))));
+  of = subst (λ (l : List Granted). AllZip (IsCommitOf t.tape) (was.committed ++ with_end j e []) l) (sym grown) (zip_append (IsCommitOf t.tape) was.committed (with_end j e []) (commits s.tape) job.granted before job.of);
+}
+  where
+    grown : commits t.tape ≡ commits s.tape ++ job.granted
+    grown = ap commits job.goes.tape ∙ (commits_append s.tape job.goes.more ∙ ap (λ (l : List Granted). commits s.tape ++ l) job.goes.commits)
+
+    before : AllZip (IsCommitOf t.tape) was.committed (commits s.tape)
+    before = subst (λ (l : List Entry). AllZip (IsCommitOf l) was.committed (commits s.tape)) (sym job.goes.tape) (zip_weaker (IsCommitOf s.tape) (IsCommitOf (s.tape ++ job.goes.more)) (more_tape s.tape job.goes.more) was.committed (commits s.tape) was.of)
+
+-- a job that the gate stops has no end, and is left
+pub stops : (all left : List Job) (j : Job) (s t : SessionValue) (ends : List Ended) (place : ℕ) → IsGoing all (j ∷ left) s ends place → HasRunJob s t j ended.NotRun → (length ends ≡ length all) × HasWorked all ends t
+stops all left j s t ends place was job = (
+  counts,
+  record {
+    rest = was.rest ++ job.goes.more;
+    tape = job.goes.tape ∙ (ap (λ (l : List Entry). l ++ job.goes.more) was.tape ∙ ap (λ n. entry n calls.Session Nothing replies.Opened ∷ (was.rest ++ job.goes.more)) (sym job.goes.number));
+    calls = all_append (λ x. IsWork x.call) was.rest job.goes.more was.calls job.goes.calls;
+    commits = subst (λ (l : List Done). AllZip (IsCommitOf t.tape) l (commits t.tape)) (sym are) (subst (λ (l : List Granted). AllZip (IsCommitOf t.tape) was.committed l) (sym grown) before);
+  },
+)
+  where
+    none : job.granted ≡ []
+    none = zip_none t.tape job.granted job.of
+
+    grown : commits t.tape ≡ commits s.tape
+    grown = ap commits job.goes.tape ∙ (commits_append s.tape job.goes.more ∙ (ap (λ (l : List Granted). commits s.tape ++ l) (job.goes.commits ∙ none) ∙ append-nil (commits s.tape)))
+
+    before : AllZip (IsCommitOf t.tape) was.committed (commits s.tape)
+    before = subst (λ (l : List Entry). AllZip (IsCommitOf l) was.committed (commits s.tape)) (sym job.goes.tape) (zip_weaker (IsCommitOf s.tape) (IsCommitOf (s.tape ++ job.goes.more)) (more_tape s.tape job.goes.more) was.committed (commits s.tape) was.of)
+
+    counts : length ends ≡ length all
+    counts = ap length was.are ∙ (length-append was.front (none_run (j ∷ left)) ∙ omega (arith, was.behind, length_none (j ∷ left), was.count))
+
+    are : done all ends ≡ was.committed
+    are = ap (done all) was.are ∙ (was.done (none_run (j ∷ left)) ∙ (ap (λ (l : List Done). was.committed ++ l) (done_none left left) ∙ append-nil was.committed))
+
+-- no job is left
+pub ends_all : (all left : List Job) (s : SessionValue) (ends : List Ended) (place : ℕ) → IsGoing all left s ends place → (length ends ≡ length all) × HasWorked all ends s
+ends_all all left s ends place was = (counts, record { rest = was.rest; tape = was.tape; calls = was.calls; commits = subst (λ (l : List Done). AllZip (IsCommitOf s.tape) l (commits s.tape)) (sym are) was.of })
+  where
+    counts : length ends ≡ length all
+    counts = ap length was.are ∙ (length-append was.front (none_run left) ∙ omega (arith, was.behind, length_none left, was.count))
+
+    are : done all ends ≡ was.committed
+    are = ap (done all) was.are ∙ (was.done (none_run left) ∙ (ap (λ (l : List Done). was.committed ++ l) (done_none left left) ∙ append-nil was.committed))
+
+-- there is an end to write for the next job
+pub room : (all left : List Job) (j : Job) (s : SessionValue) (ends : List Ended) (place : ℕ) → IsGoing all (j ∷ left) s ends place → place < length ends
+room all left j s ends place was = omega (arith, ap length was.are, length-append was.front (none_run (j ∷ left)), was.behind, length_none (j ∷ left), was.count)
+
+-- ---- a worker without a session
+
+none_behind : (j : Job) (e : Ended) (rest : List Done) → with_end j e rest ≡ [] → rest ≡ []
+none_behind j (ended.Committed usage) rest none = absurd (cc)
+none_behind j e rest none = none
+
+still_none : (j : Job) (e : Ended) (rest other : List Done) → with_end j e rest ≡ [] → other ≡ [] → with_end j e other ≡ []
+still_none j (ended.Committed usage) rest other none is = absurd (cc)
+still_none j e rest other none is = is
+
+-- with an end that is none of a commit in a place
+pub none_set : (js : List Job) (es : List Ended) (k : ℕ) (why : Refusal) → done js es ≡ [] → done js (set es k (ended.NotPrepared why)) ≡ []
+none_set [] es k why none = refl
+none_set (j ∷ js) [] k why none = refl
+none_set (j ∷ js) (e ∷ es) zero why none = none_behind j e (done js es) none
+none_set (j ∷ js) (e ∷ es) (suc k) why none = still_none j e (done js es) (done js (set es k (ended.NotPrepared why))) none (none_set js es k why (none_behind j e (done js es) none))
+
+-- what is owed by what is promised
+pub owed : (jobs jobs' : List Job) (worker worker' workers workers' : ℕ) (w : Worked) → jobs ≡ jobs' → worker ≡ worker' → workers ≡ workers' → IsWorked jobs worker workers w → IsWorked jobs' worker' workers' w
+owed jobs jobs' worker worker' workers workers' w a b c h = subst (λ (js : List Job). IsWorked js worker' workers' w) a (subst (λ k. IsWorked jobs k workers' w) b (subst (λ n. IsWorked jobs worker n w) c h))

@@ -1,0 +1,37 @@
+use Rattle.std.proofs.Common.{◌≡◌, ◌∷◌, ◌+◌, ◌-◌, List, length, arith, ap, sym, subst, ◌∙◌}
+use Rattle.std.specs.Prelude.{drop}
+use Rattle.snap_writers.specs.declared.job.Job.{Job}
+use Rattle.snap_writers.specs.Jobs.{every, jobs_of}
+use Rattle.snap_writers.specs.Going.{IsGoing}
+use Rattle.snap_writers.proofs.Every.{taken_up}
+use Rattle.snap_writers.proofs.Walking.{goes, stops}
+use Rattle.snap_writers.proofs.worker.Worker.run_all.Goals as goal
+
+pub returns-in-None : goal.returns-in-None
+returns-in-None g c =
+    let all = jobs_of c.args.jobs.now c.args.worker c.args.workers in
+    let left = every c.args.workers (c.args.workers - 1) (drop (c.loop-job.job-index + 1) c.args.jobs.now) in
+    let s = c.loop-job.this.session in
+    let t = c.run_job.new.self.session in
+    let next : every c.args.workers c.loop-job.skip (drop c.loop-job.job-index c.args.jobs.now) ≡ c.job-item.result ∷ left =
+    taken_up c.args.workers c.loop-job.skip c.loop-job.job-index c.args.jobs.now c.job-item.result c.loop-job-test.true (omega (arith, c.if-skip-gt0.false)) ∙ ap (λ (j : Job). j ∷ left) (sym c.job-item.is) in
+    let was = subst (λ (l : List Job). IsGoing all l s c.loop-job.ends c.loop-job.place) next c.loop-job.invariant.going in
+    let end = stops all left c.job-item.result s t c.loop-job.ends c.loop-job.place was c.in-None.ensures in
+    record {
+      ends = ap length c.give_back.ensures.ends ∙ end.0;
+      session = rw (c.give_back.ensures.session, c.give_back.ensures.ends) end.1;
+    }
+
+pub loop-job-preserved : goal.loop-job-preserved
+loop-job-preserved g c =
+    let all = jobs_of c.args.jobs.now c.args.worker c.args.workers in
+    let left = every c.args.workers (c.args.workers - 1) (drop (c.loop-job.job-index + 1) c.args.jobs.now) in
+    let s = c.loop-job.this.session in
+    let t = c.run_job.new.self.session in
+    let next : every c.args.workers c.loop-job.skip (drop c.loop-job.job-index c.args.jobs.now) ≡ c.job-item.result ∷ left =
+    taken_up c.args.workers c.loop-job.skip c.loop-job.job-index c.args.jobs.now c.job-item.result c.loop-job-test.true (omega (arith, c.if-skip-gt0.false)) ∙ ap (λ (j : Job). j ∷ left) (sym c.job-item.is) in
+    let was = subst (λ (l : List Job). IsGoing all l s c.loop-job.ends c.loop-job.place) next c.loop-job.invariant.going in
+    record {
+      skip = omega (arith, c.requires.worker.0, c.requires.worker.1);
+      going = rw c.set.ensures (goes all left c.job-item.result s t c.loop-job.ends c.loop-job.place c.in-Some.end was c.in-Some.ensures);
+    }

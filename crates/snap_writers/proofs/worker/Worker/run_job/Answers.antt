@@ -1,0 +1,11 @@
+use Rattle.std.proofs.Common.{[]}
+use Rattle.snap_writers.specs.Going.{end_or}
+use Rattle.snap_writers.proofs.Calling.{stays, then_ended, then_on}
+use Rattle.snap_writers.proofs.worker.Worker.run_job.Goals as goal
+
+pub returns-in-Ok : goal.returns-in-Ok
+returns-in-Ok g c =
+    let old = c.args.self.now.session in
+    let asked = c.passes.new.self.session in
+    let mid = c.prepare.new.self.session in
+    then_ended old mid c.work.new.self.session c.args.job.now (end_or c.work.result) (then_on old asked mid [] (stays old asked c.passes.ensures.same) c.in-Ok.ensures.goes) c.work.ensures

@@ -1,0 +1,68 @@
+-- A worker on its way through its jobs.
+-- Cited by invariants and private clauses alone.
+use Rattle.std.specs.Prelude.{◌≡◌, ℕ, ◌+◌, List, [], ◌∷◌, ◌++◌, length, map, Any, Option, None, Some}
+use Rattle.std.specs.List.{AllByRecursion, AllZip}
+use Rattle.snap_layer.specs.Edits.{root_only}
+use Rattle.snap_usage.specs.Counted.{count_of}
+use Rattle.snap_record.specs.Labels.{Bytes}
+use Rattle.snap_call.specs.declared.call.Call.TheVariants as calls
+use Rattle.snap_call.specs.declared.call.Given.TheVariants.{Nothing}
+use Rattle.snap_call.specs.declared.entry.Entry.{Entry}
+use Rattle.snap_call.specs.declared.reply.Reply.TheVariants as replies
+use Rattle.snap_call.specs.Journal.{entry}
+use Rattle.snap_book.specs.Active.{ActiveValue, root_mode}
+use Rattle.snap_tape.specs.Tapes.{SessionValue}
+use Rattle.snap_writers.specs.declared.job.Job.{Job}
+use Rattle.snap_writers.specs.declared.job.Ended.{Ended}
+use Rattle.snap_writers.specs.declared.job.Ended.TheVariants as ended
+use Rattle.snap_writers.specs.Jobs.{Done, Granted, IsCommitOf, IsMadeBy, IsPrepareOf, IsWork, commits, done, with_end}
+
+-- the session's tape went on by calls of a worker, of which these are the granted Commits
+pub record GoesOn (old new : SessionValue) (granted : List Granted) : Type 0 where
+  pub number : new.number ≡ old.number
+  pub more : List Entry
+  pub tape : new.tape ≡ old.tape ++ more
+  pub calls : AllByRecursion (λ e. IsWork e.call) more
+  pub commits : commits more ≡ granted
+
+-- the commit of the snapshot
+abbrev pub granted : ActiveValue → Bytes → Option Bytes → Granted
+granted a name lease = record { id = a.share.id; name = name; lease = lease; layer = a.layer; usage = count_of a.layer }
+
+-- the job's snapshot, as it was prepared: a root alone
+pub record IsFresh (tape : List Entry) (j : Job) (a : ActiveValue) : Type 0 where
+  pub prepared : Any (IsPrepareOf j a.share.id) tape
+  pub base : j.parent ≡ [] → a.lowers ≡ []
+  pub layer : a.layer ≡ root_only (root_mode a.lowers) 1
+
+-- and once all its operations are done
+pub record IsReady (tape : List Entry) (j : Job) (a : ActiveValue) : Type 0 where
+  pub prepared : Any (IsPrepareOf j a.share.id) tape
+  pub made : IsMadeBy j a.layer
+
+-- the job's end, or that it has none, is what its calls left on the tape
+pub record HasRunJob (old new : SessionValue) (j : Job) (end : Ended) : Type 0 where
+  pub granted : List Granted
+  pub goes : GoesOn old new granted
+  pub of : AllZip (IsCommitOf new.tape) (with_end j end []) granted
+
+-- the end where there is one
+abbrev pub end_or : Option Ended → Ended
+end_or None = ended.NotRun
+end_or (Some end) = end
+
+abbrev pub none_run : {X : Type 0} → List X → List Ended
+none_run js = map (λ _. ended.NotRun) js
+
+-- of all a worker's jobs these are left, and so many are behind it; whatever the ends of those that are left will be, the jobs that ended Committed are these and what of the ones left ends so; and they are what the tape was granted
+pub record IsGoing (all left : List Job) (s : SessionValue) (ends : List Ended) (place : ℕ) : Type 0 where
+  pub front : List Ended
+  pub count : length all ≡ place + length left
+  pub behind : length front ≡ place
+  pub are : ends ≡ front ++ none_run left
+  pub rest : List Entry
+  pub tape : s.tape ≡ entry s.number calls.Session Nothing replies.Opened ∷ rest
+  pub calls : AllByRecursion (λ e. IsWork e.call) rest
+  pub committed : List Done
+  pub done : (es : List Ended) → done all (front ++ es) ≡ committed ++ done left es
+  pub of : AllZip (IsCommitOf s.tape) committed (commits s.tape)

@@ -1,0 +1,179 @@
+-- Jobs, and what is owed by a worker and by a run of all workers.
+-- Cited by `run_worker`, `run_jobs`.
+use Rattle.std.specs.Prelude.{◌≡◌, ◌⊎◌, ℕ, zero, suc, ◌+◌, ◌-◌, ◌≤◌, ◌<◌, List, [], ◌∷◌, length, Any, Option, None, Some, Ok, Err}
+use Rattle.std.specs.List.{AllByRecursion, AllZip}
+use Rattle.snap_layer.specs.Edits.{root_only}
+use Rattle.snap_layer.specs.Tree.{Tree}
+use Rattle.snap_usage.specs.Counted.{count_of}
+use Rattle.snap_usage.specs.declared.usage.Usage.{Usage}
+use Rattle.snap_record.specs.Labels.{Bytes}
+use Rattle.snap_upper.specs.declared.op.Op.{Op}
+use Rattle.snap_upper.specs.After.{Outcome, after}
+use Rattle.snap_call.specs.declared.call.Call.{Call}
+use Rattle.snap_call.specs.declared.call.Call.TheVariants as calls
+use Rattle.snap_call.specs.declared.call.Given.{Given}
+use Rattle.snap_call.specs.declared.call.Given.TheVariants.{Nothing, Layer}
+use Rattle.snap_call.specs.declared.entry.Entry.{Entry}
+use Rattle.snap_call.specs.declared.reply.Reply.{Reply}
+use Rattle.snap_call.specs.declared.reply.Reply.TheVariants as replies
+use Rattle.snap_call.specs.Journal.{entry}
+use Rattle.snap_book.specs.Active.{root_mode}
+use Rattle.snap_tape.specs.Tapes.{SessionValue}
+use Rattle.snap_grants.specs.Grants.{Stored, worth}
+use Rattle.snap_store.specs.Closing.{IsClosed}
+use Rattle.snap_writers.specs.declared.job.Job.{Job}
+use Rattle.snap_writers.specs.declared.job.End.{End}
+use Rattle.snap_writers.specs.declared.job.End.TheVariants as ends
+use Rattle.snap_writers.specs.declared.job.Ended.{Ended}
+use Rattle.snap_writers.specs.declared.job.Ended.TheVariants as ended
+use Rattle.snap_writers.specs.declared.job.Worked.{Worked}
+use Rattle.snap_writers.specs.declared.job.Report.{Report}
+use Rattle.snap_writers.specs.declared.job.RunFault.{RunFault}
+use Rattle.snap_writers.specs.declared.job.RunFault.TheVariants as faults
+
+-- ---- which jobs are a worker's
+
+-- each n-th element, after so many that are passed over
+abbrev pub every : {X : Type 0} → ℕ → ℕ → List X → List X
+every n skip [] = []
+every n zero (x ∷ xs) = x ∷ every n (n - 1) xs
+every n (suc skip) (x ∷ xs) = every n skip xs
+
+-- the jobs of a worker, counted from 1, among so many workers: those at whose places, from 0, the number of workers leaves the rest worker - 1
+abbrev pub jobs_of : List Job → ℕ → ℕ → List Job
+jobs_of jobs worker workers = every workers (worker - 1) jobs
+
+-- ---- which of them were committed
+
+-- a job that ended Committed, and the usage that its end tells
+pub record Done : Type 0 where
+  pub job : Job
+  pub usage : Usage
+
+abbrev pub with_end : Job → Ended → List Done → List Done
+with_end j (ended.Committed usage) rest = record { job = j; usage = usage } ∷ rest
+with_end j end rest = rest
+
+-- the jobs that ended Committed, in order
+abbrev pub done : List Job → List Ended → List Done
+done [] es = []
+done (j ∷ js) [] = []
+done (j ∷ js) (e ∷ es) = with_end j e (done js es)
+
+-- ---- what a tape says of them
+
+-- a granted Commit: its id, name and lease, the layer that was given, and the usage of its reply
+pub record Granted : Type 0 where
+  pub id : ℕ
+  pub name : Bytes
+  pub lease : Option Bytes
+  pub layer : Tree
+  pub usage : Usage
+
+-- by the reply and what was given: the granted Commit before the rest, or the rest alone
+abbrev pub commit_by : ℕ → Bytes → Option Bytes → Reply → Given → List Granted → List Granted
+commit_by id name lease (replies.Committed at usage) (Layer layer) rest = record { id = id; name = name; lease = lease; layer = layer; usage = usage } ∷ rest
+commit_by id name lease reply given rest = rest
+
+-- by the call: the rest alone of any other than Commit
+abbrev pub commit_of : Call → Given → Reply → List Granted → List Granted
+commit_of (calls.Commit slot id name lease) given reply rest = commit_by id name lease reply given rest
+commit_of call given reply rest = rest
+
+-- the granted Commits of a tape, in order
+abbrev pub commits : List Entry → List Granted
+commits [] = []
+commits (e ∷ es) = commit_of e.call e.given e.reply (commits es)
+
+-- a call that a worker makes
+abbrev pub IsWork : Call → Type 0
+IsWork (calls.Prepare namespace key parent labels) = Unit {0}
+IsWork (calls.Charge slot id need want) = Unit {0}
+IsWork (calls.Commit slot id name lease) = Unit {0}
+IsWork (calls.Discard slot id) = Unit {0}
+IsWork call = ⊥
+
+-- the entry is of a Prepare for the job, without labels, which was granted the id
+abbrev pub IsPrepareOf : Job → ℕ → Entry → Type 0
+IsPrepareOf j id e = (session slot : ℕ) × (chain : List ℕ) × (e ≡ entry session (calls.Prepare j.namespace j.key j.parent []) Nothing (replies.Prepared id slot chain))
+
+-- ---- what a job's operations make
+
+-- after an outcome: the next operation's where it is a layer, and else the error
+abbrev pub then_after : Outcome → (Tree → Outcome) → Outcome
+then_after (Ok next) more = more next
+then_after (Err e) more = Err e
+
+-- the layer after all the operations, in order, or the first error
+abbrev pub all_after : List Op → Tree → List Tree → Outcome
+all_after [] layer lowers = Ok layer
+all_after (op ∷ ops) layer lowers = then_after (after op layer lowers) (λ next. all_after ops next lowers)
+
+-- the layer is what the job's operations make of a root alone, over some lower layers, and over none without a parent
+pub record IsMadeBy (j : Job) (layer : Tree) : Type 0 where
+  pub lowers : List Tree
+  pub base : j.parent ≡ [] → lowers ≡ []
+  pub made : all_after j.ops (root_only (root_mode lowers) 1) lowers ≡ Ok layer
+
+-- ---- what a worker owes
+
+-- the granted Commit is the job's: under its name and in its lease; of an id that a Prepare of the tape was granted for the job; with the layer that the job's operations make; and the usage, which the job's end tells too, is the count over it
+pub record IsCommitOf (tape : List Entry) (d : Done) (g : Granted) : Type 0 where
+  pub end : d.job.end ≡ ends.Commit g.name g.lease
+  pub prepared : Any (IsPrepareOf d.job g.id) tape
+  pub made : IsMadeBy d.job g.layer
+  pub usage : g.usage ≡ d.usage
+  pub count : d.usage ≡ count_of g.layer
+
+-- a worker's session: its tape begins with its own opening, and has the calls of a worker alone after it; its granted Commits are, in order, those of the jobs that ended Committed
+pub record HasWorked (jobs : List Job) (es : List Ended) (s : SessionValue) : Type 0 where
+  pub rest : List Entry
+  pub tape : s.tape ≡ entry s.number calls.Session Nothing replies.Opened ∷ rest
+  pub calls : AllByRecursion (λ e. IsWork e.call) rest
+  pub commits : AllZip (IsCommitOf s.tape) (done jobs es) (commits s.tape)
+
+-- a worker without a session has committed no job
+abbrev pub HaveWorked : List Job → List Ended → Option SessionValue → Type 0
+HaveWorked jobs es None = done jobs es ≡ []
+HaveWorked jobs es (Some s) = HasWorked jobs es s
+
+-- what a worker gives back: one end for each job of its own, and its session
+pub record IsWorked (jobs : List Job) (worker workers : ℕ) (w : Worked) : Type 0 where
+  pub ends : length w.ends ≡ length (jobs_of jobs worker workers)
+  pub session : HaveWorked (jobs_of jobs worker workers) w.ends w.session
+
+-- ---- what a run of all workers owes
+
+-- the name that an end commits under
+abbrev pub name_of : End → Option Bytes
+name_of (ends.Commit name lease) = Some name
+name_of ends.Discard = None
+
+-- the committed snapshot is the job's: of its namespace, under its name and over its parent, with the layer that the job's operations make; and the usage that its end tells is the count over it
+pub record IsStoredOf (d : Done) (s : Stored) : Type 0 where
+  pub namespace : s.namespace ≡ d.job.namespace
+  pub name : name_of d.job.end ≡ Some s.name
+  pub parent : s.parent ≡ d.job.parent
+  pub made : IsMadeBy d.job s.layer
+  pub count : d.usage ≡ count_of s.layer
+
+-- the weights of the snapshots, added up
+abbrev pub total : (Stored → ℕ) → List Stored → ℕ
+total h [] = 0
+total h (s ∷ ss) = h s + total h ss
+
+-- one end for each job, in order; all of a closed store; and, however snapshots are weighed, its committed ones are those that the round began with and one for each job that ended Committed
+pub record IsReport {N : Type 0} (jobs : List Job) (r : Report N) : Type 0 where
+  pub ends : length r.ends ≡ length jobs
+  pub sessions : List SessionValue
+  pub closed : IsClosed r.closed sessions
+  pub stored : List Stored
+  pub of : AllZip IsStoredOf (done jobs r.ends) stored
+  pub committed : (h : Stored → ℕ) → worth h r.closed.state ≡ worth h r.closed.opening + total h stored
+
+-- where there is no report of jobs that were all let through
+abbrev pub IsFault : {N : Type 0} → List Job → ℕ → RunFault N → Type 0
+IsFault jobs workers (faults.BadWorkers store) = (workers ≡ 0) ⊎ (16 < workers)
+IsFault jobs workers (faults.OutOfMemory store) = (1 ≤ workers) × (workers ≤ 16)
+IsFault jobs workers (faults.GateClosed worker report) = IsReport jobs report × (1 ≤ worker) × (worker ≤ workers)
+IsFault jobs workers (faults.NotClosed back) = (1 ≤ workers) × (workers ≤ 16)

@@ -1,0 +1,67 @@
+-- What workers start with, and what they give back once all have ended.
+-- Cited by invariants and private clauses alone.
+use Rattle.std.specs.Prelude.{◌≡◌, ℕ, zero, suc, ◌+◌, ◌<◌, List, [], ◌∷◌, length, map, Option, None, Some}
+use Rattle.snap_call.specs.declared.refusal.Refusal.TheVariants.{OutOfMemory}
+use Rattle.snap_tape.specs.Tapes.{SessionValue}
+use Rattle.snap_writers.specs.declared.assignment.Assignment.{Assignment}
+use Rattle.snap_writers.specs.declared.job.Job.{Job}
+use Rattle.snap_writers.specs.declared.job.Ended.{Ended}
+use Rattle.snap_writers.specs.declared.job.Ended.TheVariants as ended
+use Rattle.snap_writers.specs.declared.job.Worked.{Worked}
+use Rattle.snap_writers.specs.declared.threads.Started.{Started}
+use Rattle.snap_writers.specs.declared.threads.Started.TheVariants.{There, Threadless}
+use Rattle.snap_writers.specs.Jobs.{IsWorked, every, jobs_of}
+use Rattle.snap_writers.specs.Going.{none_run}
+
+-- each element with its place, from k on
+abbrev pub Each : {X : Type 0} → (ℕ → X → Type 0) → ℕ → List X → Type 0
+Each P k [] = Unit {0}
+Each P k (x ∷ xs) = P k x × Each P (k + 1) xs
+
+-- no job was prepared
+abbrev pub unprepared : {X : Type 0} → List X → List Ended
+unprepared js = map (λ _. ended.NotPrepared OutOfMemory) js
+
+-- what the worker starts with
+pub record IsAssigned (jobs : List Job) (worker workers : ℕ) (a : Assignment) : Type 0 where
+  pub number : a.worker ≡ worker
+  pub ends : a.ends ≡ none_run (jobs_of jobs worker workers)
+  pub threadless : a.threadless ≡ unprepared (jobs_of jobs worker workers)
+
+pub record AreAssigned (jobs : List Job) (workers : ℕ) (all : List Assignment) : Type 0 where
+  pub count : length all ≡ workers
+  pub each : Each (λ k a. IsAssigned jobs (k + 1) workers a) 0 all
+
+-- the thread's promise is of this worker; where there is no thread, the worker gave back what it owes
+abbrev pub IsStarted : List Job → ℕ → ℕ → Started → Type 0
+IsStarted jobs worker workers (There h) = (h.promise.jobs.now ≡ jobs) × (h.promise.worker ≡ worker) × (h.promise.workers ≡ workers)
+IsStarted jobs worker workers (Threadless w) = IsWorked jobs worker workers w
+
+pub record AreStarted (jobs : List Job) (workers : ℕ) (all : List Started) : Type 0 where
+  pub count : length all ≡ workers
+  pub each : Each (λ k s. IsStarted jobs (k + 1) workers s) 0 all
+
+-- each worker gave back what it owes
+pub record AreWorked (jobs : List Job) (workers : ℕ) (all : List Worked) : Type 0 where
+  pub count : length all ≡ workers
+  pub each : Each (λ k w. IsWorked jobs (k + 1) workers w) 0 all
+
+-- the ends of the worker at this place, from 0
+abbrev pub ends_at : List Worked → ℕ → List Ended
+ends_at [] k = []
+ends_at (w ∷ ws) zero = w.ends
+ends_at (w ∷ ws) (suc k) = ends_at ws k
+
+-- the ends in the jobs' order: one for each job, of which those of each worker's jobs are its own, in order
+pub record AreInOrder (jobs : List Job) (workers : ℕ) (all : List Worked) (ends : List Ended) : Type 0 where
+  pub count : length ends ≡ length jobs
+  pub each : (k : ℕ) → k < workers → every workers k ends ≡ ends_at all k
+
+-- the sessions of the workers that have one
+abbrev pub with_session : Option SessionValue → List SessionValue → List SessionValue
+with_session None rest = rest
+with_session (Some s) rest = s ∷ rest
+
+abbrev pub sessions_of : List Worked → List SessionValue
+sessions_of [] = []
+sessions_of (w ∷ ws) = with_session w.session (sessions_of ws)

@@ -1,0 +1,115 @@
+// The workers, each on a thread of its own.
+ghost use Rattle.std.specs.Prelude.{◌≡◌, ◌≤◌, [], IfOk, vec_len, vec_capacity};
+ghost use Rattle.snap_writers.specs.Jobs.{IsWorked, jobs_of};
+ghost use Rattle.snap_writers.specs.Going.{none_run};
+ghost use Rattle.snap_writers.specs.Starting.{AreAssigned, AreStarted, AreWorked, unprepared};
+
+use crate::assignment::Assignment;
+use crate::job::{Ends, Gate, Job, Worked, Works};
+use crate::worker::run_worker;
+use snap_ledger::StoreName;
+use snap_store::Store;
+use std::alloc::{AllocError, Global};
+use std::sync::Wait;
+use std::thread;
+use std::thread::{PromisedHandle, Threads};
+
+// A worker on its thread, or what one gives back that got none.
+#[derive(Drop)]
+enum Started<'a> {
+    There(PromisedHandle<Worked, Works<'a>>),
+    Threadless(Worked),
+}
+
+// What a worker gives back that got no thread.
+fn without_thread(jobs: &[Job], worker: u32, workers: u32, ends: Ends) -> Worked
+    requires { ends ≡ unprepared (jobs_of jobs.now worker workers) }
+    ensures { IsWorked jobs.now worker workers result }
+{
+    Worked {
+        session: None,
+        ends,
+        refused: false,
+    }
+}
+
+// What the workers gave back, in order, once all have ended.
+fn joined<R: Threads>(
+    rt: &R,
+    jobs: &[Job],
+    workers: u32,
+    started: Vec<Started>,
+    all: Vec<Worked>,
+) -> Vec<Worked>
+    requires started { AreStarted jobs.now workers started.items }
+    requires all { (all.items ≡ []) × (workers ≤ vec_capacity all) }
+    ensures { AreWorked jobs.now workers result.items }
+{
+    let mut all = all;
+    for one in started {
+        all.push_reserved(match one {
+            Started::There(handle) => handle.join(rt),
+            Started::Threadless(worked) => worked,
+        });
+    }
+    all
+}
+
+// Runs each worker on a thread of its own, and gives what they gave back, in order. Memory is refused before a
+// thread is started.
+pub(crate) fn all_worked<N: StoreName + Send + Sync, R: Threads + Wait + Sync, G: Gate>(
+    rt: &R,
+    alloc: Global,
+    store: &Store<N>,
+    jobs: &[Job],
+    workers: u32,
+    gate: &G,
+    assignments: Vec<Assignment>,
+) -> Result<Vec<Worked>, AllocError>
+    requires { AreAssigned jobs.now workers assignments.items }
+    ensures { IfOk result (λ all. AreWorked jobs.now workers all.items) }
+{
+    let mut all = Vec::with_capacity(alloc, assignments.len())?;
+    let mut started = Vec::with_capacity(alloc, assignments.len())?;
+    Ok(thread::scope(
+        thread::scope_env(),
+        rt,
+        |scope| -> Vec<Worked>
+            requires assigned { AreAssigned jobs.now workers assignments.items }
+            requires all { (all.items ≡ []) × (vec_len assignments ≤ vec_capacity all) }
+            requires started { (started.items ≡ []) × (vec_len assignments ≤ vec_capacity started) }
+            ensures { AreWorked jobs.entry.now workers result.items }
+        {
+            for assignment in assignments {
+                let Assignment {
+                    worker,
+                    ends,
+                    threadless,
+                } = assignment;
+                let promise = Works {
+                    jobs,
+                    worker,
+                    workers,
+                };
+                let one = match scope.spawn_with(
+                    promise,
+                    move || -> Worked
+                        requires worker { (1 ≤ worker) × (worker ≤ workers) }
+                        requires ends { ends ≡ none_run (jobs_of jobs.now worker workers) }
+                        ensures { IsWorked jobs.entry.now worker workers result }
+                    { run_worker(rt, alloc, store, jobs, worker, workers, gate, ends) },
+                ) {
+                    Ok(handle) => {
+                        drop(threadless);
+                        Started::There(handle)
+                    }
+                    Err(_) => {
+                        Started::Threadless(without_thread(jobs, worker, workers, threadless))
+                    }
+                };
+                started.push_reserved(one);
+            }
+            joined(rt, jobs, workers, started, all)
+        },
+    ))
+}

@@ -1,0 +1,312 @@
+// A worker on its way through its jobs.
+ghost use Rattle.std.specs.Prelude.{◌≡◌, ◌<◌, ◌≤◌, List, [], ◌∷◌, length, true, OnOk, IfOk, IfErr, Ok, Some};
+ghost use Rattle.snap_usage.specs.Counted.{count_of};
+ghost use Rattle.snap_upper.specs.After.{after};
+ghost use Rattle.snap_writers.specs.Run.{IsSameSnapshot};
+ghost use Rattle.snap_call.specs.Journal.{entry};
+ghost use Rattle.snap_call.specs.declared.call.Call.TheVariants as calls;
+ghost use Rattle.snap_call.specs.declared.call.Given.TheVariants.{Nothing};
+ghost use Rattle.snap_call.specs.declared.reply.Reply.TheVariants as replies;
+ghost use Rattle.snap_writers.specs.declared.job.Job.{Job as JobValue};
+ghost use Rattle.snap_writers.specs.Jobs.{IsWorked, all_after, done, jobs_of};
+ghost use Rattle.snap_writers.specs.Going.{GoesOn, HasRunJob, IsFresh, IsReady, end_or, granted, none_run};
+
+use crate::job::{End, Ended, Ends, Gate, Job, Worked};
+use crate::running::{RunError, run};
+use snap_book::{Active, Held, Refusal};
+use snap_ledger::StoreName;
+use snap_record::{Labels, Text};
+use snap_store::{Session, Store};
+use snap_upper::Op;
+use snap_usage::Usage;
+use std::alloc::Global;
+use std::sync::Wait;
+
+// A worker with its session. It has asked the gate for so many steps, and may make the last of them where the
+// gate let it pass and it is not made yet.
+#[derive(Drop)]
+pub(crate) struct Worker<'a, N: StoreName, R: Wait, G: Gate> {
+    pub(crate) rt: &'a R,
+    pub(crate) alloc: Global,
+    pub(crate) store: &'a Store<N>,
+    pub(crate) gate: &'a G,
+    pub(crate) number: u32,
+    pub(crate) steps: u32,
+    pub(crate) may_step: bool,
+    pub(crate) session: Session,
+}
+
+// Why the operations of a job are not all done.
+enum Stop {
+    Gate,
+    Failed(RunError),
+}
+
+impl From<RunError> for Stop {
+    ghost from_gives = { λ _ _. Unit {0} };
+
+    fn from(error: RunError) -> Stop {
+        Stop::Failed(error)
+    }
+}
+
+impl<'a, N: StoreName, R: Wait, G: Gate> Worker<'a, N, R, G> {
+    // Asks the gate for the next step.
+    fn passes(&mut self) -> bool
+        ensures same { self.new.session ≡ self.old.session }
+        ensures may { self.new.may_step ≡ result }
+    {
+        self.steps = self.steps.saturating_add(1);
+        self.may_step = self.gate.pass(self.number, self.steps);
+        self.may_step
+    }
+
+    // Prepares the job's snapshot, with room on the tape for its discard.
+    fn prepare(&mut self, job: &Job) -> Result<Active<N>, Refusal>
+        requires may { self.old.may_step ≡ true }
+        ensures fresh { IfOk result (λ a. IsFresh self.new.session.tape job.now a) }
+        ensures goes { GoesOn self.old.session self.new.session [] }
+        ensures room { OnOk result (0 < self.new.session.spare) }
+    {
+        self.may_step = false;
+        self.session.reserve(2)?;
+        self.store.prepare(
+            self.rt,
+            &mut self.session,
+            job.namespace.as_str(),
+            job.key.as_str(),
+            job.parent.as_str(),
+            &Labels::new(self.alloc),
+        )
+    }
+
+    // Does an operation.
+    fn operate(&mut self, active: &mut Active<N>, op: &Op, extra: Usage) -> Result<(), RunError>
+        requires room { 0 < self.old.session.spare }
+        requires may { self.old.may_step ≡ true }
+        ensures done { OnOk result (after op.now active.old.layer active.old.lowers ≡ Ok active.new.layer) }
+        ensures same { IsSameSnapshot active.old active.new }
+        ensures goes { GoesOn self.old.session self.new.session [] }
+        ensures room { 0 < self.new.session.spare }
+    {
+        self.may_step = false;
+        if self.session.reserve(2).is_err() {
+            return Err(RunError::Book(Refusal::OutOfMemory));
+        }
+        run(self.store, self.rt, &mut self.session, active, op, extra)
+    }
+
+    // Does the job's operations, in order.
+    fn operate_all(&mut self, active: &mut Active<N>, job: &Job) -> Result<(), Stop>
+        requires { 0 < self.old.session.spare }
+        ensures done { OnOk result (all_after job.now.ops active.old.layer active.old.lowers ≡ Ok active.new.layer) }
+        ensures same { IsSameSnapshot active.old active.new }
+        ensures goes { GoesOn self.old.session self.new.session [] }
+        ensures room { 0 < self.new.session.spare }
+    {
+        for op in job.ops.as_slice() {
+            if !self.passes() {
+                return Err(Stop::Gate);
+            }
+            self.operate(active, op, job.extra)?;
+        }
+        Ok(())
+    }
+
+    // Ends the snapshot without a commit.
+    fn discard(&mut self, held: Held<N>)
+        requires { 0 < self.old.session.spare }
+        ensures { GoesOn self.old.session self.new.session [] }
+    {
+        self.store.discard(self.rt, &mut self.session, held);
+    }
+
+    // Commits the snapshot, or discards it and tells why.
+    fn commit(
+        &mut self,
+        active: Active<N>,
+        name: &Text,
+        lease: &Option<Text>,
+    ) -> Result<Usage, Refusal>
+        requires { 0 < self.old.session.spare }
+        ensures granted { IfOk result (λ usage. GoesOn self.old.session self.new.session (granted active name.now lease.now ∷ [])) }
+        ensures count { IfOk result (λ usage. usage ≡ count_of active.layer) }
+        ensures refused { IfErr result (λ _. GoesOn self.old.session self.new.session []) }
+    {
+        let sealed = match active.seal() {
+            Ok(sealed) => sealed,
+            Err(active) => {
+                self.discard(Held::Active(active));
+                return Err(Refusal::OutOfMemory);
+            }
+        };
+        if self.session.reserve(2).is_err() {
+            self.discard(Held::Sealed(sealed));
+            return Err(Refusal::OutOfMemory);
+        }
+        match self
+            .store
+            .commit(self.rt, &mut self.session, name.as_str(), lease, sealed)
+        {
+            Ok(usage) => Ok(usage),
+            Err((why, sealed)) => {
+                self.discard(Held::Sealed(sealed));
+                Err(why)
+            }
+        }
+    }
+
+    // Gives the snapshot the job's end.
+    fn end(&mut self, active: Active<N>, job: &Job) -> Ended
+        requires room { 0 < self.old.session.spare }
+        requires may { self.old.may_step ≡ true }
+        requires ready { IsReady self.old.session.tape job.now active }
+        ensures { HasRunJob self.old.session self.new.session job.now result }
+    {
+        self.may_step = false;
+        match &job.end {
+            End::Commit { name, lease } => match self.commit(active, name, lease) {
+                Ok(usage) => Ended::Committed(usage),
+                Err(why) => Ended::NotCommitted(why),
+            },
+            End::Discard => {
+                self.discard(Held::Active(active));
+                Ended::Discarded
+            }
+        }
+    }
+
+    // Does the operations on the job's snapshot and gives it its end; nothing where the gate stops it.
+    fn work(&mut self, active: Active<N>, job: &Job) -> Option<Ended>
+        requires room { 0 < self.old.session.spare }
+        requires fresh { IsFresh self.old.session.tape job.now active }
+        ensures { HasRunJob self.old.session self.new.session job.now (end_or result) }
+    {
+        let mut active = active;
+        match self.operate_all(&mut active, job) {
+            Ok(()) => {
+                if self.passes() {
+                    return Some(self.end(active, job));
+                }
+                self.discard(Held::Active(active));
+                None
+            }
+            Err(stop) => {
+                self.discard(Held::Active(active));
+                match stop {
+                    Stop::Gate => None,
+                    Stop::Failed(error) => Some(Ended::Failed(error)),
+                }
+            }
+        }
+    }
+
+    // Goes through a job, and tells how it ended; nothing where the gate stops it.
+    pub(crate) fn run_job(&mut self, job: &Job) -> Option<Ended>
+        ensures { HasRunJob self.old.session self.new.session job.now (end_or result) }
+    {
+        if !self.passes() {
+            return None;
+        }
+        match self.prepare(job) {
+            Ok(active) => self.work(active, job),
+            Err(why) => Some(Ended::NotPrepared(why)),
+        }
+    }
+
+    // Goes through the jobs that are the worker's own.
+    fn run_all(self, jobs: &[Job], worker: u32, workers: u32, ends: Ends) -> Worked
+        requires worker { (1 ≤ worker) × (worker ≤ workers) }
+        requires ends { ends ≡ none_run (jobs_of jobs.now worker workers) }
+        requires session { self.session.tape ≡ entry self.session.number calls.Session Nothing replies.Opened ∷ [] }
+        ensures { IsWorked jobs.now worker workers result }
+    {
+        let mut this = self;
+        let mut ends = ends;
+        let mut place = 0;
+        let mut skip = worker - 1;
+        for job in jobs {
+            if skip > 0 {
+                skip -= 1;
+                continue;
+            }
+            skip = workers - 1;
+            match this.run_job(job) {
+                Some(end) => ends.set(place, end),
+                None => return this.give_back(ends, true),
+            }
+            place += 1;
+        }
+        this.give_back(ends, false)
+    }
+
+    fn give_back(self, ends: Ends, refused: bool) -> Worked
+        ensures session { result.session ≡ Some self.entry.session }
+        ensures ends { result.ends ≡ ends }
+    {
+        Worked {
+            session: Some(self.session),
+            ends,
+            refused,
+        }
+    }
+}
+
+// All jobs of a worker without a session ended so.
+fn unstarted(ends: Ends, why: Refusal) -> Ends
+    requires { (jobs : List JobValue) → done jobs ends ≡ [] }
+    ensures size { length result ≡ length ends }
+    ensures none { (jobs : List JobValue) → done jobs result ≡ [] }
+{
+    let mut ends = ends;
+    for place in 0..ends.len() {
+        ends.set(place, Ended::NotPrepared(why));
+    }
+    ends
+}
+
+/// Opens a session for the worker and goes through the jobs that are its own: of so many workers, counted from
+/// 1, it takes those at whose places, from 0, their number leaves the rest `worker - 1`.
+///
+/// Before each prepare, each operation and each end of a job it asks the gate. Where that stops it, it discards
+/// what it holds, and that job and its later ones are [`Ended::NotRun`]. It discards what it can't commit. Where
+/// it gets no session, each of its jobs is [`Ended::NotPrepared`] with that refusal. `ends` has
+/// [`Ended::NotRun`] for each of its jobs.
+///
+/// It waits for the store's lock in each call, and for the gate. The cost is that of its calls and operations,
+/// and a pass over all jobs.
+pub fn run_worker<N: StoreName, R: Wait, G: Gate>(
+    rt: &R,
+    alloc: Global,
+    store: &Store<N>,
+    jobs: &[Job],
+    worker: u32,
+    workers: u32,
+    gate: &G,
+    ends: Ends,
+) -> Worked
+    requires worker { (1 ≤ worker) × (worker ≤ workers) }
+    requires ends { ends ≡ none_run (jobs_of jobs.now worker workers) }
+    ensures { IsWorked jobs.now worker workers result }
+{
+    match store.session(rt) {
+        Ok(session) => {
+            let work = Worker {
+                rt,
+                alloc,
+                store,
+                gate,
+                number: worker,
+                steps: 0,
+                may_step: false,
+                session,
+            };
+            work.run_all(jobs, worker, workers, ends)
+        }
+        Err(why) => Worked {
+            session: None,
+            ends: unstarted(ends, why),
+            refused: false,
+        },
+    }
+}
