@@ -1,5 +1,1 @@
 pub mod Moving
-pub mod KnownLaws
-pub mod LineLaws
-pub mod ScriptLaws
-pub mod ReplayLaws

@@ -1,5 +1,5 @@
 -- What a command of a script answers, and the store after it; cited by the public clauses of `act` and, through Script.antt, of `replay`.
--- Cited by `replay_within`, `replay`, `Script::act`.
+-- Cited by `Script as TakeLine`, `replay_within`, `replay` and others.
 use Rattle.std.specs.Prelude.{ℕ, Bool, true, false, List, length, map, take, Option, None, Some, Result, Ok, Err, if◌then◌else◌}
 use Rattle.std.specs.Option.{option_map, option_map_or}
 use Rattle.snap_path.specs.Text.{Names}

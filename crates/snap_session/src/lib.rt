@@ -1,22 +1,20 @@
 //! The run of a script: its lines are read from an input, each command acts on a store, and the line
 //! of each answer is written to an output.
 //!
-//! What is written is one definition, `script` in `specs/Script.antt`, a recursion over the lines.
-//! What a command does is `done` in `specs/Commands.antt`, over the steps of a world.
+//! What is written is one definition, `script` in `specs/Script.antt`: the transcript of `snap_lines`, where
+//! each line does what its command does. That is `done` in `specs/Commands.antt`, over the steps of a world.
 #![tactic(auto)]
 
 mod calls;
 mod file_commands;
 mod lookups;
 mod opened;
-mod reader;
 mod round;
 mod run;
 mod script;
 mod step;
-mod stop;
 
 pub use run::{replay, replay_within};
 pub use script::Script;
+pub use snap_lines::{LineFault, Stop};
 pub use snap_world::NoMemory;
-pub use stop::{LineFault, Stop};

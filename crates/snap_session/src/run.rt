@@ -1,48 +1,32 @@
-ghost use Rattle.std.specs.Prelude.{◌≡◌, Some, None, Ok, Err, OnOk, IfOk, IfSome, length, ◌<◌};
-ghost use Rattle.snap_session.specs.Script.{script, Tells, Goes, Ends};
-ghost use Rattle.snap_session.specs.declared.stop.LineFault.{LineFault};
+ghost use Rattle.std.specs.Prelude.{◌≡◌, Some, None, Ok, Err, OnOk, IfSome};
+ghost use Rattle.snap_lines.specs.Transcripts.{Tells};
+ghost use Rattle.snap_lines.specs.declared.stop.LineFault.{LineFault};
+ghost use Rattle.snap_session.specs.Script.{script, effect_of};
 
-use crate::reader::Reader;
-use crate::stop::Stop;
+use crate::script::Script;
 use snap_ledger::{NewTable, StoreName};
-use std::alloc::{AllocError, Global};
+use snap_lines::{Stop, TakeLine, read_lines};
+use snap_script::{Line, ReadError, read_line};
+use std::alloc::Global;
 use std::io::{Read, Write};
 use std::marker::Brand;
-
-// A read takes at most so many bytes.
-const CHUNK: usize = 65_536;
 
 // The most reads.
 const READS: u32 = 4_294_967_295;
 
-// Room for a read.
-fn chunk(alloc: Global) -> Result<Vec<u8>, AllocError>
-    ensures { IfOk result (λ v. 0 < length v.items) }
-{
-    filled(alloc, CHUNK)
-}
+// A line is read and its command carried out; the text is the line of the answer, and none for an empty line.
+impl<N: StoreName> TakeLine for Script<N> {
+    ghost effect = { effect_of };
 
-fn filled(alloc: Global, n: usize) -> Result<Vec<u8>, AllocError>
-    ensures { IfOk result (λ v. length v.items ≡ n) }
-{
-    vec![in alloc; 0u8; n]
-}
-
-// Takes the bytes of a read. The answers of the lines that end in them have left a buffered output
-// before the next read.
-fn take_read<N: StoreName, W: Write>(
-    reader: &mut Reader<N>,
-    bytes: &[u8],
-    output: &mut W,
-) -> Result<(), Stop>
-    ensures ok { OnOk result (Goes reader.old bytes.now reader.new (W.contents output.old) (W.contents output.new)) }
-    ensures fault { (f : LineFault) → result ≡ Err (Stop.Line f)
-        → Ends reader.old bytes.now f (W.contents output.old) (W.contents output.new) }
-{
-    reader.feed(bytes, output)?;
-    match output.flush() {
-        Ok(()) => Ok(()),
-        Err(_) => Err(Stop::OutputFailed),
+    #[tactic(auto, unfolding(crate::specs::Script::effect_of))]
+    fn take_line(&mut self, alloc: Global, line: &[u8]) -> Result<Option<String>, ReadError> {
+        let Line::Command { session, command } = read_line(alloc, line, self.is_open())? else {
+            return Ok(None);
+        };
+        let Ok(answer) = self.act(session, command) else {
+            return Err(ReadError::OutOfMemory);
+        };
+        Ok(Some(answer.line(alloc)?))
     }
 }
 
@@ -59,19 +43,8 @@ fn run<N: StoreName, R: Read, W: Write>(
     ensures fault { (f : LineFault) → result ≡ Err (Stop.Line f) → IfSome (R.remaining input.old)
         (λ bytes. Tells (script bytes) (Some f) (W.contents output.old) (W.contents output.new)) }
 {
-    let mut reader: Reader<N> = Reader::new(alloc, table);
-    let Ok(mut chunk) = chunk(alloc) else {
-        return Err(Stop::OutOfMemory);
-    };
-    let buffer = chunk.as_mut_slice();
-    'reads: for _ in 0..reads {
-        match input.read(buffer) {
-            Ok(0) => return reader.finish(output),
-            Ok(n) => take_read(&mut reader, &buffer[..n], output)?,
-            Err(_) => return Err(Stop::InputFailed),
-        }
-    }
-    Err(Stop::InputFailed)
+    let mut script: Script<N> = Script::new(alloc, table);
+    read_lines(alloc, &mut script, input, output, reads)
 }
 
 /// Runs a script: reads lines from the input, a command each, and writes the line of each answer to the
@@ -102,11 +75,7 @@ pub fn replay_within<R: Read, W: Write>(
     let Ok(table) = NewTable::new(alloc) else {
         return Err(Stop::OutOfMemory);
     };
-    let result = run::<Brand, R, W>(alloc, table, input, output, reads);
-    match output.flush() {
-        Ok(()) => result,
-        Err(_) => Err(Stop::OutputFailed),
-    }
+    run::<Brand, R, W>(alloc, table, input, output, reads)
 }
 
 /// [`replay_within`] with at most 4,294,967,295 reads.

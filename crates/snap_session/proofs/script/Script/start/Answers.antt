@@ -1,15 +1,12 @@
-use Rattle.std.proofs.Common.{◌≡◌, List, Bool, Option, None, sym, ap, ◌∙◌}
+use Rattle.std.proofs.Common.{◌≡◌, Bool, None, sym, ap, ◌∙◌}
 use Rattle.std.specs.Prelude.{if◌then◌else◌, map, Result, Ok, Err, IfOk}
-use Rattle.snap_record.specs.Labels.{Bytes}
 use Rattle.snap_call.specs.declared.call.Call.TheVariants as calls
 use Rattle.snap_call.specs.declared.config.Namespace.{Namespace}
 use Rattle.snap_call.specs.declared.refusal.Refusal.TheVariants.{BadArgument}
-use Rattle.snap_script.specs.declared.answer.Answer.{Answer}
 use Rattle.snap_script.specs.declared.answer.Answer.TheVariants as answers
 use Rattle.snap_world.specs.declared.step.Step.TheVariants.{Locked}
-use Rattle.snap_world.specs.World.{WorldValue}
 use Rattle.snap_world.specs.Move.{move}
-use Rattle.snap_session.specs.Opened.{OpenedValue, new_world}
+use Rattle.snap_session.specs.Opened.{new_world}
 use Rattle.snap_session.specs.Commands.{started, store_opened}
 use Rattle.snap_session.proofs.script.Script.start.Goals as goal
 

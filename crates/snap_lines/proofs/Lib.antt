@@ -1,0 +1,4 @@
+pub mod KnownLaws
+pub mod LineLaws
+pub mod TranscriptLaws
+pub mod ReadLaws

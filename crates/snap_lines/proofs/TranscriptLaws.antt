@@ -1,0 +1,211 @@
+-- How the transcript of an input goes on.
+use Rattle.std.proofs.Common.{◌≡◌, ℕ, ◌+◌, ◌<◌, ◌≤◌, List, [], ◌∷◌, ◌++◌, length, take, drop, get_or, Bool, true, false, Result, Ok, Err, refl, sym, ap, ◌∙◌, arith, append_assoc, append-nil, length-append, Option, Some, None, subst, OnOk}
+use Rattle.std.specs.Prelude.{cond, nat_lt, ◌==◌, ◌||◌}
+use Rattle.std.proofs.lemmas.Bool.{lt-ltb, le-ltb, eqb-true}
+use Rattle.std.proofs.lemmas.List.{take_more, take-append-drop}
+use Rattle.std.specs.Io.KnownBytes.{Appends, Keeps}
+use mir.Val.{bool_byte}
+use Rattle.snap_script.specs.declared.fault.Fault.TheVariants.{TooLong}
+use Rattle.snap_lines.proofs.KnownLaws.{Appends-trans, Appends-kept, Appends-nil}
+use Rattle.snap_lines.proofs.LineLaws.{line_split, line_last, line_begins, Begins, feed_ended, feed_open, feed_long, open_more}
+use Rattle.snap_lines.specs.Effects.{Effects}
+use Rattle.snap_lines.specs.Lines.{lines_of, is_open, without_feed}
+use Rattle.snap_lines.specs.Transcripts.{Place, Transcript, Tells, prepended, transcript_from, effect_at, goes_on, place_after, max_line, max_bytes}
+use Rattle.snap_lines.specs.Runs.{Behind, Run, within, transcript_on, Leads, Goes, Ends, Takes, line_in}
+use Rattle.snap_lines.specs.declared.stop.LineFault.{LineFault}
+
+pub on_ok : {T E : Type 0} {P Q : Type 0} (r : Result T E) → (P → Q) → OnOk r P → OnOk r Q
+on_ok (Ok x) f p = f p
+on_ok (Err e) f p = tt
+
+prepended_twice : {A : Type 0} (a b : List ℕ) (s : Transcript A) → prepended a (prepended b s) ≡ prepended (a ++ b) s
+prepended_twice a b s = ap (λ t. record { text = t; fault = s.fault; value = s.value }) (sym (append_assoc a b s.text))
+
+pub leads_trans : {A : Type 0} (effect : Effects A) (r q s : Run A) (a b u v : List ℕ) → Leads effect r a q u → Leads effect q b s v → Leads effect r (a ++ b) s (u ++ v)
+leads_trans effect r q s a b u v f g rest =
+    ap (transcript_on effect r) (append_assoc a b rest) ∙ f (b ++ rest) ∙ ap (prepended u) (g rest) ∙ prepended_twice u v (transcript_on effect s rest)
+
+pub goes_none : {A : Type 0} (effect : Effects A) (r : Run A) (x : Option (List ℕ)) → Goes effect r [] r x x
+goes_none effect r x = ([], Appends-nil x, λ rest. refl)
+
+pub goes_trans : {A : Type 0} (effect : Effects A) (r q s : Run A) (a b : List ℕ) (x y z : Option (List ℕ)) → Goes effect r a q x y → Goes effect q b s y z → Goes effect r (a ++ b) s x z
+goes_trans effect r q s a b x y z f g =
+    (f.0 ++ g.0, Appends-trans x y z f.0 g.0 f.1 g.1, leads_trans effect r q s a b f.0 g.0 f.2 g.2)
+
+pub goes_ends : {A : Type 0} (effect : Effects A) (r q : Run A) (a b more : List ℕ) (f : LineFault) (x y z : Option (List ℕ)) → Goes effect r a q x y → Ends effect q b f y z → Ends effect r (a ++ (b ++ more)) f x z
+goes_ends effect r q a b more f x y z g e = (
+  g.0 ++ e.0,
+  e.1,
+  Appends-trans x y z g.0 e.0 g.1 e.2,
+  λ rest.
+      ap (transcript_on effect r) (append_assoc a (b ++ more) rest ∙ ap (λ l. a ++ l) (append_assoc b more rest))
+      ∙ g.2 (b ++ (more ++ rest)) ∙ ap (prepended g.0) (e.3 (more ++ rest)),
+)
+
+pub goes_kept : {A : Type 0} (effect : Effects A) (r q : Run A) (bytes : List ℕ) (x y z : Option (List ℕ)) → Goes effect r bytes q x y → Keeps y z → Goes effect r bytes q x z
+goes_kept effect r q bytes x y z g k = (g.0, Appends-kept x y z g.0 g.1 k, g.2)
+
+-- ---- one line
+
+feed_line : (p : List ℕ) (ended : Bool) → is_open p ≡ true → without_feed (line_in p ended) ≡ p
+feed_line p true h = feed_ended p h
+feed_line p false h = feed_open p h
+
+pub effect_over : {A : Type 0} (effect : Effects A) (place : Place A) (line : List ℕ) → max_bytes < place.bytes + length line → effect_at effect place line ≡ Err TooLong
+unfolding effect_at
+effect_over effect place line h =
+    ap (λ t. cond (t || nat_lt max_line (length (without_feed line))) (Err TooLong) (effect place.value (without_feed line))) (lt-ltb max_bytes (place.bytes + length line) h)
+
+pub effect_fits : {A : Type 0} (effect : Effects A) (place : Place A) (p : List ℕ) (ended : Bool) → is_open p ≡ true → length p ≤ max_line → place.bytes + length (line_in p ended) ≤ max_bytes
+    → effect_at effect place (line_in p ended) ≡ effect place.value p
+unfolding effect_at
+effect_fits effect place p ended o short h =
+    ap (λ t. cond (t || nat_lt max_line (length (without_feed (line_in p ended)))) (Err TooLong) (effect place.value (without_feed (line_in p ended)))) (le-ltb max_bytes (place.bytes + length (line_in p ended)) h)
+    ∙ ap (λ l. cond (nat_lt max_line (length l)) (Err TooLong) (effect place.value l)) (feed_line p ended o)
+    ∙ ap (λ t. cond t (Err TooLong) (effect place.value p)) (le-ltb max_line (length p) short)
+
+-- what stands behind, by its parts
+abbrev pub behind : ℕ → ℕ → List ℕ → Behind
+behind n b p = record { lines = n; bytes = b; pending = p }
+
+-- the place after a line
+pub run_after : {A : Type 0} (n b k : ℕ) (p q : List ℕ) (s : Behind) (v w : A) (ended : Bool) → behind n b p ≡ s
+    → k ≡ length (line_in s.pending ended) → q ≡ [] → within (behind (n + 1) (b + k) q) w ≡ record { place = place_after (within s v).place (line_in s.pending ended) w; pending = [] }
+run_after n b k p q s v w ended e h none =
+    ap (λ (z : Behind). within (behind (z.lines + 1) (z.bytes + k) q) w) e
+    ∙ ap (λ l. within (behind (s.lines + 1) (s.bytes + l) q) w) h ∙ ap (λ u. within (behind (s.lines + 1) (s.bytes + length (line_in s.pending ended)) u) w) none
+
+pub line_len : (p : List ℕ) (ended : Bool) (n k : ℕ) → n ≡ length p → k ≡ bool_byte ended → n + k ≡ length (line_in p ended)
+line_len p true n k h e = let l = length-append p (10 ∷ []) in omega arith
+line_len p false n k h e = omega arith
+
+-- ---- what a line does to the transcript
+
+line_ok : {A : Type 0} (effect : Effects A) (r q : Run A) (line text rest : List ℕ) → effect_at effect r.place line ≡ Ok (record { value = q.place.value; text = text })
+    → q ≡ record { place = place_after r.place line q.place.value; pending = [] } → transcript_from effect r.place (line ∷ lines_of rest) ≡ prepended text (transcript_on effect q rest)
+unfolding transcript_on
+line_ok effect r q line text rest e h =
+    ap (λ z. goes_on r.place line z (λ p. transcript_from effect p (lines_of rest))) e
+    ∙ ap (λ z. prepended text (transcript_on effect z rest)) (sym h)
+
+line_err : {A : Type 0} (effect : Effects A) (place : Place A) (line : List ℕ) (lines : List (List ℕ)) (f : LineFault) → effect_at effect place line ≡ Err f.cause → f.line ≡ place.lines + 1
+    → transcript_from effect place (line ∷ lines) ≡ record { text = []; fault = Some f; value = place.value }
+line_err effect place line lines f e h =
+    ap (λ z. goes_on place line z (λ p. transcript_from effect p lines)) e
+    ∙ ap (λ n. record { text = []; fault = Some (record { line = n; cause = f.cause }); value = place.value }) (sym h)
+
+pub newline_goes : {A : Type 0} (effect : Effects A) (r q : Run A) (x y : Option (List ℕ)) → is_open r.pending ≡ true → Takes effect r (line_in r.pending true) q x y → Goes effect r (10 ∷ []) q x y
+unfolding transcript_on
+newline_goes effect r q x y o t =
+    (t.0, t.3, λ rest. ap (transcript_from effect r.place) (line_split r.pending rest o) ∙ line_ok effect r q (line_in r.pending true) t.0 rest t.1 t.2)
+
+pub newline_ends : {A : Type 0} (effect : Effects A) (r : Run A) (f : LineFault) (x : Option (List ℕ)) → is_open r.pending ≡ true → effect_at effect r.place (line_in r.pending true) ≡ Err f.cause → f.line ≡ r.place.lines + 1
+    → Ends effect r (10 ∷ []) f x x
+unfolding transcript_on
+newline_ends effect r f x o e h =
+    ([], r.place.value, Appends-nil x, λ rest. ap (transcript_from effect r.place) (line_split r.pending rest o) ∙ line_err effect r.place (line_in r.pending true) (lines_of rest) f e h)
+
+byte_goes : {A : Type 0} (effect : Effects A) (r : Run A) (b : ℕ) (x : Option (List ℕ)) → Goes effect r (b ∷ []) (record r { pending = r.pending ++ b ∷ [] }) x x
+unfolding transcript_on
+byte_goes effect r b x = ([], Appends-nil x, λ rest. ap (λ l. transcript_from effect r.place (lines_of l)) (sym (append_assoc r.pending (b ∷ []) rest)))
+
+pub byte_run : {A : Type 0} (effect : Effects A) (v : A) (n k : ℕ) (p q : List ℕ) (s : Behind) → behind n k p ≡ s → (b : ℕ) (x : Option (List ℕ)) → q ≡ p ++ b ∷ []
+    → Goes effect (within s v) (b ∷ []) (within (behind n k q) v) x x
+byte_run effect v n k p q s e b x h =
+    let is : within (behind s.lines s.bytes (s.pending ++ b ∷ [])) v ≡ within (behind n k q) v =
+    ap (λ (z : Behind). within (behind z.lines z.bytes (z.pending ++ b ∷ [])) v) (sym e) ∙ ap (λ l. within (behind n k l) v) (sym h) in
+    subst (λ z. Goes effect (within s v) (b ∷ []) z x x) is (byte_goes effect (within s v) b x)
+
+begins_any : (p rest : List ℕ) → is_open p ≡ true → 0 < length p → Begins p rest
+begins_any [] rest o h = absurd (omega arith)
+begins_any (b ∷ p) rest o h = line_begins b p rest o
+
+or_true : (a b : Bool) → b ≡ true → (a || b) ≡ true
+or_true true b e = refl
+or_true false b e = e
+
+long_effect : {A : Type 0} (effect : Effects A) (place : Place A) (p more : List ℕ) → is_open p ≡ true → max_line < length p → effect_at effect place (p ++ more) ≡ Err TooLong
+unfolding effect_at
+long_effect effect place p more o h =
+    let l = feed_long p more o in
+    ap (λ t. cond t (Err TooLong) (effect place.value (without_feed (p ++ more))))
+    (or_true (nat_lt max_bytes (place.bytes + length (p ++ more))) _ (lt-ltb max_line (length (without_feed (p ++ more))) (omega arith)))
+
+pub long_ends : {A : Type 0} (effect : Effects A) (r : Run A) (b : ℕ) (f : LineFault) (x : Option (List ℕ)) → is_open r.pending ≡ true → (b == 10) ≡ false → length r.pending ≡ max_line
+    → f ≡ record { line = r.place.lines + 1; cause = TooLong } → Ends effect r (b ∷ []) f x x
+unfolding transcript_on
+long_ends effect r b f x o e h is =
+    let p = r.pending ++ b ∷ [] in
+    let open_p = open_more r.pending b o e in
+    let len : length p ≡ length r.pending + 1 = length-append r.pending (b ∷ []) in (
+      [],
+      r.place.value,
+      Appends-nil x,
+      λ rest.
+          let first = begins_any p rest open_p (omega arith) in
+          ap (λ l. transcript_from effect r.place (lines_of l)) (sym (append_assoc r.pending (b ∷ []) rest))
+          ∙ ap (transcript_from effect r.place) first.is
+          ∙ line_err effect r.place (p ++ first.more) first.lines (record { line = r.place.lines + 1; cause = TooLong }) (long_effect effect r.place p first.more open_p (omega arith)) refl
+          ∙ ap (λ g. record { text = []; fault = Some g; value = r.place.value }) (sym is),
+    )
+
+-- ---- the end
+
+-- a transcript tells what it is
+tells : {A : Type 0} (s : Transcript A) (text : List ℕ) (fault : Option LineFault) (value : A) (x y : Option (List ℕ)) → s ≡ record { text = text; fault = fault; value = value } → Appends x y text → Tells s fault x y
+tells s text fault value x y e h = (ap (λ z. z.fault) e, subst (λ z. Appends x y z.text) (sym e) h)
+
+pub none_is : {A : Type 0} (effect : Effects A) (r : Run A) → r.pending ≡ [] → transcript_on effect r [] ≡ record { text = []; fault = None; value = r.place.value }
+unfolding transcript_on
+none_is effect r e = ap (λ l. transcript_from effect r.place (lines_of (l ++ []))) e
+
+pub end_none : {A : Type 0} (effect : Effects A) (r : Run A) (x : Option (List ℕ)) → r.pending ≡ [] → Tells (transcript_on effect r []) None x x
+end_none effect r x e = tells (transcript_on effect r []) [] None r.place.value x x (none_is effect r e) (Appends-nil x)
+
+line_end : (p : List ℕ) → is_open p ≡ true → 0 < length p → lines_of (p ++ []) ≡ p ∷ []
+line_end [] o h = absurd (omega arith)
+line_end (b ∷ p) o h = ap (λ l. lines_of (b ∷ l)) (append-nil p) ∙ line_last b p o
+
+pub end_is : {A : Type 0} (effect : Effects A) (r q : Run A) (x y : Option (List ℕ)) → is_open r.pending ≡ true → 0 < length r.pending → (t : Takes effect r (line_in r.pending false) q x y)
+    → transcript_on effect r [] ≡ record { text = t.0; fault = None; value = q.place.value }
+unfolding transcript_on
+end_is effect r q x y o h t =
+    let none : transcript_on effect q [] ≡ record { text = []; fault = None; value = q.place.value } = ap (λ z. transcript_on effect z []) t.2 in
+    ap (transcript_from effect r.place) (line_end r.pending o h) ∙ line_ok effect r q r.pending t.0 [] t.1 t.2
+    ∙ ap (prepended t.0) none ∙ ap (λ l. record { text = l; fault = None; value = q.place.value }) (append-nil t.0)
+
+pub end_ok : {A : Type 0} (effect : Effects A) (r q : Run A) (x y : Option (List ℕ)) → is_open r.pending ≡ true → 0 < length r.pending → Takes effect r (line_in r.pending false) q x y → Tells (transcript_on effect r []) None x y
+end_ok effect r q x y o h t = tells (transcript_on effect r []) t.0 None q.place.value x y (end_is effect r q x y o h t) t.3
+
+pub end_value : {A : Type 0} (effect : Effects A) (r q : Run A) (x y : Option (List ℕ)) → is_open r.pending ≡ true → 0 < length r.pending → Takes effect r (line_in r.pending false) q x y → (transcript_on effect r []).value ≡ q.place.value
+end_value effect r q x y o h t = ap (λ z. z.value) (end_is effect r q x y o h t)
+
+pub end_err : {A : Type 0} (effect : Effects A) (r : Run A) (f : LineFault) (x : Option (List ℕ)) → is_open r.pending ≡ true → 0 < length r.pending → effect_at effect r.place (line_in r.pending false) ≡ Err f.cause → f.line ≡ r.place.lines + 1
+    → Tells (transcript_on effect r []) (Some f) x x
+unfolding transcript_on
+end_err effect r f x o h e l =
+    tells (transcript_on effect r []) [] (Some f) r.place.value x x (ap (transcript_from effect r.place) (line_end r.pending o h) ∙ line_err effect r.place r.pending [] f e l) (Appends-nil x)
+
+-- ---- bytes that come one by one
+
+pub empty_list : (xs : List ℕ) → (length xs == 0) ≡ true → xs ≡ []
+empty_list [] h = refl
+empty_list (x ∷ xs) h = absurd (omega (arith, eqb-true _ _ h))
+
+pub more_list : (xs : List ℕ) → (length xs == 0) ≡ false → 0 < length xs
+more_list [] h = absurd (cc)
+more_list (x ∷ xs) h = omega arith
+
+pub goes_more : {A : Type 0} (effect : Effects A) (r q s : Run A) (bytes : List ℕ) (i b : ℕ) (x y z : Option (List ℕ)) → i < length bytes → b ≡ get_or bytes i 0
+    → Goes effect r (take i bytes) q x y → Goes effect q (b ∷ []) s y z → Goes effect r (take (i + 1) bytes) s x z
+goes_more effect r q s bytes i b x y z h e f g =
+    subst (λ (l : List ℕ). Goes effect r l s x z) (ap (λ n. take i bytes ++ n ∷ []) e ∙ sym (take_more bytes i 0 h)) (goes_trans effect r q s (take i bytes) (b ∷ []) x y z f g)
+
+pub ends_more : {A : Type 0} (effect : Effects A) (r q : Run A) (bytes : List ℕ) (i b : ℕ) (f : LineFault) (x y z : Option (List ℕ)) → i < length bytes → b ≡ get_or bytes i 0
+    → Goes effect r (take i bytes) q x y → Ends effect q (b ∷ []) f y z → Ends effect r bytes f x z
+ends_more effect r q bytes i b f x y z h e g k =
+    let parts : take i bytes ++ (b ∷ [] ++ drop (i + 1) bytes) ≡ bytes =
+    sym (append_assoc (take i bytes) (b ∷ []) (drop (i + 1) bytes))
+    ∙ ap (λ n. (take i bytes ++ n ∷ []) ++ drop (i + 1) bytes) e
+    ∙ ap (λ l. l ++ drop (i + 1) bytes) (sym (take_more bytes i 0 h)) ∙ take-append-drop (i + 1) bytes in
+    subst (λ (l : List ℕ). Ends effect r l f x z) parts (goes_ends effect r q (take i bytes) (b ∷ []) (drop (i + 1) bytes) f x y z g k)

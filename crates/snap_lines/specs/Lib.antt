@@ -1,0 +1,5 @@
+pub mod Effects
+pub mod Lines
+pub mod Transcripts
+pub mod Runs
+pub mod Words

@@ -1,0 +1,63 @@
+-- What the lines of an input make of a value and what is written for them, line for line, and the first fault; cited by the public clauses of `read_lines`.
+-- Cited by `read_lines`, `replay_within`, `replay`.
+use Rattle.std.specs.Prelude.{◌≡◌, ℕ, ◌+◌, List, [], ◌∷◌, ◌++◌, length, Bool, ◌||◌, Option, Some, None, Result, Ok, Err, nat_lt, if◌then◌else◌}
+use Rattle.std.specs.Io.KnownBytes.{Appends}
+use Rattle.snap_script.specs.declared.fault.Fault.{Fault}
+use Rattle.snap_script.specs.declared.fault.Fault.TheVariants.{TooLong}
+use Rattle.snap_lines.specs.Effects.{Effect, Effects}
+use Rattle.snap_lines.specs.Lines.{lines_of, without_feed}
+use Rattle.snap_lines.specs.declared.stop.LineFault.{LineFault}
+
+-- a line has at most 16 MiB, without its line feed
+abbrev pub max_line : ℕ
+max_line = 16777216
+
+-- all lines have at most 1 GiB, with their line feeds
+abbrev pub max_bytes : ℕ
+max_bytes = 1073741824
+
+-- how many lines are behind, how many bytes they had, and the value
+pub record Place (A : Type 0) : Type 0 where
+  pub lines : ℕ
+  pub bytes : ℕ
+  pub value : A
+
+-- what is written, the fault that ends it, and the value that the lines before left
+pub record Transcript (A : Type 0) : Type 0 where
+  pub text : List ℕ
+  pub fault : Option LineFault
+  pub value : A
+
+-- a text before a transcript
+abbrev pub prepended : {A : Type 0} → List ℕ → Transcript A → Transcript A
+prepended text s = record { text = text ++ s.text; fault = s.fault; value = s.value }
+
+-- the line is too long by itself, or after the lines behind
+abbrev pub is_over_limit : {A : Type 0} → Place A → List ℕ → Bool
+is_over_limit p line = nat_lt max_bytes (p.bytes + length line) || nat_lt max_line (length (without_feed line))
+
+-- what a line does, with its line feed
+unfoldable pub effect_at : {A : Type 0} → Effects A → Place A → List ℕ → Result (Effect A) Fault
+effect_at effect p line = if is_over_limit p line then Err TooLong else effect p.value (without_feed line)
+
+-- the place after a line that leaves this value
+abbrev pub place_after : {A : Type 0} → Place A → List ℕ → A → Place A
+place_after p line value = record { lines = p.lines + 1; bytes = p.bytes + length line; value = value }
+
+-- after a line: a fault, which has the number of the line, ends it
+abbrev pub goes_on : {A : Type 0} → Place A → List ℕ → Result (Effect A) Fault → (Place A → Transcript A) → Transcript A
+goes_on p line (Err c) more = record { text = []; fault = Some (record { line = p.lines + 1; cause = c }); value = p.value }
+goes_on p line (Ok e) more = prepended e.text (more (place_after p line e.value))
+
+-- the transcript of the lines that are left
+abbrev pub transcript_from : {A : Type 0} → Effects A → Place A → List (List ℕ) → Transcript A
+transcript_from effect p [] = record { text = []; fault = None; value = p.value }
+transcript_from effect p (line ∷ lines) = goes_on p line (effect_at effect p line) (λ q. transcript_from effect q lines)
+
+-- the transcript of an input, from the value before its first line
+unfoldable pub transcript : {A : Type 0} → Effects A → A → List ℕ → Transcript A
+transcript effect value bytes = transcript_from effect (record { lines = 0; bytes = 0; value = value }) (lines_of bytes)
+
+-- the output takes the text of a transcript that has this fault
+abbrev pub Tells : {A : Type 0} → Transcript A → Option LineFault → Option (List ℕ) → Option (List ℕ) → Type 0
+Tells s fault before behind = (s.fault ≡ fault) × Appends before behind s.text

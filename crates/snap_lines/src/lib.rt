@@ -1,0 +1,16 @@
+//! The lines of an input, one after another: each is handed to what takes it, and its text is written to
+//! an output.
+//!
+//! What is written, and what becomes of what takes the lines, is one definition, `transcript` in
+//! `specs/Transcripts.antt`, a recursion over the lines. It stands over what one line makes of a value,
+//! which an impl of `TakeLine` says.
+#![tactic(auto)]
+
+mod read;
+mod reader;
+mod stop;
+mod take;
+
+pub use read::read_lines;
+pub use stop::{LineFault, Stop};
+pub use take::TakeLine;

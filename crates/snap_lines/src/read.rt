@@ -1,0 +1,111 @@
+ghost use Rattle.std.specs.Prelude.{◌≡◌, Some, None, Ok, Err, OnOk, IfOk, IfSome, length, ◌<◌};
+ghost use Rattle.snap_lines.specs.Transcripts.{transcript, Tells};
+ghost use Rattle.snap_lines.specs.Runs.{within, Goes, Ends};
+ghost use Rattle.snap_lines.specs.declared.stop.LineFault.{LineFault};
+
+use crate::reader::Reader;
+use crate::stop::Stop;
+use crate::take::TakeLine;
+use std::alloc::{AllocError, Global};
+use std::io::{Read, Write};
+
+// A read takes at most so many bytes.
+const CHUNK: usize = 65_536;
+
+// Room for a read.
+fn chunk(alloc: Global) -> Result<Vec<u8>, AllocError>
+    ensures { IfOk result (λ v. 0 < length v.items) }
+{
+    filled(alloc, CHUNK)
+}
+
+fn filled(alloc: Global, n: usize) -> Result<Vec<u8>, AllocError>
+    ensures { IfOk result (λ v. length v.items ≡ n) }
+{
+    vec![in alloc; 0u8; n]
+}
+
+// Takes the bytes of a read. The texts of the lines that end in them have left a buffered output
+// before the next read.
+fn take_read<T: TakeLine, W: Write>(
+    reader: &mut Reader,
+    bytes: &[u8],
+    taker: &mut T,
+    output: &mut W,
+) -> Result<(), Stop>
+    ensures ok { OnOk result (Goes T.effect (within reader.old taker.old) bytes.now (within reader.new taker.new)
+        (W.contents output.old) (W.contents output.new)) }
+    ensures fault { (f : LineFault) → result ≡ Err (Stop.Line f)
+        → Ends T.effect (within reader.old taker.old) bytes.now f (W.contents output.old) (W.contents output.new) }
+{
+    reader.feed(bytes, taker, output)?;
+    match output.flush() {
+        Ok(()) => Ok(()),
+        Err(_) => Err(Stop::OutputFailed),
+    }
+}
+
+// The reads. The last texts may still be in a buffered output.
+fn read_all<T: TakeLine, R: Read, W: Write>(
+    alloc: Global,
+    taker: &mut T,
+    input: &mut R,
+    output: &mut W,
+    reads: u32,
+) -> Result<(), Stop>
+    ensures done { OnOk result (IfSome (R.remaining input.old) (λ bytes.
+        Tells (transcript T.effect taker.old bytes) None (W.contents output.old) (W.contents output.new))) }
+    ensures value { OnOk result (IfSome (R.remaining input.old) (λ bytes.
+        (transcript T.effect taker.old bytes).value ≡ taker.new)) }
+    ensures fault { (f : LineFault) → result ≡ Err (Stop.Line f) → IfSome (R.remaining input.old) (λ bytes.
+        Tells (transcript T.effect taker.old bytes) (Some f) (W.contents output.old) (W.contents output.new)) }
+{
+    let mut reader = Reader::new(alloc);
+    let Ok(mut chunk) = chunk(alloc) else {
+        return Err(Stop::OutOfMemory);
+    };
+    let buffer = chunk.as_mut_slice();
+    'reads: for _ in 0..reads {
+        match input.read(buffer) {
+            Ok(0) => return reader.finish(taker, output),
+            Ok(n) => take_read(&mut reader, &buffer[..n], taker, output)?,
+            Err(_) => return Err(Stop::InputFailed),
+        }
+    }
+    Err(Stop::InputFailed)
+}
+
+/// Reads the lines of the input, hands each to the taker, and writes its text to the output.
+///
+/// Where it ends well, and the input and the output tell their bytes, what was written is the text of
+/// `transcript` for all that the input had, no line has a fault, and the taker is what the last line
+/// left. Where it ends with a line, that is the first with a fault, and what was written is the text for
+/// the lines before. Nothing is said of the taker after an error.
+///
+/// `Line` where the taker finds a fault, or a line has more than 16,777,216 bytes without its line feed,
+/// or takes the bytes of all lines past 1,073,741,824. `InputFailed` where a read failed, or the end of
+/// the input didn't come within so many reads; `OutputFailed` where a write failed; `OutOfMemory` where
+/// memory was refused. What was written stays written, and is flushed before each read and at the end.
+///
+/// Takes memory for a read and for one line, beside what the taker takes. The cost is that of the taker's
+/// calls, and grows with the bytes.
+pub fn read_lines<T: TakeLine, R: Read, W: Write>(
+    alloc: Global,
+    taker: &mut T,
+    input: &mut R,
+    output: &mut W,
+    reads: u32,
+) -> Result<(), Stop>
+    ensures done { OnOk result (IfSome (R.remaining input.old) (λ bytes.
+        Tells (transcript T.effect taker.old bytes) None (W.contents output.old) (W.contents output.new))) }
+    ensures value { OnOk result (IfSome (R.remaining input.old) (λ bytes.
+        (transcript T.effect taker.old bytes).value ≡ taker.new)) }
+    ensures fault { (f : LineFault) → result ≡ Err (Stop.Line f) → IfSome (R.remaining input.old) (λ bytes.
+        Tells (transcript T.effect taker.old bytes) (Some f) (W.contents output.old) (W.contents output.new)) }
+{
+    let result = read_all(alloc, taker, input, output, reads);
+    match output.flush() {
+        Ok(()) => result,
+        Err(_) => Err(Stop::OutputFailed),
+    }
+}

@@ -1,0 +1,80 @@
+ghost use Rattle.std.specs.Prelude.{◌≡◌, Some};
+ghost use Rattle.snap_lines.specs.Words.{status_of};
+
+use snap_script::Fault;
+use std::alloc::AllocFailed;
+use std::fmt;
+
+/// The line, counted from 1 with the empty ones, and what is wrong with it.
+#[derive(Clone, Copy, Debug, PartialEq, Eq)]
+pub struct LineFault {
+    pub line: u64,
+    pub cause: Fault,
+}
+
+/// Why a run ended before the end of its input.
+#[derive(Clone, Copy, Debug, PartialEq, Eq)]
+pub enum Stop {
+    /// A line is no command.
+    Line(LineFault),
+    /// A read failed, or there were more reads than were allowed.
+    InputFailed,
+    /// A write failed.
+    OutputFailed,
+    /// Memory was refused.
+    OutOfMemory,
+}
+
+impl<T: Drop> From<AllocFailed<T>> for Stop {
+    ghost use Rattle.std.specs.Prelude.{◌≡◌};
+    ghost use Rattle.snap_lines.specs.declared.stop.Stop.TheVariants.{OutOfMemory};
+
+    ghost from_gives = { λ _ e. e ≡ OutOfMemory };
+
+    fn from(_e: AllocFailed<T>) -> Stop {
+        Stop::OutOfMemory
+    }
+}
+
+impl Stop {
+    /// The status of a program that ends with it: 2 for a line, 3 for a read or a write, 4 for memory.
+    pub fn status(self) -> u8
+        ensures { result ≡ status_of self }
+    {
+        match self {
+            Stop::Line(_) => 2,
+            Stop::InputFailed | Stop::OutputFailed => 3,
+            Stop::OutOfMemory => 4,
+        }
+    }
+}
+
+/// The words for it; a width or a precision has no effect.
+impl fmt::Display for Stop {
+    ghost use Rattle.std.specs.Prelude.{Some};
+    ghost use Rattle.snap_lines.specs.Words.{stop_words};
+
+    ghost output = { λ s. Some (stop_words s) };
+
+    fn fmt<W: fmt::Write>(&self, f: &mut fmt::Formatter<W>) -> fmt::Result {
+        match self {
+            Stop::Line(fault) => write!(f, "{}", fault),
+            Stop::InputFailed => f.write_str("input failed"),
+            Stop::OutputFailed => f.write_str("output failed"),
+            Stop::OutOfMemory => f.write_str("want of memory"),
+        }
+    }
+}
+
+/// The words for it; a width or a precision has no effect.
+impl fmt::Display for LineFault {
+    ghost use Rattle.std.specs.Prelude.{Some};
+    ghost use Rattle.snap_lines.specs.Words.{line_words};
+
+    ghost output = { λ s. Some (line_words s) };
+
+    fn fmt<W: fmt::Write>(&self, f: &mut fmt::Formatter<W>) -> fmt::Result {
+        let (line, cause) = (self.line, self.cause);
+        write!(f, "line {line}: {cause}")
+    }
+}
