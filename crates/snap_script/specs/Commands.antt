@@ -1,6 +1,6 @@
 -- The commands of a script; cited by the public clause of `read_line` through Lines.antt. The fields of a command are
 -- tested in the order in which they stand.
--- Cited by `read_line`, `replay_within`, `replay`.
+-- Cited by `read_line`, `replay_within`, `replay` and others.
 use Rattle.std.specs.Prelude.{ℕ, List, [], ◌∷◌, Option, Result, Ok, codes}
 use Rattle.std.specs.Map.{lookup}
 use Rattle.std.specs.Str.{bytes_eq}

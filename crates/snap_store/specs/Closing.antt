@@ -1,5 +1,5 @@
 -- What a close finds of a book and the sessions that are handed in, and what is known of a closed store.
--- Cited by `close_cause`, `Store::close`.
+-- Cited by `close_cause`, `Store::close`, `run_jobs`.
 use Rattle.std.specs.Prelude.{◌≡◌, ℕ, ◌<◌, List, map, filter, All, Option, None, Some, Ok, Err}
 use Rattle.snap_call.specs.declared.state.State.{State}
 use Rattle.snap_call.specs.Good.{Good}

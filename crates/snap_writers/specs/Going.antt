@@ -1,5 +1,5 @@
 -- A worker on its way through its jobs.
--- Cited by invariants and private clauses alone.
+-- Cited by `run_worker`.
 use Rattle.std.specs.Prelude.{◌≡◌, ℕ, ◌+◌, List, [], ◌∷◌, ◌++◌, length, map, Any, Option, None, Some}
 use Rattle.std.specs.List.{AllByRecursion, AllZip}
 use Rattle.snap_layer.specs.Edits.{root_only}
