@@ -1,5 +1,5 @@
 -- What the lines of an input make of a value and what is written for them, line for line, and the first fault; cited by the public clauses of `read_lines`.
--- Cited by `read_lines`, `replay_within`, `replay`.
+-- Cited by `read_lines`, `write_jobs_within`, `write_jobs` and others.
 use Rattle.std.specs.Prelude.{◌≡◌, ℕ, ◌+◌, List, [], ◌∷◌, ◌++◌, length, Bool, ◌||◌, Option, Some, None, Result, Ok, Err, nat_lt, if◌then◌else◌}
 use Rattle.std.specs.Io.KnownBytes.{Appends}
 use Rattle.snap_script.specs.declared.fault.Fault.{Fault}

@@ -1,35 +1,57 @@
-//! The program `snap_replay`: `snap_replay run` replays a script of a store of snapshots, from standard
-//! input to standard output.
+//! The program `snap_replay`: `snap_replay run` replays a script of a store of snapshots, and
+//! `snap_replay writers` runs jobs on one, from standard input to standard output.
 //!
-//! What is read and written is `replay`'s, of the crate `snap_session`; here are the words of the command
-//! line, the standard streams and the status.
+//! What is read and written is `replay`'s, of the crate `snap_session`, and `write_jobs`'s, of `snap_jobs`;
+//! here are the words of the command line, the standard streams and the status.
 #![tactic(auto)]
 
 ghost use Rattle.snap_replay.specs.Exit.{exit_of};
-ghost use Rattle.std.specs.Prelude.{◌≡◌};
+ghost use Rattle.snap_replay.specs.Tasks.{IsTask};
+ghost use Rattle.std.specs.Prelude.{◌≡◌, ◌≤◌, IfOk, IfSome};
 
 use clap::error::ErrorKind as WordsErrorKind;
-use clap::{ArgMatches, Command, Error};
-use snap_session::{Stop, replay};
+use clap::{Arg, ArgAction, ArgMatches, Command, Error, value_parser};
+use snap_jobs::{JobsStop, MAX_WORKERS, write_jobs};
+use snap_lines::Stop;
+use snap_session::replay;
 use std::alloc::Global;
 use std::io::{BufWriter, ErrorKind};
 use std::process::ExitCode;
+use std::sync::Wait;
+use std::thread::Threads;
 use std::{env, io};
 
 // The status of bad words.
 const BAD_WORDS: u8 = 2;
 
-fn replayed(rt: &HostRuntime) -> Result<(), Stop> {
+// Memory was refused.
+const WANT_OF_MEMORY: JobsStop = JobsStop::Lines(Stop::OutOfMemory);
+
+fn replayed<T: Input + Print + AllocGlobal>(rt: &T) -> Result<(), JobsStop> {
     let alloc = rt.alloc();
     let mut input = rt.reader();
     let Ok(mut output) = BufWriter::new(alloc, io::writer(rt)) else {
-        return Err(Stop::OutOfMemory);
+        return Err(WANT_OF_MEMORY);
     };
-    replay(alloc, &mut input, &mut output)
+    Ok(replay(alloc, &mut input, &mut output)?)
+}
+
+fn jobs_written<T: Threads + Wait + Sync + Input + Print + AllocGlobal>(
+    rt: &T,
+    workers: u32,
+) -> Result<(), JobsStop>
+    requires { (1 ≤ workers) × (workers ≤ 16) }
+{
+    let alloc = rt.alloc();
+    let mut input = rt.reader();
+    let Ok(mut output) = BufWriter::new(alloc, io::writer(rt)) else {
+        return Err(WANT_OF_MEMORY);
+    };
+    write_jobs(rt, alloc, &mut input, &mut output, workers)
 }
 
 // The status of a run that ended so; the words for it go to standard error.
-fn status(rt: &HostRuntime, ended: Result<(), Stop>) -> u8
+fn status<T: Eprint>(rt: &T, ended: Result<(), JobsStop>) -> u8
     ensures { result ≡ exit_of ended }
 {
     match ended {
@@ -46,7 +68,7 @@ fn words_of(rt: &HostRuntime) -> Result<Vec<String>, u8> {
     let args = match env::args(rt) {
         Ok(args) => args,
         Err(e) if e.kind() == ErrorKind::OutOfMemory => {
-            return Err(status(rt, Err(Stop::OutOfMemory)));
+            return Err(status(rt, Err(WANT_OF_MEMORY)));
         }
         Err(_) => {
             let _ = rt.eprintln("error: an argument is no text");
@@ -55,7 +77,7 @@ fn words_of(rt: &HostRuntime) -> Result<Vec<String>, u8> {
     };
     match args.collect::<Vec<String>>(rt.alloc()) {
         Ok(words) => Ok(words),
-        Err(_) => Err(status(rt, Err(Stop::OutOfMemory))),
+        Err(_) => Err(status(rt, Err(WANT_OF_MEMORY))),
     }
 }
 
@@ -64,7 +86,12 @@ fn words_of(rt: &HostRuntime) -> Result<Vec<String>, u8> {
 enum Task {
     // Replay the script on standard input.
     Run,
+    // Run the jobs on standard input by so many workers, 1 to 16.
+    Writers { workers: u32 },
 }
+
+// The option that says how many workers there are.
+const WORKERS: &str = "workers";
 
 fn command<'a>(alloc: Global) -> Result<Command<'a>, Error> {
     let run = Command::new(alloc, "run")
@@ -72,37 +99,67 @@ fn command<'a>(alloc: Global) -> Result<Command<'a>, Error> {
         .after_help(
             "Status: 0 done, 2 bad words or a bad line, 3 a read or a write failed, 4 want of memory.",
         );
+    let workers = Arg::new(alloc, WORKERS)
+        .long(WORKERS)
+        .value_name("N")
+        .help("How many threads run the jobs, 1 to 16")
+        .required(true)
+        .action(ArgAction::Set)
+        .value_parser(value_parser!(u32).range(1..=MAX_WORKERS as i64));
+    let writers = Command::new(alloc, "writers")
+        .about(
+            "Runs jobs: reads a store and jobs, a JSON object a line, writes one line at the end",
+        )
+        .after_help("Status: as of run, and 5 where the store could not be closed.")
+        .arg(workers)?;
     let program = Command::new(alloc, "snap_replay")
         .about("A container snapshotter with an exact usage ledger")
         .subcommand_required(true)
-        .subcommand(run)?;
+        .subcommand(run)?
+        .subcommand(writers)?;
     Ok(program)
 }
 
 // What the words ask for, the program's name first, or clap's refusal of them. A call for help is a
 // refusal too. Takes memory.
-fn task_of(alloc: Global, words: &[String]) -> Result<Option<Task>, Error> {
+fn task_of(alloc: Global, words: &[String]) -> Result<Option<Task>, Error>
+    ensures { IfOk result (λ task. IfSome task IsTask) }
+{
     let matches = command(alloc)?.try_get_matches_from(words)?;
     Ok(chosen(&matches))
 }
 
-fn chosen(matches: &ArgMatches<'_>) -> Option<Task> {
+// The task, where the words have one; those that clap has let through do.
+fn chosen(matches: &ArgMatches<'_>) -> Option<Task>
+    ensures { IfSome result IsTask }
+{
     match matches.subcommand() {
         Some(("run", _)) => Some(Task::Run),
+        Some(("writers", own)) => {
+            let workers = own.get_one::<u32>(WORKERS)?;
+            if workers < 1 || workers > MAX_WORKERS {
+                return None;
+            }
+            Some(Task::Writers { workers })
+        }
         _ => None,
     }
 }
 
 // Does what the words ask for.
-fn run(rt: &HostRuntime, words: &[String]) -> u8 {
+fn run<T: Threads + Wait + Sync + Input + Print + Eprint + AllocGlobal>(
+    rt: &T,
+    words: &[String],
+) -> u8 {
     match task_of(rt.alloc(), words) {
         Ok(Some(Task::Run)) => status(rt, replayed(rt)),
+        Ok(Some(Task::Writers { workers })) => status(rt, jobs_written(rt, workers)),
         Ok(None) => {
             let _ = rt.eprintln("error: no command");
             BAD_WORDS
         }
         Err(error) if error.kind() == WordsErrorKind::OutOfMemory => {
-            status(rt, Err(Stop::OutOfMemory))
+            status(rt, Err(WANT_OF_MEMORY))
         }
         Err(error) => {
             let _ = rt.eprint(&error);

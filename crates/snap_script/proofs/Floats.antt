@@ -89,5 +89,6 @@ no_float (answers.Seen seen) = both_are _ _ (shown_has_none seen) refl
 no_float (answers.Names names) = both_are _ _ (texts_have_none names) refl
 no_float (answers.Swept removed leases freed) = both_are _ _ (texts_have_none removed) refl
 no_float (answers.Report entries actives records totals) = both_are _ _ (members_have_none usage_data (λ usage. refl) totals no_members refl) refl
+no_float (answers.Jobs committed discarded refused totals) = both_are _ _ (members_have_none usage_data (λ usage. refl) totals no_members refl) refl
 no_float (answers.Refused refusal) = refusal_has_none refusal
 no_float answer = refl

@@ -138,6 +138,11 @@ answer_data (answers.Report entries actives records totals) = object
     (member (codes "open") (number_data actives)
     (member (codes "records") (number_data records)
     (only (codes "totals") (object (members_with usage_data totals no_members))))))
+answer_data (answers.Jobs committed discarded refused totals) = object
+    (member (codes "committed") (number_data committed)
+    (member (codes "discarded") (number_data discarded)
+    (member (codes "refused") (number_data refused)
+    (only (codes "totals") (object (members_with usage_data totals no_members))))))
 answer_data (answers.Refused (refusals.OverLimit free_blocks free_inodes)) = object
     (member (codes "error") (string (codes "OverLimit"))
     (member (codes "free") (usage_data (record { blocks = free_blocks; inodes = free_inodes }))

@@ -1,6 +1,6 @@
 -- The commands of a script; cited by the public clause of `read_line` through Lines.antt. The fields of a command are
 -- tested in the order in which they stand.
--- Cited by `read_line`, `replay_within`, `replay` and others.
+-- Cited by `read_open`, `read_line`, `operations` and others.
 use Rattle.std.specs.Prelude.{ℕ, List, [], ◌∷◌, Option, Result, Ok, codes}
 use Rattle.std.specs.Map.{lookup}
 use Rattle.std.specs.Str.{bytes_eq}
@@ -10,6 +10,7 @@ use Rattle.snap_usage.specs.declared.usage.Usage.{Usage}
 use Rattle.snap_record.specs.Labels.{Bytes}
 use Rattle.snap_record.specs.declared.filter.Filter.{Filter}
 use Rattle.snap_call.specs.declared.call.Call.TheVariants as calls
+use Rattle.snap_call.specs.declared.config.Config.{Config}
 use Rattle.snap_script.specs.declared.fault.Field.{Field}
 use Rattle.snap_script.specs.declared.fault.Field.TheVariants as fields
 use Rattle.snap_script.specs.declared.fault.Fault.{Fault}
@@ -54,13 +55,13 @@ file_command_of file_verbs.Unlink line = do Ok (file_commands.Unlink (← text f
 file_command_of file_verbs.Rmdir line = do Ok (file_commands.Rmdir (← text fields.Path line))
 file_command_of file_verbs.Rename line = do Ok (file_commands.Rename (← text fields.From line) (← text fields.To line))
 
--- open: a store by its root, its namespaces and the most entries of its journal. The first id is 1.
-unfoldable pub open_of : Data → Result Command Fault
-open_of line = do
+-- the store that open names, by its root, its namespaces and the most entries of its journal. The first id is 1.
+unfoldable pub config_of : Data → Result Config Fault
+config_of line = do
   root ← text fields.Root line
   namespaces ← required as_namespaces fields.Namespaces line
   journal ← optional as_natural fields.Journal (Ok 1048576) line
-  Ok (commands.Open (record { root = root; namespaces = namespaces; journal = journal; first_id = 1 }))
+  Ok (record { root = root; namespaces = namespaces; journal = journal; first_id = 1 })
 
 -- the filter of a walk: each part that is there is asked for
 unfoldable pub filter_of : Data → Result Filter Fault
@@ -73,7 +74,7 @@ filter_of line = do
 
 -- the command of a line by its verb, mostly on a snapshot s; `prepare`, `view`, `commit`, `remove`, `update` and `walk` are containerd's calls of these names, and a charge wants what it needs where it names no other
 unfoldable pub command_of : Verb → Data → Result Command Fault
-command_of verbs.Open line = open_of line
+command_of verbs.Open line = do Ok (commands.Open (← config_of line))
 command_of verbs.Session line = Ok commands.Session
 command_of verbs.Reopen line = do Ok (commands.Reopen (← optional as_natural fields.Journal (Ok 1048576) line))
 command_of verbs.Prepare line = do s ← named line; Ok (commands.Call (calls.Prepare s.0 s.1 (← text fields.Parent line) (← optional as_labels fields.Labels (Ok []) line)))

@@ -1,5 +1,5 @@
 -- What a line's faults are called; cited by the public clauses of `Field` and `Fault`.
--- Cited by `Field::name`, `Fault as Display`, `read_line` and others.
+-- Cited by `Field::name`, `Fault as Display`, `read_open` and others.
 use Rattle.std.specs.Prelude.{ℕ, List, ◌++◌, codes}
 use Rattle.snap_script.specs.declared.fault.Field.{Field}
 use Rattle.snap_script.specs.declared.fault.Field.TheVariants as fields
@@ -39,6 +39,9 @@ field_name fields.To = codes "to"
 field_name fields.Text = codes "text"
 field_name fields.Fill = codes "fill"
 field_name fields.Extra = codes "extra"
+field_name fields.Ops = codes "ops"
+field_name fields.End = codes "end"
+field_name fields.Open = codes "open"
 
 -- the words for a fault
 abbrev pub fault_words : Fault → List ℕ

@@ -3,6 +3,7 @@ pub mod Results
 pub mod Fields
 pub mod Commands
 pub mod Operations
+pub mod JobOperations
 pub mod Lines
 pub mod Gives
 pub mod Answers

@@ -1,5 +1,5 @@
 -- What a line of a script is; cited by the public clause of `read_line`.
--- Cited by `read_line`, `replay_within`, `replay` and others.
+-- Cited by `is_empty`, `read_object`, `read_open` and others.
 use Rattle.std.specs.Prelude.{ℕ, Bool, true, false, ◌||◌, ◌==◌, nat_lt, if◌then◌else◌, List, length, Option, Some, None, Result, Ok, Err}
 use Rattle.std.specs.List.{list_all}
 use Rattle.std.specs.Option.{ok_or, is_some}
@@ -7,6 +7,7 @@ use Rattle.std.specs.Str.{is_utf8}
 use Rattle.serde_json.specs.Data.{Data}
 use Rattle.serde_json.specs.Read.{read}
 use Rattle.serde_json.specs.Find.{as_object}
+use Rattle.snap_call.specs.declared.config.Config.{Config}
 use Rattle.snap_script.specs.declared.fault.Field.TheVariants as fields
 use Rattle.snap_script.specs.declared.fault.Fault.{Fault}
 use Rattle.snap_script.specs.declared.fault.Fault.TheVariants.{TooLong, NotJson, NotAnObject, FirstLineMustBeOpen, OpenTwice, NoSuchCommand}
@@ -15,7 +16,7 @@ use Rattle.snap_script.specs.declared.line.Line.TheVariants as lines
 use Rattle.snap_script.specs.declared.verb.Verb.{Verb}
 use Rattle.snap_script.specs.declared.verb.Verb.TheVariants.{Open}
 use Rattle.snap_script.specs.Fields.{optional, as_natural}
-use Rattle.snap_script.specs.Commands.{text, verb_of, command_of}
+use Rattle.snap_script.specs.Commands.{text, verb_of, config_of, command_of}
 use Rattle.snap_script.specs.Results.{◌>>=◌}
 
 -- nothing but spaces, tabs and carriage returns
@@ -30,6 +31,10 @@ json_of bytes = if is_utf8 bytes then ok_or (read bytes) NotJson else Err NotJso
 abbrev pub object_of : Data → Result Data Fault
 object_of line = if is_some (as_object line) then Ok line else Err NotAnObject
 
+-- the object that the bytes of a line are
+unfoldable pub object_in : List ℕ → Result Data Fault
+object_in bytes = do object_of (← json_of bytes)
+
 -- the first command is open, and no other is
 unfoldable pub allowed : Bool → Option Verb → Result Verb Fault
 allowed false (Some Open) = Ok Open
@@ -41,10 +46,16 @@ allowed true None = Err NoSuchCommand
 -- the command of a line that isn't empty, with its session, 0 where none is named
 unfoldable pub command_line : Bool → List ℕ → Result Line Fault
 command_line opened bytes = do
-  line ← object_of (← json_of bytes)
+  line ← object_in bytes
   verb ← allowed opened (verb_of (← text fields.Do line))
   session ← optional as_natural fields.Session (Ok 0) line
   Ok (lines.Command session (← command_of verb line))
+
+-- the store that a first line opens, where no session is named
+unfoldable pub opening_of : Data → Result Config Fault
+opening_of line = do
+  verb ← allowed false (verb_of (← text fields.Do line))
+  config_of line
 
 -- a line, without its line feed: at most 16 MiB
 unfoldable pub line_of : Bool → List ℕ → Result Line Fault

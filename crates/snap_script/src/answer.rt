@@ -3,8 +3,8 @@ ghost use Rattle.serde_json.specs.View.{view};
 ghost use Rattle.snap_script.specs.Answers.{answer_data, answer_line};
 
 use crate::values::{
-    changed, committed, done, error, error_name, freed, head, info, infos, mounts, names, path,
-    prepared, refused, report, seen, session, share, swept, usage, viewed,
+    changed, committed, done, error, error_name, freed, head, info, infos, jobs, mounts, names,
+    path, prepared, refused, report, seen, session, share, swept, usage, viewed,
 };
 use serde_json::Value;
 use snap_call::Refusal;
@@ -27,7 +27,7 @@ pub enum Shown {
     Symlink { target: Bytes },
 }
 
-/// What a line of a script is answered.
+/// What a line of a script is answered, and the lines of a script of jobs together.
 #[derive(Debug, Drop)]
 pub enum Answer {
     /// A store was opened, its next round was begun, a limit was set, or a lease was made, added to or
@@ -98,6 +98,14 @@ pub enum Answer {
         records: u64,
         totals: Sequence<(Text, Usage)>,
     },
+    /// How many jobs were committed, how many were discarded as they asked, how many ended otherwise, and the
+    /// total of each namespace: `{"committed":16,"discarded":16,"refused":0,"totals":{"a":[32,32]}}`.
+    Jobs {
+        committed: u64,
+        discarded: u64,
+        refused: u64,
+        totals: Sequence<(Text, Usage)>,
+    },
     /// A call was refused: `{"error":"NotFound","from":"book"}`, over the limit with what is free,
     /// `{"error":"OverLimit","free":[5,0],"from":"book"}`.
     Refused(Refusal),
@@ -143,6 +151,12 @@ impl Answer {
                 records,
                 totals,
             } => report(alloc, *entries, *actives, *records, totals.as_slice()),
+            Answer::Jobs {
+                committed,
+                discarded,
+                refused,
+                totals,
+            } => jobs(alloc, *committed, *discarded, *refused, totals.as_slice()),
             Answer::Refused(refusal) => refused(alloc, *refusal),
             Answer::Failed(own) => error(alloc, error_name(*own), "file"),
             Answer::NoSession => error(alloc, "NoSession", "world"),

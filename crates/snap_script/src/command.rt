@@ -1,14 +1,15 @@
+ghost use Rattle.std.specs.Prelude.{◌≡◌, IfOk, map};
 ghost use Rattle.snap_merge.specs.Walk.{Answers};
 ghost use Rattle.snap_script.specs.Operations.{path_of, operation_of};
 
-use snap_call::{Call, Config};
+use snap_call::{Call, Config, Namespace};
 use snap_layer::Bytes;
 use snap_merge::FsError;
 use snap_path::Path;
-use snap_record::Text;
+use snap_record::{Sequence, Text};
 use snap_upper::Op;
 use snap_usage::Usage;
-use std::alloc::Global;
+use std::alloc::{AllocError, Global};
 
 /// A command of a script.
 #[derive(Debug, Drop)]
@@ -134,6 +135,17 @@ pub fn path_of(alloc: Global, text: &Text) -> Result<Path, FsError>
     ensures { Answers (path_of text.now) result }
 {
     Ok(Path::parse(alloc, text.as_str())?)
+}
+
+/// The names of the namespaces, in their order. The memory and the cost grow with them.
+pub fn names_of(alloc: Global, namespaces: &[Namespace]) -> Result<Sequence<Text>, AllocError>
+    ensures { IfOk result (λ names. names ≡ map (λ n. n.name) namespaces.now) }
+{
+    let mut names = Sequence::new(alloc);
+    for namespace in namespaces {
+        names.push(namespace.name.clone()?)?;
+    }
+    Ok(names)
 }
 
 impl FileCommand {

@@ -8,7 +8,7 @@ use std::fmt;
 /// The fields of a line.
 #[derive(Clone, Copy, Debug, PartialEq, Eq)]
 pub enum Field {
-    /// `do`, the command's word.
+    /// `do`, the word of a command, or of an operation of a job.
     Do,
     /// `s`, the number of the session.
     Session,
@@ -47,6 +47,12 @@ pub enum Field {
     Text,
     Fill,
     Extra,
+    /// The operations of a job.
+    Ops,
+    /// The end of a job.
+    End,
+    /// No field: the store of a script of jobs, where its `open` is refused.
+    Open,
 }
 
 /// Why a line is no command. Of several faults, the line has the first in the order below; of
@@ -112,6 +118,9 @@ impl Field {
             Field::Text => "text",
             Field::Fill => "fill",
             Field::Extra => "extra",
+            Field::Ops => "ops",
+            Field::End => "end",
+            Field::Open => "open",
         }
     }
 }

@@ -1,6 +1,6 @@
 // The fields of a line, each of its kind.
 ghost use Rattle.std.specs.Prelude.{◌≡◌, [], Some, None, Ok, option_map, replicate, IfOk};
-ghost use Rattle.serde_json.specs.Find.{get, as_str};
+ghost use Rattle.serde_json.specs.Find.{get, as_str, as_array};
 ghost use Rattle.serde_json.specs.View.{view, items_view, members_view};
 ghost use Rattle.snap_script.specs.declared.fault.Field.TheVariants as fields;
 ghost use Rattle.snap_script.specs.Faults.{field_name};
@@ -84,8 +84,8 @@ pub(crate) fn required_mode(line: &Value) -> Result<u32, Fault>
     }
 }
 
-/// A text that must be there, lent by the line.
-pub(crate) fn lent_text(field: Field, line: &Value) -> Result<&str, Fault>
+/// A text that must be there, lent by the line. `BadField` where it is not.
+pub fn lent_text(field: Field, line: &Value) -> Result<&str, Fault>
     ensures { GivesAll (λ s. s.now) result (text field (view line.now)) }
 {
     match find(field, line) {
@@ -94,20 +94,16 @@ pub(crate) fn lent_text(field: Field, line: &Value) -> Result<&str, Fault>
     }
 }
 
-/// A text that must be there.
-pub(crate) fn text(alloc: Global, field: Field, line: &Value) -> Result<Text, ReadError>
+/// A text that must be there. The cost grows with it.
+pub fn text(alloc: Global, field: Field, line: &Value) -> Result<Text, ReadError>
     ensures { Gives (λ t. t) result (text field (view line.now)) }
 {
     let text = lent_text(field, line)?;
     Ok(Text::copy_of(alloc, text)?)
 }
 
-/// A text that may be absent.
-pub(crate) fn optional_text(
-    alloc: Global,
-    field: Field,
-    line: &Value,
-) -> Result<Option<Text>, ReadError>
+/// A text that may be absent. The cost grows with it.
+pub fn optional_text(alloc: Global, field: Field, line: &Value) -> Result<Option<Text>, ReadError>
     ensures { Gives (λ t. t) result (given as_str field (view line.now)) }
 {
     match find(field, line) {
@@ -216,8 +212,8 @@ pub(crate) fn required_usage(field: Field, line: &Value) -> Result<Usage, Fault>
     }
 }
 
-/// A usage that may be absent.
-pub(crate) fn usage_or(default: Usage, field: Field, line: &Value) -> Result<Usage, Fault>
+/// A usage, `[blocks, inodes]`, that may be absent. `BadField` where it is there and no such pair.
+pub fn usage_or(default: Usage, field: Field, line: &Value) -> Result<Usage, Fault>
     ensures { result ≡ optional as_usage field (Ok default) (view line.now) }
 {
     match find(field, line) {
@@ -382,4 +378,21 @@ pub(crate) fn content(alloc: Global, line: &Value) -> Result<Bytes, ReadError>
     };
     let text = value.as_str().ok_or(Fault::BadField(Field::Text))?;
     Ok(Bytes::copy_of(alloc, text.as_bytes())?)
+}
+
+/// The target of a symlink.
+pub(crate) fn target(alloc: Global, line: &Value) -> Result<Bytes, ReadError>
+    ensures { Gives (λ bytes. bytes) result (text fields.Target (view line.now)) }
+{
+    let target = lent_text(Field::Target, line)?;
+    Ok(Bytes::copy_of(alloc, target.as_bytes())?)
+}
+
+/// The operations of a job, not read yet.
+pub(crate) fn operations(line: &Value) -> Result<&[Value], Fault>
+    ensures { GivesAll (λ values. items_view values.now) result (required as_array fields.Ops (view line.now)) }
+{
+    let found = find(Field::Ops, line).ok_or(Fault::BadField(Field::Ops))?;
+    let values = found.as_array().ok_or(Fault::BadField(Field::Ops))?;
+    Ok(values.as_slice())
 }

@@ -8,13 +8,16 @@
 mod answer;
 mod command;
 mod fault;
-mod fields;
+pub mod fields;
 mod line;
+mod operation;
 mod parse;
 mod values;
 mod verb;
 
 pub use answer::{Answer, Shown};
-pub use command::{Command, FileCommand, Lookup, path_of};
+pub use command::{Command, FileCommand, Lookup, names_of, path_of};
 pub use fault::{Fault, Field, ReadError};
-pub use line::{Line, MAX_LINE_BYTES, read_line};
+pub use line::{Line, MAX_LINE_BYTES, is_empty, read_line, read_object, read_open};
+pub use operation::operations;
+pub use parse::named;

@@ -1,14 +1,15 @@
 ghost use Rattle.std.specs.Prelude.{◌≡◌};
 ghost use Rattle.serde_json.specs.View.{view};
-ghost use Rattle.snap_script.specs.Lines.{is_empty, json_of, object_of, allowed, command_line, line_of};
+ghost use Rattle.snap_script.specs.Lines.{is_empty, json_of, object_of, object_in, allowed, command_line, opening_of, line_of};
 ghost use Rattle.snap_script.specs.Gives.{Gives, GivesAll};
 
 use crate::command::Command;
 use crate::fault::{Fault, Field, ReadError};
 use crate::fields::{lent_text, number_or};
-use crate::parse::command_of;
+use crate::parse::{command_of, config_of};
 use crate::verb::{Verb, verb_of};
 use serde_json::Value;
+use snap_call::Config;
 use std::alloc::Global;
 
 /// A line has at most so many bytes, without its line feed.
@@ -23,7 +24,8 @@ pub enum Line {
     Command { session: u64, command: Command },
 }
 
-fn is_empty(bytes: &[u8]) -> bool
+/// Whether a line, without its line feed, has nothing but spaces, tabs and carriage returns.
+pub fn is_empty(bytes: &[u8]) -> bool
     ensures { result ≡ is_empty bytes.now }
 {
     bytes
@@ -56,6 +58,19 @@ fn check_object(value: &Value) -> Result<(), Fault>
     }
 }
 
+/// The object that a line is, without its line feed, whatever its length.
+///
+/// `NotJson`, then `NotAnObject`; `OutOfMemory` where memory for the value was refused. The memory and the
+/// cost grow with the line.
+#[tactic(auto, unfolding(crate::specs::Lines::object_in))]
+pub fn read_object(alloc: Global, bytes: &[u8]) -> Result<Value, ReadError>
+    ensures { Gives view result (object_in bytes.now) }
+{
+    let value = value_of(alloc, bytes)?;
+    check_object(&value)?;
+    Ok(value)
+}
+
 /// The verb, where a command of it may stand here.
 #[tactic(auto, unfolding(crate::specs::Lines::allowed))]
 fn allowed(opened: bool, verb: Option<Verb>) -> Result<Verb, Fault>
@@ -74,13 +89,26 @@ fn allowed(opened: bool, verb: Option<Verb>) -> Result<Verb, Fault>
 fn command_line(alloc: Global, opened: bool, bytes: &[u8]) -> Result<Line, ReadError>
     ensures { Gives (λ line. line) result (command_line opened bytes.now) }
 {
-    let line = value_of(alloc, bytes)?;
-    check_object(&line)?;
+    let line = read_object(alloc, bytes)?;
     let word = lent_text(Field::Do, &line)?;
     let verb = allowed(opened, verb_of(word))?;
     let session = number_or(0, Field::Session, &line)?;
     let command = command_of(alloc, verb, &line)?;
     Ok(Line::Command { session, command })
+}
+
+/// The store that a first line opens, where no session is named: the field `s` isn't looked at.
+///
+/// `BadField(Do)`, then `FirstLineMustBeOpen`, then the fields of `open` in their order. The configuration
+/// need not have its form. `OutOfMemory` where memory for it was refused. The memory and the cost grow with
+/// the line.
+#[tactic(auto, unfolding(crate::specs::Lines::opening_of))]
+pub fn read_open(alloc: Global, line: &Value) -> Result<Config, ReadError>
+    ensures { Gives (λ config. config) result (opening_of (view line.now)) }
+{
+    let word = lent_text(Field::Do, line)?;
+    allowed(false, verb_of(word))?;
+    config_of(alloc, line)
 }
 
 /// Reads a line, which stands here without its line feed. `opened` says whether a store was opened.

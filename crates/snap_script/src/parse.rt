@@ -3,21 +3,20 @@ ghost use Rattle.std.specs.Prelude.{◌≡◌};
 ghost use Rattle.serde_json.specs.View.{view};
 ghost use Rattle.snap_script.specs.declared.verb.Verb.TheVariants as verbs;
 ghost use Rattle.snap_script.specs.declared.verb.FileVerb.TheVariants as file_verbs;
-ghost use Rattle.snap_script.specs.Commands.{named, open_of, filter_of, lease_of, limit_of, file_command_of, command_of};
+ghost use Rattle.snap_script.specs.Commands.{named, config_of, filter_of, lease_of, limit_of, file_command_of, command_of};
 ghost use Rattle.snap_script.specs.Gives.{Gives};
 
 use crate::command::{Command, FileCommand, Lookup};
 use crate::fault::{Fault, Field, ReadError};
 use crate::fields::{
-    content, label_filters, labels, lent_text, mode_or, namespaces, number_or, optional_kind,
-    optional_number, optional_text, paths, required_labels, required_mode, required_number,
-    required_usage, text, text_or_empty, usage_or,
+    content, label_filters, labels, mode_or, namespaces, number_or, optional_kind, optional_number,
+    optional_text, paths, required_labels, required_mode, required_number, required_usage, target,
+    text, text_or_empty, usage_or,
 };
 use crate::verb::{FileVerb, Verb};
 use serde_json::Value;
 use snap_call::limits::MAX_JOURNAL;
 use snap_call::{Call, Config};
-use snap_layer::Bytes;
 use snap_path::limits::DEFAULT_MODE;
 use snap_record::{Filter, Text};
 use snap_usage::Usage;
@@ -27,14 +26,15 @@ use std::alloc::Global;
 const FIRST_ID: u32 = 1;
 
 /// The mode of a new file, where the line has none.
-const FILE_MODE: u32 = 0o644;
+pub(crate) const FILE_MODE: u32 = 0o644;
 
 /// How many snapshots a walk gives at most, where the line doesn't say.
 const PAGE: u64 = 64;
 
-/// The namespace and the key of the snapshot that a command names.
+/// The namespace (`ns`) and the key of the snapshot that a line names, both texts. Neither has to have its
+/// form. The cost grows with the texts.
 #[tactic(auto, unfolding(crate::specs::Commands::named))]
-fn named(alloc: Global, line: &Value) -> Result<(Text, Text), ReadError>
+pub fn named(alloc: Global, line: &Value) -> Result<(Text, Text), ReadError>
     ensures { Gives (λ snapshot. snapshot) result (named (view line.now)) }
 {
     let namespace = text(alloc, Field::Namespace, line)?;
@@ -42,19 +42,27 @@ fn named(alloc: Global, line: &Value) -> Result<(Text, Text), ReadError>
     Ok((namespace, key))
 }
 
-#[tactic(auto, unfolding(crate::specs::Commands::open_of))]
-fn open(alloc: Global, line: &Value) -> Result<Command, ReadError>
-    ensures { Gives (λ c. c) result (open_of (view line.now)) }
+/// The configuration of the store that an `open` names.
+#[tactic(auto, unfolding(crate::specs::Commands::config_of))]
+pub(crate) fn config_of(alloc: Global, line: &Value) -> Result<Config, ReadError>
+    ensures { Gives (λ config. config) result (config_of (view line.now)) }
 {
     let root = text(alloc, Field::Root, line)?;
     let namespaces = namespaces(alloc, line)?;
     let journal = number_or(MAX_JOURNAL, Field::Journal, line)?;
-    let config = Config {
+    Ok(Config {
         root,
         namespaces,
         journal,
         first_id: FIRST_ID,
-    };
+    })
+}
+
+#[tactic(auto, unfolding(crate::specs::Commands::command_of))]
+fn open(alloc: Global, line: &Value) -> Result<Command, ReadError>
+    ensures { Gives (λ c. c) result (command_of verbs.Open (view line.now)) }
+{
+    let config = config_of(alloc, line)?;
     Ok(Command::Open { config })
 }
 
@@ -332,8 +340,7 @@ fn symlink(alloc: Global, line: &Value) -> Result<FileCommand, ReadError>
     ensures { Gives (λ c. c) result (file_command_of file_verbs.Symlink (view line.now)) }
 {
     let path = text(alloc, Field::Path, line)?;
-    let target = lent_text(Field::Target, line)?;
-    let target = Bytes::copy_of(alloc, target.as_bytes())?;
+    let target = target(alloc, line)?;
     Ok(FileCommand::Symlink { path, target })
 }
 

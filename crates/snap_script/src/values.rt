@@ -248,6 +248,19 @@ pub(crate) fn report(
     json!(in alloc; {"entries": entries, "open": actives, "records": records, "totals": totals})
 }
 
+pub(crate) fn jobs(
+    alloc: Global,
+    committed: u64,
+    discarded: u64,
+    refused: u64,
+    totals: &[(Text, Usage)],
+) -> Result<Value, AllocError>
+    ensures { IfOk result (λ v. view v ≡ answer_data (answers.Jobs committed discarded refused totals.now)) }
+{
+    let totals = totals_value(alloc, totals)?;
+    json!(in alloc; {"committed": committed, "discarded": discarded, "refused": refused, "totals": totals})
+}
+
 /// The text, or null where the bytes are none.
 #[tactic(auto, using(crate::proofs::Texts::is_text))]
 fn text_value(alloc: Global, bytes: &[u8]) -> Result<Value, AllocError>

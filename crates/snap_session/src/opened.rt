@@ -1,5 +1,5 @@
 // The store that a script has opened.
-ghost use Rattle.std.specs.Prelude.{◌≡◌, IfOk, Some, map};
+ghost use Rattle.std.specs.Prelude.{◌≡◌, IfOk, Some};
 ghost use Rattle.snap_session.specs.Opened.{total_of, totals_of};
 ghost use Rattle.snap_session.specs.Commands.{kept, on_store, report};
 
@@ -8,7 +8,7 @@ use crate::file_commands::file;
 use crate::lookups::lookup;
 use crate::round::reopen;
 use crate::step::called;
-use snap_call::{Namespace, Refusal};
+use snap_call::Refusal;
 use snap_ledger::StoreName;
 use snap_record::{Sequence, Text};
 use snap_script::{Answer, Command};
@@ -30,17 +30,6 @@ impl<N: StoreName> Model for Opened<N> {
     ghost Value = { OpenedValue };
 
     ghost view = { λ s. record { world = s.world; names = s.names } };
-}
-
-// The names of the namespaces, in their order.
-pub(crate) fn names_of(alloc: Global, namespaces: &[Namespace]) -> Result<Sequence<Text>, NoMemory>
-    ensures { IfOk result (λ names. names ≡ map (λ n. n.name) namespaces.now) }
-{
-    let mut names = Sequence::new(alloc);
-    for namespace in namespaces {
-        names.push(namespace.name.clone()?)?;
-    }
-    Ok(names)
 }
 
 // What the namespace of this name is charged.

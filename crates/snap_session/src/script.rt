@@ -6,13 +6,13 @@ ghost use Rattle.snap_world.specs.Move.{move};
 ghost use Rattle.snap_session.specs.Commands.{started, store_opened, done};
 ghost use Rattle.snap_session.specs.Opened.{new_world};
 
-use crate::opened::{Opened, names_of};
+use crate::opened::Opened;
 use crate::round::is_started;
 use crate::step::{take_step, told};
 use snap_call::{Call, Config, Refusal};
 use snap_ledger::{NewTable, StoreName};
 use snap_record::{Sequence, Text};
-use snap_script::{Answer, Command};
+use snap_script::{Answer, Command, names_of};
 use snap_world::{NoMemory, Step, World};
 use std::alloc::Global;
 use std::marker::Model;

@@ -1,0 +1,4 @@
+pub mod Jobs
+pub mod Lines
+pub mod Answer
+pub mod Words

@@ -1,0 +1,41 @@
+-- What the lines of a script of jobs say; cited by the public clauses of `JobLines`.
+-- Cited by `JobLines as TakeLine`, `write_jobs_within`, `write_jobs`.
+use Rattle.std.specs.Prelude.{ℕ, if◌then◌else◌, List, [], ◌∷◌, ◌++◌, length, map, nat_lt, Option, Some, None, Result, Ok, Err}
+use Rattle.serde_json.specs.Data.{Data}
+use Rattle.snap_record.specs.Labels.{Bytes}
+use Rattle.snap_call.specs.Forms.{is_config}
+use Rattle.snap_call.specs.declared.config.Config.{Config}
+use Rattle.snap_script.specs.declared.fault.Field.TheVariants.{Open}
+use Rattle.snap_script.specs.declared.fault.Fault.{Fault}
+use Rattle.snap_script.specs.declared.fault.Fault.TheVariants.{TooLong, BadField}
+use Rattle.snap_script.specs.Lines.{is_empty, object_in, opening_of}
+use Rattle.snap_script.specs.Results.{◌>>=◌}
+use Rattle.snap_writers.specs.declared.job.Job.{Job}
+use Rattle.snap_lines.specs.Effects.{Effects}
+use Rattle.snap_jobs.specs.Jobs.{job_of}
+
+-- what was read once a store is open: the names of its namespaces, and the jobs, in order
+pub record ReadValue : Type 0 where
+  pub names : List Bytes
+  pub jobs : List Job
+
+-- a store of the configuration, where this has its form, and no job
+abbrev pub opened_as : Config → Result ReadValue Fault
+opened_as config = if is_config config then Ok (record { names = map (λ n. n.name) config.namespaces; jobs = [] }) else Err (BadField Open)
+
+-- one job more
+abbrev pub with_job : ReadValue → Job → ReadValue
+with_job read job = record { names = read.names; jobs = read.jobs ++ job ∷ [] }
+
+-- what is read with the bytes of the next line that isn't empty: the store, then jobs, of which there are at most 65,536
+unfoldable pub read_with : Option ReadValue → List ℕ → Result ReadValue Fault
+read_with None bytes = do opened_as (← opening_of (← object_in bytes))
+read_with (Some read) bytes = if nat_lt (length read.jobs) 65536 then (do Ok (with_job read (← job_of (← object_in bytes)))) else Err TooLong
+
+-- the same of any line; an empty one says nothing
+unfoldable pub taken : Option ReadValue → List ℕ → Result (Option ReadValue) Fault
+taken read bytes = if is_empty bytes then Ok read else (do Ok (Some (← read_with read bytes)))
+
+-- what a line does: nothing is written for it
+unfoldable pub jobs_effect : Effects (Option ReadValue)
+jobs_effect read bytes = do Ok (record { value = (← taken read bytes); text = [] })

@@ -1,0 +1,96 @@
+// How the jobs ended, and what the namespaces are charged.
+ghost use Rattle.std.specs.Prelude.{◌≡◌, IfOk};
+ghost use Rattle.std.specs.List.{count_by};
+ghost use Rattle.snap_jobs.specs.Answer.{is_committed, is_discarded, is_refused, total_of, totals_of, answer_of};
+
+use snap_ledger::StoreName;
+use snap_record::{Sequence, Text};
+use snap_script::Answer;
+use snap_store::Closed;
+use snap_usage::Usage;
+use snap_writers::{Ended, Report};
+use std::alloc::{AllocError, Global};
+
+fn is_committed(end: Ended) -> bool
+    ensures { result ≡ is_committed end }
+{
+    match end {
+        Ended::Committed(_) => true,
+        _ => false,
+    }
+}
+
+fn is_discarded(end: Ended) -> bool
+    ensures { result ≡ is_discarded end }
+{
+    match end {
+        Ended::Discarded => true,
+        _ => false,
+    }
+}
+
+fn is_refused(end: Ended) -> bool
+    ensures { result ≡ is_refused end }
+{
+    !is_committed(end) && !is_discarded(end)
+}
+
+fn committed(ends: &[Ended]) -> usize
+    ensures { result ≡ count_by is_committed ends.now }
+{
+    ends.iter().filter(|end| is_committed(**end)).count()
+}
+
+fn discarded(ends: &[Ended]) -> usize
+    ensures { result ≡ count_by is_discarded ends.now }
+{
+    ends.iter().filter(|end| is_discarded(**end)).count()
+}
+
+fn refused(ends: &[Ended]) -> usize
+    ensures { result ≡ count_by is_refused ends.now }
+{
+    ends.iter().filter(|end| is_refused(**end)).count()
+}
+
+// What the namespace of this name is charged.
+fn total_of<N: StoreName>(closed: &Closed<N>, name: &str) -> Usage
+    ensures { result ≡ total_of closed.now name.now }
+{
+    match closed.totals(name) {
+        Some(total) => total,
+        None => Usage::ZERO,
+    }
+}
+
+fn totals_of<N: StoreName>(
+    alloc: Global,
+    closed: &Closed<N>,
+    names: &[Text],
+) -> Result<Sequence<(Text, Usage)>, AllocError>
+    ensures { IfOk result (λ totals. totals ≡ totals_of closed.now names.now) }
+{
+    let mut totals = Sequence::new(alloc);
+    for name in names {
+        let total = total_of(closed, name.as_str());
+        totals.push((name.clone()?, total))?;
+    }
+    Ok(totals)
+}
+
+// What a run of jobs came to, with the totals of the namespaces of these names.
+pub(crate) fn answer_of<N: StoreName>(
+    alloc: Global,
+    report: &Report<N>,
+    names: &[Text],
+) -> Result<Answer, AllocError>
+    ensures { IfOk result (λ answer. answer ≡ answer_of report.now.ends report.now.closed names.now) }
+{
+    let ends = report.ends.as_slice();
+    Ok(Answer::Jobs {
+        committed: committed(ends) as u64,
+        discarded: discarded(ends) as u64,
+        refused: refused(ends) as u64,
+        totals: totals_of(alloc, &report.closed, names)?,
+    })
+}

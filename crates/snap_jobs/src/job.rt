@@ -1,0 +1,41 @@
+// A job, read from the object of its line.
+ghost use Rattle.serde_json.specs.View.{view};
+ghost use Rattle.snap_script.specs.Gives.{Gives};
+ghost use Rattle.snap_jobs.specs.Jobs.{end_of, job_of};
+
+use serde_json::Value;
+use snap_script::fields::{lent_text, optional_text, text, usage_or};
+use snap_script::{Fault, Field, ReadError, named, operations};
+use snap_usage::Usage;
+use snap_writers::{End, Job};
+use std::alloc::Global;
+
+#[tactic(auto, unfolding(crate::specs::Jobs::end_of))]
+fn end_of(alloc: Global, line: &Value) -> Result<End, ReadError>
+    ensures { Gives (λ end. end) result (end_of (view line.now)) }
+{
+    match lent_text(Field::End, line)? {
+        "commit" => Ok(End::Commit {
+            name: text(alloc, Field::Name, line)?,
+            lease: optional_text(alloc, Field::Lease, line)?,
+        }),
+        "discard" => Ok(End::Discard),
+        _ => Err(ReadError::Fault(Fault::BadField(Field::End))),
+    }
+}
+
+// The job of a line. A field `do` counts for nothing.
+#[tactic(auto, unfolding(crate::specs::Jobs::job_of))]
+pub(crate) fn job_of(alloc: Global, line: &Value) -> Result<Job, ReadError>
+    ensures { Gives (λ job. job) result (job_of (view line.now)) }
+{
+    let (namespace, key) = named(alloc, line)?;
+    Ok(Job {
+        namespace,
+        key,
+        parent: text(alloc, Field::Parent, line)?,
+        ops: operations(alloc, line)?,
+        end: end_of(alloc, line)?,
+        extra: usage_or(Usage::ZERO, Field::Extra, line)?,
+    })
+}

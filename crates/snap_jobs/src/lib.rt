@@ -1,0 +1,16 @@
+//! Jobs on a store: lines are read, a store and then jobs on it, the jobs are run by workers on threads of
+//! their own, and one line tells how they ended.
+//!
+//! What a line says is `taken` in `specs/Lines.antt`, and what the jobs came to `answer_of` in
+//! `specs/Answer.antt`.
+#![tactic(auto)]
+
+mod answer;
+mod job;
+mod reading;
+mod run;
+mod stop;
+
+pub use reading::{JobLines, MAX_JOBS};
+pub use run::{MAX_WORKERS, write_jobs, write_jobs_within};
+pub use stop::JobsStop;

@@ -1,0 +1,148 @@
+// The lines of a script of jobs, and what was read of them.
+ghost use Rattle.std.specs.Prelude.{◌≡◌, None};
+ghost use Rattle.serde_json.specs.View.{view};
+ghost use Rattle.snap_script.specs.Gives.{Gives};
+ghost use Rattle.snap_script.specs.Lines.{object_in, opening_of};
+ghost use Rattle.snap_jobs.specs.Lines.{opened_as, read_with, taken};
+
+use crate::job::job_of;
+use snap_call::{Config, Refusal};
+use snap_ledger::{NewTable, StoreName};
+use snap_lines::TakeLine;
+use snap_record::{Sequence, Text};
+use snap_script::{Fault, Field, ReadError, is_empty, names_of, read_object, read_open};
+use snap_store::Store;
+use snap_writers::Job;
+use std::alloc::Global;
+use std::marker::Model;
+
+/// The most jobs of a script.
+pub const MAX_JOBS: usize = 65_536;
+
+// The store that the first line has opened, the names of its namespaces, and the jobs.
+#[derive(Drop)]
+pub(crate) struct Read<N: StoreName> {
+    pub(crate) store: Store<N>,
+    pub(crate) names: Sequence<Text>,
+    pub(crate) jobs: Vec<Job>,
+}
+
+impl<N: StoreName> Model for Read<N> {
+    ghost use Rattle.snap_jobs.specs.Lines.{ReadValue};
+
+    ghost Value = { ReadValue };
+
+    ghost view = { λ s. record { names = s.names; jobs = s.jobs.items } };
+}
+
+/// What was read of a script of jobs. Contracts see nothing, or, once the first line has opened a store, the
+/// names of its namespaces and the jobs.
+///
+/// The table names the store, and goes to it when it is opened. Where that is refused, for its configuration
+/// or for want of memory, the name is spent, and a later line that opens a store is `OutOfMemory`.
+#[derive(Drop)]
+pub struct JobLines<N: StoreName> {
+    table: Option<NewTable>,
+    read: Option<Read<N>>,
+}
+
+impl<N: StoreName> Model for JobLines<N> {
+    ghost use Rattle.std.specs.Prelude.{◌≡◌, Option, IfSome};
+    ghost use Rattle.snap_jobs.specs.Lines.{ReadValue};
+
+    ghost Value = { Option ReadValue };
+
+    ghost view = { λ s. s.read };
+
+    ghost invariant = { λ s. IfSome s.table (λ t. t ≡ N.table) };
+}
+
+impl<N: StoreName> JobLines<N> {
+    /// Before the first line. Takes no memory.
+    pub fn new(table: NewTable) -> JobLines<N>
+        requires { table ≡ N.table }
+        ensures { result ≡ None }
+    {
+        JobLines {
+            table: Some(table),
+            read: None,
+        }
+    }
+
+    // A store of the configuration.
+    fn open(&mut self, alloc: Global, config: Config) -> Result<Read<N>, ReadError>
+        ensures read { Gives (λ read. read) result (opened_as config) }
+        ensures same { self.new ≡ self.old }
+    {
+        let names = names_of(alloc, config.namespaces.as_slice())?;
+        let table = self.table.take().ok_or(ReadError::OutOfMemory)?;
+        match Store::open(alloc, table, config) {
+            Ok(store) => Ok(Read {
+                store,
+                names,
+                jobs: Vec::new(alloc),
+            }),
+            Err(Refusal::BadArgument) => Err(ReadError::Fault(Fault::BadField(Field::Open))),
+            Err(_) => Err(ReadError::OutOfMemory),
+        }
+    }
+
+    // Reads the first line that isn't empty.
+    #[tactic(auto, unfolding(crate::specs::Lines::read_with))]
+    fn read_first(&mut self, alloc: Global, line: &[u8]) -> Result<Read<N>, ReadError>
+        ensures read { Gives (λ read. read) result (read_with None line.now) }
+        ensures same { self.new ≡ self.old }
+    {
+        let line = read_object(alloc, line)?;
+        let config = read_open(alloc, &line)?;
+        self.open(alloc, config)
+    }
+
+    // The store and the jobs, where a line has opened one.
+    pub(crate) fn into_read(self) -> Option<Read<N>>
+        ensures { result ≡ self }
+    {
+        self.read
+    }
+}
+
+impl<N: StoreName> Read<N> {
+    // Takes the line of a job.
+    #[tactic(auto, unfolding(crate::specs::Lines::read_with))]
+    fn take_job(&mut self, alloc: Global, line: &[u8]) -> Result<(), ReadError>
+        ensures { Gives (λ _. self.new) result (read_with (Some self.old) line.now) }
+    {
+        if self.jobs.len() >= MAX_JOBS {
+            return Err(ReadError::Fault(Fault::TooLong));
+        }
+        let line = read_object(alloc, line)?;
+        let job = job_of(alloc, &line)?;
+        self.jobs.push(job)?;
+        Ok(())
+    }
+}
+
+/// Takes the lines of a script of jobs. None has an answer: the jobs are run once all lines are read.
+///
+/// The first line that isn't empty has the faults of `open`, and last `BadField(Open)` where the store is
+/// refused. The line of a job has `TooLong` where 65,536 jobs were read; then `NotJson`, `NotAnObject`, and
+/// `BadField` with the first of its fields. `OutOfMemory` where memory was refused.
+///
+/// The memory and the cost grow with the line, and a `fill` takes as many bytes as it asks for.
+impl<N: StoreName> TakeLine for JobLines<N> {
+    ghost use Rattle.snap_jobs.specs.Lines.{jobs_effect};
+
+    ghost effect = { jobs_effect };
+
+    #[tactic(auto, unfolding(crate::specs::Lines::jobs_effect, crate::specs::Lines::taken))]
+    fn take_line(&mut self, alloc: Global, line: &[u8]) -> Result<Option<String>, ReadError> {
+        if is_empty(line) {
+            return Ok(None);
+        }
+        match &mut self.read {
+            None => self.read = Some(self.read_first(alloc, line)?),
+            Some(read) => read.take_job(alloc, line)?,
+        }
+        Ok(None)
+    }
+}

@@ -1,0 +1,162 @@
+ghost use Rattle.std.specs.Prelude.{◌≡◌, ◌≤◌, Some, None, Err, IfErr, IfSome, false};
+ghost use Rattle.snap_lines.specs.Transcripts.{transcript, Tells};
+ghost use Rattle.snap_lines.specs.declared.stop.LineFault.{LineFault};
+ghost use Rattle.snap_jobs.specs.Lines.{jobs_effect};
+ghost use Rattle.snap_jobs.specs.Words.{is_line};
+
+use crate::answer::answer_of;
+use crate::reading::{JobLines, Read};
+use crate::stop::JobsStop;
+use snap_ledger::{NewTable, StoreName};
+use snap_lines::{Stop, read_lines};
+use snap_store::{Cause, NotClosed, Store};
+use snap_writers::{Gate, Job, Report, RunFault, run_jobs};
+use std::alloc::Global;
+use std::io;
+use std::io::Write;
+use std::marker::Brand;
+use std::sync::Wait;
+use std::thread::Threads;
+
+/// The most workers.
+pub const MAX_WORKERS: u32 = 16;
+
+// The most reads.
+const READS: u32 = 4_294_967_295;
+
+// Lets every worker take each of its steps.
+struct OpenGate;
+
+impl Gate for OpenGate {
+    fn pass(&self, _worker: u32, _step: u32) -> bool {
+        true
+    }
+}
+
+// Why the store that comes back was not closed.
+fn stop_of<N: StoreName>(back: &NotClosed<N>) -> JobsStop
+    ensures { is_line result ≡ false }
+{
+    match back.cause {
+        Cause::OutOfMemory => JobsStop::Lines(Stop::OutOfMemory),
+        _ => JobsStop::NotClosed,
+    }
+}
+
+// Runs the jobs. A report comes also where a gate has stopped a worker, which an open one does not.
+fn report_of<N: StoreName + Send + Sync, T: Threads + Wait + Sync>(
+    rt: &T,
+    alloc: Global,
+    store: Store<N>,
+    jobs: &[Job],
+    workers: u32,
+) -> Result<Report<N>, JobsStop>
+    requires { (1 ≤ workers) × (workers ≤ 16) }
+    ensures { IfErr result (λ stop. is_line stop ≡ false) }
+{
+    match run_jobs(rt, alloc, store, jobs, workers, &OpenGate) {
+        Ok(report) => Ok(report),
+        Err(RunFault::GateClosed { worker: _, report }) => Ok(report),
+        Err(RunFault::BadWorkers(_)) => unreachable!(),
+        Err(RunFault::OutOfMemory(_)) => Err(JobsStop::Lines(Stop::OutOfMemory)),
+        Err(RunFault::NotClosed(back)) => Err(stop_of(&back)),
+    }
+}
+
+// Runs the jobs, and gives the line of their answer.
+fn line_of<N: StoreName + Send + Sync, T: Threads + Wait + Sync>(
+    rt: &T,
+    alloc: Global,
+    read: Read<N>,
+    workers: u32,
+) -> Result<String, JobsStop>
+    requires { (1 ≤ workers) × (workers ≤ 16) }
+    ensures { IfErr result (λ stop. is_line stop ≡ false) }
+{
+    let Read { store, names, jobs } = read;
+    let report = report_of(rt, alloc, store, jobs.as_slice(), workers)?;
+    let answer = answer_of(alloc, &report, names.as_slice())?;
+    Ok(answer.line(alloc)?)
+}
+
+fn write_line<W: Write>(output: &mut W, line: &str) -> io::Result<()> {
+    output.write_all(line.as_bytes())?;
+    output.flush()
+}
+
+fn run<N: StoreName + Send + Sync, T: Threads + Wait + Sync, R: io::Read, W: Write>(
+    rt: &T,
+    alloc: Global,
+    table: NewTable,
+    input: &mut R,
+    output: &mut W,
+    workers: u32,
+    reads: u32,
+) -> Result<(), JobsStop>
+    requires table { table ≡ N.table }
+    requires workers { (1 ≤ workers) × (workers ≤ 16) }
+    ensures fault { (f : LineFault) → result ≡ Err (JobsStop.Lines (Stop.Line f))
+        → IfSome (R.remaining input.old) (λ bytes. Tells (transcript jobs_effect None bytes) (Some f)
+        (W.contents output.old) (W.contents output.new)) }
+{
+    let mut lines: JobLines<N> = JobLines::new(table);
+    read_lines(alloc, &mut lines, input, output, reads)?;
+    let Some(read) = lines.into_read() else {
+        return Ok(());
+    };
+    let line = line_of(rt, alloc, read, workers)?;
+    match write_line(output, line.as_str()) {
+        Ok(()) => Ok(()),
+        Err(_) => Err(JobsStop::Lines(Stop::OutputFailed)),
+    }
+}
+
+/// Reads a store and jobs from the input, a JSON object a line, runs the jobs by so many workers, each on a
+/// thread of its own, closes the store, and writes one line: how many jobs were committed, how many were
+/// discarded as they asked, how many ended otherwise, and what each namespace is charged. Nothing is written
+/// before all jobs have ended, and nothing at all where the input has no line but empty ones.
+///
+/// Where it ends with a line, and the input and the output tell their bytes, that is the first with a fault.
+///
+/// `Lines` with the stop of [`read_lines`], and with `OutOfMemory` where memory was refused before a worker was
+/// started, at the close, or for the answer, and with `OutputFailed` where the line was not written; a job
+/// whose worker was refused memory counts as one that ended otherwise. `NotClosed` where the store was not
+/// closed, which no script leads to.
+///
+/// The store's name is made here, so a call has a store of its own. It waits for the workers. Takes memory
+/// for a read, for one line, for all jobs, and for the store. The cost is that of the lines and of
+/// [`run_jobs`](snap_writers::run_jobs).
+pub fn write_jobs_within<T: Threads + Wait + Sync, R: io::Read, W: Write>(
+    rt: &T,
+    alloc: Global,
+    input: &mut R,
+    output: &mut W,
+    workers: u32,
+    reads: u32,
+) -> Result<(), JobsStop>
+    requires { (1 ≤ workers) × (workers ≤ 16) }
+    ensures fault { (f : LineFault) → result ≡ Err (JobsStop.Lines (Stop.Line f))
+        → IfSome (R.remaining input.old) (λ bytes. Tells (transcript jobs_effect None bytes) (Some f)
+        (W.contents output.old) (W.contents output.new)) }
+{
+    let Ok(table) = NewTable::new(alloc) else {
+        return Err(JobsStop::Lines(Stop::OutOfMemory));
+    };
+    run::<Brand, T, R, W>(rt, alloc, table, input, output, workers, reads)
+}
+
+/// [`write_jobs_within`] with at most 4,294,967,295 reads.
+pub fn write_jobs<T: Threads + Wait + Sync, R: io::Read, W: Write>(
+    rt: &T,
+    alloc: Global,
+    input: &mut R,
+    output: &mut W,
+    workers: u32,
+) -> Result<(), JobsStop>
+    requires { (1 ≤ workers) × (workers ≤ 16) }
+    ensures fault { (f : LineFault) → result ≡ Err (JobsStop.Lines (Stop.Line f))
+        → IfSome (R.remaining input.old) (λ bytes. Tells (transcript jobs_effect None bytes) (Some f)
+        (W.contents output.old) (W.contents output.new)) }
+{
+    write_jobs_within(rt, alloc, input, output, workers, READS)
+}

@@ -1,0 +1,10 @@
+-- What the program is asked for.
+-- Cited by invariants and private clauses alone.
+use Rattle.std.specs.Prelude.{◌≤◌}
+use Rattle.snap_replay.specs.declared.Task.{Task}
+use Rattle.snap_replay.specs.declared.Task.TheVariants.{Run, Writers}
+
+-- a run, or jobs by 1 to 16 workers
+abbrev pub IsTask : Task → Type 0
+IsTask Run = Unit {0}
+IsTask (Writers workers) = (1 ≤ workers) × (workers ≤ 16)
