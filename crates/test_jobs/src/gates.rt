@@ -54,16 +54,16 @@ impl<'a, C: Clock + Sync> Meeting<'a, C> {
             passed: AtomicBool::new(false),
         }
     }
+}
 
-    fn wait_for(&self, flag: &AtomicBool) -> bool {
-        for _ in 0..60_000 {
-            if flag.load(SeqCst) {
-                return true;
-            }
-            thread::sleep(self.clock, Duration::from_millis(1));
+fn wait_for<C: Clock>(clock: &C, flag: &AtomicBool) -> bool {
+    for _ in 0..60_000 {
+        if flag.load(SeqCst) {
+            return true;
         }
-        false
+        thread::sleep(clock, Duration::from_millis(1));
     }
+    false
 }
 
 impl<'a, C: Clock + Sync> Gate for Meeting<'a, C> {
@@ -71,10 +71,10 @@ impl<'a, C: Clock + Sync> Gate for Meeting<'a, C> {
         match (worker, step) {
             (1, 1) => {
                 self.asked.store(true, SeqCst);
-                self.wait_for(&self.passed)
+                wait_for(self.clock, &self.passed)
             }
             (2, 2) => {
-                let passes = self.wait_for(&self.asked);
+                let passes = wait_for(self.clock, &self.asked);
                 self.passed.store(passes, SeqCst);
                 passes
             }
