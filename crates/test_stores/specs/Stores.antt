@@ -1,0 +1,21 @@
+-- The states of a store that the witnesses begin with.
+-- Cited by `opened`, `prepared`, `viewed`, `removed` and others.
+use Rattle.std.specs.Prelude.{[], ◌∷◌, codes}
+use Rattle.snap_call.specs.declared.call.Call.TheVariants as calls
+use Rattle.snap_call.specs.declared.call.Given.TheVariants.{Nothing}
+use Rattle.snap_call.specs.declared.config.Config.{Config}
+use Rattle.snap_call.specs.declared.state.State.{State}
+use Rattle.snap_call.specs.State.{opening}
+use Rattle.snap_call.specs.Step.{step}
+
+-- one namespace, a, with 100 blocks and 100 inodes
+abbrev pub one_namespace : Config
+one_namespace = record { root = codes "/r"; namespaces = record { name = codes "a"; limit = record { blocks = 100; inodes = 100 } } ∷ []; journal = 100; first_id = 1 }
+
+-- a new store
+abbrev pub new_store : State
+new_store = opening one_namespace
+
+-- the store after its first call, the view q of nothing
+abbrev pub with_view : State
+with_view = (step new_store (calls.View (codes "a") (codes "q") [] []) Nothing).0
