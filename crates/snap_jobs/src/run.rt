@@ -18,9 +18,6 @@ use std::marker::Brand;
 use std::sync::Wait;
 use std::thread::Threads;
 
-/// The most workers.
-pub const MAX_WORKERS: u32 = 16;
-
 // The most reads.
 const READS: u32 = 4_294_967_295;
 
