@@ -1,9 +1,8 @@
 -- When an edit would pass a layer's limits.
 use Rattle.std.proofs.Common.{◌≡◌, ℕ, ◌+◌, ◌<◌, ◌≤◌, Bool, true, false, cond, List, length, Option, Some, None, Result, Ok, Err, refl, sym, ap, subst, ◌∙◌, inl, inr, arith}
-use Rattle.std.specs.Prelude.{is_some, ◌==◌, ◌&&◌, count_by, IsErrOf}
+use Rattle.std.specs.Prelude.{is_some, ◌==◌, ◌&&◌, IsErrOf}
 use Rattle.std.specs.Ordering.{nat_cmp}
 use Rattle.std.specs.BTreeMap.{is_at}
-use Rattle.std.specs.Map.{values_of}
 use Rattle.std.proofs.lemmas.Bool.Decides.{nat_tests}
 use Rattle.snap_path.specs.Text.{Names, IsPath}
 use Rattle.snap_layer.specs.declared.error.LayerError.{LayerError}
@@ -12,20 +11,16 @@ use Rattle.snap_layer.specs.declared.node.Node.{Node}
 use Rattle.snap_layer.specs.declared.node.Node.TheVariants.{Dir, File, Symlink, Whiteout}
 use Rattle.snap_layer.specs.declared.node.Body.{Body}
 use Rattle.snap_layer.specs.declared.node.Body.TheVariants as body_kinds
-use Rattle.snap_layer.specs.Tree.{Tree, Entries, at, body, number_of, number_at, has_number, is_dir, is_whiteout}
+use Rattle.snap_layer.specs.Tree.{Tree, Entries, at, body, number_of, number_at}
 use Rattle.snap_layer.specs.Counts.{inode_count, name_count, is_within}
 use Rattle.snap_layer.specs.Layers.{IsLayer, IsFile, IsSymlink, IsWhole, is_target}
-use Rattle.snap_layer.specs.Edits.{with_node, with_new, without, outside, inside, HasRoom, HasPlace}
-use Rattle.snap_layer.proofs.Counting.{inode_count-without, dropped}
+use Rattle.snap_layer.specs.Edits.{with_node, with_new, without, HasRoom, HasPlace}
+use Rattle.snap_layer.proofs.Counting.{dropped}
 use Rattle.snap_layer.proofs.Looks.{SetsBody-insert_entry, is_dropped, split_number}
-use Rattle.snap_layer.proofs.Kept.{has_body, body-without, node_with_number}
+use Rattle.snap_layer.proofs.Kept.{body-without, node_with_number}
 use Rattle.snap_layer.proofs.Replacing.{inode_count-with_node, inode_count-with_new, IsLayer-with_node, IsLayer-with_new, HasPlace-from_room, is_within_yes, is_within_many, is_within_last}
 
 -- ---- the inodes that are left
-
-pub left_count : (t : Tree) → IsLayer t → (p : Names) (n i : ℕ) → n ≡ inode_count t → i ≡ count_by is_dir (values_of (inside p t.entries)) + count_by is_whiteout (values_of (inside p t.entries))
-    → n ≡ inode_count (without t p) + i + dropped (number_at t p) (outside p t.entries)
-left_count t ok p n i whole within = omega (arith, inode_count-without t p (has_body t ok p))
 
 abbrev one_if : Bool → ℕ
 one_if b = cond b 1 0
@@ -43,9 +38,6 @@ dropped_other o k c es is counted some = ap (λ x. dropped x es) is ∙ by (name
     by : (b : Bool) → b ≡ false → one_if b ≡ 0
     by false e = refl
     by true e = absurd (cc)
-
-pub dropped_none : (o : Option ℕ) (es : Entries) → o ≡ None → dropped o es ≡ 0
-dropped_none o es none = ap (λ x. dropped x es) none
 
 -- ---- the clause on LayerFull, at each exit
 
@@ -89,16 +81,13 @@ module _ (t : Tree) (ok : IsLayer t) (p : Names) (path : IsPath p) (r : ℕ) (le
       let place = HasPlace-from_room t p ok room in
       becomes (with_node t p (Dir mode opaque)) (r + 1) (omega (arith, inode_count-with_node t p (Dir mode opaque) ok)) (IsLayer-with_node t p (Dir mode opaque) ok place path low) ok.next.1
 
-  pub dir_apart : (mode : ℕ) (opaque : Bool) (k : ℕ) → has_number k (Dir mode opaque) ≡ false
-  dir_apart mode opaque k = refl
-
   -- a whiteout in place of what may be replaced
   pub whiteout_becomes : HasPlace t p → Becomes (with_node t p Whiteout) (r + 1)
   whiteout_becomes place = becomes (with_node t p Whiteout) (r + 1) (omega (arith, inode_count-with_node t p Whiteout ok)) (IsLayer-with_node t p Whiteout ok place path tt) ok.next.1
 
   -- one more name in place of what may be replaced
   module _ (k : ℕ) (place : HasPlace t p) (apart : number_at t p ≡ Some k → ⊥) where
-    body_left : body (without t p) k ≡ body t k
+    pub body_left : body (without t p) k ≡ body t k
     body_left = body-without t ok p k ∙ ap (λ b. cond b None (body t k)) (kept (number_at t p) apart)
       where
         open_case : (j : ℕ) → (Some j ≡ Some k → ⊥) → is_dropped (Some j) (without t p).entries k ≡ false

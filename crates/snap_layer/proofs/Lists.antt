@@ -1,5 +1,5 @@
 -- Lists of entries in the order of their keys: what is found in them after a change, and their order.
-use Rattle.std.proofs.Common.{◌≡◌, ℕ, ◌+◌, Bool, true, false, cond, not, List, [], ◌∷◌, Option, Some, None, IsSome, refl, sym, ap, subst, ◌∙◌, ◌⊎◌, inl, inr, arith}
+use Rattle.std.proofs.Common.{◌≡◌, ℕ, ◌+◌, Bool, true, false, cond, not, List, [], ◌∷◌, Option, Some, None, refl, sym, ap, subst, ◌∙◌, ◌⊎◌, inl, inr, arith}
 use Rattle.std.specs.Prelude.{T, filter, ◌&&◌}
 use Rattle.std.specs.declared.cmp.Ordering.{Ordering}
 use Rattle.std.specs.declared.cmp.Ordering.TheVariants.{Less, Equal, Greater}
@@ -7,7 +7,7 @@ use Rattle.std.specs.Ordering.{is_eq, is_lt, match_ordering, ordering_reverse}
 use Rattle.std.specs.Cmp.{IsTotalOrder}
 use Rattle.std.specs.FinMap.{IsAntisymmetric}
 use Rattle.std.specs.FinMap.Entries.{find, is_sorted, below_all, same_entries}
-use Rattle.std.specs.Map.{lookup, remove_entry, set_value, keys_of, values_of}
+use Rattle.std.specs.Map.{lookup, remove_entry, keys_of, values_of}
 use Rattle.std.specs.List.{AllByRecursion, sum_by}
 use Rattle.std.specs.List.Sorted.{IsStrictlySortedBy}
 use Rattle.std.specs.BTreeMap.{is_at, insert_entry}
@@ -163,21 +163,6 @@ module _ {K X : Type 0} {R : K → K → Ordering} (o : IsTotalOrder R) (exact :
         ∙ swapped (is_at (R q) k) (is_at (R q) e.0) None (Some e.1) (lookup (is_at (R q)) es) (λ a b. apart.0 (sym (same_from o exact q e.0 b) ∙ same_from o exact q k a))
   ]
 
-  -- a value written at a key that is there
-  pub set_value-insert_entry : (k : K) (v : X) (es : List (K × X)) → IsStrictlySortedBy R (keys_of es) → IsSome (lookup (is_at (R k)) es) → set_value (is_at (R k)) es v ≡ insert_entry R es k v
-  unfolding IsStrictlySortedBy
-  set_value-insert_entry k v [] s some = absurd (cc)
-  set_value-insert_entry k v (e ∷ es) s some = by (R k e.0) refl some (set_value-insert_entry k v es s.1)
-    where
-      by : (r : Ordering) → R k e.0 ≡ r → IsSome (cond (is_eq r) (Some e.1) (lookup (is_at (R k)) es)) → (IsSome (lookup (is_at (R k)) es) → set_value (is_at (R k)) es v ≡ insert_entry R es k v)
-          → cond (is_eq r) ((e.0, v) ∷ es) (e ∷ set_value (is_at (R k)) es v) ≡ match_ordering r ((k, v) ∷ e ∷ es) ((e.0, v) ∷ es) (e ∷ insert_entry R es k v)
-      by Less p there later = absurd (none_there (lookup_below k es (all_above o k e.0 (keys_of es) p s.0)) there)
-        where
-          none_there : lookup (is_at (R k)) es ≡ None → IsSome (lookup (is_at (R k)) es) → ⊥
-          none_there none is = cc
-      by Equal p there later = refl
-      by Greater p there later = ap (λ l. e ∷ l) (later there)
-
   -- ---- lists in order in which the same is found are equal
 
   lookup_find : (q : K) (es : List (K × X)) → find R q es ≡ lookup (is_at (R q)) es
@@ -215,12 +200,3 @@ module _ {K X : Type 0} (f : X → ℕ) where
           → sum_by f (values_of (cond b (e ∷ filter p es) (filter p es))) + sum_by f (values_of (cond (not b) (e ∷ filter (λ x. not (p x)) es) (filter (λ x. not (p x)) es))) ≡ sum_by f (values_of (e ∷ es))
       by true later = omega (arith, later, sum_of_entry e es, sum_of_entry e (filter p es))
       by false later = omega (arith, later, sum_of_entry e es, sum_of_entry e (filter (λ x. not (p x)) es))
-
-  -- the entries that pass, weighed where they stand
-  pub sum_by-filter_entries : (p : K × X → Bool) (es : List (K × X)) → sum_by f (values_of (filter p es)) ≡ sum_by (λ e. cond (p e) (f e.1) 0) es
-  sum_by-filter_entries p [] = refl
-  sum_by-filter_entries p (e ∷ es) = by (p e) (sum_by-filter_entries p es) ∙ sym (sum_by-cons (λ x. cond (p x) (f x.1) 0) e es)
-    where
-      by : (b : Bool) → sum_by f (values_of (filter p es)) ≡ sum_by (λ x. cond (p x) (f x.1) 0) es → sum_by f (values_of (cond b (e ∷ filter p es) (filter p es))) ≡ cond b (f e.1) 0 + sum_by (λ x. cond (p x) (f x.1) 0) es
-      by true later = omega (arith, later, sum_of_entry e (filter p es))
-      by false later = omega (arith, later)

@@ -1,38 +1,26 @@
 -- A subtree moved: the code's entries, and the layer afterwards.
-use Rattle.std.proofs.Common.{◌≡◌, ℕ, ◌+◌, ◌≤◌, Bool, true, false, cond, not, List, [], ◌∷◌, ◌++◌, length, length-append, drop, map, Option, Some, None, IsSome, refl, sym, ap, subst, ◌∙◌, inl, inr, arith}
-use Rattle.std.specs.Prelude.{option_and_then, ◌==◌}
-use Rattle.std.specs.Ordering.{nat_cmp}
-use Rattle.std.specs.List.Sorted.{IsStrictlySortedBy}
-use Rattle.std.specs.Map.{lookup, remove_entry, keys_of}
-use Rattle.std.specs.BTreeMap.{is_at, insert_entry}
+use Rattle.std.proofs.Common.{◌≡◌, ℕ, ◌+◌, ◌≤◌, Bool, true, false, cond, not, List, [], ◌∷◌, ◌++◌, length, length-append, drop, None, IsSome, refl, sym, ap, subst, ◌∙◌, inl, inr, arith}
+use Rattle.std.specs.Prelude.{option_and_then}
+use Rattle.std.specs.Map.{lookup}
+use Rattle.std.specs.BTreeMap.{is_at}
 use Rattle.snap_path.specs.Text.{Names, IsPath, begins}
 use Rattle.snap_layer.specs.declared.node.Node.{Node}
 use Rattle.snap_layer.specs.declared.node.Node.TheVariants.{Whiteout}
-use Rattle.snap_layer.specs.Tree.{Tree, Entries, Bodies, path_cmp, at, number_of, number_at, IsDirAt}
-use Rattle.snap_layer.specs.Counts.{inode_count, name_count}
+use Rattle.snap_layer.specs.Tree.{Tree, Entries, path_cmp, at, number_of, IsDirAt}
+use Rattle.snap_layer.specs.Counts.{inode_count}
 use Rattle.snap_layer.specs.Layers.{IsLayer}
-use Rattle.snap_layer.specs.Edits.{without, outside, inside, bodies_without, relocated, relocate, put_all, moved, with_moved, IsMovable}
+use Rattle.snap_layer.specs.Edits.{without, outside, inside, relocated, moved, with_moved, IsMovable}
 use Rattle.snap_layer.proofs.Lists.{lookup-filter}
 use Rattle.snap_layer.proofs.Paths.{path_cmp_total, path_cmp-IsAntisymmetric, split_front, begins_itself, begins-trans, begins_rest, begins-append}
 use Rattle.snap_layer.proofs.Kept.{IsLayer-with_entry}
 use Rattle.snap_layer.proofs.Replacing.{clears_place}
 use Rattle.snap_layer.proofs.Filling.{Becomes, becomes}
-use Rattle.snap_layer.proofs.Moves.{IsLayer-replaced, at-moved_gone, at-with_moved_else, inode_count-with_moved, inode_count-with_moved_whiteout, name_count-with_moved, not_longer, not_root}
+use Rattle.snap_layer.proofs.Moves.{IsLayer-replaced, at-moved_gone, at-with_moved_else, inode_count-with_moved, inode_count-with_moved_whiteout, not_longer, not_root}
 
 -- ---- the entries, one after the other
 
--- the last entry put first
-pub put_all_last : (from to : Names) (xs : Entries) (e : Names × Node) (es : Entries) → put_all (map (relocate from to) (xs ++ e ∷ [])) es ≡ put_all (map (relocate from to) xs) (insert_entry path_cmp es (relocated from to e.0) e.1)
-put_all_last from to [] e es = refl
-put_all_last from to (x ∷ xs) e es = ap (λ (fs : Entries). insert_entry path_cmp fs (relocated from to x.0) x.1) (put_all_last from to xs e es)
-
 no_node : IsSome {T = Node} None → ⊥
 no_node e = cc
-
--- what is found where an entry was taken was found before
-pub found_before : (b : Bool) (o : Option Node) → IsSome (cond b None o) → IsSome o
-found_before true o some = absurd (no_node some)
-found_before false o some = some
 
 pub found_inside : (p q : Names) (es : Entries) → IsSome (lookup (is_at (path_cmp q)) (inside p es)) → (begins p q ≡ true) × IsSome (lookup (is_at (path_cmp q)) es)
 found_inside p q es some = by (begins p q) (lookup-filter path_cmp_total path_cmp-IsAntisymmetric (λ x. begins p x) q es) some
@@ -60,26 +48,6 @@ moved_paths t from to movable q some =
     movable.fits (drop (length from) q) (subst (λ (r : Names). IsSome (at t r)) (begins_rest from q found.0) there)
 
 -- ---- the layer afterwards
-
--- what the code leaves
-pub shifted_tree : (t : Tree) (from to : Names) (leaves : Bool) (o : Option ℕ) (es : Entries) (bs : Bodies) → IsStrictlySortedBy path_cmp (keys_of t.entries) → begins to from ≡ false → o ≡ number_at t to
-    → es ≡ (with_moved (record { entries = t.entries; bodies = []; next = 1 }) from to leaves).entries → bs ≡ bodies_without o es t.bodies → ◌≡◌ {A = Tree} (record { entries = es; bodies = bs; next = t.next }) (with_moved t from to leaves)
-shifted_tree t from to leaves o es bs sorted apart number entries bodies = by leaves entries
-  where
-    same_bodies : (p : Option ℕ) (xs ys : Entries) → ((k : ℕ) → name_count k xs ≡ name_count k ys) → bodies_without p xs t.bodies ≡ bodies_without p ys t.bodies
-    same_bodies None xs ys same = refl
-    same_bodies (Some k) xs ys same = ap (λ (c : ℕ). cond (c == 0) (remove_entry (is_at (nat_cmp k)) t.bodies) t.bodies) (same k)
-
-    left : (xs : Entries) → es ≡ xs → ((k : ℕ) → name_count k xs ≡ name_count k (outside to t.entries)) → bs ≡ bodies_without (number_at t to) (outside to t.entries) t.bodies
-    left xs is same = bodies ∙ (λ i. bodies_without (number i) (is i) t.bodies) ∙ same_bodies (number_at t to) xs (outside to t.entries) same
-
-    by : (b : Bool) → es ≡ (with_moved (record { entries = t.entries; bodies = []; next = 1 }) from to b).entries → ◌≡◌ {A = Tree} (record { entries = es; bodies = bs; next = t.next }) (with_moved t from to b)
-    by true is =
-        let kept = left (with_moved t from to true).entries is (λ k. name_count-with_moved t from to sorted apart k true) in
-        λ i. record { entries = is i; bodies = kept i; next = t.next }
-    by false is =
-        let kept = left (with_moved t from to false).entries is (λ k. name_count-with_moved t from to sorted apart k false) in
-        λ i. record { entries = is i; bodies = kept i; next = t.next }
 
 -- the layer with a subtree moved
 pub moved_becomes : (t : Tree) (from to : Names) (leaves : Bool) (r i : ℕ) → IsLayer t → IsMovable t from to → r ≡ inode_count (without t to) → i ≡ r + cond leaves 1 0 → Becomes (with_moved t from to leaves) i

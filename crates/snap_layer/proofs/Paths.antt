@@ -1,12 +1,10 @@
 -- Paths: their order, and which begin with which.
-use Rattle.std.proofs.Common.{◌≡◌, ℕ, ◌+◌, ◌-◌, Bool, true, false, cond, List, [], ◌∷◌, ◌++◌, length, drop, Option, Some, None, refl, sym, ap, ◌∙◌, ◌⊎◌, inl, inr, arith, length-append, append_assoc, append-nil}
-use Rattle.std.specs.Prelude.{nat_eq, slice_get}
+use Rattle.std.proofs.Common.{◌≡◌, ℕ, ◌+◌, ◌-◌, Bool, true, false, cond, List, [], ◌∷◌, ◌++◌, length, drop, Some, None, refl, sym, ap, ◌∙◌, ◌⊎◌, inl, inr, arith, length-append, append_assoc, append-nil}
+use Rattle.std.specs.Prelude.{slice_get}
 use Rattle.std.specs.Str.{bytes_eq}
-use Rattle.std.specs.Ordering.{nat_cmp}
 use Rattle.std.specs.Cmp.{IsTotalOrder}
-use Rattle.std.specs.Cmp.Lexicographic.{slice_cmp, pointwise, lists_total, lists_equiv, lists_ties, texts_ties, nat_list_cmp_total, nat_list_eq_equiv}
+use Rattle.std.specs.Cmp.Lexicographic.{lists_total, nat_list_cmp_total, nat_list_eq_equiv}
 use Rattle.std.specs.FinMap.{IsAntisymmetric, slice_cmp-IsAntisymmetric, nat_cmp-IsAntisymmetric}
-use Rattle.std.specs.BTreeMap.{is_at}
 use Rattle.std.proofs.lemmas.Slice.Eq.{bytes_eq-Decides, starts_is}
 use Rattle.snap_path.specs.Text.{Names, begins}
 use Rattle.snap_layer.specs.Tree.{path_cmp, name_below}
@@ -16,10 +14,6 @@ path_cmp_total = lists_total nat_list_cmp_total
 
 pub path_cmp-IsAntisymmetric : IsAntisymmetric path_cmp
 path_cmp-IsAntisymmetric = slice_cmp-IsAntisymmetric (slice_cmp-IsAntisymmetric nat_cmp-IsAntisymmetric)
-
--- `==` of two paths is the test of a look-up
-pub path_test : (x y : Names) → pointwise (pointwise nat_eq) y x ≡ is_at (path_cmp x) y
-path_test x y = (lists_equiv nat_list_eq_equiv).symm y x ∙ lists_ties (slice_cmp nat_cmp) texts_ties x y
 
 -- what begins with a front is the front and some names more
 pub begins_rest : (front p : Names) → begins front p ≡ true → p ≡ front ++ drop (length front) p
@@ -57,10 +51,6 @@ drop-append (x ∷ xs) ys = drop-append xs ys
 -- lists that begin alike are equal only if the rests are
 pub append-cancel : (xs ys zs : Names) → xs ++ ys ≡ xs ++ zs → ys ≡ zs
 append-cancel xs ys zs e = sym (drop-append xs ys) ∙ ap (drop (length xs)) e ∙ drop-append xs zs
-
--- a path with one name more is another
-pub path_differs : (q : Names) (n : List ℕ) → q ≡ q ++ n ∷ [] → ⊥
-path_differs q n e = omega (arith, ap length e, length-append q (n ∷ []))
 
 -- lists with one more element are equal only if the lists are
 pub snoc_same : (xs ys : Names) (x y : List ℕ) → xs ++ x ∷ [] ≡ ys ++ y ∷ [] → xs ≡ ys
@@ -128,13 +118,3 @@ below_last d p long e =
         let place : length p - 1 ≡ length d = omega arith in
         (λ i. slice_get (is i) (place i)) ∙ last d n ∙ sym (name_below-append d n) ∙ ap (name_below d) (sym is)
     by (n ∷ m ∷ r) l is = absurd (omega arith)
-
--- else there is none
-pub below_none : (d p : Names) → (length p ≡ length d + 1 → begins d p ≡ true → ⊥) → name_below d p ≡ None
-below_none d p never = by (name_below d p) refl
-  where
-    by : (o : Option (List ℕ)) → name_below d p ≡ o → o ≡ None
-    by None e = refl
-    by (Some n) e =
-        let is = name_below_is d p n e in
-        absurd (never (omega (arith, ap length is, length-append d (n ∷ []))) (begins_from d p (n ∷ []) is))

@@ -1,5 +1,5 @@
 -- A mode, a mark or bytes set in place.
-use Rattle.std.proofs.Common.{◌≡◌, ℕ, ◌≤◌, Bool, List, Option, Some, None, IsSome, refl, sym, ap, subst, arith}
+use Rattle.std.proofs.Common.{◌≡◌, ℕ, ◌≤◌, Bool, List, Option, Some, None, IsSome, refl, ap, subst, arith}
 use Rattle.std.specs.Prelude.{option_and_then, is_some}
 use Rattle.snap_path.specs.Text.{Names}
 use Rattle.snap_layer.specs.declared.node.Node.TheVariants.{Dir, File}
@@ -8,9 +8,9 @@ use Rattle.snap_layer.specs.declared.node.Body.TheVariants as body_kinds
 use Rattle.snap_layer.specs.Tree.{Tree, at, body, number_of}
 use Rattle.snap_layer.specs.Counts.{inode_count}
 use Rattle.snap_layer.specs.Layers.{IsLayer, IsFile}
-use Rattle.snap_layer.specs.Edits.{with_entry, with_body}
-use Rattle.snap_layer.proofs.Counting.{inode_count-with_entry, inode_count-with_body, inodes_of}
-use Rattle.snap_layer.proofs.Kept.{IsLayer-with_entry, IsLayer-with_body}
+use Rattle.snap_layer.specs.Edits.{with_entry}
+use Rattle.snap_layer.proofs.Counting.{inode_count-with_entry, inodes_of}
+use Rattle.snap_layer.proofs.Kept.{IsLayer-with_entry}
 
 -- the layer stays one, with as many inodes
 pub record Stays (t u : Tree) : Type 0 where
@@ -37,13 +37,6 @@ module _ (t : Tree) (ok : IsLayer t) where
 
   pub dir_mode : (p : Names) (m : ℕ) (b : Bool) → at t p ≡ Some (Dir m b) → m ≤ 4095
   dir_mode p m b is = ok.nodes p (Dir m b) is
-
-  -- a file with another mode or other bytes
-  pub file_stays : (k m n : ℕ) (old bytes : List ℕ) → body t k ≡ Some (body_kinds.File m old) → IsFile (Some (body_kinds.File m old)) → IsFile (Some (body_kinds.File n bytes)) → Stays t (with_body t k (body_kinds.File n bytes))
-  file_stays k m n old bytes is was file = record {
-    layer = IsLayer-with_body t k (body_kinds.File n bytes) ok (subst IsFile (sym is) was) file;
-    count = sym (inode_count-with_body t k (body_kinds.File n bytes) ok.sorted_numbers (ap is_some is));
-  }
 
 -- the name of a file has a file's body
 pub file_of_name : (t : Tree) → IsLayer t → (p : Names) (k : ℕ) → at t p ≡ Some (File k) → IsFile (body t k)

@@ -13,9 +13,9 @@ use Rattle.snap_path.proofs.Texts.{text_below-append}
 use Rattle.snap_layer.specs.declared.node.Node.{Node}
 use Rattle.snap_layer.specs.Tree.{Tree, Entries, path_cmp, at, is_whiteout, name_below, IsDirAt}
 use Rattle.snap_layer.specs.Edits.{IsFree, HasParent}
-use Rattle.snap_layer.proofs.Lists.{at_itself, lookup_below}
+use Rattle.snap_layer.proofs.Lists.{at_itself}
 use Rattle.snap_layer.proofs.Looks.{split_path}
-use Rattle.snap_layer.proofs.Paths.{path_cmp_total, path_cmp-IsAntisymmetric, name_below-append, name_below_is, begins_from, begins_rest}
+use Rattle.snap_layer.proofs.Paths.{path_cmp_total, path_cmp-IsAntisymmetric, name_below-append, begins_from, begins_rest}
 
 -- ---- the parent
 
@@ -75,27 +75,6 @@ clear_from p (e ∷ es) all n = elim (split_path (p ++ n ∷ []) e.0) [
   where
     loose : (is_none (name_below p e.0) || is_whiteout e.1) ≡ true → Some n ≡ name_below p e.0 → is_whiteout e.1 ≡ true
     loose l is = subst (λ (o : Option (List ℕ)). (is_none o || is_whiteout e.1) ≡ true → is_whiteout e.1 ≡ true) is (λ x. x) l
-
-pub all_from : (p : Names) (es : Entries) → IsStrictlySortedBy path_cmp (keys_of es) → ((n : List ℕ) → IsFree (lookup (is_at (path_cmp (p ++ n ∷ []))) es)) → list_all (is_loose p) es ≡ true
-unfolding IsStrictlySortedBy
-all_from p [] sorted clear = refl
-all_from p (e ∷ es) sorted clear = (λ i. first i && all_from p es sorted.1 rest i)
-  where
-    here : (n : List ℕ) → e.0 ≡ p ++ n ∷ [] → is_whiteout e.1 ≡ true
-    here n is = subst IsFree (cond-true _ (Some e.1) (lookup (is_at (path_cmp (p ++ n ∷ []))) es) (subst (λ (q : Names). is_at (path_cmp q) e.0 ≡ true) is (at_itself path_cmp_total path_cmp-IsAntisymmetric e.0))) (clear n)
-
-    by : (o : Option (List ℕ)) → name_below p e.0 ≡ o → (is_none o || is_whiteout e.1) ≡ true
-    by None is = refl
-    by (Some n) is = here n (name_below_is p e.0 n is)
-
-    first : is_loose p e ≡ true
-    first = by (name_below p e.0) refl
-
-    rest : (n : List ℕ) → IsFree (lookup (is_at (path_cmp (p ++ n ∷ []))) es)
-    rest n = elim (split_path (p ++ n ∷ []) e.0) [
-      | inl same ↦ subst IsFree (sym (ap (λ (q : Names). lookup (is_at (path_cmp q)) es) same.0 ∙ lookup_below path_cmp_total path_cmp-IsAntisymmetric e.0 es sorted.0)) tt
-      | inr apart ↦ subst IsFree (cond-false _ (Some e.1) (lookup (is_at (path_cmp (p ++ n ∷ []))) es) apart.1) (clear n)
-    ]
 
 -- ---- what stands at a path
 

@@ -3,3 +3,7 @@ pub mod Counts
 pub mod Layers
 pub mod Edits
 pub mod Equal
+pub mod Walk
+pub mod Holds
+pub mod Rows
+pub mod Totals

@@ -1,15 +1,16 @@
 // The edits of a layer.
-ghost use Rattle.std.specs.Prelude.{◌≡◌, ◌↔◌, ◌<◌, ◌≤◌, ℕ, Some, None, IfOk, OnOk, OnErr, IsErrOf, IsSome, length, true, false};
-ghost use Rattle.snap_layer.specs.Tree.{at, body, number_at, number_of, has_number, IsDirAt};
-ghost use Rattle.snap_layer.specs.Counts.{inode_count, is_within};
+ghost use Rattle.std.specs.Prelude.{◌≡◌, ◌↔◌, ◌<◌, ◌≤◌, ◌+◌, ℕ, List, Some, None, is_none, if◌then◌else◌, IfOk, OnOk, OnErr, IsErrOf, IsSome, length, true, false};
+ghost use Rattle.snap_layer.specs.Tree.{at, body, number_at, IsDirAt};
+ghost use Rattle.snap_layer.specs.Counts.{inode_count, block_count, body_blocks, is_within};
+ghost use Rattle.snap_layer.specs.Totals.{path_count};
+ghost use Rattle.snap_layer.specs.Walk.{leaf_node};
 ghost use Rattle.snap_layer.specs.Layers.{IsLayer, IsFile, is_target};
-ghost use Rattle.snap_layer.specs.Edits.{with_entry, with_node, with_new, with_name, name_of, with_bytes, with_mode, with_file_mode, with_opaque, with_moved, without, HasRoom, HasPlace, IsTakeable, IsMovable, IsRegular, HasMode};
+ghost use Rattle.snap_layer.specs.Edits.{with_body, with_entry, with_node, with_new, with_name, name_of, with_bytes, with_mode, with_file_mode, with_opaque, with_moved, without, HasRoom, HasPlace, IsTakeable, IsMovable, IsRegular, HasMode};
 
-use super::bodies::{drop_unnamed, replace_body, set_file_mode};
-use super::entries::{put_entry, replace_entries, shifted_entries, take_entries};
 use super::error::LayerError;
 use super::layer::Layer;
 use super::node::{Body, Bytes, Node};
+use super::totals::Totals;
 use snap_path::Path;
 use snap_path::limits::MAX_INODES;
 use std::alloc::AllocError;
@@ -18,15 +19,13 @@ impl Layer {
     /// Adds a directory, over nothing or in place of a whiteout.
     ///
     /// The conditions are those of `has_room`, and a mode of at most octal 7777. `LayerFull` where the
-    /// layer would have more than 65,536 inodes. `OutOfMemory` where memory is refused, which can't be
-    /// where a whiteout stands there. After either the layer is as it was. Cost: the number of paths where
-    /// a whiteout stands there, else its logarithm.
+    /// layer would have more than 65,536 inodes. `OutOfMemory` where memory is refused. After either the
+    /// layer is as it was. Cost: as `at`.
     pub fn add_dir(&mut self, path: &Path, mode: u32, opaque: bool) -> Result<(), LayerError>
         requires room { HasRoom self.old path.now }
         requires mode { mode ≤ 4095 }
         ensures ok { OnOk result (self.new ≡ with_entry self.old path.now (Node.Dir mode opaque)) }
         ensures full { IsErrOf result LayerError.LayerFull ↔ (is_within (with_entry self.old path.now (Node.Dir mode opaque)) ≡ false) }
-        ensures sure { IsErrOf result LayerError.OutOfMemory → at self.old path.now ≡ None }
         ensures err { OnErr result (self.new ≡ self.old) }
     {
         self.show_is_layer();
@@ -34,7 +33,7 @@ impl Layer {
         if inodes > MAX_INODES {
             return Err(LayerError::LayerFull);
         }
-        Ok(self.replace(path, Node::Dir { mode, opaque }, inodes)?)
+        Ok(self.put_dir(path, mode, opaque, inodes)?)
     }
 
     /// Adds a regular file with the next number, in place of what stands at the path, and gives the number.
@@ -42,7 +41,7 @@ impl Layer {
     /// The conditions are those of `has_place`, a mode of at most octal 7777, and at most 1,048,576 bytes.
     /// `LayerFull` where the layer would have more than 65,536 inodes, or where the file numbers are used
     /// up. `OutOfMemory` where memory is refused. After either the layer is as it was, and the bytes are
-    /// gone. Cost: the number of paths where something stands there, else its logarithm.
+    /// gone. Cost: as `at`, and where a directory stands there, its entries.
     pub fn add_file(&mut self, path: &Path, mode: u32, bytes: Bytes) -> Result<u32, LayerError>
         requires place { HasPlace self.old path.now }
         requires mode { mode ≤ 4095 }
@@ -60,12 +59,7 @@ impl Layer {
         if inodes > MAX_INODES {
             return Err(LayerError::LayerFull);
         }
-        self.insert(
-            path,
-            Node::File { number },
-            Body::File { mode, bytes },
-            inodes,
-        )?;
+        self.insert(path, Body::File { mode, bytes }, inodes)?;
         Ok(number)
     }
 
@@ -89,12 +83,7 @@ impl Layer {
         if inodes > MAX_INODES {
             return Err(LayerError::LayerFull);
         }
-        self.insert(
-            path,
-            Node::Symlink { number },
-            Body::Symlink { target },
-            inodes,
-        )?;
+        self.insert(path, Body::Symlink { target }, inodes)?;
         Ok(number)
     }
 
@@ -113,15 +102,7 @@ impl Layer {
     {
         self.show_is_layer();
         let inodes = self.inodes_without(path);
-        match self.bodies.get(&number) {
-            Some(Body::File { .. }) => return self.replace(path, Node::File { number }, inodes),
-            Some(Body::Symlink { .. }) => return self.replace(
-                path,
-                Node::Symlink { number },
-                inodes,
-            ),
-            None => return Ok(()),
-        }
+        self.put_name(path, number, inodes)
     }
 
     /// Adds a whiteout, in place of what stands at the path: nothing, a name, a whiteout, or a directory
@@ -142,23 +123,20 @@ impl Layer {
         if inodes > MAX_INODES {
             return Err(LayerError::LayerFull);
         }
-        Ok(self.replace(path, Node::Whiteout, inodes)?)
+        Ok(self.put_whiteout(path, inodes)?)
     }
 
     /// Takes a name, a whiteout, or a directory with its whiteouts. A file or symlink goes with its last
     /// name (unlink(2)), and its number is never given again.
     ///
-    /// The conditions are those of `is_takeable`. Takes no memory. Cost: the number of paths.
+    /// The conditions are those of `is_takeable`. Takes no memory. Cost: as `add_file`.
     pub fn take_name(&mut self, path: &Path)
         requires { IsTakeable self.old path.now }
         ensures { self.new ≡ without self.old path.now }
     {
         self.show_is_layer();
-        let inodes = self.inodes_without(path);
-        let number = self.number_at(path);
-        take_entries(&mut self.entries, path);
-        drop_unnamed(&self.entries, &mut self.bodies, number);
-        self.inodes = inodes;
+        let (inodes, blocks) = self.left(path);
+        self.uncover(path, inodes, blocks);
     }
 
     /// Moves what stands at `from`, and all below it, to `to`, in place of what stands there, and leaves a
@@ -167,8 +145,9 @@ impl Layer {
     /// The conditions: something stands at `from`; what stands at `to` may be replaced, as in `has_place`;
     /// neither path begins with the other; and each moved path has at most 4095 bytes. `LayerFull` where
     /// the layer would have more than 65,536 inodes: what stands at `to` is taken before the whiteout is
-    /// counted. `OutOfMemory` where memory is refused. After either the layer is as it was. Cost: the
-    /// number of paths, with their texts.
+    /// counted. `OutOfMemory` where memory is refused. After either the layer is as it was. Cost: as
+    /// `at` for both paths, and where a directory stands at `to`, its entries. What lies below `from` isn't
+    /// touched.
     pub fn move_tree(&mut self, from: &Path, to: &Path, leaves: bool) -> Result<(), LayerError>
         requires { IsMovable self.old from.now to.now }
         ensures ok { OnOk result (self.new ≡ with_moved self.old from.now to.now leaves) }
@@ -192,9 +171,13 @@ impl Layer {
         requires size { length bytes ≤ 1048576 }
         ensures { self.new ≡ with_bytes self.old number (body self.old number) bytes }
     {
-        if let Some(Body::File { mode, .. }) = self.bodies.get(&number) {
+        let Some(old) = self.body(number) else {
+            return;
+        };
+        let freed = old.blocks();
+        if let Body::File { mode, .. } = old {
             let mode = *mode;
-            replace_body(&mut self.bodies, number, Body::File { mode, bytes });
+            self.fill(number, mode, freed, bytes);
         }
     }
 
@@ -206,10 +189,9 @@ impl Layer {
         requires { IsDirAt (at self.old path.now) }
         ensures { self.new ≡ with_opaque self.old path.now (at self.old path.now) opaque }
     {
-        let inodes = self.inodes();
         self.show_is_layer();
         if let Some(Node::Dir { mode, .. }) = self.at(path) {
-            let _ = self.put(path, Node::Dir { mode, opaque }, inodes);
+            self.set_dir(path, mode, opaque);
         }
     }
 
@@ -222,12 +204,9 @@ impl Layer {
         requires mode { mode ≤ 4095 }
         ensures { self.new ≡ with_mode self.old path.now (at self.old path.now) mode }
     {
-        let inodes = self.inodes();
         self.show_is_layer();
         match self.at(path) {
-            Some(Node::Dir { opaque, .. }) => {
-                let _ = self.put(path, Node::Dir { mode, opaque }, inodes);
-            }
+            Some(Node::Dir { opaque, .. }) => self.set_dir(path, mode, opaque),
             Some(Node::File { number }) => self.set_file_mode(number, mode),
             Some(Node::Symlink { .. }) => {}
             Some(Node::Whiteout) => {}
@@ -242,75 +221,125 @@ impl Layer {
         ensures { self.new ≡ with_file_mode self.old number (body self.old number) mode }
     {
         self.show_is_layer();
-        set_file_mode(&mut self.bodies, number, mode);
+        self.table.set_file_mode(number, mode);
     }
 
     /// The file number at the path.
-    fn number_at(&self, path: &Path) -> Option<u32>
+    pub(crate) fn number_at(&self, path: &Path) -> Option<u32>
         ensures { result ≡ number_at self.now path.now }
     {
         self.at(path)?.number()
     }
 
-    /// Puts the node at the path, in place of one that stands there.
-    fn put(&mut self, path: &Path, node: Node, inodes: usize) -> Result<(), AllocError>
-        requires layer { IsLayer (with_entry self.old path.now node) }
-        requires count { inodes ≡ inode_count (with_entry self.old path.now node) }
-        ensures ok { OnOk result (self.new ≡ with_entry self.old path.now node) }
-        ensures sure { OnErr result (at self.old path.now ≡ None) }
+    /// The totals with so many inodes and blocks, once something stands at the path.
+    fn totals_at(&self, path: &Path, inodes: usize, blocks: u64) -> Result<Totals, AllocError>
+        ensures inodes { IfOk result (λ v. v.inodes ≡ inodes) }
+        ensures blocks { IfOk result (λ v. v.blocks ≡ blocks) }
+        ensures paths { IfOk result (λ v. path_count self.now + (if is_none (at self.now path.now) then 1 else 0) < v.paths) }
+        ensures sure { OnErr result (at self.now path.now ≡ None) }
+    {
+        let paths = match self.at(path) {
+            Some(_) => self.totals.paths,
+            None => self.totals.paths.checked_add(1).ok_or(AllocError)?,
+        };
+        Ok(Totals {
+            inodes,
+            blocks,
+            paths,
+        })
+    }
+
+    /// Puts a directory where nothing or a whiteout stands.
+    fn put_dir(
+        &mut self,
+        path: &Path,
+        mode: u32,
+        opaque: bool,
+        inodes: usize,
+    ) -> Result<(), AllocError>
+        requires room { HasRoom self.old path.now }
+        requires layer { IsLayer (with_node self.old path.now (Node.Dir mode opaque)) }
+        requires count { inodes ≡ inode_count (with_node self.old path.now (Node.Dir mode opaque)) }
+        ensures ok { OnOk result (self.new ≡ with_node self.old path.now (Node.Dir mode opaque)) }
         ensures err { OnErr result (self.new ≡ self.old) }
     {
-        put_entry(&mut self.entries, path, node)?;
-        self.inodes = inodes;
+        self.show_is_layer();
+        let (_, blocks) = self.left(path);
+        let totals = self.totals_at(path, inodes, blocks + 1)?;
+        self.table.put_dir(path, mode, opaque)?;
+        self.totals = totals;
         Ok(())
     }
 
-    /// Puts the node in place of what stands at the path.
-    fn replace(&mut self, path: &Path, node: Node, inodes: usize) -> Result<(), AllocError>
-        requires layer { IsLayer (with_node self.old path.now node) }
-        requires count { inodes ≡ inode_count (with_node self.old path.now node) }
-        requires apart { (k : ℕ) → number_at self.old path.now ≡ Some k → has_number k node ≡ false }
-        ensures ok { OnOk result (self.new ≡ with_node self.old path.now node) }
+    /// Puts a whiteout in place of what stands at the path.
+    fn put_whiteout(&mut self, path: &Path, inodes: usize) -> Result<(), AllocError>
+        requires place { HasPlace self.old path.now }
+        requires layer { IsLayer (with_node self.old path.now Node.Whiteout) }
+        requires count { inodes ≡ inode_count (with_node self.old path.now Node.Whiteout) }
+        ensures ok { OnOk result (self.new ≡ with_node self.old path.now Node.Whiteout) }
         ensures sure { OnErr result (at self.old path.now ≡ None) }
         ensures err { OnErr result (self.new ≡ self.old) }
     {
-        let number = self.number_at(path);
-        replace_entries(&mut self.entries, path, node)?;
-        drop_unnamed(&self.entries, &mut self.bodies, number);
-        self.inodes = inodes;
+        self.show_is_layer();
+        let (_, blocks) = self.left(path);
+        let totals = self.totals_at(path, inodes, blocks)?;
+        self.table.whiteout(path)?;
+        self.totals = totals;
+        Ok(())
+    }
+
+    /// Puts one more name of the file or symlink in place of what stands at the path.
+    fn put_name(&mut self, path: &Path, number: u32, inodes: usize) -> Result<(), AllocError>
+        requires place { HasPlace self.old path.now }
+        requires there { IsSome (body self.old number) }
+        requires apart { number_at self.old path.now ≡ Some number → ⊥ }
+        requires count { inodes ≡ inode_count (without self.old path.now) }
+        ensures ok { OnOk result (self.new ≡ with_name self.old path.now (name_of number (body self.old number))) }
+        ensures sure { OnErr result (at self.old path.now ≡ None) }
+        ensures err { OnErr result (self.new ≡ self.old) }
+    {
+        let _ = path.names();
+        self.show_is_layer();
+        let (_, blocks) = self.left(path);
+        let totals = self.totals_at(path, inodes, blocks)?;
+        self.table.put_name(path, number)?;
+        self.totals = totals;
         Ok(())
     }
 
     /// Puts a new file or symlink, which has the next number, in place of what stands at the path.
-    fn insert(
-        &mut self,
-        path: &Path,
-        node: Node,
-        body: Body,
-        inodes: usize,
-    ) -> Result<(), AllocError>
+    fn insert(&mut self, path: &Path, body: Body, inodes: usize) -> Result<(), AllocError>
+        requires place { HasPlace self.old path.now }
         requires last { self.old.next < 4294967295 }
-        requires layer { IsLayer (with_new self.old path.now node body) }
-        requires count { inodes ≡ inode_count (with_new self.old path.now node body) }
-        requires named { number_of node ≡ Some self.old.next }
-        ensures ok { OnOk result (self.new ≡ with_new self.old path.now node body) }
+        requires layer { IsLayer (with_new self.old path.now (leaf_node self.old.next body) body) }
+        requires count { inodes ≡ inode_count (with_new self.old path.now (leaf_node self.old.next body) body) }
+        ensures ok { OnOk result (self.new ≡ with_new self.old path.now (leaf_node self.old.next body) body) }
         ensures err { OnErr result (self.new ≡ self.old) }
     {
-        let number = self.number_at(path);
-        let next = self.next;
-        self.bodies.insert(next, body)?;
-        match replace_entries(&mut self.entries, path, node) {
-            Ok(()) => {
-                drop_unnamed(&self.entries, &mut self.bodies, number);
-                self.next += 1;
-                self.inodes = inodes;
-                return Ok(());
-            }
-            Err(error) => {
-                self.bodies.remove(&next);
-                return Err(error);
-            }
-        }
+        self.show_is_layer();
+        let (_, blocks) = self.left(path);
+        let totals = self.totals_at(path, inodes, blocks + body.blocks())?;
+        self.table.put_leaf(path, body)?;
+        self.totals = totals;
+        Ok(())
+    }
+
+    /// Takes what stands at the path.
+    fn uncover(&mut self, path: &Path, inodes: usize, blocks: u64)
+        requires takeable { IsTakeable self.old path.now }
+        requires inodes { inodes ≡ inode_count (without self.old path.now) }
+        requires blocks { blocks ≡ block_count (without self.old path.now) }
+        ensures { self.new ≡ without self.old path.now }
+    {
+        self.show_is_layer();
+        let _ = path.names();
+        self.table.take(path);
+        let paths = self.totals.paths;
+        self.totals = Totals {
+            inodes,
+            blocks,
+            paths,
+        };
     }
 
     /// Moves what stands at `from` and below it to `to`, in place of what stands there.
@@ -327,11 +356,34 @@ impl Layer {
         ensures ok { OnOk result (self.new ≡ with_moved self.old from.now to.now leaves) }
         ensures err { OnErr result (self.new ≡ self.old) }
     {
-        let number = self.number_at(to);
-        let entries = shifted_entries(&self.entries, from, to, leaves)?;
-        self.entries = entries;
-        drop_unnamed(&self.entries, &mut self.bodies, number);
-        self.inodes = inodes;
+        self.show_is_layer();
+        let (_, blocks) = self.left(to);
+        let totals = self.totals_at(to, inodes, blocks)?;
+        self.table.relocate(from, to, leaves)?;
+        self.totals = totals;
         Ok(())
+    }
+
+    /// Sets the mode and the mark of the directory at the path.
+    fn set_dir(&mut self, path: &Path, mode: u32, opaque: bool)
+        requires dir { IsDirAt (at self.old path.now) }
+        requires mode { mode ≤ 4095 }
+        ensures { self.new ≡ with_entry self.old path.now (Node.Dir mode opaque) }
+    {
+        self.show_is_layer();
+        self.table.set_dir(path, mode, opaque);
+    }
+
+    /// Gives the file with the number, which has the mode and takes so many blocks, other bytes.
+    fn fill(&mut self, number: u32, mode: u32, freed: u64, bytes: Bytes)
+        requires there { (old : List ℕ) × (freed ≡ body_blocks (Body.File mode old)) × (body self.old number ≡ Some (Body.File mode old)) }
+        requires size { length bytes ≤ 1048576 }
+        ensures { self.new ≡ with_body self.old number (Body.File mode bytes) }
+    {
+        self.show_is_layer();
+        let new = Body::File { mode, bytes };
+        let blocks = self.totals.blocks - freed + new.blocks();
+        self.table.set_body(number, new);
+        self.totals.blocks = blocks;
     }
 }

@@ -3,15 +3,22 @@
 //! A layer is what overlayfs keeps in one lower or upper directory (overlayfs.rst). Contracts see a
 //! [`Layer`] as a `Tree`: the list of its paths in order, the list of its files' bodies in order of
 //! their numbers, and the number of its next file. Each edit is one change of these lists.
+//!
+//! It is kept as a table of inodes, whose directories have entries by name: `specs/Walk.antt` says what stands
+//! at a path of it, and `specs/Holds.antt` which `Tree` it is.
 #![tactic(auto)]
 
-mod bodies;
+mod edit;
 mod edits;
-mod entries;
 mod error;
+mod inode;
 mod layer;
 mod node;
+mod rows;
 mod shared;
+mod table;
+mod totals;
+mod walk;
 
 pub use error::LayerError;
 pub use layer::Layer;

@@ -13,18 +13,18 @@ returns-then-inodes-gt-MAX_INODES-clause-full c =
     let same = with_node-free c.args.self.now c.show_is_layer.ensures.layer c.args.path.now (Dir c.args.mode c.args.opaque) c.requires.room.free in
     full_said (with_entry c.args.self.now c.args.path.now (Dir c.args.mode c.args.opaque)) (ap is_within (sym same) ∙ b.full c.if-inodes-gt-MAX_INODES.true)
 
-pub replace-requires-clause-layer : goal.replace-requires-clause-layer
-replace-requires-clause-layer c =
+pub put_dir-requires-clause-layer : goal.put_dir-requires-clause-layer
+put_dir-requires-clause-layer c =
     let b = dir_becomes c.args.self.now c.show_is_layer.ensures.layer c.args.path.now c.inodes_without-inodes.ensures.path _ c.inodes_without-inodes.ensures.count c.args.mode c.args.opaque c.requires.room c.requires.mode in
     b.layer c.if-inodes-gt-MAX_INODES.false
 
-pub replace-requires-clause-count : goal.replace-requires-clause-count
-replace-requires-clause-count c =
+pub put_dir-requires-clause-count : goal.put_dir-requires-clause-count
+put_dir-requires-clause-count c =
     let b = dir_becomes c.args.self.now c.show_is_layer.ensures.layer c.args.path.now c.inodes_without-inodes.ensures.path _ c.inodes_without-inodes.ensures.count c.args.mode c.args.opaque c.requires.room c.requires.mode in
     b.count
 
-pub returns-in_err-replace-clause-full : goal.returns-in_err-replace-clause-full
-returns-in_err-replace-clause-full c =
+pub returns-in_err-put_dir-clause-full : goal.returns-in_err-put_dir-clause-full
+returns-in_err-put_dir-clause-full c =
     let b = dir_becomes c.args.self.now c.show_is_layer.ensures.layer c.args.path.now c.inodes_without-inodes.ensures.path _ c.inodes_without-inodes.ensures.count c.args.mode c.args.opaque c.requires.room c.requires.mode in
     let same = with_node-free c.args.self.now c.show_is_layer.ensures.layer c.args.path.now (Dir c.args.mode c.args.opaque) c.requires.room.free in
     let p = err_from_is_err_and c.from_residual.result c.from_residual.ensures.1 in
@@ -33,7 +33,7 @@ returns-in_err-replace-clause-full c =
 pub returns-clause-ok : goal.returns-clause-ok
 returns-clause-ok c =
     let same = with_node-free c.args.self.now c.show_is_layer.ensures.layer c.args.path.now (Dir c.args.mode c.args.opaque) c.requires.room.free in
-    c.in_ok-replace.ensures.ok ∙ same
+    c.in_ok-put_dir.ensures.ok ∙ same
 
 pub returns-clause-full : goal.returns-clause-full
 returns-clause-full c =

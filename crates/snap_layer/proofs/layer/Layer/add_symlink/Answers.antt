@@ -1,9 +1,7 @@
-use Rattle.std.proofs.Common.{ℕ, ◌<◌, sym, ap, ◌∙◌, subst, arith}
+use Rattle.std.proofs.Common.{◌<◌, arith}
 use Rattle.std.proofs.lemmas.Result.{err_from_is_err_and}
 use Rattle.snap_layer.specs.declared.node.Node.TheVariants.{Symlink}
 use Rattle.snap_layer.specs.declared.node.Body.TheVariants as body_kinds
-use Rattle.snap_layer.specs.Counts.{inode_count}
-use Rattle.snap_layer.specs.Layers.{IsLayer}
 use Rattle.snap_layer.specs.Edits.{with_new}
 use Rattle.snap_layer.proofs.Filling.{symlink_becomes, new_full, full_said, memory_said, ok_said}
 use Rattle.snap_layer.proofs.layer.Layer.add_symlink.Goals as goal
@@ -21,13 +19,13 @@ pub insert-requires-clause-layer : goal.insert-requires-clause-layer
 insert-requires-clause-layer c =
     let last : c.args.self.now.next < 4294967295 = omega (arith, c.next_number-number.ensures.next) in
     let b = symlink_becomes c.args.self.now c.next_number-number.ensures.layer c.args.path.now c.inodes_without-inodes.ensures.path _ c.inodes_without-inodes.ensures.count c.requires.place last c.args.target c.requires.target in
-    subst (λ (k : ℕ). IsLayer (with_new c.args.self.now c.args.path.now (Symlink k) (body_kinds.Symlink c.args.target))) (sym c.next_number-number.ensures.next) (b.layer c.if-inodes-gt-MAX_INODES.false)
+    b.layer c.if-inodes-gt-MAX_INODES.false
 
 pub insert-requires-clause-count : goal.insert-requires-clause-count
 insert-requires-clause-count c =
     let last : c.args.self.now.next < 4294967295 = omega (arith, c.next_number-number.ensures.next) in
     let b = symlink_becomes c.args.self.now c.next_number-number.ensures.layer c.args.path.now c.inodes_without-inodes.ensures.path _ c.inodes_without-inodes.ensures.count c.requires.place last c.args.target c.requires.target in
-    b.count ∙ ap (λ (k : ℕ). inode_count (with_new c.args.self.now c.args.path.now (Symlink k) (body_kinds.Symlink c.args.target))) (sym c.next_number-number.ensures.next)
+    b.count
 
 pub returns-in_err-insert-clause-full : goal.returns-in_err-insert-clause-full
 returns-in_err-insert-clause-full c =

@@ -1,0 +1,44 @@
+-- The bodies of two tables.
+use Rattle.std.proofs.Common.{◌≡◌, ℕ, Bool, true, false, [], ◌∷◌, Some, refl, sym, ap, ◌∙◌}
+use Rattle.std.specs.Prelude.{is_some, nat_eq}
+use Rattle.std.specs.Bool.{Decides}
+use Rattle.std.specs.Ordering.{nat_cmp}
+use Rattle.std.specs.Cmp.{nat_cmp_total, unsigned_Decides}
+use Rattle.std.specs.List.{AllByRecursion}
+use Rattle.std.specs.List.Sorted.{IsStrictlySortedBy}
+use Rattle.std.specs.Map.{keys_of}
+use Rattle.slab.specs.Slab.{Slab as Slots}
+use Rattle.snap_layer.specs.Tree.{Tree}
+use Rattle.snap_layer.specs.Equal.{tree_eq, tree_eq-Decides}
+use Rattle.snap_layer.specs.declared.inode.Inode.{Inode}
+use Rattle.snap_layer.specs.Walk.{view_of}
+use Rattle.snap_layer.specs.Holds.{Places, place, IsLeafOf}
+use Rattle.snap_layer.specs.Rows.{AreHoused}
+use Rattle.snap_layer.proofs.Inside.{found_each}
+
+-- ---- each place of a table has its body
+
+pub are_housed : (s : Slots Inode) (ps : Places) → IsStrictlySortedBy nat_cmp (keys_of ps) → ((k c : ℕ) → place ps k ≡ Some c → IsLeafOf (view_of s) k c) → AreHoused s ps
+are_housed s ps sorted housed = by ps (found_each nat_cmp_total ps sorted)
+  where
+    by : (es : Places) → AllByRecursion (λ (e : ℕ × ℕ). place ps e.0 ≡ Some e.1) es → AreHoused s es
+    by [] a = tt
+    by (e ∷ es) a = (ap is_some (housed e.0 e.1 a.0).1, by es a.1)
+
+-- ---- the test of two layers
+
+-- tests of facts that come to one are the same
+same_test : {P Q : Type 0} (a b : Bool) → Decides a P → Decides b Q → (P → Q) → (Q → P) → a ≡ b
+same_test true b d e f g = sym (e.1 (f (d.0 refl)))
+same_test false true d e f g = d.1 (g (e.0 refl))
+same_test false false d e f g = refl
+
+pub differ : (t u : Tree) {b : Bool} → b ≡ false → (t ≡ u → b ≡ true) → false ≡ tree_eq t u
+differ t u failed holds = same_test {P = ⊥} false (tree_eq t u) ((λ e. absurd (clash e)), λ x. absurd x) (tree_eq-Decides t u) (λ x. absurd x) (λ same. clash (sym failed ∙ holds same))
+  where
+    clash : false ≡ true → ⊥
+    clash e = cc
+
+-- where the entries and the bodies are the same, the next numbers decide
+pub by_next : (t u : Tree) → t.entries ≡ u.entries → t.bodies ≡ u.bodies → nat_eq t.next u.next ≡ tree_eq t u
+by_next t u entries bodies = same_test (nat_eq t.next u.next) (tree_eq t u) (unsigned_Decides t.next u.next) (tree_eq-Decides t u) (λ e i. record { entries = entries i; bodies = bodies i; next = e i }) (λ e. ap (λ (x : Tree). x.next) e)

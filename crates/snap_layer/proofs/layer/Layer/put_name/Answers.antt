@@ -1,0 +1,35 @@
+use Rattle.std.proofs.Common.{◌≡◌, sym, ap, subst, ◌∙◌, arith}
+use Rattle.snap_layer.specs.Tree.{body}
+use Rattle.snap_layer.specs.Layers.{IsLayer}
+use Rattle.snap_layer.specs.Edits.{with_node, with_name, name_of}
+use Rattle.snap_layer.specs.Totals.{Counts}
+use Rattle.snap_layer.specs.Walk.{leaf_node}
+use Rattle.snap_layer.proofs.Totaling.{names_few, counts_node}
+use Rattle.snap_layer.proofs.Changing.{body_some}
+use Rattle.snap_layer.proofs.Totaling.{name_becomes, name_no_dir, name_is, fewer_inodes}
+use Rattle.snap_layer.proofs.layer.Layer.put_name.Goals as goal
+
+pub put_name-requires-clause-few : goal.put_name-requires-clause-few
+put_name-requires-clause-few c =
+    omega (arith, names_few c.args.number c.self.inside.table.entries, c.self.invariant.paths, c.self.ranges)
+
+pub put_name-requires-clause-layer : goal.put_name-requires-clause-layer
+put_name-requires-clause-layer c =
+    let ok : IsLayer c.args.self.now = c.show_is_layer.ensures.layer in
+    λ b is. subst (λ u. IsLayer (with_node u c.args.path.now (leaf_node c.args.number b))) (sym c.self.view_is) ((name_becomes c.args.self.now ok c.args.path.now c.names.ensures.valid c.requires.place c.args.number b c.requires.apart (ap (λ u. body u c.args.number) (sym c.self.view_is) ∙ is)).layer (fewer_inodes c.args.self.now ok c.args.path.now))
+
+pub invariant_of-self-2 : goal.invariant_of-self-2
+invariant_of-self-2 c =
+    let ok : IsLayer c.args.self.now = c.show_is_layer.ensures.layer in
+    let there = body_some c.args.self.now c.args.number c.requires.there in
+    let b = name_becomes c.args.self.now ok c.args.path.now c.names.ensures.valid c.requires.place c.args.number there.0 c.requires.apart there.1 in
+    let is : c.put_name.new.self ≡ with_node c.args.self.now c.args.path.now (leaf_node c.args.number there.0) = c.in_ok-put_name.ensures.ok there.0 (ap (λ u. body u c.args.number) c.self.view_is ∙ there.1) ∙ ap (λ u. with_node u c.args.path.now (leaf_node c.args.number there.0)) c.self.view_is in
+    subst (Counts c.in_ok-totals.totals) (sym is) (counts_node c.args.self.now ok c.args.path.now c.in_ok-totals.totals c.in_ok-totals.ensures.paths (leaf_node c.args.number there.0) (c.in_ok-totals.ensures.inodes ∙ c.requires.count ∙ b.count) (omega (arith, c.in_ok-totals.ensures.blocks, c.left-blocks.ensures.blocks, name_no_dir c.args.number there.0)))
+
+pub returns-clause-ok : goal.returns-clause-ok
+returns-clause-ok c =
+    let ok : IsLayer c.args.self.now = c.show_is_layer.ensures.layer in
+    let there = body_some c.args.self.now c.args.number c.requires.there in
+    let b = name_becomes c.args.self.now ok c.args.path.now c.names.ensures.valid c.requires.place c.args.number there.0 c.requires.apart there.1 in
+    let is : c.put_name.new.self ≡ with_node c.args.self.now c.args.path.now (leaf_node c.args.number there.0) = c.in_ok-put_name.ensures.ok there.0 (ap (λ u. body u c.args.number) c.self.view_is ∙ there.1) ∙ ap (λ u. with_node u c.args.path.now (leaf_node c.args.number there.0)) c.self.view_is in
+    is ∙ sym (ap (with_name c.args.self.now c.args.path.now) (ap (name_of c.args.number) there.1 ∙ name_is c.args.number there.0))

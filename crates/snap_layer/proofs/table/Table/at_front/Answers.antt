@@ -1,0 +1,10 @@
+use Rattle.std.proofs.Common.{ap, ◌∙◌}
+use Rattle.snap_layer.specs.Walk.{view_of, stands}
+use Rattle.snap_layer.proofs.Makes.{opens}
+use Rattle.std.specs.Prelude.{take}
+use Rattle.snap_layer.proofs.table.Table.at_front.Goals as goal
+
+pub returns : goal.returns
+returns c =
+    let m = opens c.self.inside.slots c.self.inside.root c.self.inside.places.entries c.self.inside.next c.args.self.now c.self.inside.tree c.self.invariant c.self.view_is in
+    c.stands.ensures ∙ ap (stands (view_of c.self.inside.slots) c.self.inside.root) (ap (take c.args.names) c.names.ensures.names) ∙ m.shows (take c.args.names c.args.path.now)

@@ -1,0 +1,8 @@
+use Rattle.std.proofs.Common.{◌∙◌}
+use Rattle.snap_layer.proofs.Makes.{opens}
+use Rattle.snap_layer.proofs.table.Table.node_at.Goals as goal
+
+pub returns : goal.returns
+returns c =
+    let m = opens c.self.inside.slots c.self.inside.root c.self.inside.places.entries c.self.inside.next c.args.self.now c.self.inside.tree c.self.invariant c.self.view_is in
+    c.stands.ensures ∙ m.shows c.args.names.now

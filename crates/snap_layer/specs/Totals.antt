@@ -1,0 +1,19 @@
+-- What a layer keeps beside its inodes: what it takes, and a bound on its paths.
+-- Cited by invariants and private clauses alone.
+use Rattle.std.specs.Prelude.{◌≡◌, ◌<◌, ℕ}
+use Rattle.std.specs.List.{sum_by}
+use Rattle.std.specs.Map.{values_of}
+use Rattle.snap_layer.specs.declared.node.Node.{Node}
+use Rattle.snap_layer.specs.declared.totals.Totals.{Totals}
+use Rattle.snap_layer.specs.Tree.{Tree}
+use Rattle.snap_layer.specs.Counts.{inode_count, block_count}
+
+-- one for each path
+abbrev pub path_count : Tree → ℕ
+path_count t = sum_by (λ (n : Node). 1) (values_of t.entries)
+
+-- the inodes and blocks are those of the layer, and it has fewer paths than the bound
+pub record Counts (v : Totals) (t : Tree) : Type 0 where
+  pub inodes : v.inodes ≡ inode_count t
+  pub blocks : v.blocks ≡ block_count t
+  pub paths : path_count t < v.paths

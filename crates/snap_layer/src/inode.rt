@@ -1,0 +1,54 @@
+use super::node::Body;
+use snap_path::Name;
+use std::alloc::AllocError;
+use std::collections::BTreeMap;
+
+/// What a directory has at a name.
+#[derive(Clone, Copy, Debug)]
+pub enum Target {
+    Whiteout,
+    Inode(usize),
+}
+
+#[derive(Drop)]
+pub enum Inode {
+    Dir {
+        mode: u32,
+        opaque: bool,
+        entries: BTreeMap<Name, Target>,
+    },
+    Leaf {
+        number: u32,
+        links: usize,
+        body: Body,
+    },
+}
+
+impl Clone for Inode {
+    ghost use Rattle.snap_layer.specs.Walk.{Alike};
+
+    ghost is_clone = { Alike };
+
+    fn clone(&self) -> Result<Inode, AllocError> {
+        match self {
+            Inode::Dir {
+                mode,
+                opaque,
+                entries,
+            } => Ok(Inode::Dir {
+                mode: *mode,
+                opaque: *opaque,
+                entries: entries.clone()?,
+            }),
+            Inode::Leaf {
+                number,
+                links,
+                body,
+            } => Ok(Inode::Leaf {
+                number: *number,
+                links: *links,
+                body: body.clone()?,
+            }),
+        }
+    }
+}

@@ -1,0 +1,344 @@
+// A layer as a table of inodes.
+ghost use Rattle.std.specs.Prelude.{[], ◌≡◌, ◌<◌, ◌≤◌, ◌+◌, ◌^◌, ℕ, Option, Some, None, OnOk, OnErr, IfOk, IsSome, length, take, find, nat_lt, option_and_then};
+ghost use Rattle.std.specs.Option.{option_copied};
+ghost use Rattle.std.specs.Map.{keys_of};
+ghost use Rattle.snap_layer.specs.Tree.{at, body, number_of, number_at, IsDirAt};
+ghost use Rattle.snap_layer.specs.Counts.{name_count};
+ghost use Rattle.snap_layer.specs.Layers.{IsLayer, IsFile};
+ghost use Rattle.snap_layer.specs.Edits.{root_only, with_body, with_entry, with_node, with_new, without, with_moved, with_file_mode, HasPlace, IsTakeable, IsFree, HasParent, IsMovable};
+ghost use Rattle.snap_layer.specs.declared.node.Body.{Body as BodyValue};
+ghost use Rattle.snap_layer.specs.declared.node.Node.{Node as NodeValue};
+ghost use Rattle.snap_layer.specs.Walk.{leaf_node};
+ghost use Rattle.snap_layer.specs.contracts.node.Node as node_contracts;
+ghost use Rattle.snap_layer.specs.Holds.{Holds, Holds-prop};
+
+mod reads;
+mod same;
+
+use super::edit::{
+    body_at, copied, cover_entry, link, links_at, next_place, place_of, put_inode, put_leaf,
+    relocate, replace_name, set_body, set_dir, set_mode, take_target,
+};
+use super::inode::{Inode, Target};
+use super::node::{Body, Node};
+use super::walk::{dir_at, entry_at, stands};
+use slab::Slab;
+use snap_path::Path;
+use std::alloc::{AllocError, Global};
+use std::collections::BTreeMap;
+use std::marker::Model;
+
+/// A layer as a table of inodes. A directory has its entries in byte order; a file or symlink has its number,
+/// its body, and the count of its names; a whiteout is an entry without an inode.
+#[derive(Drop)]
+pub struct Table {
+    pub(crate) alloc: Global,
+    pub(crate) slots: Slab<Inode>,
+    pub(crate) root: usize,
+    pub(crate) places: BTreeMap<u32, usize>,
+    pub(crate) next: u32,
+    ghost tree: { Holds slots root } by { Holds-prop (node_contracts.the_row).coded slots root },
+}
+
+impl Model for Table {
+    ghost use Rattle.snap_layer.specs.Tree.{Tree};
+
+    ghost Value = { Tree };
+
+    ghost use Rattle.snap_layer.specs.Holds.{tree_of, IsKept};
+    ghost use Rattle.snap_layer.specs.Walk.{view_of};
+
+    ghost view = { λ t. tree_of t.tree.0 t.slots t.places.entries t.next };
+
+    ghost invariant = { λ t. IsKept (view_of t.slots) t.root t.places.entries (tree_of t.tree.0 t.slots t.places.entries t.next) };
+}
+
+impl Table {
+    /// The layer of the root alone.
+    pub fn new(alloc: Global, mode: u32, first: u32) -> Result<Table, AllocError>
+        requires mode { mode ≤ 4095 }
+        requires first { 1 ≤ first }
+        ensures { IfOk result (λ t. t ≡ root_only mode first) }
+    {
+        let mut slots = Slab::new(alloc);
+        let root = slots.insert(Inode::Dir {
+            mode,
+            opaque: false,
+            entries: BTreeMap::new(alloc),
+        })?;
+        Ok(Table {
+            alloc,
+            slots,
+            root,
+            places: BTreeMap::new(alloc),
+            next: first,
+        })
+    }
+
+    /// A copy of the table, which shares nothing with it.
+    pub fn copy(&self) -> Result<Table, AllocError>
+        ensures { IfOk result (λ t. t ≡ self.now) }
+    {
+        Ok(Table {
+            alloc: self.alloc,
+            slots: self.slots.clone()?,
+            root: self.root,
+            places: copied(&self.places)?,
+            next: self.next,
+        })
+    }
+
+    /// What stands at the path.
+    pub fn at(&self, path: &Path) -> Option<Node>
+        ensures { result ≡ at self.now path.now }
+    {
+        stands(&self.slots, self.root, path.names())
+    }
+
+    /// What stands at the path of the first so many names of a path.
+    pub fn at_front(&self, path: &Path, names: usize) -> Option<Node>
+        requires { names ≤ length path.now }
+        ensures { result ≡ at self.now (take names path.now) }
+    {
+        stands(&self.slots, self.root, &path.names()[..names])
+    }
+
+    /// The file or symlink with the number, or nothing.
+    pub fn body(&self, number: u32) -> Option<&Body>
+        ensures { option_copied result ≡ body self.now number }
+    {
+        match place_of(&self.places, number) {
+            Some(key) => body_at(&self.slots, key),
+            None => None,
+        }
+    }
+
+    /// How many names the file number has.
+    pub fn link_count(&self, number: u32) -> usize
+        ensures { result ≡ name_count number self.now.entries }
+    {
+        match place_of(&self.places, number) {
+            Some(key) => links_at(&self.slots, key),
+            None => 0,
+        }
+    }
+
+    /// The allocator that the table keeps.
+    pub fn alloc(&self) -> Global {
+        self.alloc
+    }
+
+    /// The number that the next file or symlink gets.
+    pub fn next_number(&self) -> u32
+        ensures next { result ≡ self.now.next }
+        ensures layer { IsLayer self.now }
+    {
+        self.next
+    }
+
+    /// The least number above `after` that a file or symlink has, or nothing.
+    pub fn next_body(&self, after: u32) -> Option<u32>
+        ensures { result ≡ find (λ k. nat_lt after k) (keys_of self.now.bodies) }
+    {
+        next_place(&self.places, after)
+    }
+
+    /// Puts a directory where nothing or a whiteout stands.
+    pub fn put_dir(&mut self, path: &Path, mode: u32, opaque: bool) -> Result<(), AllocError>
+        requires free { IsFree (at self.old path.now) }
+        requires above { HasParent self.old path.now }
+        requires layer { IsLayer (with_entry self.old path.now (Node.Dir mode opaque)) }
+        ensures ok { OnOk result (self.new ≡ with_entry self.old path.now (Node.Dir mode opaque)) }
+        ensures err { OnErr result (self.new ≡ self.old) }
+    {
+        let _ = &self.slots;
+        let Some((name, front)) = path.names().split_last() else {
+            unreachable!()
+        };
+        let dir = dir_at(&self.slots, self.root, front);
+        let inode = Inode::Dir {
+            mode,
+            opaque,
+            entries: BTreeMap::new(self.alloc),
+        };
+        put_inode(&mut self.slots, dir, name, inode)
+    }
+
+    /// Puts a new file or symlink, which has the next number, in place of what stands at the path.
+    pub fn put_leaf(&mut self, path: &Path, body: Body) -> Result<(), AllocError>
+        requires place { HasPlace self.old path.now }
+        requires last { self.old.next < 4294967295 }
+        requires layer { IsLayer (with_new self.old path.now (leaf_node self.old.next body) body) }
+        ensures ok { OnOk result (self.new ≡ with_new self.old path.now (leaf_node self.old.next body) body) }
+        ensures err { OnErr result (self.new ≡ self.old) }
+    {
+        let Some((name, front)) = path.names().split_last() else {
+            unreachable!()
+        };
+        let dir = dir_at(&self.slots, self.root, front);
+        let number = self.next;
+        let inode = Inode::Leaf {
+            number,
+            links: 1,
+            body,
+        };
+        put_leaf(&mut self.slots, &mut self.places, dir, name, number, inode)?;
+        self.next += 1;
+        Ok(())
+    }
+
+    /// Puts one more name of a file or symlink in place of what stands at the path.
+    pub fn put_name(&mut self, path: &Path, number: u32) -> Result<(), AllocError>
+        requires place { HasPlace self.old path.now }
+        requires there { IsSome (body self.old number) }
+        requires apart { number_at self.old path.now ≡ Some number → ⊥ }
+        requires few { name_count number self.old.entries + 1 < 2 ^ 64 }
+        requires layer { (b : BodyValue) → body self.old number ≡ Some b → IsLayer (with_node self.old path.now (leaf_node number b)) }
+        ensures ok { OnOk result ((b : BodyValue) → body self.old number ≡ Some b → self.new ≡ with_node self.old path.now (leaf_node number b)) }
+        ensures sure { OnErr result (at self.old path.now ≡ None) }
+        ensures err { OnErr result (self.new ≡ self.old) }
+    {
+        let _ = &self.slots;
+        let Some((name, front)) = path.names().split_last() else {
+            unreachable!()
+        };
+        let dir = dir_at(&self.slots, self.root, front);
+        let Some(key) = place_of(&self.places, number) else {
+            unreachable!()
+        };
+        replace_name(&mut self.slots, &mut self.places, dir, name, key)
+    }
+
+    /// Puts a whiteout where nothing or a whiteout stands.
+    pub fn put_whiteout(&mut self, path: &Path) -> Result<(), AllocError>
+        requires free { IsFree (at self.old path.now) }
+        requires above { HasParent self.old path.now }
+        requires layer { IsLayer (with_entry self.old path.now Node.Whiteout) }
+        ensures ok { OnOk result (self.new ≡ with_entry self.old path.now Node.Whiteout) }
+        ensures sure { OnErr result (at self.old path.now ≡ None) }
+        ensures err { OnErr result (self.new ≡ self.old) }
+    {
+        let _ = &self.slots;
+        let Some((name, front)) = path.names().split_last() else {
+            unreachable!()
+        };
+        let dir = dir_at(&self.slots, self.root, front);
+        link(&mut self.slots, dir, name, Target::Whiteout)
+    }
+
+    /// Puts a whiteout in place of what stands at the path. A file or symlink goes with its last name.
+    pub fn cover(&mut self, path: &Path)
+        requires place { HasPlace self.old path.now }
+        requires there { IsSome (at self.old path.now) }
+        requires layer { IsLayer (with_node self.old path.now Node.Whiteout) }
+        ensures { self.new ≡ with_node self.old path.now Node.Whiteout }
+    {
+        let _ = &self.slots;
+        let Some((name, front)) = path.names().split_last() else {
+            unreachable!()
+        };
+        let dir = dir_at(&self.slots, self.root, front);
+        cover_entry(&mut self.slots, &mut self.places, dir, name);
+    }
+
+    /// Puts a whiteout in place of what stands at the path, if anything does.
+    pub fn whiteout(&mut self, path: &Path) -> Result<(), AllocError>
+        requires place { HasPlace self.old path.now }
+        requires layer { IsLayer (with_node self.old path.now Node.Whiteout) }
+        ensures ok { OnOk result (self.new ≡ with_node self.old path.now Node.Whiteout) }
+        ensures sure { OnErr result (at self.old path.now ≡ None) }
+        ensures err { OnErr result (self.new ≡ self.old) }
+    {
+        let _ = self.next_number();
+        if self.at(path).is_some() {
+            self.cover(path);
+            return Ok(());
+        }
+        self.put_whiteout(path)
+    }
+
+    /// Takes a name, a whiteout, or a directory that has whiteouts alone. A file or symlink goes with its last
+    /// name.
+    pub fn take(&mut self, path: &Path)
+        requires takeable { IsTakeable self.old path.now }
+        requires layer { IsLayer (without self.old path.now) }
+        ensures { self.new ≡ without self.old path.now }
+    {
+        let _ = &self.slots;
+        let Some((name, front)) = path.names().split_last() else {
+            unreachable!()
+        };
+        let dir = dir_at(&self.slots, self.root, front);
+        take_target(&mut self.slots, &mut self.places, dir, name);
+    }
+
+    /// Moves what stands at `from`, and all below it, to `to`, in place of what stands there.
+    pub fn relocate(&mut self, from: &Path, to: &Path, leaves: bool) -> Result<(), AllocError>
+        requires movable { IsMovable self.old from.now to.now }
+        requires layer { IsLayer (with_moved self.old from.now to.now leaves) }
+        ensures ok { OnOk result (self.new ≡ with_moved self.old from.now to.now leaves) }
+        ensures sure { OnErr result (at self.old to.now ≡ None) }
+        ensures err { OnErr result (self.new ≡ self.old) }
+    {
+        let _ = &self.slots;
+        let Some((old, source)) = from.names().split_last() else {
+            unreachable!()
+        };
+        let Some((new, goal)) = to.names().split_last() else {
+            unreachable!()
+        };
+        let left = dir_at(&self.slots, self.root, source);
+        let gained = dir_at(&self.slots, self.root, goal);
+        let Some(target) = entry_at(&self.slots, left, old) else {
+            unreachable!()
+        };
+        relocate(
+            &mut self.slots,
+            &mut self.places,
+            left,
+            old,
+            gained,
+            new,
+            target,
+            leaves,
+        )
+    }
+
+    /// Sets the mode and the mark of the directory at the path.
+    pub fn set_dir(&mut self, path: &Path, mode: u32, opaque: bool)
+        requires dir { IsDirAt (at self.old path.now) }
+        requires layer { IsLayer (with_entry self.old path.now (Node.Dir mode opaque)) }
+        ensures { self.new ≡ with_entry self.old path.now (Node.Dir mode opaque) }
+    {
+        let _ = &self.slots;
+        let dir = dir_at(&self.slots, self.root, path.names());
+        set_dir(&mut self.slots, dir, mode, opaque);
+    }
+
+    /// Sets the mode of the file with the number.
+    pub fn set_file_mode(&mut self, number: u32, mode: u32)
+        requires file { IsFile (body self.old number) }
+        requires mode { mode ≤ 4095 }
+        ensures { self.new ≡ with_file_mode self.old number (body self.old number) mode }
+    {
+        let _ = &self.slots;
+        let Some(key) = place_of(&self.places, number) else {
+            unreachable!()
+        };
+        set_mode(&mut self.slots, key, mode);
+    }
+
+    /// Gives the file with the number another body, which is a file too.
+    pub fn set_body(&mut self, number: u32, new: Body)
+        requires kind { (b : BodyValue) → body self.old number ≡ Some b → leaf_node number b ≡ leaf_node number new }
+        requires there { IsSome (body self.old number) }
+        requires layer { IsLayer (with_body self.old number new) }
+        ensures { self.new ≡ with_body self.old number new }
+    {
+        let _ = &self.slots;
+        let Some(key) = place_of(&self.places, number) else {
+            unreachable!()
+        };
+        set_body(&mut self.slots, key, new);
+    }
+}
