@@ -2,20 +2,22 @@
 ghost use Rattle.std.specs.Prelude.{◌≡◌};
 
 use crate::gates::{Open, Shut, Stopping};
-use crate::setup::{commit, job, making_all, opened, path, reported, usage};
+use crate::setup::{
+    commit, equal, gate_closed, is_told, job, making_all, new_table, not_closed, opened, path,
+    reported, unrun, usage,
+};
 use snap_book::{Active, Held, Refusal};
 use snap_ledger::{NewTable, StoreName};
 use snap_merge::FsError;
 use snap_record::Labels;
-use snap_store::{Cause, Closed, NotClosed, Session, Store};
+use snap_store::{Cause, NotClosed, Session, Store};
 use snap_upper::Op;
 use snap_usage::Usage;
-use snap_writers::{End, Ended, Job, Report, RunError, RunFault, run_jobs};
+use snap_writers::{End, Ended, Job, RunError, run_jobs};
 use std::alloc::Global;
 use std::marker::Brand;
 use std::process::Abort;
 use std::sync::Wait;
-use std::test::Fail;
 use std::thread::Threads;
 
 // No workers and too many give the store back; no job can run under a gate that is shut.
@@ -23,46 +25,23 @@ fn wrong_workers<N: StoreName + Send + Sync, R: Threads + Wait + Abort + Sync>(
     rt: &R,
     alloc: Global,
     table: NewTable,
-) -> Result<(), Fail>
+)
     requires { table ≡ N.table }
 {
-    let store = opened::<N>(alloc, table)?;
+    let store = opened::<N, R>(rt, alloc, table);
     let jobs = making_all(rt, alloc, 32, true);
-    let Err(RunFault::BadWorkers(store)) = run_jobs(rt, alloc, store, jobs.as_slice(), 0, &Open)
-    else {
-        panic!(rt; "no workers");
-    };
-    let Err(RunFault::BadWorkers(store)) = run_jobs(rt, alloc, store, jobs.as_slice(), 17, &Open)
-    else {
-        panic!(rt; "17 workers");
-    };
-    let Err(RunFault::GateClosed { worker, report }) = run_jobs(
-        rt,
-        alloc,
-        store,
-        jobs.as_slice(),
-        8,
-        &Shut,
-    ) else {
-        panic!(rt; "the gate is shut");
-    };
-    assert_eq!(rt; worker, 1);
-    assert!(rt;
-        report
-            .ends
-            .as_slice()
-            .iter()
-            .all(|end| *end == Ended::NotRun)
-    );
-    assert_eq!(rt; report.ends.len(), 32);
-    assert_eq!(rt; report.closed.totals("a"), Some(Usage::ZERO));
-    Ok(())
+    let jobs = jobs.as_slice();
+    let store = unrun(rt, run_jobs(rt, alloc, store, jobs, 0, &Open));
+    let store = unrun(rt, run_jobs(rt, alloc, store, jobs, 17, &Open));
+    let (worker, report) = gate_closed(rt, run_jobs(rt, alloc, store, jobs, 8, &Shut));
+    equal(rt, worker, 1);
+    is_told(rt, &report, [Ended::NotRun; 32].as_slice(), Usage::ZERO);
 }
 
 #[test]
-fn workers_are_one_to_sixteen(rt: HostRuntime) -> Result<(), Fail> {
-    let table = NewTable::new(rt.alloc())?;
-    wrong_workers::<Brand, HostRuntime>(&rt, rt.alloc(), table)
+fn workers_are_one_to_sixteen(rt: HostRuntime) {
+    let table = new_table(&rt, rt.alloc());
+    wrong_workers::<Brand, HostRuntime>(&rt, rt.alloc(), table);
 }
 
 // One that has no parent, one whose operation fails, and two that commit under one name.
@@ -80,10 +59,10 @@ fn one_worker<N: StoreName + Send + Sync, R: Threads + Wait + Abort + Sync>(
     rt: &R,
     alloc: Global,
     table: NewTable,
-) -> Result<(), Fail>
+)
     requires { table ≡ N.table }
 {
-    let store = opened::<N>(alloc, table)?;
+    let store = opened::<N, R>(rt, alloc, table);
     let jobs = failing(rt, alloc);
     let report = reported(rt, run_jobs(rt, alloc, store, jobs.as_slice(), 1, &Open));
     let wanted = [
@@ -92,15 +71,13 @@ fn one_worker<N: StoreName + Send + Sync, R: Threads + Wait + Abort + Sync>(
         Ended::Committed(usage(1, 1)),
         Ended::NotCommitted(Refusal::AlreadyExists),
     ];
-    assert!(rt; report.ends.as_slice() == wanted.as_slice());
-    assert_eq!(rt; report.closed.totals("a"), Some(usage(1, 1)));
-    Ok(())
+    is_told(rt, &report, wanted.as_slice(), usage(1, 1));
 }
 
 #[test]
-fn each_refusal_is_told(rt: HostRuntime) -> Result<(), Fail> {
-    let table = NewTable::new(rt.alloc())?;
-    one_worker::<Brand, HostRuntime>(&rt, rt.alloc(), table)
+fn each_refusal_is_told(rt: HostRuntime) {
+    let table = new_table(&rt, rt.alloc());
+    one_worker::<Brand, HostRuntime>(&rt, rt.alloc(), table);
 }
 
 // The gate stops worker 2 at its operation.
@@ -108,33 +85,23 @@ fn stopped<N: StoreName + Send + Sync, R: Threads + Wait + Abort + Sync>(
     rt: &R,
     alloc: Global,
     table: NewTable,
-) -> Result<(), Fail>
+)
     requires { table ≡ N.table }
 {
-    let store = opened::<N>(alloc, table)?;
+    let store = opened::<N, R>(rt, alloc, table);
     let jobs = making_all(rt, alloc, 2, false);
     let gate = Stopping { worker: 2, step: 2 };
-    let Err(RunFault::GateClosed { worker, report }) = run_jobs(
-        rt,
-        alloc,
-        store,
-        jobs.as_slice(),
-        2,
-        &gate,
-    ) else {
-        panic!(rt; "the gate stops worker 2");
-    };
-    assert_eq!(rt; worker, 2);
+    let answer = run_jobs(rt, alloc, store, jobs.as_slice(), 2, &gate);
+    let (worker, report) = gate_closed(rt, answer);
+    equal(rt, worker, 2);
     let wanted = [Ended::Committed(usage(2, 2)), Ended::NotRun];
-    assert!(rt; report.ends.as_slice() == wanted.as_slice());
-    assert_eq!(rt; report.closed.totals("a"), Some(usage(2, 2)));
-    Ok(())
+    is_told(rt, &report, wanted.as_slice(), usage(2, 2));
 }
 
 #[test]
-fn a_gate_stops_one_worker(rt: HostRuntime) -> Result<(), Fail> {
-    let table = NewTable::new(rt.alloc())?;
-    stopped::<Brand, HostRuntime>(&rt, rt.alloc(), table)
+fn a_gate_stops_one_worker(rt: HostRuntime) {
+    let table = new_table(&rt, rt.alloc());
+    stopped::<Brand, HostRuntime>(&rt, rt.alloc(), table);
 }
 
 // Takes all slots, with keys that no job has.
@@ -171,27 +138,28 @@ fn give_back<N: StoreName, R: Wait + Abort>(
     held.destroy_empty();
 }
 
-// The store with the session and the four of the workers, which is not closed while 64 snapshots are open.
+// The store and the sessions of the four workers; it is not closed while 64 snapshots are open.
 fn run_without_slots<N: StoreName + Send + Sync, R: Threads + Wait + Abort + Sync>(
     rt: &R,
     alloc: Global,
     store: Store<N>,
 ) -> NotClosed<N> {
     let jobs = making_all(rt, alloc, 8, false);
-    match run_jobs(rt, alloc, store, jobs.as_slice(), 4, &Open) {
-        Err(RunFault::NotClosed(back)) => back,
-        _ => panic!(rt; "the store is not closed"),
-    }
+    not_closed(rt, run_jobs(rt, alloc, store, jobs.as_slice(), 4, &Open))
+}
+
+fn are_all_out(cause: &Cause) -> bool {
+    matches!(cause, Cause::StillOut(keys) if keys.len() == 64)
 }
 
 fn without_slots<N: StoreName + Send + Sync, R: Threads + Wait + Abort + Sync>(
     rt: &R,
     alloc: Global,
     table: NewTable,
-) -> Result<(), Fail>
+)
     requires { table ≡ N.table }
 {
-    let store = opened::<N>(alloc, table)?;
+    let store = opened::<N, R>(rt, alloc, table);
     let mut session = store.session(rt).expect(rt, "a session");
     let held = take_slots(rt, alloc, &store, &mut session);
     let NotClosed {
@@ -199,23 +167,26 @@ fn without_slots<N: StoreName + Send + Sync, R: Threads + Wait + Abort + Sync>(
         mut sessions,
         cause,
     } = run_without_slots(rt, alloc, store);
-    assert!(rt; matches!(&cause, Cause::StillOut(keys) if keys.len() == 64));
-    assert_eq!(rt; sessions.len(), 4);
+    equal(rt, (are_all_out(&cause), sessions.len()), (true, 4));
     give_back(rt, &store, &mut session, held);
-    sessions.push(session)?;
-    match store.close(sessions) {
-        Ok(closed) => assert_eq!(rt; end_of(&closed), (Some(Usage::ZERO), 141)),
-        Err(_) => panic!(rt; "the store is closed"),
-    }
-    Ok(())
+    sessions.push(session).expect(rt, "memory for a session");
+    equal(rt, end_of(rt, store, sessions), (Some(Usage::ZERO), 141));
 }
 
-fn end_of<N: StoreName>(closed: &Closed<N>) -> (Option<Usage>, usize) {
-    (closed.totals("a"), closed.journal().len())
+// What the namespace a is charged once the store is closed, and how many entries the round had.
+fn end_of<N: StoreName, R: Abort>(
+    rt: &R,
+    store: Store<N>,
+    sessions: Vec<Session>,
+) -> (Option<Usage>, usize) {
+    match store.close(sessions) {
+        Ok(closed) => (closed.totals("a"), closed.journal().len()),
+        Err(_) => panic!(rt; "the store is closed"),
+    }
 }
 
 #[test]
-fn without_a_slot_no_job_is_prepared(rt: HostRuntime) -> Result<(), Fail> {
-    let table = NewTable::new(rt.alloc())?;
-    without_slots::<Brand, HostRuntime>(&rt, rt.alloc(), table)
+fn without_a_slot_no_job_is_prepared(rt: HostRuntime) {
+    let table = new_table(&rt, rt.alloc());
+    without_slots::<Brand, HostRuntime>(&rt, rt.alloc(), table);
 }

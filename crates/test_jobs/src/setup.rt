@@ -5,38 +5,51 @@ use snap_book::{Config, Namespace};
 use snap_ledger::{NewTable, StoreName};
 use snap_path::Path;
 use snap_record::{Sequence, Text};
-use snap_store::Store;
+use snap_store::{NotClosed, Store};
 use snap_upper::Op;
 use snap_usage::Usage;
-use snap_writers::{End, Job, Report, RunFault};
+use snap_writers::{End, Ended, Job, Report, RunFault};
 use std::alloc::Global;
+use std::fmt::Debug;
 use std::process::Abort;
-use std::test::Fail;
 
 pub fn usage(blocks: u64, inodes: u64) -> Usage {
     Usage { blocks, inodes }
 }
 
-/// A store with the namespace a, limited to 100/100, and a journal of 1000 entries.
-pub fn opened<N: StoreName>(alloc: Global, table: NewTable) -> Result<Store<N>, Fail>
-    requires { table ≡ N.table }
-{
-    let mut namespaces = Sequence::new(alloc);
-    namespaces.push(Namespace {
-        name: Text::copy_of(alloc, "a")?,
-        limit: usage(100, 100),
-    })?;
-    let config = Config {
-        root: Text::copy_of(alloc, "/r")?,
-        namespaces,
-        journal: 1000,
-        first_id: 1,
-    };
-    Ok(Store::open(alloc, table, config)?)
+/// Ends the test where the two differ. An `assert_eq!` of its own in each place is dearer to prove.
+pub fn equal<T: PartialEq + Debug + Drop, R: Abort>(rt: &R, found: T, wanted: T) {
+    assert_eq!(rt; found, wanted);
+}
+
+pub fn new_table<R: Abort>(rt: &R, alloc: Global) -> NewTable {
+    NewTable::new(alloc).expect(rt, "a table")
 }
 
 pub fn text<R: Abort>(rt: &R, alloc: Global, text: &str) -> Text {
     Text::copy_of(alloc, text).expect(rt, "memory for a text")
+}
+
+// The namespace a, limited to 100/100, and a journal of 1000 entries.
+fn config<R: Abort>(rt: &R, alloc: Global) -> Config {
+    let mut namespaces = Sequence::new(alloc);
+    let name = text(rt, alloc, "a");
+    let limit = usage(100, 100);
+    let pushed = namespaces.push(Namespace { name, limit });
+    pushed.expect(rt, "memory for a namespace");
+    Config {
+        root: text(rt, alloc, "/r"),
+        namespaces,
+        journal: 1000,
+        first_id: 1,
+    }
+}
+
+/// A store of this configuration, without sessions.
+pub fn opened<N: StoreName, R: Abort>(rt: &R, alloc: Global, table: NewTable) -> Store<N>
+    requires { table ≡ N.table }
+{
+    Store::open(alloc, table, config(rt, alloc)).expect(rt, "a store")
 }
 
 /// The end that commits under the name.
@@ -109,4 +122,40 @@ pub fn reported<N: StoreName, R: Abort>(
         Ok(report) => report,
         Err(_) => panic!(rt; "no report"),
     }
+}
+
+/// The store, which no job ran on, since the number of workers is wrong.
+pub fn unrun<N: StoreName, R: Abort>(rt: &R, answer: Result<Report<N>, RunFault<N>>) -> Store<N> {
+    match answer {
+        Err(RunFault::BadWorkers(store)) => store,
+        _ => panic!(rt; "a number of workers that is wrong"),
+    }
+}
+
+/// The first worker that the gate stopped, and the report.
+pub fn gate_closed<N: StoreName, R: Abort>(
+    rt: &R,
+    answer: Result<Report<N>, RunFault<N>>,
+) -> (u32, Report<N>) {
+    match answer {
+        Err(RunFault::GateClosed { worker, report }) => (worker, report),
+        _ => panic!(rt; "the gate stops a worker"),
+    }
+}
+
+/// The store, which is not closed.
+pub fn not_closed<N: StoreName, R: Abort>(
+    rt: &R,
+    answer: Result<Report<N>, RunFault<N>>,
+) -> NotClosed<N> {
+    match answer {
+        Err(RunFault::NotClosed(back)) => back,
+        _ => panic!(rt; "the store is not closed"),
+    }
+}
+
+/// The jobs ended so, and this is what the namespace a is charged.
+pub fn is_told<N: StoreName, R: Abort>(rt: &R, report: &Report<N>, ends: &[Ended], charged: Usage) {
+    equal(rt, report.ends.as_slice(), ends);
+    equal(rt, report.closed.totals("a"), Some(charged));
 }

@@ -1,10 +1,9 @@
 // The life of a session. docs/STORE.md shows the two functions to the letter.
 ghost use Rattle.std.specs.Prelude.{◌≡◌};
 
-use crate::setup::{config, usage};
+use crate::setup::{config, create, equal, new_table, usage};
 use snap_book::{Config, Held};
 use snap_ledger::{NewTable, StoreName};
-use snap_path::Path;
 use snap_record::Labels;
 use snap_store::{Cause, Session, Store};
 use snap_upper::Op;
@@ -70,12 +69,11 @@ fn round<N: StoreName, R: Wait>(
 #[test]
 fn a_round_of_one_session(rt: HostRuntime) -> Result<(), Fail> {
     let alloc = rt.alloc();
-    let table = NewTable::new(alloc)?;
-    let path = Path::parse(alloc, "/hello")?;
-    let file = Op::Create { path, mode: 420 };
-    let config = config(alloc, usage(100, 100), 100)?;
+    let table = new_table(&rt, alloc);
+    let file = create(&rt, alloc, "/hello");
+    let config = config(&rt, alloc, usage(100, 100), 100);
     let (usage_of_layer, total) = round::<Brand, HostRuntime>(&rt, alloc, table, config, &file)?;
-    assert_eq!(rt; usage_of_layer, usage(1, 2));
-    assert_eq!(rt; total, Some(usage(1, 2)));
+    equal(&rt, usage_of_layer, usage(1, 2));
+    equal(&rt, total, Some(usage(1, 2)));
     Ok(())
 }

@@ -10,37 +10,57 @@ use snap_store::{Closed, NotClosed, Session, Store};
 use snap_upper::Op;
 use snap_usage::Usage;
 use std::alloc::Global;
+use std::fmt::Debug;
 use std::process::Abort;
 use std::sync::Wait;
-use std::test::Fail;
 
 pub fn usage(blocks: u64, inodes: u64) -> Usage {
     Usage { blocks, inodes }
 }
 
+/// Ends the test where the two differ. An `assert_eq!` of its own in each place is dearer to prove.
+pub fn equal<T: PartialEq + Debug + Drop, R: Abort>(rt: &R, found: T, wanted: T) {
+    assert_eq!(rt; found, wanted);
+}
+
+/// Ends the test where it is false.
+pub fn holds<R: Abort>(rt: &R, it: bool) {
+    assert!(rt; it);
+}
+
+pub fn text<R: Abort>(rt: &R, alloc: Global, text: &str) -> Text {
+    Text::copy_of(alloc, text).expect(rt, "memory for a text")
+}
+
 /// The namespace a with the limit, and a journal of so many entries.
-pub fn config(alloc: Global, limit: Usage, journal: u64) -> Result<Config, Fail> {
+pub fn config<R: Abort>(rt: &R, alloc: Global, limit: Usage, journal: u64) -> Config {
     let mut namespaces = Sequence::new(alloc);
-    let name = Text::copy_of(alloc, "a")?;
-    namespaces.push(Namespace { name, limit })?;
-    Ok(Config {
-        root: Text::copy_of(alloc, "/r")?,
+    let name = text(rt, alloc, "a");
+    let pushed = namespaces.push(Namespace { name, limit });
+    pushed.expect(rt, "memory for a namespace");
+    Config {
+        root: text(rt, alloc, "/r"),
         namespaces,
         journal,
         first_id: 1,
-    })
+    }
+}
+
+pub fn new_table<R: Abort>(rt: &R, alloc: Global) -> NewTable {
+    NewTable::new(alloc).expect(rt, "a table")
 }
 
 /// A store of this configuration, without sessions.
-pub fn opened<N: StoreName>(
+pub fn opened<N: StoreName, R: Abort>(
+    rt: &R,
     alloc: Global,
     table: NewTable,
     limit: Usage,
     journal: u64,
-) -> Result<Store<N>, Fail>
+) -> Store<N>
     requires { table ≡ N.table }
 {
-    Ok(Store::open(alloc, table, config(alloc, limit, journal)?)?)
+    Store::open(alloc, table, config(rt, alloc, limit, journal)).expect(rt, "a store")
 }
 
 /// A session of the store.
@@ -121,7 +141,7 @@ pub fn prepare_all<N: StoreName, R: Wait + Abort>(
         held.reserve(1).expect(rt, "memory for a snapshot");
         match prepare(rt, alloc, store, session, key.as_str(), "") {
             Ok(active) => held.push_reserved(active),
-            Err(why) => assert_eq!(rt; why, Refusal::TooManyActives),
+            Err(why) => equal(rt, why, Refusal::TooManyActives),
         }
     }
     held

@@ -2,8 +2,8 @@
 ghost use Rattle.std.specs.Prelude.{◌≡◌};
 
 use crate::setup::{
-    both, closed, committed, create, discard_all, end_of, new_session, opened, path, prepare_all,
-    prepared, refused, stat, taped, usage, write,
+    both, closed, committed, create, discard_all, end_of, equal, new_session, new_table, opened,
+    path, prepare_all, prepared, refused, stat, taped, usage, write,
 };
 use snap_book::{Active, Refusal};
 use snap_ledger::{NewTable, StoreName};
@@ -15,11 +15,10 @@ use std::alloc::Global;
 use std::marker::Brand;
 use std::process::Abort;
 use std::sync::{Barrier, Wait};
-use std::test::Fail;
 use std::thread;
 use std::thread::Threads;
 
-// Commits the snapshot as c with the file /f, and reads the file through a view.
+// Commits the snapshot as c with the file /f.
 fn fill<N: StoreName, R: Wait + Abort>(
     rt: &R,
     alloc: Global,
@@ -28,17 +27,24 @@ fn fill<N: StoreName, R: Wait + Abort>(
     active: Active<N>,
 ) {
     let mut active = active;
-    for op in [create(rt, alloc, "/f"), write(rt, alloc, "/f", b"hi")] {
-        assert_eq!(rt;
-            run(store, rt, session, &mut active, &op, Usage::ZERO),
-            Ok(())
-        );
-    }
-    assert_eq!(rt; committed(rt, store, session, "c", active), usage(2, 2));
+    let (create, write) = (create(rt, alloc, "/f"), write(rt, alloc, "/f", b"hi"));
+    let created = run(store, rt, session, &mut active, &create, Usage::ZERO);
+    let written = run(store, rt, session, &mut active, &write, Usage::ZERO);
+    equal(rt, (created, written), (Ok(()), Ok(())));
+    equal(rt, committed(rt, store, session, "c", active), usage(2, 2));
+}
+
+// Reads the file through a view.
+fn read<N: StoreName, R: Wait + Abort>(
+    rt: &R,
+    alloc: Global,
+    store: &Store<N>,
+    session: &mut Session,
+) {
     let view = store.view(rt, session, "a", "v", "c", &Labels::new(alloc));
     let view = view.expect(rt, "a view of c");
     let bytes = view.read(&path(rt, alloc, "/f")).expect(rt, "the file");
-    assert_eq!(rt; bytes, b"hi".as_slice());
+    equal(rt, bytes, b"hi".as_slice());
 }
 
 // Prepares k, lets the other thread ask for it, and goes on.
@@ -53,6 +59,7 @@ fn write_first<N: StoreName, R: Wait + Abort>(
     turn.wait(rt);
     turn.wait(rt);
     fill(rt, alloc, store, &mut session, active);
+    read(rt, alloc, store, &mut session);
     session
 }
 
@@ -66,9 +73,9 @@ fn ask_between<N: StoreName, R: Wait + Abort>(
 ) -> Session {
     turn.wait(rt);
     let why = refused(rt, alloc, store, &mut session, "k");
-    assert_eq!(rt; why, Some(Refusal::AlreadyExists));
+    equal(rt, why, Some(Refusal::AlreadyExists));
     let info = stat(rt, store, &mut session, "k").expect(rt, "k");
-    assert_eq!(rt; info.kind, Kind::Active);
+    equal(rt, info.kind, Kind::Active);
     turn.wait(rt);
     session
 }
@@ -94,21 +101,20 @@ fn two_sessions<N: StoreName + Send + Sync, R: Threads + Wait + Abort + Sync>(
     rt: &R,
     alloc: Global,
     table: NewTable,
-) -> Result<(), Fail>
+)
     requires { table ≡ N.table }
 {
-    let store = opened::<N>(alloc, table, usage(100, 100), 100)?;
+    let store = opened::<N, R>(rt, alloc, table, usage(100, 100), 100);
     let (first, second) = meet(rt, alloc, &store, &Barrier::new(2));
-    assert_eq!(rt; (taped(&first), taped(&second)), (6, 3));
+    equal(rt, (taped(&first), taped(&second)), (6, 3));
     let closed = closed(rt, store, both(rt, alloc, first, second));
-    assert_eq!(rt; end_of(&closed), (Some(usage(2, 2)), 9));
-    Ok(())
+    equal(rt, end_of(&closed), (Some(usage(2, 2)), 9));
 }
 
 #[test]
-fn two_sessions_meet_on_two_threads(rt: HostRuntime) -> Result<(), Fail> {
-    let table = NewTable::new(rt.alloc())?;
-    two_sessions::<Brand, HostRuntime>(&rt, rt.alloc(), table)
+fn two_sessions_meet_on_two_threads(rt: HostRuntime) {
+    let table = new_table(&rt, rt.alloc());
+    two_sessions::<Brand, HostRuntime>(&rt, rt.alloc(), table);
 }
 
 // Prepares five keys and keeps what it gets until all threads have prepared theirs. The answer is the
@@ -161,26 +167,25 @@ fn sixteen_sessions<N: StoreName + Send + Sync, R: Threads + Wait + Abort + Sync
     rt: &R,
     alloc: Global,
     table: NewTable,
-) -> Result<(), Fail>
+)
     requires { table ≡ N.table }
 {
-    let store = opened::<N>(alloc, table, usage(100, 100), 1000)?;
+    let store = opened::<N, R>(rt, alloc, table, usage(100, 100), 1000);
     let mut sessions = Vec::new(alloc);
     let mut granted = 0usize;
     for (session, some) in hold_on_threads(rt, alloc, &store) {
         granted = some.saturating_add(granted);
-        sessions.push(session)?;
+        sessions.push(session).expect(rt, "memory for a session");
     }
-    assert_eq!(rt; (sessions.len(), granted), (16, 64));
+    equal(rt, (sessions.len(), granted), (16, 64));
     let closed = closed(rt, store, sessions);
-    assert_eq!(rt; end_of(&closed), (Some(Usage::ZERO), 160));
-    Ok(())
+    equal(rt, end_of(&closed), (Some(Usage::ZERO), 160));
 }
 
 #[test]
-fn sixteen_threads_share_64_slots(rt: HostRuntime) -> Result<(), Fail> {
-    let table = NewTable::new(rt.alloc())?;
-    sixteen_sessions::<Brand, HostRuntime>(&rt, rt.alloc(), table)
+fn sixteen_threads_share_64_slots(rt: HostRuntime) {
+    let table = new_table(&rt, rt.alloc());
+    sixteen_sessions::<Brand, HostRuntime>(&rt, rt.alloc(), table);
 }
 
 fn sends<T: Send>(_value: &T) {}
