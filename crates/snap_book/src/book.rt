@@ -28,11 +28,20 @@ use std::alloc::Global;
 use std::marker::Model;
 
 /// The book of a store: its state and the journal of the calls that made it.
-#[derive(Drop)]
 pub struct Book<N: StoreName> {
     pub(crate) alloc: Global,
     pub(crate) accounts: Accounts<N>,
     pub(crate) journal: Journal,
+}
+
+impl<N: StoreName> Drop for Book<N> {
+    fn drop(self) {
+        let Book {
+            alloc: _,
+            accounts: _,
+            journal: _,
+        } = self;
+    }
 }
 
 impl<N: StoreName> Model for Book<N> {
