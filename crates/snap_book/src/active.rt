@@ -103,8 +103,7 @@ impl<N: StoreName> Active<N> {
         self.share.held()
     }
 
-    /// What its layer takes: at least 1/1, for the root. Takes no memory. The cost is one pass over the
-    /// layer's paths and bodies.
+    /// What its layer takes: at least 1/1, for the root. Takes no memory. The cost is constant.
     #[tactic(auto, using(crate::proofs::Rooted::count_covers_one))]
     pub fn count(&self) -> Usage
         ensures count { result ≡ count_of self.now.layer }
@@ -166,7 +165,7 @@ impl<N: StoreName> Sealed<N> {
     }
 
     /// What its layer takes: the usage that a commit stores (containerd's `Snapshotter.Usage`). Takes
-    /// no memory. The cost is one pass over the layer's paths and bodies.
+    /// no memory. The cost is constant.
     pub fn usage(&self) -> Usage
         ensures { result ≡ count_of self.now.layer }
     {

@@ -18,8 +18,8 @@ use std::alloc::AllocError;
 /// by what stands above the path (overlayfs.rst, "whiteouts and opaque directories"). What the layer has
 /// at the path itself doesn't count.
 ///
-/// Bytes and targets are lent by the layer that has them. Takes no memory. Cost: for each layer down to
-/// the one that decides, its number of paths times the path's number of names.
+/// Bytes and targets are lent by the layer that has them. Takes no memory. Cost: that of a look through the
+/// layers.
 pub fn below<'a>(layer: &Layer, lowers: &'a [Shared], path: &Path) -> Option<Seen<'a>>
     ensures { option_map object result ≡ below layer.now lowers.now path.now }
 {

@@ -33,9 +33,9 @@ pub enum Last {
 /// The condition is that each directory above the path is seen as one over the lower layers, the nearest
 /// first, so that `Stack::walk` finds no error. `LayerFull` where the layer would have more than 65,536
 /// inodes. `OutOfMemory` where memory for a path or an entry is refused. After either the layer is as it
-/// was: what had been added is taken back, which takes no memory. Cost: for each name of the path the
-/// layer's number of paths, and for each directory that is missing also that of `below`. The calls nest
-/// as deep as the path has names.
+/// was: what had been added is taken back, which takes no memory. Cost: for each name of the path a walk to
+/// it in the layer, and for each directory that is missing also that of `below`. The calls nest as deep as
+/// the path has names.
 pub fn ensure_dirs(layer: &mut Layer, lowers: &[Shared], path: &Path) -> Result<(), FsError>
     requires { walk (layer.old ∷ lowers.now) path.now ≡ None }
     ensures ok { OnOk result (layer.new ≡ with_parents layer.old lowers.now path.now) }
@@ -150,7 +150,7 @@ pub(crate) fn put_parent(layer: &mut Layer, lowers: &[Shared], path: &Path) -> R
 /// How many directories above the path the layer doesn't have. So many inodes, and as many blocks, it takes
 /// more once `ensure_dirs` has added them, whatever the lower layers are.
 ///
-/// Takes no memory. Cost: for each name of the path the layer's number of paths.
+/// Takes no memory. Cost: for each name of the path a walk to it in the layer.
 pub fn missing_dirs(layer: &Layer, path: &Path) -> usize
     ensures count { (lowers : List Tree) → walk (layer.now ∷ lowers) path.now ≡ None → TakesMore result layer.now (with_parents layer.now lowers path.now) }
     ensures few { result ≤ length path.now }
@@ -162,7 +162,7 @@ pub fn missing_dirs(layer: &Layer, path: &Path) -> usize
 /// How many directories above the one path or the other the layer doesn't have; what is above both counts
 /// once. So many inodes, and as many blocks, it takes more once `ensure_dirs` has added them for both.
 ///
-/// Takes no memory. Cost: for each name of both paths the layer's number of paths.
+/// Takes no memory. Cost: for each name of both paths a walk to it in the layer.
 pub fn missing_dirs_of_both(layer: &Layer, one: &Path, other: &Path) -> usize
     ensures count { (lowers : List Tree) → walk (layer.now ∷ lowers) one.now ≡ None → walk (layer.now ∷ lowers) other.now ≡ None → TakesMore result layer.now (with_parents (with_parents layer.now lowers one.now) lowers other.now) }
     ensures few { result ≤ length one.now + length other.now }

@@ -76,7 +76,8 @@ pub(crate) fn decide<'a>(layer: &'a Layer, path: &Path, names: usize) -> Decisio
 /// whiteout, a file, a symlink or an opaque directory stands (overlayfs.rst, "whiteouts and opaque
 /// directories"). What stands at the path itself doesn't count.
 ///
-/// Takes no memory. Cost: the layer's number of paths times the path's number of names.
+/// Takes no memory. Cost: for each name of the path a walk to it from the layer's root, by the logarithm of each
+/// directory's entries.
 pub fn hides(layer: &Layer, path: &Path) -> bool
     ensures value { result ≡ hides layer.now path.now }
     // The rules of overlayfs.rst, for what the layer does at the path.

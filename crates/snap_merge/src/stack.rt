@@ -60,8 +60,8 @@ impl<'a> Stack<'a> {
     /// What is seen at the path, or nothing. No symlink is followed. Bytes and targets are lent by the
     /// layer that has them.
     ///
-    /// Takes no memory. Cost: for each layer down to the one that decides, its number of paths times
-    /// the path's number of names.
+    /// Takes no memory. Cost: for each layer down to the one that decides, and each name of the path, a walk
+    /// to it from the layer's root, by the logarithm of each directory's entries.
     pub fn look(&self, path: &Path) -> Option<Seen<'a>>
         ensures { option_map object result ≡ seen self.now path.now }
     {
@@ -145,8 +145,7 @@ impl<'a> Stack<'a> {
     ///
     /// The errors of the walk come first; then `NotFound` where nothing is seen, `NotDir` where
     /// something else than a directory is. `OutOfMemory` where memory for the names, or for a path
-    /// that is looked at, is refused. Cost: for each layer its number of paths, and for each name that
-    /// a layer has in the directory that of a look.
+    /// that is looked at, is refused. Cost: for each name that a layer has in the directory that of a look.
     pub fn list(&self, alloc: Global, path: &Path) -> Result<Vec<Name>, FsError>
         ensures ok { IfOk result (λ v. listing self.now path.now ≡ Ok v.items) }
         ensures err { IfErr result (λ e. (e ≡ FsError.OutOfMemory) ⊎ (listing self.now path.now ≡ Err e)) }
@@ -210,7 +209,7 @@ impl<'a> Stack<'a> {
     /// directory; `BadPath` where the word has more than 255 bytes, or the path with it more than 4095;
     /// `NotFound` where nothing is seen; `TooManyLinks` at the 41st symlink. `OutOfMemory` where memory
     /// for names, words or paths is refused, but not for an error before the first symlink. Cost: for each
-    /// word each layer's number of paths, and that of four looks.
+    /// word that of five looks.
     pub fn resolve(&self, alloc: Global, path: &Path) -> Result<Path, FsError>
         ensures answer { Answers (resolution self.now path.now) result }
         // An error before the first symlink comes before any memory is taken.

@@ -68,8 +68,7 @@ pub fn blocks_of(size: u64) -> u64
 /// What the layer takes, without the layers below it (containerd's `Snapshotter.Usage`). A file
 /// counts once for all its names, as du(1) counts it.
 ///
-/// The layer keeps the number of its inodes, and its blocks are found by one pass over its paths
-/// and its bodies. Takes no memory.
+/// The layer keeps both numbers. Takes no memory. The cost is constant.
 pub fn count(layer: &Layer) -> Usage
     ensures count { result ≡ count_of layer.now }
     // The distinct file numbers of the paths are the numbers of the layer's bodies.

@@ -151,7 +151,7 @@ impl<N: StoreName> World<N> {
     }
 
     /// What the layer of the slot's snapshot takes, sealed or not. `None` where the slot isn't open.
-    /// Takes no memory. The cost is one pass over the layer's paths and bodies.
+    /// Takes no memory. The cost is constant.
     pub fn count(&self, slot: u64) -> Option<Usage>
         ensures { result ≡ option_map (λ h. count_of h.snapshot.layer) (hand_at slot self.now.hands) }
     {
