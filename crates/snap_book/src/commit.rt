@@ -1,11 +1,10 @@
 // A commit of an open snapshot.
-ghost use Rattle.std.specs.Prelude.{◌≡◌, ◌<◌, ◌≤◌, ◌+◌, ◌^◌, ◌&&◌, ◌↔◌, length, true, false, IfOk, OnOk, IfErr};
+ghost use Rattle.std.specs.Prelude.{◌≡◌, ◌<◌, ◌≤◌, ◌+◌, ◌&&◌, ◌↔◌, length, true, false, IfOk, OnOk, IfErr};
 ghost use Rattle.std.specs.Option.{option_map_or};
-ghost use Rattle.snap_layer.specs.Tree.{Tree};
-ghost use Rattle.snap_usage.specs.Counted.{Covers, count_of};
+ghost use Rattle.snap_usage.specs.Counted.{count_of};
 ghost use Rattle.snap_ledger.specs.States.{Meets};
 ghost use Rattle.snap_call.specs.Forms.{is_key};
-ghost use Rattle.snap_call.specs.Records.{charge_of, charge_at, active_at, has_key, open_count};
+ghost use Rattle.snap_call.specs.Records.{charge_at, active_at, has_key, open_count};
 ghost use Rattle.snap_call.specs.Step.{commit_as, has_named, refused, IsCovered};
 ghost use Rattle.snap_call.specs.declared.reply.Reply.TheVariants.{Committed};
 ghost use Rattle.snap_call.specs.Journal.{entry};

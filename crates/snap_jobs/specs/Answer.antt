@@ -1,6 +1,6 @@
 -- What a run of jobs is answered.
 -- Cited by invariants and private clauses alone.
-use Rattle.std.specs.Prelude.{ℕ, Bool, true, false, ◌&&◌, not, List, map, unwrap_or}
+use Rattle.std.specs.Prelude.{Bool, true, false, ◌&&◌, not, List, map, unwrap_or}
 use Rattle.std.specs.List.{count_by}
 use Rattle.std.specs.Option.{option_map}
 use Rattle.snap_usage.specs.declared.usage.Usage.{Usage}

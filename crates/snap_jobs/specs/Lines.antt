@@ -1,7 +1,6 @@
 -- What the lines of a script of jobs say; cited by the public clauses of `JobLines`.
 -- Cited by `JobLines as TakeLine`, `write_jobs_within`, `write_jobs`.
 use Rattle.std.specs.Prelude.{ℕ, if◌then◌else◌, List, [], ◌∷◌, ◌++◌, length, map, nat_lt, Option, Some, None, Result, Ok, Err}
-use Rattle.serde_json.specs.Data.{Data}
 use Rattle.snap_record.specs.Labels.{Bytes}
 use Rattle.snap_call.specs.Forms.{is_config}
 use Rattle.snap_call.specs.declared.config.Config.{Config}

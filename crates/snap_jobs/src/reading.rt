@@ -2,7 +2,6 @@
 ghost use Rattle.std.specs.Prelude.{◌≡◌, None};
 ghost use Rattle.serde_json.specs.View.{view};
 ghost use Rattle.snap_script.specs.Gives.{Gives};
-ghost use Rattle.snap_script.specs.Lines.{object_in, opening_of};
 ghost use Rattle.snap_jobs.specs.Lines.{opened_as, read_with, taken};
 
 use crate::job::job_of;

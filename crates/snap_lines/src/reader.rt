@@ -1,5 +1,5 @@
 // Where a run stands within an input, and the step of one line.
-ghost use Rattle.std.specs.Prelude.{Some, None, ◌≡◌, ◌<◌, ◌≤◌, ◌+◌, ℕ, [], ◌∷◌, ◌++◌, length, false, Ok, Err, OnOk, IfOk};
+ghost use Rattle.std.specs.Prelude.{Some, None, ◌≡◌, ◌<◌, ◌≤◌, ◌+◌, [], ◌∷◌, length, false, Ok, Err, OnOk, IfOk};
 ghost use Rattle.std.specs.Io.KnownBytes.{Appends};
 ghost use Rattle.snap_lines.specs.Effects.{effect_with, text_bytes};
 ghost use Rattle.snap_lines.specs.Transcripts.{Tells, effect_at, max_bytes};

@@ -38,7 +38,7 @@ use Rattle.snap_call.proofs.Lowest.{lowest_free-Some}
 use Rattle.snap_call.proofs.Places.{IsPlace, IsSlotFor, place_for-Ok, slot_for-Ok}
 use Rattle.snap_call.proofs.Sweeping.{active-ancestors, active_at-unswept}
 use Rattle.snap_call.proofs.Slots.{Active-is_slot, is_slot-other, active_at-with_record_own, active_at-with_record_other, active_at-without_slot_own, active_at-without_slot_other, active_at-without_idle, active_at-recharged_own, active_at-recharged_other, active_at-committed_own, active_at-committed_other}
-use Rattle.std.specs.Option.{option_map, option_map_or, is_some}
+use Rattle.std.specs.Option.{option_map, option_map_or}
 use Rattle.snap_merge.specs.declared.error.FsError.TheVariants.{NeedsCharge}
 use Rattle.snap_upper.specs.declared.op.Op.{Op}
 use Rattle.snap_upper.specs.After.{Outcome, after, within_share}

@@ -1,6 +1,6 @@
 -- The hand of an active snapshot, and the layers of a view, found by the snapshot's key.
 use Rattle.std.proofs.Common.{◌≡◌, ℕ, ◌<◌, List, [], ◌∷◌, Bool, true, false, true≢false, Option, None, Some, eq-eqb, refl, sym, ap, ◌∙◌, subst}
-use Rattle.std.specs.Prelude.{Result, Ok, Err}
+use Rattle.std.specs.Prelude.{Result, Ok}
 use Rattle.snap_layer.specs.Tree.{Tree}
 use Rattle.snap_usage.specs.declared.usage.Usage.{Usage}
 use Rattle.snap_record.specs.Labels.{Bytes}
@@ -10,7 +10,7 @@ use Rattle.snap_record.specs.declared.record.Record.{Record}
 use Rattle.snap_call.specs.declared.refusal.Refusal.{Refusal}
 use Rattle.snap_call.specs.Good.{AllPairwise, AreApart, HasLowSlot, IsShown}
 use Rattle.snap_call.specs.Records.{active_at, has_slot, is_named, is_slot, record_at}
-use Rattle.snap_call.specs.State.{place_of, shown_layers}
+use Rattle.snap_call.specs.State.{place_of}
 use Rattle.snap_call.specs.declared.state.State.{State}
 use Rattle.snap_call.proofs.Lists.{record_at-all, some_same}
 use Rattle.snap_book.specs.Slot.{found_at, found_if, found_of}

@@ -1,6 +1,6 @@
 // What workers start with, made before any thread is started.
 ghost use Rattle.std.specs.Prelude.{◌≡◌, ◌≤◌, IfOk, map};
-ghost use Rattle.snap_writers.specs.Jobs.{every, jobs_of};
+ghost use Rattle.snap_writers.specs.Jobs.{jobs_of};
 ghost use Rattle.snap_writers.specs.Starting.{AreAssigned, IsAssigned};
 
 use crate::job::{Ended, Ends, Job};
