@@ -1,0 +1,174 @@
+// An edit, what it answers, and how one is chosen.
+ghost use Rattle.std.specs.Prelude.{◌<◌};
+
+use super::paths::Paths;
+use super::plain::Plain;
+use rand_core::utils::NextWord;
+use rand_pcg::Pcg32;
+use snap_layer::LayerError;
+use snap_path::Path;
+use std::fmt;
+
+/// The ten edits of a layer.
+#[derive(Clone, Copy)]
+pub(crate) enum Kind {
+    AddDir,
+    AddFile,
+    AddSymlink,
+    AddName,
+    AddWhiteout,
+    TakeName,
+    MoveTree,
+    SetBytes,
+    SetOpaque,
+    SetMode,
+}
+
+impl fmt::Display for Kind {
+    fn fmt<W: fmt::Write>(&self, f: &mut fmt::Formatter<W>) -> fmt::Result {
+        f.pad(match self {
+            Kind::AddDir => "add_dir",
+            Kind::AddFile => "add_file",
+            Kind::AddSymlink => "add_symlink",
+            Kind::AddName => "add_name",
+            Kind::AddWhiteout => "add_whiteout",
+            Kind::TakeName => "take_name",
+            Kind::MoveTree => "move_tree",
+            Kind::SetBytes => "set_bytes",
+            Kind::SetOpaque => "set_opaque",
+            Kind::SetMode => "set_mode",
+        })
+    }
+}
+
+/// An edit: its kind, and what edits take. Each kind takes some of it.
+#[derive(Clone, Copy)]
+pub(crate) struct Edit<'a> {
+    pub(crate) kind: Kind,
+    pub(crate) path: &'a Path,
+    /// Where a tree moves to.
+    pub(crate) to: &'a Path,
+    pub(crate) number: u32,
+    pub(crate) mode: u32,
+    /// Whether a directory is opaque, or a move leaves a whiteout.
+    pub(crate) mark: bool,
+    /// A file's bytes, or a symlink's target.
+    pub(crate) bytes: &'a [u8],
+}
+
+impl fmt::Display for Edit<'_> {
+    fn fmt<W: fmt::Write>(&self, f: &mut fmt::Formatter<W>) -> fmt::Result {
+        let kind = self.kind;
+        let path = self.path;
+        let to = self.to;
+        let number = self.number;
+        let mark = self.mark;
+        write!(
+            f,
+            "{kind} at {path} (to {to}, number {number}, mark {mark})"
+        )
+    }
+}
+
+/// What an edit answers.
+#[derive(Clone, Copy, PartialEq, Eq)]
+pub(crate) enum Answer {
+    /// Its condition doesn't hold, so it wasn't made.
+    Refused,
+    Made,
+    /// A file or symlink with the number was made.
+    Numbered(u32),
+    Full,
+    NoMemory,
+}
+
+impl Answer {
+    pub(crate) fn of(made: Result<(), LayerError>) -> Answer {
+        match made {
+            Ok(()) => Answer::Made,
+            Err(error) => Answer::of_error(error),
+        }
+    }
+
+    pub(crate) fn of_number(made: Result<u32, LayerError>) -> Answer {
+        match made {
+            Ok(number) => Answer::Numbered(number),
+            Err(error) => Answer::of_error(error),
+        }
+    }
+
+    fn of_error(error: LayerError) -> Answer {
+        match error {
+            LayerError::LayerFull => Answer::Full,
+            LayerError::OutOfMemory => Answer::NoMemory,
+        }
+    }
+}
+
+/// How often each kind is chosen.
+const KINDS: [Kind; 20] = [
+    Kind::AddDir,
+    Kind::AddDir,
+    Kind::AddDir,
+    Kind::AddDir,
+    Kind::AddFile,
+    Kind::AddFile,
+    Kind::AddFile,
+    Kind::AddSymlink,
+    Kind::AddSymlink,
+    Kind::AddName,
+    Kind::AddName,
+    Kind::AddWhiteout,
+    Kind::AddWhiteout,
+    Kind::TakeName,
+    Kind::TakeName,
+    Kind::MoveTree,
+    Kind::MoveTree,
+    Kind::SetBytes,
+    Kind::SetOpaque,
+    Kind::SetMode,
+];
+
+/// How many bytes a file or a target has. A target of none or of more than 4095 is refused.
+const SIZES: [usize; 8] = [0, 1, 3, 40, 100, 4095, 4096, 4097];
+
+/// A number below `limit`.
+pub(crate) fn below(random: &mut Pcg32, limit: u32) -> u32
+    requires { 0 < limit }
+    ensures { result < limit }
+{
+    random.next_word() % limit
+}
+
+/// An edit of the layer, at some of the paths. Its bytes are some of the given ones.
+pub(crate) fn choose<'a>(
+    random: &mut Pcg32,
+    paths: &'a Paths,
+    bytes: &'a [u8],
+    plain: &Plain,
+) -> Edit<'a> {
+    let kind = KINDS[below(random, 20) as usize];
+    let path = paths.choose(random, plain);
+    let to = paths.choose(random, plain);
+    let number = choose_number(random, paths, plain);
+    let size = SIZES[below(random, 8) as usize];
+    let start = below(random, 1000) as usize;
+    Edit {
+        kind,
+        path,
+        to,
+        number,
+        mode: below(random, 4096),
+        mark: below(random, 2) == 0,
+        bytes: bytes.get(start..start + size).unwrap_or(bytes),
+    }
+}
+
+/// The number of a file or symlink at some path, else the least one, else 0.
+fn choose_number(random: &mut Pcg32, paths: &Paths, plain: &Plain) -> u32 {
+    let path = paths.choose(random, plain);
+    match plain.number_at(path) {
+        Some(number) => number,
+        None => plain.next_body(0).unwrap_or(0),
+    }
+}
