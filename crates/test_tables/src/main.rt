@@ -1,8 +1,8 @@
 //! Tests: a layer against the plain one; no part of the product.
 //!
 //! `snap_layer` keeps a layer as a table of inodes. `Plain` keeps it as an ordered map from paths to nodes
-//! and one from numbers to bodies. The program makes 100,000 edits on both, which a generator of random
-//! numbers chooses, each where its condition holds for both. It compares what each answers and what is
+//! and one from numbers to bodies. The program tries 100,000 edits on both, which a generator of random
+//! numbers chooses, and makes each whose condition holds for both. It compares what each answers and what is
 //! read afterwards at the paths that it names, and now and then all that can be read.
 //!
 //! It prints how many edits of each kind were made, had no condition that holds, or found the layer full.
