@@ -1,4 +1,4 @@
-ghost use Rattle.std.specs.Prelude.{◌≡◌, ◌≤◌, Some, None, Err, IfErr, IfSome, false};
+ghost use Rattle.std.specs.Prelude.{◌≡◌, ◌≤◌, Some, None, Ok, Err, OnOk, IfErr, IfSome, false};
 ghost use Rattle.snap_lines.specs.Transcripts.{transcript, Tells};
 ghost use Rattle.snap_lines.specs.declared.stop.LineFault.{LineFault};
 ghost use Rattle.snap_jobs.specs.Lines.{jobs_effect};
@@ -92,6 +92,7 @@ fn run<N: StoreName + Send + Sync, T: Threads + Wait + Sync, R: io::Read, W: Wri
 ) -> Result<(), JobsStop>
     requires table { table ≡ N.table }
     requires workers { (1 ≤ workers) × (workers ≤ 16) }
+    ensures done { OnOk result (IfSome (R.remaining input.old) (λ bytes. (transcript jobs_effect None bytes).fault ≡ None)) }
     ensures fault { (f : LineFault) → result ≡ Err (JobsStop.Lines (Stop.Line f))
         → IfSome (R.remaining input.old) (λ bytes. Tells (transcript jobs_effect None bytes) (Some f)
         (W.contents output.old) (W.contents output.new)) }
@@ -113,7 +114,8 @@ fn run<N: StoreName + Send + Sync, T: Threads + Wait + Sync, R: io::Read, W: Wri
 /// discarded as they asked, how many ended otherwise, and what each namespace is charged. Nothing is written
 /// before all jobs have ended, and nothing at all where the input has no line but empty ones.
 ///
-/// Where it ends with a line, and the input and the output tell their bytes, that is the first with a fault.
+/// Where it ends well, and the input tells its bytes, no line has a fault. Where it ends with a line, and the
+/// input and the output tell their bytes, that is the first with a fault.
 ///
 /// `Lines` with the stop of [`read_lines`], and with `OutOfMemory` where memory was refused before a worker was
 /// started, at the close, or for the answer, and with `OutputFailed` where the line was not written; a job
@@ -132,6 +134,7 @@ pub fn write_jobs_within<T: Threads + Wait + Sync, R: io::Read, W: Write>(
     reads: u32,
 ) -> Result<(), JobsStop>
     requires { (1 ≤ workers) × (workers ≤ 16) }
+    ensures done { OnOk result (IfSome (R.remaining input.old) (λ bytes. (transcript jobs_effect None bytes).fault ≡ None)) }
     ensures fault { (f : LineFault) → result ≡ Err (JobsStop.Lines (Stop.Line f))
         → IfSome (R.remaining input.old) (λ bytes. Tells (transcript jobs_effect None bytes) (Some f)
         (W.contents output.old) (W.contents output.new)) }
@@ -151,6 +154,7 @@ pub fn write_jobs<T: Threads + Wait + Sync, R: io::Read, W: Write>(
     workers: u32,
 ) -> Result<(), JobsStop>
     requires { (1 ≤ workers) × (workers ≤ 16) }
+    ensures done { OnOk result (IfSome (R.remaining input.old) (λ bytes. (transcript jobs_effect None bytes).fault ≡ None)) }
     ensures fault { (f : LineFault) → result ≡ Err (JobsStop.Lines (Stop.Line f))
         → IfSome (R.remaining input.old) (λ bytes. Tells (transcript jobs_effect None bytes) (Some f)
         (W.contents output.old) (W.contents output.new)) }
