@@ -93,12 +93,24 @@ enum Task {
 // The option that says how many workers there are.
 const WORKERS: &str = "workers";
 
+// What goes in and out of `run`. The last line works as it stands.
+const RUN_HELP: &str = r#"In: a JSON object a line. The first opens a store, as below; docs/SCRIPT.md has them all.
+Out: a JSON object for each; {"error":NAME,"from":WHERE} where it is refused.
+Status: 0 done, 2 bad words or a bad line, 3 a read or a write failed, 4 want of memory.
+Example:
+  printf '%s\n' '{"do":"open","root":"/r","namespaces":[["a",9,9]]}' '{"do":"report"}' | snap_replay run"#;
+
+// The same for `writers`.
+const WRITERS_HELP: &str = r#"In: a JSON object a line. The first opens a store, each other one is a job: a snapshot's whole life.
+Out: one line: how many jobs were committed, discarded and refused, and what is charged then.
+Status: as of run, and 5 where the store could not be closed.
+Example:
+  printf '%s\n' '{"do":"open","root":"/r","namespaces":[["a",9,9]]}' '{"ns":"a","key":"k","parent":"","ops":[],"end":"discard"}' | snap_replay writers --workers 2"#;
+
 fn command<'a>(alloc: Global) -> Result<Command<'a>, Error> {
     let run = Command::new(alloc, "run")
-        .about("Replays a script: reads a JSON object a line, writes an answer a line")
-        .after_help(
-            "Status: 0 done, 2 bad words or a bad line, 3 a read or a write failed, 4 want of memory.",
-        );
+        .about("Replays a script: reads a command a line, writes an answer a line")
+        .after_help(RUN_HELP);
     let workers = Arg::new(alloc, WORKERS)
         .long(WORKERS)
         .value_name("N")
@@ -107,10 +119,8 @@ fn command<'a>(alloc: Global) -> Result<Command<'a>, Error> {
         .action(ArgAction::Set)
         .value_parser(value_parser!(u32).range(1..=MAX_WORKERS as i64));
     let writers = Command::new(alloc, "writers")
-        .about(
-            "Runs jobs: reads a store and jobs, a JSON object a line, writes one line at the end",
-        )
-        .after_help("Status: as of run, and 5 where the store could not be closed.")
+        .about("Runs jobs on threads: reads a store and jobs, writes one line at the end")
+        .after_help(WRITERS_HELP)
         .arg(workers)?;
     let program = Command::new(alloc, "snap_replay")
         .about("A container snapshotter with an exact usage ledger")
