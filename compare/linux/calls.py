@@ -1,0 +1,169 @@
+"""The file operations and lookups of a script, made by system calls in the root of this process.
+
+Each takes a command as the script has it. A refusal is an `OSError`; `name_of` gives its name in a script's answer.
+"""
+
+import errno
+import os
+import stat
+from typing import Any
+
+Command = dict[str, Any]
+Answer = dict[str, Any]
+
+DEFAULT_DIRECTORY_MODE = 0o755
+DEFAULT_FILE_MODE = 0o644
+HEAD_BYTES = 16
+
+OPERATIONS = frozenset(
+    "mkdir create write truncate setmode symlink link unlink rmdir rename".split()
+)
+LOOKUPS = frozenset("look list read resolve".split())
+
+_NAMES = {
+    errno.ENOENT: "NotFound",
+    errno.ENOTDIR: "NotDir",
+    errno.EISDIR: "IsDir",
+    errno.EEXIST: "Exists",
+    errno.ENOTEMPTY: "NotEmpty",
+    errno.EXDEV: "CrossDevice",
+    errno.EINVAL: "Invalid",
+    errno.EPERM: "NotPermitted",
+    errno.EFBIG: "TooBig",
+    errno.ELOOP: "TooManyLinks",
+    errno.ENAMETOOLONG: "BadPath",
+}
+
+_descriptors = os.open("/proc/self/fd", os.O_RDONLY | os.O_DIRECTORY)
+
+
+def name_of(error: OSError) -> str:
+    """The name of an error in a script's answer; that of Linux where no answer has it."""
+    return _NAMES.get(error.errno, name_in_linux(error.errno))
+
+
+def name_in_linux(number: int) -> str:
+    """Linux's own name of an error. One number has two names."""
+    return "EOPNOTSUPP" if number == errno.EOPNOTSUPP else errno.errorcode[number]
+
+
+def paths_of(command: Command) -> list[str]:
+    """The paths that a command names, in the order of its tests."""
+    return [command[field] for field in ("path", "from", "to") if field in command]
+
+
+def bytes_of(command: Command) -> bytes:
+    """The bytes of a `write`."""
+    if "text" in command:
+        return command["text"].encode()
+    byte, number = command["fill"]
+    return bytes([byte]) * number
+
+
+def operate(command: Command) -> None:
+    """Makes a file operation."""
+    match command["do"]:
+        case "mkdir":
+            os.mkdir(_path(command), command.get("mode", DEFAULT_DIRECTORY_MODE))
+        case "create":
+            flags = os.O_WRONLY | os.O_CREAT | os.O_EXCL
+            os.close(os.open(_path(command), flags, command.get("mode", DEFAULT_FILE_MODE)))
+        case "write":
+            _write(_path(command), bytes_of(command), command.get("offset", 0))
+        case "truncate":
+            _truncate(_path(command), command["size"])
+        case "setmode":
+            _set_mode(_path(command), command["mode"])
+        case "symlink":
+            os.symlink(command["target"].encode(), _path(command))
+        case "link":
+            os.link(command["from"].encode(), command["to"].encode(), follow_symlinks=False)
+        case "unlink":
+            os.unlink(_path(command))
+        case "rmdir":
+            os.rmdir(_path(command))
+        case "rename":
+            os.rename(command["from"].encode(), command["to"].encode())
+
+
+def look_up(command: Command) -> Answer:
+    """The answer of a lookup."""
+    path = _path(command)
+    match command["do"]:
+        case "look":
+            return {"seen": _look(path)}
+        case "list":
+            return {"names": _list(path)}
+        case "read":
+            return _read(path)
+        case _:
+            return {"path": _resolve(path)}
+
+
+def _path(command: Command) -> bytes:
+    return command["path"].encode()
+
+
+def _write(path: bytes, content: bytes, offset: int) -> None:
+    descriptor = os.open(path, os.O_WRONLY | os.O_NOFOLLOW)
+    try:
+        os.pwrite(descriptor, content, offset)
+    finally:
+        os.close(descriptor)
+
+
+def _truncate(path: bytes, size: int) -> None:
+    descriptor = os.open(path, os.O_WRONLY | os.O_NOFOLLOW)
+    try:
+        os.ftruncate(descriptor, size)
+    finally:
+        os.close(descriptor)
+
+
+def _set_mode(path: bytes, mode: int) -> None:
+    descriptor = os.open(path, os.O_PATH | os.O_NOFOLLOW)
+    try:
+        os.chmod(str(descriptor), mode, dir_fd=_descriptors)
+    finally:
+        os.close(descriptor)
+
+
+def _look(path: bytes) -> Answer | None:
+    try:
+        status = os.lstat(path)
+    except (FileNotFoundError, NotADirectoryError):
+        return None
+    mode = stat.S_IMODE(status.st_mode)
+    if stat.S_ISDIR(status.st_mode):
+        return {"dir": mode}
+    if stat.S_ISLNK(status.st_mode):
+        return {"symlink": os.readlink(path).decode()}
+    if stat.S_ISREG(status.st_mode):
+        return {"file": mode, "size": status.st_size}
+    return {"other": status.st_mode}
+
+
+def _list(path: bytes) -> list[str]:
+    descriptor = os.open(path, os.O_RDONLY | os.O_DIRECTORY | os.O_NOFOLLOW)
+    try:
+        names = sorted(os.fsencode(name) for name in os.listdir(descriptor))
+    finally:
+        os.close(descriptor)
+    return [name.decode() for name in names]
+
+
+def _read(path: bytes) -> Answer:
+    descriptor = os.open(path, os.O_RDONLY | os.O_NOFOLLOW)
+    try:
+        head = os.read(descriptor, HEAD_BYTES)
+        return {"head": head.hex(), "size": os.fstat(descriptor).st_size}
+    finally:
+        os.close(descriptor)
+
+
+def _resolve(path: bytes) -> str:
+    descriptor = os.open(path, os.O_PATH)
+    try:
+        return os.readlink(str(descriptor).encode(), dir_fd=_descriptors).decode()
+    finally:
+        os.close(descriptor)

@@ -1,0 +1,200 @@
+"""Takes a script through both sides, and compares what they answer and show after each of its commands."""
+
+import os
+import stat
+from collections import Counter
+from collections.abc import Callable, Iterable, Iterator, Sequence
+from dataclasses import dataclass, field
+
+from linux.calls import DEFAULT_DIRECTORY_MODE, LOOKUPS, OPERATIONS, Answer, Command, look_up, name_of, operate, paths_of
+from linux.declared import INHERITED_MODE, MKDIR_MODE, declared_of, is_path, refusal
+from linux.layers import Layers, entries
+from linux.program import Program, ProgramEnded
+
+GRANTED: Answer = {"granted": True}
+NOT_ASKED: Answer = {"asked": False}
+
+
+@dataclass
+class Difference(Exception):
+    """What was asked, and what both sides answered."""
+
+    command: Command
+    linux: Answer
+    here: Answer
+
+
+@dataclass
+class Found:
+    """A difference, and the commands that lead to it."""
+
+    script: list[Command]
+    difference: Difference
+
+
+@dataclass
+class Counts:
+    """What was compared."""
+
+    steps: int = 0
+    granted: int = 0
+    refused: Counter[str] = field(default_factory=Counter)
+    declared: Counter[str] = field(default_factory=Counter)
+    comparisons: int = 0
+    snapshots: int = 0
+    most_layers: int = 0
+
+
+@dataclass
+class Comparison:
+    """A script on both sides. Once in so many steps all that a snapshot shows is compared, and else what stands at
+    the paths of the step and beside them."""
+
+    program: Program
+    layers: Layers
+    counts: Counts
+    whole_every: int
+
+    def run(self, commands: Iterable[Command]) -> Found | None:
+        """The first difference that is not declared, if there is one."""
+        made: list[Command] = []
+        for command in commands:
+            made.append(command)
+            try:
+                self._make(command)
+            except Difference as difference:
+                return Found(made, difference)
+            except ProgramEnded as ended:
+                return Found(made, Difference(command, NOT_ASKED, {"ended": str(ended)}))
+        return None
+
+    def _make(self, command: Command) -> None:
+        if command["do"] in OPERATIONS:
+            self._operate(command)
+        elif command["do"] in LOOKUPS:
+            self._look(command)
+        else:
+            self._change_snapshots(command)
+
+    def _change_snapshots(self, command: Command) -> None:
+        """Does with the layers what the program grants, in which Linux has no say."""
+        do, ns, key = command["do"], command.get("ns"), command.get("key")
+        if do in ("commit", "discard"):
+            self._look_at_all(ns, key)
+        if "error" in self.program.ask(command):
+            return
+        match do:
+            case "prepare":
+                self.layers.prepare(ns, key, command["parent"])
+            case "view":
+                self.layers.view(ns, key, command["parent"])
+            case "commit":
+                self.layers.commit(ns, key, command["name"])
+            case "discard" | "remove":
+                self.layers.drop(ns, key)
+        if do in ("prepare", "view"):
+            self.counts.snapshots += 1
+            self.counts.most_layers = max(self.counts.most_layers, self.layers.depth(ns, key))
+            self._look_at_all(ns, key)
+
+    def _look(self, command: Command) -> None:
+        """A lookup of the script itself."""
+        if self.layers.is_shown(command["ns"], command["key"]):
+            with self.layers.inside(command["ns"], command["key"]):
+                self._look_up([command])
+        else:
+            self.program.ask(command)
+
+    def _operate(self, command: Command) -> None:
+        """Makes a file operation on both sides. One that is refused for its snapshot or charge is not Linux's."""
+        ns, key = command["ns"], command["key"]
+        lookups = [lookup | {"ns": ns, "key": key} for lookup in _lookups_around(command)]
+        here, *answers = self.program.ask_all([command, *lookups])
+        if not self.layers.is_shown(ns, key):
+            return
+        with self.layers.inside(ns, key):
+            if here.get("from", "file") == "file":
+                self._compare(command, here if "error" in here else GRANTED, operate)
+                if command["do"] == "mkdir" and "error" not in here:
+                    self._take_mode_as_given(command)
+            for lookup, answer in zip(lookups, answers):
+                self._compare(lookup, answer, look_up)
+        if here.get("from", "file") == "file":
+            self._count_step(command, here)
+        if self.counts.steps % self.whole_every == 0:
+            self._look_at_all(ns, key)
+
+    def _count_step(self, command: Command, here: Answer) -> None:
+        self.counts.steps += 1
+        if "error" in here:
+            self.counts.refused[here["error"]] += 1
+            return
+        self.counts.granted += 1
+        usage = self.layers.usage(command["ns"], command["key"])
+        self._judge(command, {"count": usage}, {"count": here["count"]}, usage == here["count"])
+
+    def _take_mode_as_given(self, command: Command) -> None:
+        """mkdir(2) keeps some bits of the mode alone. Where that is what happened, the rest is set too."""
+        path, given = command["path"].encode(), command.get("mode", DEFAULT_DIRECTORY_MODE)
+        inherited = os.lstat(os.path.dirname(path)).st_mode & INHERITED_MODE
+        kept = stat.S_IMODE(os.lstat(path).st_mode)
+        if kept == given & MKDIR_MODE | inherited != given:
+            os.chmod(path, given)
+            self.counts.declared["mkdir-modes"] += 1
+
+    def _look_at_all(self, ns: str, key: str) -> None:
+        """Compares everything that a snapshot shows."""
+        if self.layers.is_shown(ns, key):
+            with self.layers.inside(ns, key):
+                self._look_up([lookup | {"ns": ns, "key": key} for lookup in _lookups_of_all()])
+
+    def _look_up(self, lookups: Sequence[Command]) -> None:
+        """Compares lookups in one snapshot, which is the root of this process."""
+        for lookup, here in zip(lookups, self.program.ask_all(lookups)):
+            self._compare(lookup, here, look_up)
+
+    def _compare(self, command: Command, here: Answer, call: Callable[[Command], Answer | None]) -> None:
+        """Asks Linux too, unless a declared difference is met at which it is not asked."""
+        declared = declared_of(command)
+        linux = NOT_ASKED if declared and declared.linux is None else _answer_of(call, command)
+        if declared is None:
+            self._judge(command, linux, here, linux == here)
+            return
+        is_linux = declared.linux is None or linux == refusal(declared.linux)
+        self._judge(command, linux, here, is_linux and here in declared.here)
+        self.counts.declared[declared.case] += linux != here
+
+    def _judge(self, command: Command, linux: Answer, here: Answer, are_right: bool) -> None:
+        self.counts.comparisons += 1
+        if not are_right:
+            raise Difference(command, linux, here)
+
+
+def _answer_of(call: Callable[[Command], Answer | None], command: Command) -> Answer:
+    try:
+        return call(command) or GRANTED
+    except OSError as error:
+        return refusal(name_of(error))
+
+
+def _lookups_around(command: Command) -> Iterator[Command]:
+    """All lookups at the paths of a command, and a list of the directories that these are in."""
+    for path in filter(is_path, paths_of(command)):
+        for do in sorted(LOOKUPS):
+            yield {"do": do, "path": path}
+        yield {"do": "list", "path": os.path.dirname(path)}
+
+
+def _lookups_of_all() -> Iterator[Command]:
+    """The lookups that show everything in the root of this process."""
+    yield {"do": "look", "path": "/"}
+    yield {"do": "list", "path": "/"}
+    for name, status in entries(b"/"):
+        path = name.decode()
+        yield {"do": "look", "path": path}
+        if stat.S_ISDIR(status.st_mode):
+            yield {"do": "list", "path": path}
+        elif stat.S_ISLNK(status.st_mode):
+            yield {"do": "resolve", "path": path}
+        else:
+            yield {"do": "read", "path": path}
