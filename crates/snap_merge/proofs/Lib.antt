@@ -6,3 +6,4 @@ pub mod Listings
 pub mod Ways
 pub mod Ends
 pub mod Reaching
+pub mod Named

@@ -13,7 +13,7 @@ use super::error::FsError;
 use super::look::{Reach, Seen, Step, is_dir, reach_below, show_are_layers, step_through};
 use super::resolve::{check_plain, resolve};
 use snap_layer::{Layer, Shared};
-use snap_path::{Name, Path};
+use snap_path::{Name, Path, PathError};
 use std::alloc::{AllocError, Global};
 use std::collections::BTreeSet;
 use std::marker::Model;
@@ -257,8 +257,45 @@ impl<'a> Stack<'a> {
         is_dir(self.look(path))
     }
 
-    /// The path of the directory's entry of this name, where a layer has one.
+    /// The path of the directory's entry of this name, where something may be seen.
     pub(crate) fn entry(
+        &self,
+        alloc: Global,
+        directory: &Path,
+        word: &[u8],
+    ) -> Result<Option<Path>, FsError>
+        requires { is_too_long directory.now word.now ≡ false }
+        ensures ok { IfOk result (λ o. MatchOption o (seen self.now (directory.now ++ word.now ∷ []) ≡ None) (λ p. p ≡ directory.now ++ word.now ∷ [])) }
+        ensures err { IfErr result (λ e. e ≡ FsError.OutOfMemory) }
+    {
+        match str::from_utf8(word) {
+            Ok(text) => self.entry_named(alloc, directory, text),
+            Err(_) => self.entry_among(alloc, directory, word),
+        }
+    }
+
+    /// The path of the directory's entry of this name, where it is one.
+    #[tactic(auto, using(crate::proofs::Named::no_name_seen))]
+    fn entry_named(
+        &self,
+        alloc: Global,
+        directory: &Path,
+        name: &str,
+    ) -> Result<Option<Path>, FsError>
+        requires { is_too_long directory.now name.now ≡ false }
+        ensures ok { IfOk result (λ o. MatchOption o (seen self.now (directory.now ++ name.now ∷ []) ≡ None) (λ p. p ≡ directory.now ++ name.now ∷ [])) }
+        ensures err { IfErr result (λ e. e ≡ FsError.OutOfMemory) }
+    {
+        self.show_are_layers();
+        match Name::parse(alloc, name) {
+            Ok(name) => Ok(Some(directory.join(&name)?)),
+            Err(PathError::BadPath) => Ok(None),
+            Err(PathError::OutOfMemory) => Err(FsError::OutOfMemory),
+        }
+    }
+
+    /// The path of the directory's entry of this name, where a layer has one: for what is no text.
+    fn entry_among(
         &self,
         alloc: Global,
         directory: &Path,
