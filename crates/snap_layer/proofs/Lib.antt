@@ -32,3 +32,6 @@ pub mod Walking
 pub mod Housed
 pub mod Erasing
 pub mod Short
+pub mod Dirs
+pub mod Ranges
+pub mod Leaves

@@ -7,3 +7,5 @@ pub mod Walk
 pub mod Holds
 pub mod Rows
 pub mod Totals
+pub mod Directory
+pub mod Reached

@@ -19,6 +19,7 @@ use slab::Slab;
 use snap_path::Name;
 use std::alloc::AllocError;
 use std::collections::BTreeMap;
+use std::ops::Bound;
 
 /// Puts the entry into the directory. Where one stands there it takes no memory.
 fn put_entry(inode: &mut Inode, name: &Name, target: Target) -> Result<(), AllocError>
@@ -528,5 +529,8 @@ pub(crate) fn place_of(places: &BTreeMap<u32, usize>, number: u32) -> Option<usi
 pub(crate) fn next_place(places: &BTreeMap<u32, usize>, after: u32) -> Option<u32>
     ensures { result ≡ find (λ k. nat_lt after k) (keys_of places.now.entries) }
 {
-    places.keys().copied().find(|number| *number > after)
+    let (number, _) = places
+        .range((Bound::Excluded(after), Bound::Unbounded))
+        .next()?;
+    Some(*number)
 }

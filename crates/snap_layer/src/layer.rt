@@ -10,6 +10,7 @@ ghost use Rattle.snap_layer.specs.Layers.{IsLayer};
 ghost use Rattle.snap_layer.specs.Equal.{tree_eq};
 ghost use Rattle.snap_layer.specs.Edits.{root_only, without, HasParent, HasRoom, HasPlace, IsTakeable, IsMovable};
 
+use super::dir::Dir;
 use super::node::{Body, Node};
 use super::table::Table;
 use super::totals::Totals;
@@ -92,6 +93,15 @@ impl Layer {
             table: self.table.copy()?,
             totals: self.totals,
         })
+    }
+
+    /// The root directory, from which a walk goes on name by name.
+    ///
+    /// Takes no memory. The cost is constant.
+    pub fn root_dir(&self) -> Dir<'_>
+        ensures { result ≡ record { layer = self.now; path = [] } }
+    {
+        self.table.root_dir()
     }
 
     /// What stands at the path in this layer alone, or nothing.
@@ -242,7 +252,7 @@ impl Layer {
 
     /// The least number above `after` that a file or symlink has, or nothing. From 0 on it goes over all.
     ///
-    /// Takes no memory. Cost: the number of files.
+    /// Takes no memory. Cost: the logarithm of the number of files.
     pub fn next_body(&self, after: u32) -> Option<u32>
         ensures { result ≡ find (λ k. nat_lt after k) (keys_of self.now.bodies) }
     {

@@ -8,6 +8,7 @@
 //! at a path of it, and `specs/Holds.antt` which `Tree` it is.
 #![tactic(auto)]
 
+mod dir;
 mod edit;
 mod edits;
 mod error;
@@ -20,6 +21,7 @@ mod table;
 mod totals;
 mod walk;
 
+pub use dir::Dir;
 pub use error::LayerError;
 pub use layer::Layer;
 pub use node::{Body, Bytes, Node};

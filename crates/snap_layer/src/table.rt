@@ -15,6 +15,7 @@ ghost use Rattle.snap_layer.specs.Holds.{Holds, Holds-prop};
 mod reads;
 mod same;
 
+use super::dir::Dir;
 use super::edit::{
     body_at, copied, cover_entry, link, links_at, next_place, place_of, put_inode, put_leaf,
     relocate, replace_name, set_body, set_dir, set_mode, take_target,
@@ -86,6 +87,13 @@ impl Table {
             places: copied(&self.places)?,
             next: self.next,
         })
+    }
+
+    /// The root directory.
+    pub fn root_dir(&self) -> Dir<'_>
+        ensures { result ≡ record { layer = self.now; path = [] } }
+    {
+        Dir::root(self, &self.slots, self.root)
     }
 
     /// What stands at the path.

@@ -14,7 +14,7 @@ not_both : (a b : Bool) → (a || b) ≡ false → (a ≡ false) × (b ≡ false
 not_both true b e = absurd (cc)
 not_both false b e = (refl, e)
 
-dir_seen : (t : Tree) (o : Option Node) (p : Names) (under : Option Object) → IsDirAt o → is_shown_dir (seen_over t o p under) ≡ true
+pub dir_seen : (t : Tree) (o : Option Node) (p : Names) (under : Option Object) → IsDirAt o → is_shown_dir (seen_over t o p under) ≡ true
 dir_seen t None p under d = absurd d
 dir_seen t (Some (Dir m b)) p under d = refl
 dir_seen t (Some (File k)) p under d = absurd (cc)

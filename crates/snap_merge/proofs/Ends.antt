@@ -77,7 +77,7 @@ name_parts : (a b c d e : Bool) → (a && b && c && not d && not e) ≡ true →
 name_parts true true true false false x = (refl, refl, refl, refl)
 name_parts a b c d e x = absurd (cc)
 
-middle_true : (xs : Names) (n : List ℕ) (ys : Names) → list_all is_name (xs ++ n ∷ ys) ≡ true → is_name n ≡ true
+pub middle_true : (xs : Names) (n : List ℕ) (ys : Names) → list_all is_name (xs ++ n ∷ ys) ≡ true → is_name n ≡ true
 middle_true [] n ys e = by (is_name n) (list_all is_name ys) e
   where
     by : (a b : Bool) → (a && b) ≡ true → a ≡ true

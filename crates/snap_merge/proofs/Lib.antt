@@ -5,3 +5,5 @@ pub mod Walking
 pub mod Listings
 pub mod Ways
 pub mod Ends
+pub mod Reaching
+pub mod Named

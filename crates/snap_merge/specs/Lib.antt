@@ -1,7 +1,7 @@
 pub mod Errors
 pub mod Objects
 pub mod Walk
-pub mod Decision
+pub mod Reach
 pub mod Reading
 pub mod Rules
 pub mod Listing

@@ -1,13 +1,13 @@
 // What is seen at a path: what one layer says of it, and the lower layers one after another.
-ghost use Rattle.std.specs.Prelude.{◌≡◌, ◌≤◌, length, take};
+ghost use Rattle.std.specs.Prelude.{◌≡◌, ◌≤◌, List, length};
 ghost use Rattle.std.specs.Option.{option_map};
-ghost use Rattle.snap_layer.specs.Tree.{body, hides, node_hides};
-ghost use Rattle.snap_merge.specs.Objects.{object, shown, shown_body, seen, is_shown_dir, AreLayers};
-ghost use Rattle.snap_merge.specs.Decision.{Decides};
+ghost use Rattle.snap_layer.specs.Tree.{Tree, body, hides, node_hides};
+ghost use Rattle.snap_merge.specs.Objects.{object, shown, shown_body, is_shown_dir, AreLayers};
+ghost use Rattle.snap_merge.specs.Reach.{Begun, Reached, Steps, Traced};
 ghost use Rattle.snap_merge.specs.Rules.{LayerRules};
 
 use snap_layer::{Body, Layer, Node, Shared};
-use snap_path::Path;
+use snap_path::{Name, Path};
 
 /// What is seen at a path. Bytes and targets are lent by the layer that has them.
 #[derive(Clone, Copy, Debug)]
@@ -20,27 +20,112 @@ pub enum Seen<'a> {
     Symlink { target: &'a [u8] },
 }
 
-/// What one layer says of a path.
+/// How far a path leads in a stack of layers.
 #[derive(Clone, Copy)]
-pub(crate) enum Decision<'a> {
-    /// It decides what is seen there, whatever the layers below have.
-    Shows(Option<Seen<'a>>),
-    /// It has nothing to say: what the layers below show is seen.
-    Leaves,
+pub(crate) struct Reach<'a> {
+    /// How many of the path's prefixes show directories, from the root on.
+    pub(crate) dirs: usize,
+    /// What is seen at the next prefix, or at the path itself where all of them show directories.
+    pub(crate) seen: Option<Seen<'a>>,
 }
 
-/// What the layers show at the path of the first so many names.
-pub(crate) fn look_below<'a>(lowers: &'a [Shared], path: &Path, names: usize) -> Option<Seen<'a>>
-    requires { names ≤ length path.now }
-    ensures { option_map object result ≡ seen lowers.now (take names path.now) }
+/// What one layer adds to how far a path leads in the layers above it.
+#[derive(Clone, Copy)]
+pub(crate) enum Step<'a> {
+    /// It leads no further, whatever the layers below have.
+    Ends(Reach<'a>),
+    /// It leads through so many directories, and the layers below say where to from there.
+    GoesOn(usize),
+}
+
+/// How far a path leads in one layer.
+#[derive(Clone, Copy)]
+struct Trace {
+    /// How many of the path's prefixes are directories, from the root on.
+    dirs: usize,
+    /// What stands at the next prefix, or at the path itself where all of them are directories.
+    node: Option<Node>,
+    /// Whether an opaque directory stands above that.
+    hidden: bool,
+}
+
+/// How far the names lead in the lower layers, after so many directories that the layers above have. A layer is
+/// left at the first name that it doesn't have, and the layers below it are not asked where it hides them.
+pub(crate) fn reach_below<'a>(lowers: &'a [Shared], names: &[Name], dirs: usize) -> Reach<'a>
+    requires { dirs ≤ length names.now }
+    ensures { (s : List Tree) → Begun s names.now dirs lowers.now → Reached s names.now result.dirs (option_map object result.seen) }
 {
+    let mut dirs = dirs;
     for shared in lowers {
-        match decide(shared.layer(), path, names) {
-            Decision::Shows(shown) => return shown,
-            Decision::Leaves => {}
+        match step_through(shared.layer(), names, dirs) {
+            Step::Ends(reach) => return reach,
+            Step::GoesOn(further) => dirs = further,
         }
     }
-    None
+    Reach { dirs, seen: None }
+}
+
+/// What the layer adds, after so many directories that the layers above it have.
+pub(crate) fn step_through<'a>(layer: &'a Layer, names: &[Name], dirs: usize) -> Step<'a>
+    requires { dirs ≤ length names.now }
+    ensures { Steps layer.now names.now dirs result }
+{
+    layer.show_is_layer();
+    let trace = trace_in(layer, names);
+    if trace.dirs < dirs {
+        if trace.hidden || node_hides(trace.node) {
+            return Step::Ends(Reach { dirs, seen: None });
+        }
+        return Step::GoesOn(dirs);
+    }
+    match trace.node {
+        Some(node) => Step::Ends(Reach {
+            dirs: trace.dirs,
+            seen: shown_at(layer, node),
+        }),
+        None if trace.hidden => Step::Ends(Reach {
+            dirs: trace.dirs,
+            seen: None,
+        }),
+        None => Step::GoesOn(trace.dirs),
+    }
+}
+
+/// How far the names lead in the layer: one look-up in one directory for each name.
+fn trace_in(layer: &Layer, names: &[Name]) -> Trace
+    ensures { Traced layer.now names.now result.dirs result.node result.hidden }
+{
+    let mut dir = layer.root_dir();
+    let mut node = dir.node();
+    let mut hidden = false;
+    for (dirs, name) in names.iter().enumerate() {
+        hidden |= node_hides(Some(node));
+        match dir.entry(name) {
+            Some((entry, Some(next))) => {
+                node = entry;
+                dir = next;
+            }
+            Some((entry, None)) => {
+                return Trace {
+                    dirs: dirs + 1,
+                    node: Some(entry),
+                    hidden,
+                };
+            }
+            None => {
+                return Trace {
+                    dirs: dirs + 1,
+                    node: None,
+                    hidden,
+                };
+            }
+        }
+    }
+    Trace {
+        dirs: names.len() + 1,
+        node: Some(node),
+        hidden,
+    }
 }
 
 /// Shows a proof that each of the layers is one by `IsLayer`. It changes nothing, and its cost grows with
@@ -60,43 +145,32 @@ pub fn is_dir(seen: Option<Seen<'_>>) -> bool
     matches!(seen, Some(Seen::Dir { .. }))
 }
 
-/// What the layer says of the path of the first so many names.
-pub(crate) fn decide<'a>(layer: &'a Layer, path: &Path, names: usize) -> Decision<'a>
-    requires { names ≤ length path.now }
-    ensures { Decides layer.now (take names path.now) result }
-{
-    match layer.at_front(path, names) {
-        Some(node) => Decision::Shows(shown_at(layer, node)),
-        None if hides_front(layer, path, names) => Decision::Shows(None),
-        None => Decision::Leaves,
-    }
-}
-
 /// Whether the layer hides what the layers below have at the path: above the path, in this layer, a
 /// whiteout, a file, a symlink or an opaque directory stands (overlayfs.rst, "whiteouts and opaque
 /// directories"). What stands at the path itself doesn't count.
 ///
-/// Takes no memory. Cost: for each name of the path a walk to it from the layer's root, by the logarithm of each
-/// directory's entries.
+/// Takes no memory. Cost: for each name of the path the logarithm of a directory's entries.
 pub fn hides(layer: &Layer, path: &Path) -> bool
     ensures value { result ≡ hides layer.now path.now }
     // The rules of overlayfs.rst, for what the layer does at the path.
     ensures rules { LayerRules layer.now path.now }
 {
-    hides_front(layer, path, path.names().len())
+    hides_names(layer, path.names())
 }
 
-/// The same of the path of the first so many names.
-fn hides_front(layer: &Layer, path: &Path, names: usize) -> bool
-    requires { names ≤ length path.now }
-    ensures { result ≡ hides layer.now (take names path.now) }
+/// The same of the path of the names.
+fn hides_names(layer: &Layer, names: &[Name]) -> bool
+    ensures { result ≡ hides layer.now names.now }
 {
-    for front in 0..names {
-        if node_hides(layer.at_front(path, front)) {
-            return true;
-        }
+    layer.show_is_layer();
+    let trace = trace_in(layer, names);
+    if trace.hidden {
+        return true;
     }
-    false
+    if names.len() <= trace.dirs {
+        return false;
+    }
+    node_hides(trace.node)
 }
 
 /// Whether what stands there hides what the layers below have under it.

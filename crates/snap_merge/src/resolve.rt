@@ -1,15 +1,16 @@
 // Where a path leads when its symlinks are followed.
-ghost use Rattle.std.specs.Prelude.{◌≡◌, ◌≤◌, ◌∷◌, ◌++◌, [], ℕ, List, map, MatchOption, IfOk, OnOk, false, length};
+ghost use Rattle.std.specs.Prelude.{◌≡◌, ◌≤◌, ◌∷◌, ◌++◌, [], ℕ, List, map, MatchOption, IfOk, OnOk, false, length, Some, None, if◌then◌else◌};
+ghost use Rattle.std.specs.Option.{option_map};
 ghost use Rattle.std.specs.Result.{result_err};
 ghost use Rattle.std.specs.Borrow.{Bor};
 ghost use Rattle.snap_path.specs.Text.{Names, text_below};
 ghost use Rattle.snap_merge.specs.Objects.{object, seen};
 ghost use Rattle.snap_merge.specs.Walk.{Answers};
-ghost use Rattle.snap_merge.specs.Resolving.{Answer, is_here, is_above, is_too_long, start_of, words_of, entered, way, is_symlink, plain_error, resolution};
+ghost use Rattle.snap_merge.specs.Resolving.{Answer, is_here, is_above, is_too_long, start_of, words_of, entered, way, met, plain_error, resolution};
 ghost use Rattle.snap_merge.specs.Arrivals.{Leads, Ends};
 
 use super::error::FsError;
-use super::look::{Seen, is_dir};
+use super::look::Seen;
 use super::stack::Stack;
 use snap_path::Path;
 use snap_path::limits::{MAX_LINKS, MAX_NAME_BYTES, MAX_PATH_BYTES};
@@ -30,25 +31,35 @@ pub(crate) enum Arrival<'a> {
 pub(crate) fn check_plain(stack: &Stack<'_>, path: &Path) -> Result<(), FsError>
     ensures { result_err result ≡ plain_error stack.now [] path.now }
 {
-    for names in 0..path.names().len() {
-        if !is_dir(stack.look_front(path, names)) {
-            return Err(FsError::NotDir);
-        }
-        let Some(entry) = stack.look_front(path, names + 1) else {
-            return Err(FsError::NotFound);
-        };
-        if is_symlink(entry) {
-            return Ok(());
-        }
+    let names = path.names();
+    if names.is_empty() {
+        return Ok(());
     }
-    Ok(())
+    let reach = stack.reach(names);
+    if reach.dirs == 0 {
+        return Err(FsError::NotDir);
+    }
+    if reach.dirs < names.len() {
+        return met(reach.seen, false);
+    }
+    met(reach.seen, true)
 }
 
-/// Whether a symlink is seen.
-fn is_symlink(entry: Seen<'_>) -> bool
-    ensures { result ≡ is_symlink (object entry.entry) }
+/// The error where this is seen and is no directory, or is the last on the path.
+fn met(seen: Option<Seen<'_>>, is_last: bool) -> Result<(), FsError>
+    ensures { result_err result ≡ met (option_map object seen.entry) (if is_last then None else Some FsError.NotDir) }
 {
-    matches!(entry, Seen::Symlink { .. })
+    match seen {
+        None => Err(FsError::NotFound),
+        Some(Seen::Symlink { .. }) => Ok(()),
+        Some(Seen::File { .. } | Seen::Dir { .. }) => {
+            if is_last {
+                Ok(())
+            } else {
+                Err(FsError::NotDir)
+            }
+        }
+    }
 }
 
 /// Where the path leads from the root.

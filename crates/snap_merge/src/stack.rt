@@ -2,6 +2,7 @@ ghost use Rattle.std.specs.Prelude.{◌≡◌, ◌⊎◌, [], ◌∷◌, ◌++�
 ghost use Rattle.std.specs.Option.{option_map};
 ghost use Rattle.snap_merge.specs.Objects.{object, seen, is_shown_dir, AreLayers};
 ghost use Rattle.snap_merge.specs.Walk.{walk, Answers};
+ghost use Rattle.snap_merge.specs.Reach.{Reached};
 ghost use Rattle.snap_merge.specs.Reading.{reading};
 ghost use Rattle.snap_merge.specs.Listing.{gathered, names, listing, put_names, IsListing};
 ghost use Rattle.snap_merge.specs.Resolving.{is_too_long, plain_error, resolution};
@@ -9,10 +10,10 @@ ghost use Rattle.snap_merge.specs.Rules.{ResolvingRules};
 ghost use Rattle.snap_path.specs.Text.{IsPath};
 
 use super::error::FsError;
-use super::look::{Decision, Seen, decide, is_dir, look_below, show_are_layers};
+use super::look::{Reach, Seen, Step, is_dir, reach_below, show_are_layers, step_through};
 use super::resolve::{check_plain, resolve};
 use snap_layer::{Layer, Shared};
-use snap_path::{Name, Path};
+use snap_path::{Name, Path, PathError};
 use std::alloc::{AllocError, Global};
 use std::collections::BTreeSet;
 use std::marker::Model;
@@ -60,12 +61,12 @@ impl<'a> Stack<'a> {
     /// What is seen at the path, or nothing. No symlink is followed. Bytes and targets are lent by the
     /// layer that has them.
     ///
-    /// Takes no memory. Cost: for each layer down to the one that decides, and each name of the path, a walk
-    /// to it from the layer's root, by the logarithm of each directory's entries.
+    /// Takes no memory. Cost: for each layer down to the one that decides, and each name of the path that it has,
+    /// the logarithm of a directory's entries.
     pub fn look(&self, path: &Path) -> Option<Seen<'a>>
         ensures { option_map object result ≡ seen self.now path.now }
     {
-        self.look_front(path, path.names().len())
+        self.look_at(path.names())
     }
 
     /// What is seen at the path of the first so many names of a path: at a directory above it, without
@@ -76,13 +77,33 @@ impl<'a> Stack<'a> {
         requires { names ≤ length path.now }
         ensures { option_map object result ≡ seen self.now (take names path.now) }
     {
-        if let Some(top) = self.top {
-            match decide(top, path, names) {
-                Decision::Shows(shown) => return shown,
-                Decision::Leaves => {}
-            }
+        self.look_at(&path.names()[..names])
+    }
+
+    /// What is seen at the path of the names.
+    fn look_at(&self, names: &[Name]) -> Option<Seen<'a>>
+        ensures { option_map object result ≡ seen self.now names.now }
+    {
+        self.show_are_layers();
+        let reach = self.reach(names);
+        if reach.dirs < names.len() {
+            None
+        } else {
+            reach.seen
         }
-        look_below(self.lowers, path, names)
+    }
+
+    /// How far the names lead.
+    pub(crate) fn reach(&self, names: &[Name]) -> Reach<'a>
+        ensures { Reached self.now names.now result.dirs (option_map object result.seen) }
+    {
+        let Some(top) = self.top else {
+            return reach_below(self.lowers, names, 0);
+        };
+        match step_through(top, names, 0) {
+            Step::Ends(reach) => reach,
+            Step::GoesOn(dirs) => reach_below(self.lowers, names, dirs),
+        }
     }
 
     /// Shows a proof that each of the layers is one by `IsLayer`.
@@ -100,7 +121,7 @@ impl<'a> Stack<'a> {
     ///
     /// `NotFound` at the first of them where nothing is seen, `NotDir` where something else than a
     /// directory is seen there. What is at the path itself doesn't count. Takes no memory. Cost: that
-    /// of a look for each name.
+    /// of a look.
     #[tactic(auto, using(crate::proofs::Above::walk_to_seen))]
     pub fn walk(&self, path: &Path) -> Result<(), FsError>
         ensures ok { OnOk result (walk self.now path.now ≡ None) }
@@ -111,28 +132,35 @@ impl<'a> Stack<'a> {
         ensures layers { AreLayers self.now }
     {
         self.show_are_layers();
-        for names in 0..path.names().len() {
-            match self.look_front(path, names) {
-                Some(Seen::Dir { .. }) => {}
-                Some(Seen::File { .. }) => return Err(FsError::NotDir),
-                Some(Seen::Symlink { .. }) => return Err(FsError::NotDir),
-                None => return Err(FsError::NotFound),
-            }
-        }
+        let _ = self.walk_to(path)?;
         Ok(())
+    }
+
+    /// Walks to the path, and answers what is seen there.
+    fn walk_to(&self, path: &Path) -> Result<Option<Seen<'a>>, FsError>
+        ensures ok { IfOk result (λ o. (walk self.now path.now ≡ None) × (option_map object o ≡ seen self.now path.now)) }
+        ensures err { IfErr result (λ e. walk self.now path.now ≡ Some e) }
+    {
+        let names = path.names();
+        let reach = self.reach(names);
+        if names.len() <= reach.dirs {
+            return Ok(reach.seen);
+        }
+        match reach.seen {
+            Some(_) => Err(FsError::NotDir),
+            None => Err(FsError::NotFound),
+        }
     }
 
     /// The bytes of the file at the path, lent by the layer that has them.
     ///
     /// The errors of the walk come first; then `NotFound` where nothing is seen, `IsDir` at a
-    /// directory, and `Invalid` at a symlink, which isn't followed. Takes no memory. Cost: that of the
-    /// walk and a look.
+    /// directory, and `Invalid` at a symlink, which isn't followed. Takes no memory. Cost: that of a look.
     pub fn read(&self, path: &Path) -> Result<&'a [u8], FsError>
         ensures ok { IfOk result (λ bytes. reading self.now path.now ≡ Ok bytes.now) }
         ensures err { IfErr result (λ e. reading self.now path.now ≡ Err e) }
     {
-        self.walk(path)?;
-        match self.look(path) {
+        match self.walk_to(path)? {
             Some(Seen::File { bytes, .. }) => Ok(bytes),
             Some(Seen::Dir { .. }) => Err(FsError::IsDir),
             Some(Seen::Symlink { .. }) => Err(FsError::Invalid),
@@ -154,8 +182,7 @@ impl<'a> Stack<'a> {
         // A list has exactly the names at which something is seen, in order.
         ensures names { IfOk result (λ v. IsListing self.now path.now v.items) }
     {
-        self.walk(path)?;
-        match self.look(path) {
+        match self.walk_to(path)? {
             Some(Seen::Dir { .. }) => self.names(alloc, path),
             Some(Seen::File { .. }) => Err(FsError::NotDir),
             Some(Seen::Symlink { .. }) => Err(FsError::NotDir),
@@ -230,8 +257,45 @@ impl<'a> Stack<'a> {
         is_dir(self.look(path))
     }
 
-    /// The path of the directory's entry of this name, where a layer has one.
+    /// The path of the directory's entry of this name, where something may be seen.
     pub(crate) fn entry(
+        &self,
+        alloc: Global,
+        directory: &Path,
+        word: &[u8],
+    ) -> Result<Option<Path>, FsError>
+        requires { is_too_long directory.now word.now ≡ false }
+        ensures ok { IfOk result (λ o. MatchOption o (seen self.now (directory.now ++ word.now ∷ []) ≡ None) (λ p. p ≡ directory.now ++ word.now ∷ [])) }
+        ensures err { IfErr result (λ e. e ≡ FsError.OutOfMemory) }
+    {
+        match str::from_utf8(word) {
+            Ok(text) => self.entry_named(alloc, directory, text),
+            Err(_) => self.entry_among(alloc, directory, word),
+        }
+    }
+
+    /// The path of the directory's entry of this name, where it is one.
+    #[tactic(auto, using(crate::proofs::Named::no_name_seen))]
+    fn entry_named(
+        &self,
+        alloc: Global,
+        directory: &Path,
+        name: &str,
+    ) -> Result<Option<Path>, FsError>
+        requires { is_too_long directory.now name.now ≡ false }
+        ensures ok { IfOk result (λ o. MatchOption o (seen self.now (directory.now ++ name.now ∷ []) ≡ None) (λ p. p ≡ directory.now ++ name.now ∷ [])) }
+        ensures err { IfErr result (λ e. e ≡ FsError.OutOfMemory) }
+    {
+        self.show_are_layers();
+        match Name::parse(alloc, name) {
+            Ok(name) => Ok(Some(directory.join(&name)?)),
+            Err(PathError::BadPath) => Ok(None),
+            Err(PathError::OutOfMemory) => Err(FsError::OutOfMemory),
+        }
+    }
+
+    /// The path of the directory's entry of this name, where a layer has one: for what is no text.
+    fn entry_among(
         &self,
         alloc: Global,
         directory: &Path,

@@ -4,7 +4,7 @@ ghost use Rattle.std.specs.List.{list_all};
 ghost use Rattle.std.specs.List.Sorted.{IsStrictlySortedBy};
 ghost use Rattle.std.specs.Map.{keys_of, values_of};
 ghost use Rattle.snap_path.specs.Text.{Names, text_of, text_below};
-ghost use Rattle.snap_layer.specs.Tree.{at, is_dir, is_whiteout, names_below};
+ghost use Rattle.snap_layer.specs.Tree.{at, is_dir, is_whiteout, names_below, IsDirAt};
 ghost use Rattle.snap_layer.specs.Counts.{dir_count, whiteout_count};
 ghost use Rattle.snap_layer.specs.Edits.{inside, IsFree};
 ghost use Rattle.snap_layer.specs.Walk.{node_at, seen, walk, entry_at};
@@ -29,6 +29,16 @@ fn counts_of(node: Option<Node>) -> (usize, usize)
     match node {
         Some(node) => (usize::from(node.is_dir()), usize::from(node.is_whiteout())),
         None => (0, 0),
+    }
+}
+
+/// Whether a directory stands there.
+fn is_directory(node: Option<Node>) -> bool
+    ensures { IsTrue result ↔ IsDirAt node }
+{
+    match node {
+        Some(node) => node.is_dir(),
+        None => false,
     }
 }
 
@@ -90,8 +100,22 @@ impl Table {
         stands(&self.slots, self.root, names)
     }
 
-    /// How many directories and how many whiteouts stand at the path and below it.
+    /// How many directories and how many whiteouts stand at the path and below it. Only where a directory stands
+    /// is there a walk.
     pub(crate) fn tally_inside(&self, front: &[Name]) -> (usize, usize)
+        ensures dirs { result.0 ≡ count_by is_dir (values_of (inside front.now self.now.entries)) }
+        ensures whiteouts { result.1 ≡ count_by is_whiteout (values_of (inside front.now self.now.entries)) }
+    {
+        let _ = self.next_number();
+        let node = self.node_at(front);
+        if !is_directory(node) {
+            return counts_of(node);
+        }
+        self.tally_walk(front)
+    }
+
+    /// The same, by a walk.
+    fn tally_walk(&self, front: &[Name]) -> (usize, usize)
         ensures dirs { result.0 ≡ count_by is_dir (values_of (inside front.now self.now.entries)) }
         ensures whiteouts { result.1 ≡ count_by is_whiteout (values_of (inside front.now self.now.entries)) }
     {

@@ -1,47 +1,30 @@
-use Rattle.std.proofs.Common.{◌≡◌, ◌+◌, ◌<◌, true, false, None, Some, length, take, drop, sym, ap, ◌∙◌, arith}
-use Rattle.std.specs.Prelude.{if◌then◌else◌}
+use Rattle.std.proofs.Common.{◌≡◌, ◌<◌, ◌≤◌, ℕ, Option, true, false, length, sym, subst, ◌∙◌, arith}
 use Rattle.std.specs.Option.{option_map}
-use Rattle.snap_merge.specs.Objects.{object, seen, is_shown_dir}
-use Rattle.snap_merge.specs.Resolving.{is_symlink, plain_error}
-use Rattle.snap_merge.proofs.Walking.{plain_at}
+use Rattle.snap_path.specs.Text.{Names}
+use Rattle.snap_merge.specs.Objects.{Object, object}
+use Rattle.snap_merge.specs.Reach.{Reached}
+use Rattle.snap_merge.proofs.Reaching.{plain_first, plain_met, not_empty}
 use Rattle.snap_merge.proofs.resolve.check_plain.Goals as goal
 
-pub returns-then-not-is_dir : goal.returns-then-not-is_dir
-returns-then-not-is_dir c =
-    let s = c.args.stack.now in
-    let p = c.args.path.now in
-    let k = c.loop-names.names in
-    let within : k < length p = omega (arith, ap length c.names-names-end.ensures.names) in
-    let other : false ≡ is_shown_dir (seen s (take k p)) = cc in
-    plain_at s p k false (seen s (take (k + 1) p)) within other (λ i. seen s (take (k + 1) p)) c.loop-names.invariant
+pub returns-then-reach-eq0 : goal.returns-then-reach-eq0
+returns-then-reach-eq0 c =
+    let o : Option Object = option_map object c.reach-reach.result.seen in
+    let reached : Reached c.args.stack.now c.args.path.now c.reach-reach.result.dirs o = subst (λ (p : Names). Reached c.args.stack.now p c.reach-reach.result.dirs o) c.names-names.ensures.names c.reach-reach.ensures in
+    let some : 0 < length c.args.path.now = subst (λ (p : Names). 0 < length p) c.names-names.ensures.names (not_empty c.names-names.result.now c.is_empty.result c.is_empty.ensures c.if-is_empty.false) in
+    sym (plain_first c.args.stack.now c.args.path.now o (subst (λ (k : ℕ). Reached c.args.stack.now c.args.path.now k o) c.if-reach-eq0.true reached) some)
 
-pub returns-in_default : goal.returns-in_default
-returns-in_default c =
-    let s = c.args.stack.now in
-    let p = c.args.path.now in
-    let k = c.loop-names.names in
-    let within : k < length p = omega (arith, ap length c.names-names-end.ensures.names) in
-    let directory : true ≡ is_shown_dir (seen s (take k p)) = cc in
-    plain_at s p k true None within directory (sym (ap (option_map object) c.in_default.is) ∙ c.look_front-in-loop-names.ensures) c.loop-names.invariant
+pub returns-then-reach-names : goal.returns-then-reach-names
+returns-then-reach-names c =
+    let o : Option Object = option_map object c.reach-reach.result.seen in
+    let reached : Reached c.args.stack.now c.args.path.now c.reach-reach.result.dirs o = subst (λ (p : Names). Reached c.args.stack.now p c.reach-reach.result.dirs o) c.names-names.ensures.names c.reach-reach.ensures in
+    let some : 0 < c.reach-reach.result.dirs = omega arith in
+    let short : c.reach-reach.result.dirs < length c.args.path.now = subst (λ (p : Names). c.reach-reach.result.dirs < length p) c.names-names.ensures.names c.if-reach-names.true in
+    c.met.ensures ∙ plain_met c.args.stack.now c.args.path.now c.reach-reach.result.dirs o reached some false (λ e. absurd (cc)) (λ e. short)
 
-pub returns-then-is_symlink : goal.returns-then-is_symlink
-returns-then-is_symlink c =
-    let s = c.args.stack.now in
-    let p = c.args.path.now in
-    let k = c.loop-names.names in
-    let within : k < length p = omega (arith, ap length c.names-names-end.ensures.names) in
-    let directory : true ≡ is_shown_dir (seen s (take k p)) = cc in
-    let link : true ≡ is_symlink (object c.in-Some.entry) = cc in
-    ap (λ b. if b then None else plain_error s (take (k + 1) p) (drop (k + 1) p)) link
-    ∙ plain_at s p k true (Some (object c.in-Some.entry)) within directory (sym (ap (option_map object) c.in-Some.is) ∙ c.look_front-in-loop-names.ensures) c.loop-names.invariant
-
-pub loop-names-preserved : goal.loop-names-preserved
-loop-names-preserved c =
-    let s = c.args.stack.now in
-    let p = c.args.path.now in
-    let k = c.loop-names.names in
-    let within : k < length p = omega (arith, ap length c.names-names-end.ensures.names) in
-    let directory : true ≡ is_shown_dir (seen s (take k p)) = cc in
-    let other : false ≡ is_symlink (object c.in-Some.entry) = cc in
-    ap (λ b. if b then None else plain_error s (take (k + 1) p) (drop (k + 1) p)) other
-    ∙ plain_at s p k true (Some (object c.in-Some.entry)) within directory (sym (ap (option_map object) c.in-Some.is) ∙ c.look_front-in-loop-names.ensures) c.loop-names.invariant
+pub returns : goal.returns
+returns c =
+    let o : Option Object = option_map object c.reach-reach.result.seen in
+    let reached : Reached c.args.stack.now c.args.path.now c.reach-reach.result.dirs o = subst (λ (p : Names). Reached c.args.stack.now p c.reach-reach.result.dirs o) c.names-names.ensures.names c.reach-reach.ensures in
+    let some : 0 < c.reach-reach.result.dirs = omega arith in
+    let whole : length c.args.path.now ≤ c.reach-reach.result.dirs = subst (λ (p : Names). length p ≤ c.reach-reach.result.dirs) c.names-names.ensures.names c.if-reach-names.false in
+    c.met-2.ensures ∙ plain_met c.args.stack.now c.args.path.now c.reach-reach.result.dirs o reached some true (λ e. whole) (λ e. absurd (cc))

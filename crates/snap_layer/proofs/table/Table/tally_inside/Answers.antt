@@ -1,9 +1,17 @@
-use Rattle.std.proofs.Common.{arith}
-use Rattle.snap_layer.proofs.Listed.{inside_few, one_at_most}
+use Rattle.std.proofs.Common.{◌≡◌, ◌∙◌, sym, ap, subst}
+use Rattle.std.specs.Prelude.{count_by}
+use Rattle.std.specs.Map.{values_of}
+use Rattle.snap_layer.specs.Tree.{Entries, at, is_dir, is_whiteout, IsDirAt}
+use Rattle.snap_layer.specs.Edits.{inside}
+use Rattle.snap_layer.specs.Rows.{own}
+use Rattle.snap_layer.proofs.Leaves.{inside_leaf, not_true}
 use Rattle.snap_layer.proofs.table.Table.tally_inside.Goals as goal
 
-pub overflow_add-dirs : goal.overflow_add-dirs
-overflow_add-dirs c = omega (arith, inside_few c.args.self.now c.next_number.ensures.layer c.args.front.now, c.loop-row.invariant.dirs, c.from-dirs.ensures, one_at_most c.is_dir.result)
-
-pub overflow_add-whiteouts : goal.overflow_add-whiteouts
-overflow_add-whiteouts c = omega (arith, inside_few c.args.self.now c.next_number.ensures.layer c.args.front.now, c.loop-row.invariant.whiteouts, c.from-whiteouts.ensures, one_at_most c.is_whiteout.result)
+pub returns-then-not-is_directory : goal.returns-then-not-is_directory
+returns-then-not-is_directory c =
+    let leaf : IsDirAt (at c.args.self.now c.args.front.now) → ⊥ = λ dir. not_true c.is_directory.result c.if-not-is_directory.true (c.is_directory.ensures.1 (subst IsDirAt (sym c.node_at-node.ensures) dir)) in
+    let same : own c.args.front.now c.node_at-node.result ≡ inside c.args.front.now c.args.self.now.entries = ap (own c.args.front.now) c.node_at-node.ensures ∙ sym (inside_leaf c.args.self.now c.next_number.ensures.layer c.args.front.now leaf) in
+    record {
+      dirs = c.counts_of.ensures.dirs c.args.front.now ∙ ap (λ (es : Entries). count_by is_dir (values_of es)) same;
+      whiteouts = c.counts_of.ensures.whiteouts c.args.front.now ∙ ap (λ (es : Entries). count_by is_whiteout (values_of es)) same;
+    }

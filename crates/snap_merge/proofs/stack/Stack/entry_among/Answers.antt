@@ -3,7 +3,7 @@ use Rattle.std.specs.List.{list_any}
 use Rattle.std.specs.Str.{bytes_eq}
 use Rattle.std.proofs.lemmas.Map.Iter.{rest_all}
 use Rattle.snap_merge.proofs.Listings.{has_gathered, unseen}
-use Rattle.snap_merge.proofs.stack.Stack.entry.Goals as goal
+use Rattle.snap_merge.proofs.stack.Stack.entry_among.Goals as goal
 
 pub returns-clause-ok : goal.returns-clause-ok
 returns-clause-ok c =

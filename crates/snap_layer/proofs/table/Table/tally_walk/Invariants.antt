@@ -3,7 +3,7 @@ use Rattle.std.specs.Prelude.{count_by}
 use Rattle.std.specs.Map.{values_of}
 use Rattle.snap_layer.specs.Tree.{is_dir, is_whiteout}
 use Rattle.snap_layer.specs.Edits.{inside}
-use Rattle.snap_layer.proofs.table.Table.tally_inside.Given as goal
+use Rattle.snap_layer.proofs.table.Table.tally_walk.Given as goal
 
 -- those that were counted, and those among what is to come
 abbrev pub invariant-loop-row : goal.invariant-loop-row

@@ -1,0 +1,83 @@
+-- A directory of a table, by its path.
+use Rattle.std.proofs.Common.{◌≡◌, ℕ, Bool, true, false, List, [], ◌∷◌, ◌++◌, Option, Some, None, IsSome, refl, sym, ap, subst, ◌∙◌}
+use Rattle.std.specs.Option.{option_map}
+use Rattle.std.specs.Map.{lookup}
+use Rattle.std.specs.BTreeMap.{is_at}
+use Rattle.std.specs.FinMap as map
+use Rattle.slab.specs.Slab.{Slab as Slots}
+use Rattle.snap_path.specs.Text.{Names}
+use Rattle.snap_layer.specs.declared.node.Node.{Node}
+use Rattle.snap_layer.specs.declared.node.Node.TheVariants.{Dir, File, Symlink, Whiteout}
+use Rattle.snap_layer.specs.declared.inode.Inode.{Inode}
+use Rattle.snap_layer.specs.declared.inode.Target.{Target}
+use Rattle.snap_layer.specs.declared.inode.Target.TheVariants as target
+use Rattle.snap_layer.specs.Tree.{path_cmp, Tree, at, is_dir, IsDirAt}
+use Rattle.snap_layer.specs.Directory.{Directory, dir_of, found, entry}
+use Rattle.snap_layer.specs.Walk.{walk, entry_at, node_at, seen, stands, view_of, IsTable}
+use Rattle.snap_layer.specs.Holds.{Holds}
+use Rattle.snap_layer.specs.Reached.{OnlyPath}
+use Rattle.snap_layer.proofs.Maps.{lookup_find}
+use Rattle.snap_layer.proofs.Frames.{walk_push}
+
+-- the root's path alone leads to it
+unfoldable pub root_path : (s : Slots Inode) (root : ℕ) → IsTable (view_of s) root → OnlyPath s root root
+root_path s root ok = ([], (refl, λ q to. ok.forest q [] root ok.root_dir to refl))
+
+-- the directory's path and the name alone lead to a directory in it
+unfoldable pub child_path : (s : Slots Inode) (root key c : ℕ) (p : OnlyPath s root key) (n : List ℕ) → IsTable (view_of s) root → entry_at s key n ≡ Some (target.Inode c) → IsDirAt (node_at s c) → OnlyPath s root c
+child_path s root key c p n ok is dir =
+    let leads : walk (entry_at s) root (p.0 ++ n ∷ []) ≡ Some (target.Inode c) = walk_push (entry_at s) root key p.0 n p.1.0 ∙ is in
+    (p.0 ++ n ∷ [], (leads, λ q to. ok.forest q (p.0 ++ n ∷ []) c dir to leads))
+
+no_dir : (t : Tree) (p : Names) (x : Node) → is_dir x ≡ false → dir_of t p x ≡ None
+no_dir t p (Dir m o) e = absurd (cc)
+no_dir t p (File k) e = refl
+no_dir t p (Symlink k) e = refl
+no_dir t p Whiteout e = refl
+
+a_dir : (t : Tree) (p : Names) (x : Node) → is_dir x ≡ true → dir_of t p x ≡ Some (record { layer = t; path = p })
+a_dir t p (Dir m o) e = refl
+a_dir t p (File k) e = absurd (cc)
+a_dir t p (Symlink k) e = absurd (cc)
+a_dir t p Whiteout e = absurd (cc)
+
+pub not_none : (o : Option Node) → IsSome o → o ≡ None → ⊥
+not_none o some none = cc
+
+pub dir_at : (o : Option Node) (x : Node) → o ≡ Some x → is_dir x ≡ true → IsDirAt o
+dir_at o x is dir = subst IsDirAt (sym is) dir
+
+pub is_dir_node : (o : Option Node) (x : Node) → o ≡ Some x → IsDirAt o → is_dir x ≡ true
+is_dir_node o x is dir = subst IsDirAt is dir
+
+module _ (s : Slots Inode) (root key : ℕ) (h : Holds s root) (p : OnlyPath s root key) (t : Tree) (same : map.entries h.0 ≡ t.entries) (v : Directory) (view : ◌≡◌ {A = Directory} (record { layer = t; path = p.0 }) v) where
+  stood : (q : Names) → at t q ≡ stands (view_of s) root q
+  stood q = ap (lookup (is_at (path_cmp q))) (sym same) ∙ lookup_find path_cmp q (map.entries h.0) ∙ sym (map.get-entries h.0 q) ∙ h.1 q
+
+  -- the directory's node is what stands at its path
+  pub own_node : at v.layer v.path ≡ node_at s key
+  own_node = ap (λ (d : Directory). at d.layer d.path) (sym view) ∙ stood p.0 ∙ ap (seen (node_at s)) p.1.0
+
+  module _ (n : List ℕ) where
+    -- the entry's node is what stands at the path and the name
+    name_node : at v.layer (v.path ++ n ∷ []) ≡ seen (node_at s) (entry_at s key n)
+    name_node = ap (λ (d : Directory). at d.layer (d.path ++ n ∷ [])) (sym view) ∙ stood (p.0 ++ n ∷ []) ∙ ap (seen (node_at s)) (walk_push (entry_at s) root key p.0 n p.1.0)
+
+    pub entry_none : entry_at s key n ≡ None → entry v n ≡ None
+    entry_none none = ap (option_map (λ (x : Node). (x, dir_of v.layer (v.path ++ n ∷ []) x))) (name_node ∙ ap (seen (node_at s)) none)
+
+    pub entry_leaf : (w : Target) (x : Node) → entry_at s key n ≡ Some w → seen (node_at s) (Some w) ≡ Some x → is_dir x ≡ false → entry v n ≡ Some (x, None)
+    entry_leaf w x is node leaf =
+        ap (option_map (λ (y : Node). (y, dir_of v.layer (v.path ++ n ∷ []) y))) (name_node ∙ ap (seen (node_at s)) is ∙ node)
+        ∙ ap (λ (o : Option Directory). Some (x, o)) (no_dir v.layer (v.path ++ n ∷ []) x leaf)
+
+    pub entry_dir : (c : ℕ) (x : Node) (q : OnlyPath s root c) → entry_at s key n ≡ Some (target.Inode c) → node_at s c ≡ Some x → is_dir x ≡ true → entry v n ≡ Some (x, Some (record { layer = t; path = q.0 }))
+    entry_dir c x q is node dir =
+        let leads : walk (entry_at s) root (p.0 ++ n ∷ []) ≡ Some (target.Inode c) = walk_push (entry_at s) root key p.0 n p.1.0 ∙ is in
+        ap (option_map (λ (y : Node). (y, dir_of v.layer (v.path ++ n ∷ []) y))) (name_node ∙ ap (seen (node_at s)) is ∙ node)
+        ∙ ap (λ (o : Option Directory). Some (x, o)) (a_dir v.layer (v.path ++ n ∷ []) x dir
+        ∙ ap (λ (d : Directory). Some (record { layer = d.layer; path = d.path ++ n ∷ [] })) (sym view)
+        ∙ ap (λ (y : Names). Some (record { layer = t; path = y })) (q.1.1 (p.0 ++ n ∷ []) leads))
+
+    pub entry_there : (c : ℕ) → IsTable (view_of s) root → entry_at s key n ≡ Some (target.Inode c) → IsSome (node_at s c)
+    entry_there c ok is = ok.there (p.0 ++ n ∷ []) c (walk_push (entry_at s) root key p.0 n p.1.0 ∙ is)

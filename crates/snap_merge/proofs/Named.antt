@@ -1,0 +1,23 @@
+-- What has no name is not seen.
+use Rattle.std.proofs.Common.{◌≡◌, ℕ, Bool, true, false, cond, List, [], ◌∷◌, ◌++◌, Option, Some, None, refl, sym, ap, ◌∙◌}
+use Rattle.std.specs.Prelude.{is_some}
+use Rattle.snap_path.specs.Text.{Names, is_name}
+use Rattle.snap_layer.specs.declared.node.Node.{Node}
+use Rattle.snap_layer.specs.Tree.{Tree, at, hides}
+use Rattle.snap_merge.specs.Objects.{Object, seen, seen_over, AreLayers}
+use Rattle.snap_merge.proofs.Ends.{middle_true}
+
+clash : true ≡ false → ⊥
+clash e = cc
+
+nothing_else : (b : Bool) → cond {A = Option Object} b None None ≡ None
+nothing_else true = refl
+nothing_else false = refl
+
+pub no_name_seen : (s : List Tree) → AreLayers s → (p : Names) (n : List ℕ) → is_name n ≡ false → seen s (p ++ n ∷ []) ≡ None
+no_name_seen [] ok p n bad = refl
+no_name_seen (t ∷ ts) ok p n bad = by (at t (p ++ n ∷ [])) refl (no_name_seen ts ok.1 p n bad)
+  where
+    by : (o : Option Node) → at t (p ++ n ∷ []) ≡ o → seen ts (p ++ n ∷ []) ≡ None → seen_over t o (p ++ n ∷ []) (seen ts (p ++ n ∷ [])) ≡ None
+    by None is later = ap (λ u. cond (hides t (p ++ n ∷ [])) None u) later ∙ nothing_else (hides t (p ++ n ∷ []))
+    by (Some x) is later = absurd (clash (sym (middle_true p n [] (ok.0.paths (p ++ n ∷ []) (ap is_some is)).0) ∙ bad))
