@@ -10,9 +10,9 @@ use Rattle.snap_lease.specs.Lease.{Lease}
 use Rattle.snap_record.specs.Labels.{Bytes, Label}
 use Rattle.snap_record.specs.declared.record.Record.{Record}
 use Rattle.snap_call.specs.declared.config.Namespace.{Namespace}
-use Rattle.snap_call.specs.Records.{record_cmp, is_named, record_at, has_key, is_slot, active_at, is_committed, committed_at, charge_of, charge_if, charge_at, active_one, open_count, with_labels, relabelled, is_free, lowest_free}
+use Rattle.snap_call.specs.Records.{record_cmp, is_named, record_at, has_key, is_slot, active_at, is_committed, committed_at, charge_of, charge_if, charge_at, active_one, open_count, with_labels, relabelled, is_free, lowest_free, AllPairwise}
 use Rattle.snap_call.specs.State.{place_of, chain_from, is_present, is_base, ancestors, ids_of, with_layer, layers_of}
-use Rattle.snap_call.specs.Good.{AllPairwise, IsGuarding}
+use Rattle.snap_call.specs.Good.{IsGuarding}
 use Rattle.snap_call.proofs.Lists.{all-map, some_same, none_some, if_committed}
 use Rattle.snap_call.proofs.Chains.{HasParent, NamesStand, chain, chain_over}
 use Rattle.snap_call.proofs.Sums.{part_of}

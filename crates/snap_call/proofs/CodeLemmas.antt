@@ -13,7 +13,7 @@ use Rattle.snap_record.specs.declared.record.Content.TheVariants.{Active, Commit
 use Rattle.snap_call.specs.Records.{is_later, is_named, is_slot, active_at, with_record, without, without_slot, recharged, relabelled, with_labels, committed_as}
 
 -- an insertion before the first record that comes later
-with_record_found : (r : Record) (rs : List Record) (i : ℕ) (d : Record) → i < length rs → is_later r (get_or rs i d) ≡ true → ((k : ℕ) → k < i → is_later r (get_or rs k d) ≡ false) → insert rs i r ≡ with_record r rs
+pub with_record_found : (r : Record) (rs : List Record) (i : ℕ) (d : Record) → i < length rs → is_later r (get_or rs i d) ≡ true → ((k : ℕ) → k < i → is_later r (get_or rs k d) ≡ false) → insert rs i r ≡ with_record r rs
 with_record_found r [] i d lt here before = absurd (omega arith)
 with_record_found r (t ∷ ts) zero d lt here before = rw here refl
 with_record_found r (t ∷ ts) (suc i) d lt here before =

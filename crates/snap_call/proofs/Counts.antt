@@ -10,8 +10,7 @@ use Rattle.snap_record.specs.Labels.{Bytes}
 use Rattle.snap_record.specs.declared.record.Content.{Content}
 use Rattle.snap_record.specs.declared.record.Content.TheVariants.{View, Active, Committed}
 use Rattle.snap_record.specs.declared.record.Record.{Record}
-use Rattle.snap_call.specs.Records.{record_cmp, has_slot, is_slot, is_active, active_at, active_one, open_count, with_record, without, without_slot, recharged, committed_as}
-use Rattle.snap_call.specs.Good.{AllPairwise, AreApart, HasLowSlot}
+use Rattle.snap_call.specs.Records.{record_cmp, has_slot, is_slot, is_active, active_at, active_one, open_count, with_record, without, without_slot, recharged, committed_as, AllPairwise, AreApart, HasLowSlot}
 use Rattle.snap_call.proofs.Lists.{active_at-is_slot, all-without, pairwise-without}
 use Rattle.snap_call.proofs.Sums.{find-here, find-past}
 use Rattle.snap_call.proofs.Slots.{active_at-without_slot_own}

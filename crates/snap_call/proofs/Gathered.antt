@@ -12,11 +12,11 @@ use Rattle.snap_record.specs.Records.{usage_of}
 use Rattle.snap_record.specs.declared.record.Record.{Record}
 use Rattle.snap_call.specs.declared.state.State.{State}
 use Rattle.snap_call.specs.declared.sweep.Sweep.{Sweep}
-use Rattle.snap_call.specs.Good.{AllPairwise, Good}
+use Rattle.snap_call.specs.Good.{Good}
 use Rattle.snap_call.specs.Ids.{has_id, with_id}
 use Rattle.snap_call.specs.Marked.{marked}
 use Rattle.snap_call.specs.Reached.{is_swept, swept, unswept}
-use Rattle.snap_call.specs.Records.{charge_of}
+use Rattle.snap_call.specs.Records.{charge_of, AllPairwise}
 use Rattle.snap_call.specs.State.{ids_of}
 use Rattle.snap_call.proofs.Lists.{all-both, all-map}
 use Rattle.snap_call.proofs.Sums.{usage, blocks, inodes, part_of, plus-none, plus-joined}

@@ -21,9 +21,9 @@ use Rattle.snap_record.specs.declared.record.Record.{Record}
 use Rattle.snap_call.specs.declared.config.Namespace.{Namespace}
 use Rattle.snap_call.specs.declared.state.State.{State}
 use Rattle.snap_call.specs.Forms.{has_name}
-use Rattle.snap_call.specs.Records.{has_key, has_children, has_slot, is_named, is_slot, record_at, committed_at, active_at, charge_of, with_record, without_slot, without_key, recharged, relabelled, committed_as}
+use Rattle.snap_call.specs.Records.{has_key, has_children, has_slot, is_named, is_slot, record_at, committed_at, active_at, charge_of, with_record, without_slot, without_key, recharged, relabelled, committed_as, HasLowSlot, AreApart}
 use Rattle.snap_call.specs.State.{place_of, name_at, limit_at, chain_from, is_base, is_too_deep, ancestors, layers_of, or_empty, shown_layers}
-use Rattle.snap_call.specs.Good.{IsGuarding, IsCounted, HasLowSlot, IsShown, AreApart, Good}
+use Rattle.snap_call.specs.Good.{IsGuarding, IsCounted, IsShown, Good}
 use Rattle.snap_call.specs.Step.{counted, one, new_active, prepared, committed, leases_after, added, new_view, viewed, removed_at}
 use Rattle.snap_call.proofs.Leasing.{place_of-name_at, guarding-with_name}
 use Rattle.snap_call.proofs.Lists.{all-map, all-both, committed-from, find-with_record_own, find-none, none-passes, record_at-is_named, same_slot, active_at-all, all-with_record, pairwise-with_record, all-without, pairwise-without, all-beside, all-recharged, pairwise-recharged}

@@ -8,6 +8,7 @@ pub mod Slots
 pub mod Places
 mod CodeLemmas
 mod Searches
+mod Ascending
 mod Marks
 pub mod Gathered
 mod Equal

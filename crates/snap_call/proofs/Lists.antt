@@ -11,8 +11,7 @@ use Rattle.snap_record.specs.Labels.{Bytes}
 use Rattle.snap_record.specs.declared.record.Content.{Content}
 use Rattle.snap_record.specs.declared.record.Content.TheVariants.{View, Active, Committed}
 use Rattle.snap_record.specs.declared.record.Record.{Record}
-use Rattle.snap_call.specs.Records.{record_cmp, is_named, record_at, has_slot, is_slot, active_at, is_committed, committed_at, with_record, without, recharged}
-use Rattle.snap_call.specs.Good.{AllPairwise}
+use Rattle.snap_call.specs.Records.{record_cmp, is_named, record_at, has_slot, is_slot, active_at, is_committed, committed_at, with_record, without, recharged, AllPairwise}
 
 -- ---- any list
 

@@ -50,13 +50,13 @@ index_below Greater = omega arith
 
 module _ (place : ℕ) (key : Bytes) where
   -- a record of the key in the namespace, like this one in all else
-  abbrev probe : Record → Record
+  abbrev pub probe : Record → Record
   probe d = record d { namespace = place; key = key }
 
-  tied_named : (r : Record) → key_cmp place key r ≡ Equal → is_named place key r ≡ true
+  pub tied_named : (r : Record) → key_cmp place key r ≡ Equal → is_named place key r ≡ true
   tied_named r e = tied-is_named (probe r) r (tied_back record_cmp_total r (probe r) e)
 
-  named_tied : (r : Record) → is_named place key r ≡ true → key_cmp place key r ≡ Equal
+  pub named_tied : (r : Record) → is_named place key r ≡ true → key_cmp place key r ≡ Equal
   named_tied r is =
       let h = and_parts (r.namespace == place) (bytes_eq r.key key) is in
       let at : r.namespace ≡ place = eqb-true r.namespace place h.0 in

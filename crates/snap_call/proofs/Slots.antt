@@ -13,8 +13,7 @@ use Rattle.snap_record.specs.Records.{usage_of}
 use Rattle.snap_record.specs.declared.record.Content.{Content}
 use Rattle.snap_record.specs.declared.record.Content.TheVariants.{View, Active, Committed}
 use Rattle.snap_record.specs.declared.record.Record.{Record}
-use Rattle.snap_call.specs.Records.{record_cmp, has_slot, is_slot, is_active, active_at, charge_if, charge_at, with_record, without, without_slot, recharged, committed_as}
-use Rattle.snap_call.specs.Good.{AllPairwise, AreApart}
+use Rattle.snap_call.specs.Records.{record_cmp, has_slot, is_slot, is_active, active_at, charge_if, charge_at, with_record, without, without_slot, recharged, committed_as, AllPairwise, AreApart}
 use Rattle.snap_call.proofs.Sums.{find-here, find-past}
 use Rattle.snap_call.proofs.Lists.{active_at-is_slot, find-filter_same, find-without_other}
 

@@ -1,25 +1,20 @@
 -- What is true of the state whenever no call is under way.
 -- Cited by `State::opening`, `State::plan_sweep`, `Accounts::state` and others.
-use Rattle.std.specs.Prelude.{◌≡◌, ◌≢◌, ℕ, ◌<◌, true, false, List, [], ◌∷◌, IsSome, IsSomeAnd, length}
+use Rattle.std.specs.Prelude.{◌≡◌, ◌≢◌, ℕ, ◌<◌, true, List, IsSome, IsSomeAnd, length}
 use Rattle.std.specs.List.{AllByRecursion}
 use Rattle.std.specs.List.Sorted.{IsStrictlySortedBy}
 use Rattle.snap_usage.specs.Counted.{count_of, Covers}
 use Rattle.snap_lease.specs.Lease.{Lease, NamesOnce}
 use Rattle.snap_record.specs.Labels.{Bytes}
 use Rattle.snap_record.specs.declared.record.Content.{Content}
-use Rattle.snap_record.specs.declared.record.Content.TheVariants.{View, Active, Committed}
+use Rattle.snap_record.specs.declared.record.Content.TheVariants.{View, Committed}
 use Rattle.snap_record.specs.declared.record.Record.{Record}
 use Rattle.snap_mount.specs.Mounts.{is_root_text}
 use Rattle.snap_call.specs.declared.config.Namespace.{Namespace}
 use Rattle.snap_call.specs.declared.state.State.{State}
 use Rattle.snap_call.specs.Forms.{is_limit, have_distinct_names}
-use Rattle.snap_call.specs.Records.{record_cmp, is_slot, committed_at, charge_of}
+use Rattle.snap_call.specs.Records.{record_cmp, committed_at, charge_of, AllPairwise, AreApart, HasLowSlot}
 use Rattle.snap_call.specs.State.{place_of, limit_at, chain_from, is_base, shown_layers}
-
--- R holds of any two items, the earlier one first
-abbrev pub AllPairwise : {X : Type 0} → (X → X → Type 0) → List X → Type 0
-AllPairwise R [] = Unit {0}
-AllPairwise R (x ∷ xs) = AllByRecursion (R x) xs × AllPairwise R xs
 
 -- each snapshot that the lease names is a committed one of the lease's namespace
 abbrev pub IsGuarding : List Namespace → List Record → Lease → Type 0
@@ -30,19 +25,10 @@ abbrev pub IsCounted : Content → Type 0
 IsCounted (Committed layer usage) = usage ≡ count_of layer
 IsCounted content = Unit {0}
 
--- an active snapshot's slot is one of 0 to 63
-abbrev pub HasLowSlot : Content → Type 0
-HasLowSlot (Active slot charged) = slot < 64
-HasLowSlot content = Unit {0}
-
 -- a view's layers are those of its committed ancestors, or one empty layer
 abbrev pub IsShown : List Record → ℕ → Bytes → Content → Type 0
 IsShown rs place parent (View layers) = layers ≡ shown_layers place parent rs
 IsShown rs place parent content = Unit {0}
-
--- the two are not active in the same slot
-abbrev pub AreApart : Record → Record → Type 0
-AreApart r t = (slot : ℕ) → is_slot slot r ≡ true → is_slot slot t ≡ false
 
 -- what is true of the state whenever no call is under way
 pub record Good (s : State) : Type 0 where

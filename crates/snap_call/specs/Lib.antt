@@ -3,6 +3,7 @@ pub mod Records
 pub mod State
 pub mod Reached
 pub mod Ids
+pub mod Indexes
 pub mod Marked
 pub mod Good
 pub mod Step

@@ -1,10 +1,10 @@
 -- Records as a list, in order of their namespaces' places and of the bytes of their keys.
 -- Cited by `Records::committed_at`, `Records::is_present`, `Records::is_base` and others.
-use Rattle.std.specs.Prelude.{ℕ, zero, suc, ◌+◌, ◌==◌, Bool, true, false, ◌&&◌, if◌then◌else◌, List, [], ◌∷◌, map, filter, take, Option, None, Some, find, bytes_eq, option_and_then}
+use Rattle.std.specs.Prelude.{◌≡◌, ℕ, ◌<◌, zero, suc, ◌+◌, ◌==◌, Bool, true, false, ◌&&◌, if◌then◌else◌, List, [], ◌∷◌, map, filter, take, Option, None, Some, find, bytes_eq, option_and_then}
 use Rattle.std.specs.declared.cmp.Ordering.{Ordering}
 use Rattle.std.specs.Ordering.{nat_cmp, ordering_then, is_lt}
 use Rattle.std.specs.Cmp.Lexicographic.{slice_cmp}
-use Rattle.std.specs.List.{list_any}
+use Rattle.std.specs.List.{list_any, AllByRecursion}
 use Rattle.std.specs.Option.{option_or}
 use Rattle.snap_layer.specs.Tree.{Tree}
 use Rattle.snap_usage.specs.declared.usage.Usage.{Usage}
@@ -147,3 +147,17 @@ is_free slot rs = if list_any (is_slot slot) rs then false else true
 unfoldable pub lowest_free : ℕ → List Record → Option ℕ
 lowest_free zero rs = None
 lowest_free (suc n) rs = option_or (lowest_free n rs) (if is_free n rs then Some n else None)
+
+-- R holds of any two items, the earlier one first
+abbrev pub AllPairwise : {X : Type 0} → (X → X → Type 0) → List X → Type 0
+AllPairwise R [] = Unit {0}
+AllPairwise R (x ∷ xs) = AllByRecursion (R x) xs × AllPairwise R xs
+
+-- an active snapshot's slot is one of 0 to 63
+abbrev pub HasLowSlot : Content → Type 0
+HasLowSlot (Active slot charged) = slot < 64
+HasLowSlot content = Unit {0}
+
+-- the two are not active in the same slot
+abbrev pub AreApart : Record → Record → Type 0
+AreApart r t = (slot : ℕ) → is_slot slot r ≡ true → is_slot slot t ≡ false

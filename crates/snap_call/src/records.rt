@@ -1,8 +1,11 @@
-ghost use Rattle.std.specs.Prelude.{◌≡◌, ◌<◌, ◌≤◌, [], not, filter, length, position, option_copied, OnOk, OnErr, OnSome, IfErr, IfOk, MatchOption, IsTrue, ◌↔◌, vec_len, vec_capacity};
+ghost use Rattle.std.specs.Prelude.{◌≡◌, ◌<◌, ◌≤◌, [], true, false, not, filter, length, position, option_copied, OnOk, OnErr, OnSome, IfErr, IfOk, MatchOption, IsTrue, ◌↔◌, vec_len, vec_capacity};
 ghost use Rattle.std.specs.Ordering.{is_lt};
 ghost use Rattle.std.specs.List.{insert, list_any};
-ghost use Rattle.snap_call.specs.Records.{record_at, record_cmp, has_key, has_children, is_child, is_named, is_slot, is_later, active_at, with_record, without_key, without_slot, recharged, relabelled, is_walked, page, committed_as, lowest_free};
+ghost use Rattle.std.specs.List.Sorted.{IsPartitionPoint};
+ghost use Rattle.snap_call.specs.Records.{record_at, record_cmp, has_key, has_children, is_child, is_named, is_slot, active_at, with_record, without_key, without_slot, recharged, relabelled, is_walked, page, committed_as, lowest_free};
 ghost use Rattle.snap_call.specs.Ids.{has_id};
+ghost use Rattle.snap_call.specs.Indexes.{IsAscending};
+ghost use Rattle.snap_call.specs.Marked.{key_cmp};
 
 use crate::ids::Ids;
 use snap_layer::Shared;
@@ -16,8 +19,7 @@ use std::marker::Model;
 /// The records of a store, in order of their namespaces' places and the bytes of their keys.
 /// Contracts see the list.
 ///
-/// A search goes over the list, so its cost grows with the number of records. Since the list is
-/// sorted, a search for a key can be a binary one.
+/// A key is found by a binary search: its cost grows with the logarithm of the number of records.
 #[derive(Debug, Drop)]
 pub struct Records {
     list: Vec<Record>,
@@ -29,7 +31,11 @@ impl Model for Records {
 
     ghost Value = { List Record };
 
+    ghost use Rattle.snap_call.specs.Indexes.{IsAscending};
+
     ghost view = { λ r. r.list.items };
+
+    ghost invariant = { λ r. IsAscending r.list.items };
 }
 
 impl Records {
@@ -67,14 +73,17 @@ impl Records {
     pub fn has_key(&self, place: usize, key: &str) -> bool
         ensures { result ≡ has_key place key.now self.now }
     {
-        self.list.iter().any(|record| is_named(record, place, key))
+        place_of_key(&self.list, place, key).is_some()
     }
 
     /// The record of this key in the namespace at the place. Takes no memory.
     pub fn record_at(&self, place: usize, key: &str) -> Option<&Record>
         ensures { option_copied result ≡ record_at place key.now self.now }
     {
-        self.list.iter().find(|record| is_named(record, place, key))
+        match place_of_key(&self.list, place, key) {
+            Some(at) => Some(&self.list[at]),
+            None => None,
+        }
     }
 
     /// Whether the namespace at the place has a snapshot on this parent. Takes no memory.
@@ -232,7 +241,8 @@ fn take_active(list: &mut Vec<Record>, slot: u64) -> Option<Record>
 
 /// Puts a record in its place, where the list has room for it.
 fn put_reserved(list: &mut Vec<Record>, added: Record)
-    requires { vec_len list.old < vec_capacity list.old }
+    requires room { vec_len list.old < vec_capacity list.old }
+    requires ascending { IsAscending list.old.items }
     ensures { list.new.items ≡ with_record added list.old.items }
 {
     let place = place_for(list, &added);
@@ -248,6 +258,16 @@ fn is_before(a: &Record, b: &Record) -> bool
         Ordering::Less => true,
         Ordering::Equal => a.key.cmp(&b.key).is_lt(),
         Ordering::Greater => false,
+    }
+}
+
+/// How the record stands to the key in the namespace at the place, in the order of the records.
+fn compare(snapshot: &Record, place: usize, key: &str) -> Ordering
+    ensures { result ≡ key_cmp place key.now snapshot.now }
+{
+    match snapshot.namespace.cmp(&place) {
+        Ordering::Equal => snapshot.key.as_str().cmp(key),
+        other => other,
     }
 }
 
@@ -286,30 +306,36 @@ fn is_slot(snapshot: &Record, slot: u64) -> bool
     }
 }
 
-/// Where the first record stands that comes after this one.
-fn place_after(list: &[Record], snapshot: &Record) -> Option<usize>
-    ensures { result ≡ position (is_later snapshot.now) list.now }
-{
-    list.iter().position(|other| is_before(snapshot, other))
-}
-
-/// Where the record goes in the list.
+/// Where the record goes in the list: before the first one that comes later. A binary search.
 fn place_for(list: &[Record], snapshot: &Record) -> usize
+    requires { IsAscending list.now }
     ensures within { result ≤ length list.now }
     ensures in_order { insert list.now result snapshot.now ≡ with_record snapshot.now list.now }
 {
-    match place_after(list, snapshot) {
-        Some(place) => place,
-        None => list.len(),
-    }
+    list.partition_point(|other| !is_before(snapshot, other))
 }
 
-/// Where the record of the key in the namespace at the place stands.
-fn place_of_key(list: &[Record], place: usize, key: &str) -> Option<usize>
+/// Where the first record stands that doesn't come before the key in the namespace at the place. A
+/// binary search.
+fn place_from(list: &[Record], place: usize, key: &str) -> usize
+    requires { IsAscending list.now }
+    ensures within { result ≤ length list.now }
+    ensures parted { IsPartitionPoint (λ r. is_lt (key_cmp place key.now r) ≡ true) (λ r. is_lt (key_cmp place key.now r) ≡ false) list.now result }
+{
+    list.partition_point(|snapshot| compare(snapshot, place, key).is_lt())
+}
+
+/// Where the record of the key in the namespace at the place stands. A binary search.
+pub(crate) fn place_of_key(list: &[Record], place: usize, key: &str) -> Option<usize>
+    requires { IsAscending list.now }
     ensures { result ≡ position (is_named place key.now) list.now }
 {
-    list.iter()
-        .position(|snapshot| is_named(snapshot, place, key))
+    let at = place_from(list, place, key);
+    if at < list.len() && is_named(&list[at], place, key) {
+        Some(at)
+    } else {
+        None
+    }
 }
 
 /// Where the record of the slot stands.

@@ -1,24 +1,24 @@
 // What a sweep takes away: a mark and sweep over the records, by their places in the list.
-ghost use Rattle.std.specs.Prelude.{◌≡◌, ◌≢◌, ◌+◌, ◌<◌, ◌^◌, [], ◌∷◌, ◌++◌, Some, map, length, position, IfOk, OnOk};
+ghost use Rattle.std.specs.Prelude.{◌≡◌, ◌≢◌, ◌+◌, ◌<◌, ◌^◌, [], ◌∷◌, ◌++◌, Some, map, length, IfOk, OnOk};
 ghost use Rattle.std.specs.List.Sorted.{IsStrictlySortedBy};
 ghost use Rattle.snap_ledger.specs.States.{plus};
 ghost use Rattle.snap_record.specs.Records.{usage_of};
 ghost use Rattle.snap_usage.specs.Counted.{no_usage};
-ghost use Rattle.snap_call.specs.Good.{Good, AllPairwise};
+ghost use Rattle.snap_call.specs.Good.{Good};
 ghost use Rattle.snap_call.specs.Ids.{with_id};
-ghost use Rattle.snap_call.specs.Marked.{key_cmp, parent_place, is_kept, marked};
+ghost use Rattle.snap_call.specs.Marked.{parent_place, is_kept, marked};
 ghost use Rattle.snap_call.specs.Reached.{swept, swept_keys};
-ghost use Rattle.snap_call.specs.Records.{record_cmp, is_named, charge_of};
+ghost use Rattle.snap_call.specs.Records.{record_cmp, charge_of, AllPairwise};
 ghost use Rattle.snap_call.specs.State.{place_of, ids_of};
 
 use crate::chain::is_committed;
 use crate::ids::Ids;
+use crate::records::place_of_key;
 use crate::state::State;
 use snap_lease::{LiveNames, sweep_set};
 use snap_record::{Record, Sequence, Text};
 use snap_usage::Usage;
 use std::alloc::{AllocError, Global};
-use std::cmp::Ordering;
 
 /// What a sweep takes away.
 #[derive(Drop)]
@@ -58,26 +58,6 @@ impl Sweep {
     }
 }
 
-// How the record stands to the key in the namespace at the place, in the order of the records.
-fn compare(snapshot: &Record, place: usize, key: &str) -> Ordering
-    ensures { result ≡ key_cmp place key.now snapshot.now }
-{
-    match snapshot.namespace.cmp(&place) {
-        Ordering::Equal => snapshot.key.as_str().cmp(key),
-        other => other,
-    }
-}
-
-// Where the record of the key in the namespace at the place stands: a binary search.
-fn find_key(records: &[Record], place: usize, key: &str) -> Option<usize>
-    requires { IsStrictlySortedBy record_cmp records.now }
-    ensures { result ≡ position (is_named place key.now) records.now }
-{
-    records
-        .binary_search_by(|snapshot| compare(snapshot, place, key))
-        .ok()
-}
-
 // Where the parent of a record of the namespace at the place stands.
 fn parent_place(records: &[Record], place: usize, snapshot: &Record) -> Option<usize>
     requires { IsStrictlySortedBy record_cmp records.now }
@@ -86,7 +66,7 @@ fn parent_place(records: &[Record], place: usize, snapshot: &Record) -> Option<u
     if snapshot.namespace != place || snapshot.parent.is_empty() {
         return None;
     }
-    find_key(records, place, snapshot.parent.as_str())
+    place_of_key(records, place, snapshot.parent.as_str())
 }
 
 // Where the parents of the records of the namespace at the place stand.

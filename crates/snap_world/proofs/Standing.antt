@@ -8,8 +8,8 @@ use Rattle.snap_record.specs.declared.record.Content.{Content}
 use Rattle.snap_record.specs.declared.record.Content.TheVariants.{View, Active}
 use Rattle.snap_record.specs.declared.record.Record.{Record}
 use Rattle.snap_call.specs.declared.refusal.Refusal.{Refusal}
-use Rattle.snap_call.specs.Good.{AllPairwise, AreApart, HasLowSlot, IsShown}
-use Rattle.snap_call.specs.Records.{active_at, has_slot, is_named, is_slot, record_at}
+use Rattle.snap_call.specs.Good.{IsShown}
+use Rattle.snap_call.specs.Records.{active_at, has_slot, is_named, is_slot, record_at, AllPairwise, AreApart, HasLowSlot}
 use Rattle.snap_call.specs.State.{place_of}
 use Rattle.snap_call.specs.declared.state.State.{State}
 use Rattle.snap_call.proofs.Lists.{record_at-all, some_same}

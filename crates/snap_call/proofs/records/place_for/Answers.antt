@@ -1,9 +1,14 @@
-use Rattle.std.proofs.Common.{sym, ◌∙◌}
-use Rattle.snap_call.proofs.CodeLemmas.{with_record-Some, with_record-None}
+use Rattle.std.proofs.Common.{rules}
+use Rattle.std.specs.Prelude.{not}
+use Rattle.std.proofs.lemmas.List.Sorted.{IsPartitionPoint-from_clause}
+use Rattle.snap_record.specs.declared.record.Record.{Record}
+use Rattle.snap_call.specs.Records.{is_later}
+use Rattle.snap_call.proofs.Ascending.{parted-later, placed}
 use Rattle.snap_call.proofs.records.place_for.Goals as goal
 
-pub returns-in-Some-clause-in_order : goal.returns-in-Some-clause-in_order
-returns-in-Some-clause-in_order c = with_record-Some c.args.snapshot.now c.args.list.now c.in-Some.place (sym c.place_after.ensures ∙ c.in-Some.is)
-
-pub returns-in-None-clause-in_order : goal.returns-in-None-clause-in_order
-returns-in-None-clause-in_order c = with_record-None c.args.snapshot.now c.args.list.now (sym c.place_after.ensures ∙ c.in-None.is)
+pub returns-clause-in_order : goal.returns-clause-in_order
+returns-clause-in_order c =
+    let r = c.args.snapshot.now in
+    let rs = c.args.list.now in
+    placed r rs _ c.partition_point.ensures.bound
+    (IsPartitionPoint-from_clause (λ (t : Record). not (is_later r t)) rs _ c.partition_point.ensures.partitioned (parted-later r rs c.requires) (λ a b f' called. search rules))

@@ -1,7 +1,9 @@
-use Rattle.std.proofs.Common.{◌≡◌, sym, ap, ◌∙◌, get_or, List, set, position, Some, None}
-use Rattle.snap_record.specs.declared.record.Record.{Record}
+use Rattle.std.proofs.Common.{List, None, Some, ap, get_or, position, set, subst, sym, ◌∙◌, ◌≡◌}
 use Rattle.snap_call.specs.Records.{is_named, with_labels}
+use Rattle.snap_record.specs.declared.record.Record.{Record}
 use Rattle.snap_call.proofs.CodeLemmas.{relabelled-Some, relabelled-None}
+use Rattle.snap_call.specs.Indexes.{IsAscending}
+use Rattle.snap_call.proofs.Ascending.{ascending-relabelled}
 use Rattle.snap_call.proofs.records.Records.relabel.Goals as goal
 
 pub returns-in_default : goal.returns-in_default
@@ -17,3 +19,11 @@ returns c =
     let at : r ≡ get_or c.args.self.now c.in-Some.at r = c.index_mut-record.ensures.value ∙ ap (λ l. get_or l c.in-Some.at r) c.self.view_is in
     ap (λ (l : List Record). set l c.in-Some.at (with_labels c.args.labels c.args.number r)) c.self.view_is
     ∙ relabelled-Some c.args.place c.args.key.now c.args.labels c.args.number _ c.in-Some.at r found at
+
+pub invariant_of-self : goal.invariant_of-self
+invariant_of-self c =
+    let P : List Record → Type 0 = λ l. IsAscending l in
+    let rs = c.self.inside.list.items in
+    let named = is_named c.args.place c.args.key.now in
+    let found : position named rs ≡ Some c.in-Some.at = ap (λ (l : List Record). position named l) (sym c.deref.ensures.value) ∙ sym c.place_of_key.ensures ∙ c.in-Some.is in
+    subst P (sym (relabelled-Some c.args.place c.args.key.now c.args.labels c.args.number rs c.in-Some.at c.index_mut-record.result.now found c.index_mut-record.ensures.value)) (ascending-relabelled c.args.place c.args.key.now c.args.labels c.args.number rs c.self.invariant)

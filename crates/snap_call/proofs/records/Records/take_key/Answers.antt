@@ -1,8 +1,10 @@
-use Rattle.std.proofs.Common.{◌≡◌, sym, ap, ◌∙◌, get_or, List, position, Some, None}
+use Rattle.std.proofs.Common.{List, None, Some, ap, get_or, position, subst, sym, ◌∙◌, ◌≡◌}
+use Rattle.snap_call.specs.Records.{is_named}
 use Rattle.std.specs.List.{remove}
 use Rattle.snap_record.specs.declared.record.Record.{Record}
-use Rattle.snap_call.specs.Records.{is_named}
 use Rattle.snap_call.proofs.CodeLemmas.{without-Some, without-None}
+use Rattle.snap_call.specs.Indexes.{IsAscending}
+use Rattle.snap_call.proofs.Ascending.{ascending-without}
 use Rattle.snap_call.proofs.records.Records.take_key.Goals as goal
 
 pub returns-in-Some-clause-taken : goal.returns-in-Some-clause-taken
@@ -32,3 +34,11 @@ returns-in-None-clause-record_taken c =
     let at : position named c.args.self.now ≡ None = ap (λ (l : List Record). position named l) (sym (c.deref.ensures.value ∙ c.self.view_is)) ∙ sym c.place_of_key.ensures ∙ c.in-None.is in
     let both = without-None named c.args.self.now at in
     both.1
+
+pub invariant_of-self : goal.invariant_of-self
+invariant_of-self c =
+    let P : List Record → Type 0 = λ l. IsAscending l in
+    let named = is_named c.args.place c.args.key.now in
+    let at : position named c.self.inside.list.items ≡ Some c.in-Some.at = ap (λ (l : List Record). position named l) (sym c.deref.ensures.value) ∙ sym c.place_of_key.ensures ∙ c.in-Some.is in
+    let both = without-Some named c.self.inside.list.items c.in-Some.at c.remove.result at c.remove.ensures.value in
+    subst P (sym (c.remove.ensures.items ∙ both.0)) (ascending-without named c.self.inside.list.items c.self.invariant)
