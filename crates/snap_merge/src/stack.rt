@@ -236,7 +236,8 @@ impl<'a> Stack<'a> {
     /// directory; `BadPath` where the word has more than 255 bytes, or the path with it more than 4095;
     /// `NotFound` where nothing is seen; `TooManyLinks` at the 41st symlink. `OutOfMemory` where memory
     /// for names, words or paths is refused, but not for an error before the first symlink. Cost: for each
-    /// word that of five looks.
+    /// word that of two looks and the bytes of the path so far; for a word that is no UTF-8 text also the names
+    /// that the layers have in the directory.
     pub fn resolve(&self, alloc: Global, path: &Path) -> Result<Path, FsError>
         ensures answer { Answers (resolution self.now path.now) result }
         // An error before the first symlink comes before any memory is taken.
@@ -274,7 +275,7 @@ impl<'a> Stack<'a> {
         }
     }
 
-    /// The path of the directory's entry of this name, where it is one.
+    /// The same of a word that is a text: each name can be one, and what is no name is not seen.
     #[tactic(auto, using(crate::proofs::Named::no_name_seen))]
     fn entry_named(
         &self,
@@ -294,7 +295,7 @@ impl<'a> Stack<'a> {
         }
     }
 
-    /// The path of the directory's entry of this name, where a layer has one: for what is no text.
+    /// The same of any word, among the names that the layers have in the directory.
     fn entry_among(
         &self,
         alloc: Global,
