@@ -166,7 +166,8 @@ impl<N: StoreName> Book<N> {
     }
 
     /// The record of the snapshot of this key. `NoNamespace` where the store has no such namespace, then
-    /// `NotFound`. It leaves no entry. Takes no memory. The cost grows with the records.
+    /// `NotFound`. It leaves no entry. Takes no memory. The cost grows with the logarithm of the number of
+    /// records.
     pub fn record(&self, namespace: &str, key: &str) -> Result<&Record, Refusal>
         ensures found { IfOk result (λ r. found_of self.now.state namespace.now key.now ≡ Ok r.now) }
         ensures refused { IfErr result (λ why. found_of self.now.state namespace.now key.now ≡ Err why) }
@@ -183,7 +184,7 @@ impl<N: StoreName> Book<N> {
 
     /// The slot and the id of the active snapshot of this key. `NoNamespace` where the store has no
     /// such namespace, then `NotFound`, then `NotActive` for a view or a committed snapshot. It leaves
-    /// no entry. Takes no memory. The cost grows with the records.
+    /// no entry. Takes no memory. The cost grows with the logarithm of the number of records.
     pub fn slot_of(&self, namespace: &str, key: &str) -> Result<(u64, u32), Refusal>
         ensures { result ≡ slot_of self.now.state namespace.now key.now }
     {

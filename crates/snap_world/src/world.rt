@@ -116,7 +116,7 @@ impl<N: StoreName> World<N> {
 
     /// The slot and the id of the active snapshot of this key. `NoNamespace` where the store has no
     /// such namespace, then `NotFound`, then `NotActive` for a view or a committed snapshot. It leaves
-    /// no entry. Takes no memory. The cost grows with the records.
+    /// no entry. Takes no memory. The cost grows with the logarithm of the number of records.
     pub fn hand(&self, namespace: &str, key: &str) -> Result<(u64, u32), Refusal>
         ensures { result ≡ slot_of self.now.state namespace.now key.now }
     {
@@ -129,7 +129,8 @@ impl<N: StoreName> World<N> {
     /// world.
     ///
     /// `NoNamespace` where the store has no such namespace, then `NotFound`, then `NotActive` for a
-    /// committed snapshot. It leaves no entry. Takes no memory. The cost grows with the records.
+    /// committed snapshot. It leaves no entry. Takes no memory. The cost grows with the logarithm of the
+    /// number of records.
     pub fn stack(&self, namespace: &str, key: &str) -> Result<Stack<'_>, Refusal>
         ensures stack { result ≡ stack_of self.now namespace.now key.now }
         // A snapshot that `hand` finds has a stack.
