@@ -8,23 +8,25 @@ import sys
 import tempfile
 from collections import Counter
 from collections.abc import Iterator
-from contextlib import contextmanager
+from contextlib import contextmanager, suppress
 from pathlib import Path
 from random import Random
 
 from linux.bench import Bench
+from linux.calls import Command
 from linux.cases import CASES, CaseFailed, run_case
 from linux.comparison import Counts, Found
 from linux.layers import Layers
 from linux.program import line_of
 from linux.sequences import Sequence
-from linux.system import leave_mount_namespace
+from linux.system import leave_mount_namespace, unmount
 
 REPOSITORY = Path(__file__).resolve().parents[2]
 PROGRAM = REPOSITORY / "crates/snap_replay/out/snap_replay"
 
 STEPS = 20_000
 MOST_ANCESTORS = 64
+INTERRUPTED = 130
 
 ABOUT = """
 Compares the program with Linux's overlayfs. Each snapshot of a script is a directory of a tmpfs, and each
@@ -55,6 +57,8 @@ def main() -> int:
     except _CannotMount as why:
         print(f"skipped: {why}")
         return 0
+    except KeyboardInterrupt:
+        return INTERRUPTED
 
 
 class _CannotMount(Exception):
@@ -96,11 +100,13 @@ def _place() -> Iterator[str]:
         leave_mount_namespace()
     except OSError as error:
         raise _CannotMount(f"no mount namespace: {error}") from error
-    place = tempfile.mkdtemp()
+    place = tempfile.mkdtemp(prefix="overlayfs-")
     try:
         _try_to_mount(place)
         yield place
     finally:
+        with suppress(OSError):
+            unmount(place)
         os.rmdir(place)
 
 
@@ -152,13 +158,24 @@ def _examples() -> list[Path]:
 
 def _compare_scripts(bench: Bench, paths: list[Path]) -> Found | None:
     for path in paths:
-        lines = path.read_text(encoding="utf-8").split("\n")
-        found = bench.compare(json.loads(line) for line in lines if line.strip())
+        found = bench.compare(_read(path))
         if found:
             print(f"difference: by {path}")
             return found
     print(f"scripts: {len(paths)}, {bench.counts.steps} steps")
     return None
+
+
+def _read(path: Path) -> list[Command]:
+    """The commands of a script."""
+    lines = path.read_text(encoding="utf-8").split("\n")
+    try:
+        script = [json.loads(line) for line in lines if line.strip()]
+    except ValueError as error:
+        sys.exit(f"{path}: {error}")
+    if not all(isinstance(command, dict) and "do" in command for command in script):
+        sys.exit(f"{path}: a line is no command")
+    return script
 
 
 def _compare_sequences(bench: Bench, words: argparse.Namespace) -> Found | None:
