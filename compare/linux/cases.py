@@ -14,7 +14,7 @@ from typing import Any
 
 from linux.bench import Bench
 from linux.calls import LOOKUPS, OPERATIONS, Answer, Command, look_up, name_in_linux, operate
-from linux.layers import Layers
+from linux.layers import OPAQUE, Layers
 from linux.program import Program, line_of
 from linux.system import mount, unmount
 
@@ -22,7 +22,6 @@ NAMESPACE = "a"
 KEY = "k"
 AMPLE = 1 << 30
 GRANTED = "granted"
-OPAQUE = "trusted.overlay.opaque"
 NOBODY = 65_534
 LONGEST_OPTIONS = 4095
 

@@ -16,7 +16,7 @@ from linux.bench import Bench
 from linux.calls import Command
 from linux.cases import CASES, CaseFailed, run_case
 from linux.comparison import Counts, Found
-from linux.layers import Layers
+from linux.layers import OPAQUE, Layers
 from linux.program import line_of
 from linux.sequences import Sequence
 from linux.system import leave_mount_namespace, unmount
@@ -51,14 +51,18 @@ Status 0: both sides agree, or nothing could be mounted, which one line `skipped
 def main() -> int:
     """Runs the command, and gives its status."""
     words = _words()
+    sys.stdout.reconfigure(line_buffering=True)
     try:
         with _place() as place:
-            return _compare(words, Bench(str(words.program), place))
+            bench = Bench(str(words.program), place)
+            try:
+                return _compare(words, bench)
+            except KeyboardInterrupt:
+                print(f"interrupted; {_told(bench.counts)}")
+                return INTERRUPTED
     except _CannotMount as why:
         print(f"skipped: {why}")
         return 0
-    except KeyboardInterrupt:
-        return INTERRUPTED
 
 
 class _CannotMount(Exception):
@@ -111,9 +115,11 @@ def _place() -> Iterator[str]:
 
 
 def _try_to_mount(place: str) -> None:
+    """Root of a container may lack the right to mount, or to set the attributes that overlayfs keeps."""
     try:
         layers = Layers(place)
         try:
+            os.setxattr(place, OPAQUE, b"y")
             layers.prepare("", "base", "")
             layers.commit("", "base", "base")
             layers.prepare("", "key", "base")
