@@ -4,7 +4,6 @@ A case fails where one of both sides answers something else, so also where the d
 of its function, with hyphens. docs/DECISIONS.md has the reasons.
 """
 
-import errno
 import os
 import stat
 import subprocess
@@ -14,7 +13,7 @@ from typing import Any
 
 from linux.bench import Bench
 from linux.calls import LOOKUPS, OPERATIONS, Answer, Command, look_up, name_in_linux, operate
-from linux.layers import Layers
+from linux.layers import OPAQUE, Layers
 from linux.program import Program, line_of
 from linux.system import mount, unmount
 
@@ -22,7 +21,6 @@ NAMESPACE = "a"
 KEY = "k"
 AMPLE = 1 << 30
 GRANTED = "granted"
-OPAQUE = "trusted.overlay.opaque"
 NOBODY = 65_534
 LONGEST_OPTIONS = 4095
 
@@ -81,7 +79,7 @@ class Trial:
                 return name_in_linux(error.errno)
 
     def agree(self, command: Command, outcome: Outcome) -> None:
-        """Both sides answer this, an error by Linux's name for it."""
+        """Both sides answer this."""
         self.differ(command, outcome, outcome)
 
     def differ(self, command: Command, linux: Outcome, here: Outcome) -> None:
@@ -441,11 +439,12 @@ def options_above_a_page(trial: Trial) -> None:
 
 
 def _shows_last_layer(trial: Trial, options: str) -> bool:
-    """Makes the directories of a mount's options, and mounts them."""
-    for option in options.split(","):
-        for directory in option.partition("=")[2].split(":"):
-            os.makedirs(directory)
-    os.mkdir(f"{directory}/seen")
+    """Makes the directories of a mount's options, and mounts them. The last one is the lowest layer."""
+    values = [option.partition("=")[2] for option in options.split(",")]
+    directories = [directory for value in values for directory in value.split(":")]
+    for directory in directories:
+        os.makedirs(directory)
+    os.mkdir(f"{directories[-1]}/seen")
     place = f"{trial.layers.place}/m"
     os.mkdir(place)
     try:

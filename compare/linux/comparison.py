@@ -137,8 +137,8 @@ class Comparison:
         """mkdir(2) keeps some bits of the mode alone. Where that is what happened, the rest is set too."""
         path, given = command["path"].encode(), command.get("mode", DEFAULT_DIRECTORY_MODE)
         inherited = os.lstat(os.path.dirname(path)).st_mode & INHERITED_MODE
-        kept = stat.S_IMODE(os.lstat(path).st_mode)
-        if kept == given & MKDIR_MODE | inherited != given:
+        kept = (given & MKDIR_MODE) | inherited
+        if kept != given and kept == stat.S_IMODE(os.lstat(path).st_mode):
             os.chmod(path, given)
             self.counts.declared["mkdir-modes"] += 1
 

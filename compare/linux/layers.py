@@ -10,6 +10,7 @@ from linux.calls import DEFAULT_DIRECTORY_MODE
 from linux.system import mount, rooted_in, unmount
 
 BLOCK_BYTES = 4096
+OPAQUE = "trusted.overlay.opaque"
 MOUNT_OPTIONS = "index=off,redirect_dir=off,metacopy=off,xino=off"
 
 

@@ -8,23 +8,25 @@ import sys
 import tempfile
 from collections import Counter
 from collections.abc import Iterator
-from contextlib import contextmanager
+from contextlib import contextmanager, suppress
 from pathlib import Path
 from random import Random
 
 from linux.bench import Bench
+from linux.calls import Command
 from linux.cases import CASES, CaseFailed, run_case
 from linux.comparison import Counts, Found
-from linux.layers import Layers
+from linux.layers import OPAQUE, Layers
 from linux.program import line_of
 from linux.sequences import Sequence
-from linux.system import leave_mount_namespace
+from linux.system import leave_mount_namespace, unmount
 
 REPOSITORY = Path(__file__).resolve().parents[2]
 PROGRAM = REPOSITORY / "crates/snap_replay/out/snap_replay"
 
 STEPS = 20_000
 MOST_ANCESTORS = 64
+INTERRUPTED = 130
 
 ABOUT = """
 Compares the program with Linux's overlayfs. Each snapshot of a script is a directory of a tmpfs, and each
@@ -49,9 +51,15 @@ Status 0: both sides agree, or nothing could be mounted, which one line `skipped
 def main() -> int:
     """Runs the command, and gives its status."""
     words = _words()
+    sys.stdout.reconfigure(line_buffering=True)
     try:
         with _place() as place:
-            return _compare(words, Bench(str(words.program), place))
+            bench = Bench(str(words.program), place)
+            try:
+                return _compare(words, bench)
+            except KeyboardInterrupt:
+                print(f"interrupted; {_told(bench.counts)}")
+                return INTERRUPTED
     except _CannotMount as why:
         print(f"skipped: {why}")
         return 0
@@ -96,18 +104,22 @@ def _place() -> Iterator[str]:
         leave_mount_namespace()
     except OSError as error:
         raise _CannotMount(f"no mount namespace: {error}") from error
-    place = tempfile.mkdtemp()
+    place = tempfile.mkdtemp(prefix="overlayfs-")
     try:
         _try_to_mount(place)
         yield place
     finally:
+        with suppress(OSError):
+            unmount(place)
         os.rmdir(place)
 
 
 def _try_to_mount(place: str) -> None:
+    """Root of a container may lack the right to mount, or to set the attributes that overlayfs keeps."""
     try:
         layers = Layers(place)
         try:
+            os.setxattr(place, OPAQUE, b"y")
             layers.prepare("", "base", "")
             layers.commit("", "base", "base")
             layers.prepare("", "key", "base")
@@ -152,13 +164,24 @@ def _examples() -> list[Path]:
 
 def _compare_scripts(bench: Bench, paths: list[Path]) -> Found | None:
     for path in paths:
-        lines = path.read_text(encoding="utf-8").split("\n")
-        found = bench.compare(json.loads(line) for line in lines if line.strip())
+        found = bench.compare(_read(path))
         if found:
             print(f"difference: by {path}")
             return found
     print(f"scripts: {len(paths)}, {bench.counts.steps} steps")
     return None
+
+
+def _read(path: Path) -> list[Command]:
+    """The commands of a script."""
+    lines = path.read_text(encoding="utf-8").split("\n")
+    try:
+        script = [json.loads(line) for line in lines if line.strip()]
+    except ValueError as error:
+        sys.exit(f"{path}: {error}")
+    if not all(isinstance(command, dict) and "do" in command for command in script):
+        sys.exit(f"{path}: a line is no command")
+    return script
 
 
 def _compare_sequences(bench: Bench, words: argparse.Namespace) -> Found | None:

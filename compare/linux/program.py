@@ -10,6 +10,8 @@ from linux.calls import Answer, Command
 # What is sent before the answers are read, so that neither side waits for the other at a full pipe.
 _BYTES_AT_ONCE = 16_384
 
+_encoder = json.JSONEncoder(separators=(",", ":"), ensure_ascii=False)
+
 
 class ProgramEnded(Exception):
     """The program ended before it had answered a line."""
@@ -63,7 +65,7 @@ class Program:
         line = self._process.stdout.readline()
         if not line:
             raise self._ended()
-        return json.loads(line)
+        return json.loads(line.decode())
 
     def _ended(self) -> ProgramEnded:
         words = self._process.stderr.read().decode(errors="replace").strip()
@@ -72,4 +74,4 @@ class Program:
 
 def line_of(command: Command) -> str:
     """The line of a command in a script."""
-    return json.dumps(command, separators=(",", ":"), ensure_ascii=False) + "\n"
+    return _encoder.encode(command) + "\n"

@@ -42,9 +42,9 @@ def rooted_in(directory: int) -> Iterator[None]:
     """Makes the directory of a descriptor the root of this process for a while, so that no path, `..` or absolute
     symlink leads out of it."""
     outside = os.open("/", os.O_PATH)
-    os.fchdir(directory)
-    os.chroot(".")
     try:
+        os.fchdir(directory)
+        os.chroot(".")
         yield
     finally:
         os.fchdir(outside)
