@@ -32,3 +32,4 @@ pub mod Walking
 pub mod Housed
 pub mod Erasing
 pub mod Short
+pub mod Numbers
