@@ -89,7 +89,7 @@ pub record Missing (u v : Tree) (ls : List Tree) (p : Names) (k : ℕ) (front : 
 many_from : (t : Tree) → t.next ≤ 4294967295 → is_within t ≡ false → 65536 < inode_count t
 many_from t next full = grind (arith, nat_tests)
 
-none_from : {A : Type 0} (o : Option A) → is_some o ≡ false → o ≡ None
+pub none_from : {A : Type 0} (o : Option A) → is_some o ≡ false → o ≡ None
 none_from None e = refl
 none_from (Some x) e = absurd (cc)
 
