@@ -36,11 +36,7 @@ pub fn missing_paths(layer: &Layer, path: &Path) -> Result<Vec<Path>, AllocError
 ///
 /// The condition, the errors and what stands after them are those of `ensure_dirs`. Cost: where the directory
 /// of the path stands, a walk to it in the layer. Else as `ensure_dirs`, and the text of each path.
-pub fn add_dirs(
-    layer: &mut Layer,
-    lowers: &[Shared],
-    path: &Path,
-) -> Result<Vec<Path>, FsError>
+pub fn add_dirs(layer: &mut Layer, lowers: &[Shared], path: &Path) -> Result<Vec<Path>, FsError>
     requires { walk (layer.old ∷ lowers.now) path.now ≡ None }
     ensures ok { OnOk result (layer.new ≡ with_parents layer.old lowers.now path.now) }
     ensures undo { IfOk result (λ dirs. Undoes dirs.items layer.new layer.old) }

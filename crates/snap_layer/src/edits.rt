@@ -127,7 +127,7 @@ impl Layer {
     }
 
     /// Takes a name, a whiteout, or a directory with its whiteouts. A file or symlink goes with its last
-    /// name (unlink(2)), and its number is never given again.
+    /// name (unlink(2)), and its number isn't given again, unless `give_back_number` takes it back.
     ///
     /// The conditions are those of `is_takeable`. Takes no memory. Cost: as `add_file`.
     pub fn take_name(&mut self, path: &Path)
