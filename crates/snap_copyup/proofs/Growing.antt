@@ -158,7 +158,7 @@ module _ (u t : Tree) (ls : List Tree) (p : Names) (ok : IsLayer u) (none : at u
   more_bodies : (b : Body) → length (insert_entry nat_cmp t.bodies t.next b) ≡ length t.bodies + 1
   more_bodies b = length-insert_new t.bodies t.next b (subst (λ (bs : Bodies). IsStrictlySortedBy nat_cmp (keys_of bs)) (sym adds.bodies) ok.sorted_numbers) fresh
 
-  new_inodes : (n : Node) (b : Body) → inodes_of (Some n) ≡ 0 → inode_count (with_new t p n b) ≡ inode_count t + 1
+  pub new_inodes : (n : Node) (b : Body) → inodes_of (Some n) ≡ 0 → inode_count (with_new t p n b) ≡ inode_count t + 1
   new_inodes n b is =
       ap (λ (w : Tree). inode_count (record { entries = insert_entry path_cmp w.entries p n; bodies = insert_entry nat_cmp w.bodies t.next b; next = t.next + 1 })) untaken
       ∙ omega (arith, one_more t p n 0 sorted empty is, more_bodies b)

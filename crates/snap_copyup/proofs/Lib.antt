@@ -7,3 +7,4 @@ pub mod Steps
 pub mod Copies
 pub mod Layers
 pub mod Both
+pub mod Undoing

@@ -86,10 +86,10 @@ pub record Missing (u v : Tree) (ls : List Tree) (p : Names) (k : ℕ) (front : 
   pub more : with_parents_from u ls (take k p) (drop k p) ≡ with_parents_from v ls (take (k + 1) p) (drop (k + 1) p)
   pub full : is_within v ≡ false → is_within (with_last last (with_parents_from u ls (take k p) (drop k p)) p) ≡ false
 
-many_from : (t : Tree) → t.next ≤ 4294967295 → is_within t ≡ false → 65536 < inode_count t
+pub many_from : (t : Tree) → t.next ≤ 4294967295 → is_within t ≡ false → 65536 < inode_count t
 many_from t next full = grind (arith, nat_tests)
 
-none_from : {A : Type 0} (o : Option A) → is_some o ≡ false → o ≡ None
+pub none_from : {A : Type 0} (o : Option A) → is_some o ≡ false → o ≡ None
 none_from None e = refl
 none_from (Some x) e = absurd (cc)
 

@@ -69,8 +69,10 @@ pub fn copy_up(layer: &mut Layer, lowers: &[Shared], path: &Path) -> Result<(), 
     put(layer, lowers, path, last)
 }
 
-/// What is below at the path, where the layer has no node there, with a copy of its bytes.
-fn copy_below(layer: &Layer, lowers: &[Shared], path: &Path) -> Result<Last, AllocError>
+/// What a copy-up puts at the path: what is below, where the layer has no node there, with a copy of its bytes.
+///
+/// It fails only where memory is refused. Cost: that of `below`, and the file's bytes.
+pub fn copy_below(layer: &Layer, lowers: &[Shared], path: &Path) -> Result<Last, AllocError>
     ensures { IfOk result (λ last. last ≡ last_of (at layer.now path.now) (below layer.now lowers.now path.now)) }
 {
     if layer.at(path).is_some() {

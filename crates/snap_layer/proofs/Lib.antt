@@ -35,3 +35,4 @@ pub mod Short
 pub mod Dirs
 pub mod Ranges
 pub mod Leaves
+pub mod Numbers

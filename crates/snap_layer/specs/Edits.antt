@@ -111,6 +111,10 @@ with_moved t from to leaves =
     let u = moved (without t to) from to in
     if leaves then with_entry u from Whiteout else u
 
+-- the layer with another next number
+abbrev pub with_next : Tree → ℕ → Tree
+with_next t k = record { entries = t.entries; bodies = t.bodies; next = k }
+
 -- nothing or a whiteout stands there
 abbrev pub IsFree : Option Node → Type 0
 IsFree None = Unit {0}

@@ -1,11 +1,11 @@
 // The edits of a layer.
-ghost use Rattle.std.specs.Prelude.{◌≡◌, ◌↔◌, ◌<◌, ◌≤◌, ◌+◌, ℕ, List, Some, None, is_none, if◌then◌else◌, IfOk, OnOk, OnErr, IsErrOf, IsSome, length, true, false};
+ghost use Rattle.std.specs.Prelude.{◌≡◌, ◌↔◌, ◌<◌, ◌≤◌, ◌+◌, ◌-◌, ℕ, List, Some, None, is_none, if◌then◌else◌, IfOk, OnOk, OnErr, IsErrOf, IsSome, length, true, false};
 ghost use Rattle.snap_layer.specs.Tree.{at, body, number_at, IsDirAt};
 ghost use Rattle.snap_layer.specs.Counts.{inode_count, block_count, body_blocks, is_within};
 ghost use Rattle.snap_layer.specs.Totals.{path_count};
 ghost use Rattle.snap_layer.specs.Walk.{leaf_node};
 ghost use Rattle.snap_layer.specs.Layers.{IsLayer, IsFile, is_target};
-ghost use Rattle.snap_layer.specs.Edits.{with_body, with_entry, with_node, with_new, with_name, name_of, with_bytes, with_mode, with_file_mode, with_opaque, with_moved, without, HasRoom, HasPlace, IsTakeable, IsMovable, IsRegular, HasMode};
+ghost use Rattle.snap_layer.specs.Edits.{with_body, with_entry, with_node, with_new, with_name, name_of, with_bytes, with_mode, with_file_mode, with_opaque, with_moved, with_next, without, HasRoom, HasPlace, IsTakeable, IsMovable, IsRegular, HasMode};
 
 use super::error::LayerError;
 use super::layer::Layer;
@@ -127,7 +127,7 @@ impl Layer {
     }
 
     /// Takes a name, a whiteout, or a directory with its whiteouts. A file or symlink goes with its last
-    /// name (unlink(2)), and its number is never given again.
+    /// name (unlink(2)), and its number isn't given again, unless `give_back_number` takes it back.
     ///
     /// The conditions are those of `is_takeable`. Takes no memory. Cost: as `add_file`.
     pub fn take_name(&mut self, path: &Path)
@@ -137,6 +137,19 @@ impl Layer {
         self.show_is_layer();
         let (inodes, blocks) = self.left(path);
         self.uncover(path, inodes, blocks);
+    }
+
+    /// Gives back the number before the next one, so that the next file or symlink gets it: the last step of
+    /// what undoes `add_file` or `add_symlink`.
+    ///
+    /// The conditions are that a number was given, and that no file or symlink has it any more. Takes no
+    /// memory. The cost is constant.
+    pub fn give_back_number(&mut self)
+        requires given { 1 < self.old.next }
+        requires gone { body self.old (self.old.next - 1) ≡ None }
+        ensures { self.new ≡ with_next self.old (self.old.next - 1) }
+    {
+        self.table.give_back_number();
     }
 
     /// Moves what stands at `from`, and all below it, to `to`, in place of what stands there, and leaves a

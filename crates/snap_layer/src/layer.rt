@@ -66,7 +66,8 @@ impl Layer {
     /// The same, with the number of the first file.
     ///
     /// The conditions are a mode of at most octal 7777, and a number from 1. File numbers are given in
-    /// rising order and never twice; 4,294,967,294 is the last one.
+    /// rising order, and none is given again but one that `give_back_number` took back; 4,294,967,294 is
+    /// the last one.
     pub fn empty_from(alloc: Global, mode: u32, first: u32) -> Result<Layer, AllocError>
         requires mode { mode ≤ 4095 }
         requires first { 1 ≤ first }

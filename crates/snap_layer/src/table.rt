@@ -1,11 +1,11 @@
 // A layer as a table of inodes.
-ghost use Rattle.std.specs.Prelude.{[], ◌≡◌, ◌<◌, ◌≤◌, ◌+◌, ◌^◌, ℕ, Option, Some, None, OnOk, OnErr, IfOk, IsSome, length, take, find, nat_lt, option_and_then};
+ghost use Rattle.std.specs.Prelude.{[], ◌≡◌, ◌<◌, ◌≤◌, ◌+◌, ◌-◌, ◌^◌, ℕ, Option, Some, None, OnOk, OnErr, IfOk, IsSome, length, take, find, nat_lt, option_and_then};
 ghost use Rattle.std.specs.Option.{option_copied};
 ghost use Rattle.std.specs.Map.{keys_of};
 ghost use Rattle.snap_layer.specs.Tree.{at, body, number_of, number_at, IsDirAt};
 ghost use Rattle.snap_layer.specs.Counts.{name_count};
 ghost use Rattle.snap_layer.specs.Layers.{IsLayer, IsFile};
-ghost use Rattle.snap_layer.specs.Edits.{root_only, with_body, with_entry, with_node, with_new, without, with_moved, with_file_mode, HasPlace, IsTakeable, IsFree, HasParent, IsMovable};
+ghost use Rattle.snap_layer.specs.Edits.{root_only, with_body, with_entry, with_node, with_new, without, with_moved, with_file_mode, with_next, HasPlace, IsTakeable, IsFree, HasParent, IsMovable};
 ghost use Rattle.snap_layer.specs.declared.node.Body.{Body as BodyValue};
 ghost use Rattle.snap_layer.specs.declared.node.Node.{Node as NodeValue};
 ghost use Rattle.snap_layer.specs.Walk.{leaf_node};
@@ -142,6 +142,15 @@ impl Table {
         ensures layer { IsLayer self.now }
     {
         self.next
+    }
+
+    /// Gives back the number before the next one, which no file or symlink has.
+    pub fn give_back_number(&mut self)
+        requires given { 1 < self.old.next }
+        requires gone { body self.old (self.old.next - 1) ≡ None }
+        ensures { self.new ≡ with_next self.old (self.old.next - 1) }
+    {
+        self.next -= 1;
     }
 
     /// The least number above `after` that a file or symlink has, or nothing.

@@ -24,3 +24,4 @@ pub mod Shares
 pub mod Examples
 pub mod Uncharged
 pub mod KindErrors
+pub mod Linking

@@ -89,7 +89,7 @@ whiteout_from (Some Whiteout) free some = refl
 
 -- ---- a name of a layer
 
-no_inode : (n : Node) (k : ℕ) → number_of n ≡ Some k → inodes_of (Some n) ≡ 0
+pub no_inode : (n : Node) (k : ℕ) → number_of n ≡ Some k → inodes_of (Some n) ≡ 0
 no_inode (Dir m b) k e = absurd (cc)
 no_inode (File j) k e = refl
 no_inode (Symlink j) k e = refl
@@ -118,7 +118,7 @@ symlink_name (Some (body_kinds.File m bytes)) k is = absurd is
 symlink_name (Some (body_kinds.Symlink target)) k is = refl
 
 -- a name of a number is that of its body
-name_is : (t : Tree) (n : Node) (k : ℕ) → number_of n ≡ Some k → IsWhole t n → name_of k (body t k) ≡ Some n
+pub name_is : (t : Tree) (n : Node) (k : ℕ) → number_of n ≡ Some k → IsWhole t n → name_of k (body t k) ≡ Some n
 name_is t (Dir m b) k e whole = absurd (cc)
 name_is t (File j) k e whole = let same : j ≡ k = cc in subst (λ (i : ℕ). name_of i (body t i) ≡ Some (File j)) same (file_name (body t j) j whole)
 name_is t (Symlink j) k e whole = let same : j ≡ k = cc in subst (λ (i : ℕ). name_of i (body t i) ≡ Some (Symlink j)) same (symlink_name (body t j) j whole)
@@ -137,11 +137,11 @@ less_within v t less next full = by (nat_le (inode_count t) 65536) refl
 -- ---- what is copied up
 
 -- the layer v is u with what is seen at the path, and shows the same
-record CopiesName (u v : Tree) (ls : List Tree) (p : Names) : Type 0 where
-  number : (k : ℕ) × (number_at v p ≡ Some k)
-  paths : IsStrictlySortedBy path_cmp (keys_of v.entries)
-  numbers : IsStrictlySortedBy nat_cmp (keys_of v.bodies)
-  kept : (q : Names) → IsKept u ls q → at v q ≡ at u q
+pub record CopiesName (u v : Tree) (ls : List Tree) (p : Names) : Type 0 where
+  pub number : (k : ℕ) × (number_at v p ≡ Some k)
+  pub paths : IsStrictlySortedBy path_cmp (keys_of v.entries)
+  pub numbers : IsStrictlySortedBy nat_cmp (keys_of v.bodies)
+  pub kept : (q : Names) → IsKept u ls q → at v q ≡ at u q
 
 module _ (u : Tree) (ls : List Tree) (p : Names) (ok : IsLayer u) (way : walk (u ∷ ls) p ≡ None) (name : link_error (seen (u ∷ ls) p) ≡ None) where
   abbrev parents : Tree
@@ -206,7 +206,7 @@ module _ (u : Tree) (ls : List Tree) (from to : Names) (ok : IsLayer u) (layers 
   pub free : IsFree (at u to)
   free = free_unseen u ls to ok ready.unseen
 
-  unseen : seen (u ∷ ls) to ≡ None
+  pub unseen : seen (u ∷ ls) to ≡ None
   unseen = none_from (seen (u ∷ ls) to) ready.unseen
 
   nothing : (m : List ℕ) (r : Names) → seen (u ∷ ls) (to ++ m ∷ r) ≡ None
@@ -223,7 +223,7 @@ module _ (u : Tree) (ls : List Tree) (from to : Names) (ok : IsLayer u) (layers 
       by [] is = ap (seen (u ∷ ls)) (is ∙ append-nil to) ∙ unseen
       by (m ∷ r) is = ap (seen (u ∷ ls)) is ∙ nothing m r
 
-  copies : CopiesName u (copied_up u ls from) ls from
+  pub copies : CopiesName u (copied_up u ls from) ls from
   copies = copies_name u ls from ok ready.way_from ready.name
 
   copy_shows : (q : Names) → seen (copied_up u ls from ∷ ls) q ≡ seen (u ∷ ls) q
@@ -232,16 +232,16 @@ module _ (u : Tree) (ls : List Tree) (from to : Names) (ok : IsLayer u) (layers 
   pub way_to : walk (copied_up u ls from ∷ ls) to ≡ None
   way_to = walk_same (u ∷ ls) (copy ∷ ls) copy_shows [] to ∙ ready.way_to
 
-  adds_to : AddsParents (copied_up u ls from) (with_parents (copied_up u ls from) ls to) ls (length to)
+  pub adds_to : AddsParents (copied_up u ls from) (with_parents (copied_up u ls from) ls to) ls (length to)
   adds_to = adds_parents copy ls to way_to
 
   kept_to : (q : Names) → IsKept u ls q → at (with_parents (copied_up u ls from) ls to) q ≡ at u q
   kept_to q is = kept_from copy ls q [] to (λ none. copy_shows q ∙ is (sym (copies.kept q is) ∙ none)) way_to ∙ copies.kept q is
 
-  below_to : (m : List ℕ) (r : Names) → at (with_parents (copied_up u ls from) ls to) (to ++ m ∷ r) ≡ None
+  pub below_to : (m : List ℕ) (r : Names) → at (with_parents (copied_up u ls from) ls to) (to ++ m ∷ r) ≡ None
   below_to m r = kept_to (to ++ m ∷ r) (λ none. nothing m r) ∙ nothing_below u ok to (free_is_no_dir (at u to) free) m r
 
-  grows : IsStrictlySortedBy path_cmp (keys_of (with_parents (copied_up u ls from) ls to).entries)
+  pub grows : IsStrictlySortedBy path_cmp (keys_of (with_parents (copied_up u ls from) ls to).entries)
   grows = (grows_from copy ls [] to copies.paths way_to).sorted
 
   -- what stands is kept
@@ -398,7 +398,7 @@ module _ (u : Tree) (ls : List Tree) (from to : Names) (ok : IsLayer u) (layers 
         ap is_some (copies.kept q (kept_up q some)) ∙ some
 
     -- no directory is added above the new name
-    held_above : with_parents (copied_up u ls from) ls to ≡ copied_up u ls from
+    pub held_above : with_parents (copied_up u ls from) ls to ≡ copied_up u ls from
     held_above = none_added copy ls [] to stands
 
     pub held_at : at (copied_up u ls from) to ≡ Some Whiteout

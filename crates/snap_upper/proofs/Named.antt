@@ -12,31 +12,20 @@ use Rattle.snap_layer.proofs.Kept.{free_is_no_dir, nothing_below}
 use Rattle.snap_layer.proofs.Paths.{split_front}
 use Rattle.snap_layer.proofs.Replacing.{clears_place}
 use Rattle.snap_usage.specs.declared.usage.Usage.{Usage}
-use Rattle.snap_merge.specs.Objects.{Object, dir, file, symlink, seen, is_shown_dir, AreLayers}
+use Rattle.snap_merge.specs.Objects.{seen, is_shown_dir, AreLayers}
 use Rattle.snap_copyup.proofs.Layers.{IsLayer-copied_up}
 use Rattle.snap_upper.specs.declared.op.Op.TheVariants as op
 use Rattle.snap_upper.specs.After.{tests, first_error, next_layer, before_move}
-use Rattle.snap_upper.proofs.KindErrors.{link_error}
 use Rattle.snap_upper.specs.Adding.{IsPlaceable, IsNext}
 use Rattle.snap_upper.proofs.Outcomes.{few_from}
 use Rattle.snap_upper.proofs.Movable.{dir_above}
 use Rattle.snap_upper.proofs.PreparedCounts.{prepared_layer}
 use Rattle.snap_upper.proofs.Shifted.{last_from}
+use Rattle.snap_upper.proofs.Linking.{name_there, name_no_dir}
 use Rattle.snap_upper.proofs.Linked.{IsLinkable, IsLinkable-passed, whiteout_from, free, out, takeable, room_is, room_first, way_without, same_within, linked_inodes, linked_blocks, linked_number, linked_layer}
 
 no_bool : true ≡ false → ⊥
 no_bool e = cc
-
--- what can be linked is seen, and is no directory
-name_there : (o : Option Object) → link_error o ≡ None → is_some o ≡ true
-name_there None e = absurd (cc)
-name_there (Some o) e = refl
-
-name_no_dir : (o : Option Object) → link_error o ≡ None → is_shown_dir o ≡ false
-name_no_dir None e = refl
-name_no_dir (Some (dir m)) e = absurd (cc)
-name_no_dir (Some (file m bytes)) e = refl
-name_no_dir (Some (symlink target)) e = refl
 
 module _ (u : Tree) (ls : List Tree) (from to : Names) (ok : IsLayer u) (layers : AreLayers ls) (passes : first_error (tests (op.Link from to) (u ∷ ls)) ≡ None) where
   -- before the name is put

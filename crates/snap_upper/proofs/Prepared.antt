@@ -14,18 +14,19 @@ use Rattle.snap_layer.specs.Tree.{Tree, Bodies, path_cmp, at, body, number_at, n
 use Rattle.snap_layer.specs.Layers.{IsLayer}
 use Rattle.snap_layer.specs.Edits.{HasParent, IsFree, IsMovable, with_new, bodies_without, outside}
 use Rattle.snap_layer.proofs.Paths.{begins_from, begins_itself, split_front}
-use Rattle.snap_layer.proofs.Kept.{dir_above, has_body}
+use Rattle.snap_layer.proofs.Kept.{has_body}
 use Rattle.snap_layer.proofs.Laws.{Replaces, Replaces-with_new, SetsBody-with_new, sorted-with_node}
 use Rattle.snap_layer.proofs.Testing.{moved_names}
 use Rattle.snap_merge.specs.Objects.{Object, dir, file, symlink, seen, is_shown_dir, AreLayers}
 use Rattle.snap_merge.specs.Walk.{walk}
 use Rattle.snap_merge.proofs.Views.{walk_same}
-use Rattle.snap_copyup.specs.Copying.{below, copied, copied_up, with_parents, with_parents_from, is_pure_over}
+use Rattle.snap_copyup.specs.Copying.{below, copied, copied_up, with_parents, is_pure_over}
 use Rattle.snap_copyup.specs.Places.{with_last, last_of}
-use Rattle.snap_copyup.proofs.Alone.{below_seen, copied_there, some_dir, free_unseen}
+use Rattle.snap_copyup.proofs.Alone.{below_seen, copied_there, free_unseen}
 use Rattle.snap_copyup.proofs.ParentDirs.{AddsParents, Extends, adds_parents, parents_extend, parents_stand}
 use Rattle.snap_copyup.proofs.Growing.{grows_from}
 use Rattle.snap_copyup.proofs.Layers.{no_missing}
+use Rattle.snap_copyup.proofs.Undoing.{parents_there}
 use Rattle.snap_copyup.proofs.Copies.{Puts-with_new, not_next, last_copied, copied_view}
 use Rattle.snap_upper.specs.After.{before_move}
 use Rattle.snap_upper.proofs.Movable.{IsRenamable, short_paths}
@@ -35,25 +36,6 @@ no_bool e = cc
 
 none_some : {A : Type 0} {x : A} → None ≡ Some x → ⊥
 none_some e = cc
-
--- ---- directories above a path
-
-there_from : (u : Tree) (ls : List Tree) (q front : Names) (n : List ℕ) → IsLayer u → is_some (at u (front ++ q)) ≡ true → with_parents_from u ls front (q ++ n ∷ []) ≡ u
-there_from u ls [] front n ok some = copied_there u ls front (subst (λ (x : Names). is_some (at u x) ≡ true) (append-nil front) some)
-there_from u ls (m ∷ q) front n ok some =
-    ap (λ (v : Tree). with_parents_from v ls (front ++ m ∷ []) (q ++ n ∷ [])) (copied_there u ls front (some_dir (at u front) (dir_above u ok q front m some)))
-    ∙ there_from u ls q (front ++ m ∷ []) n ok (subst (λ (x : Names). is_some (at u x) ≡ true) (sym (append_assoc front (m ∷ []) q)) some)
-
-snoc_of : (x : List ℕ) (xs : Names) → (q : Names) × (n : List ℕ) × (x ∷ xs ≡ q ++ n ∷ [])
-snoc_of x [] = ([], x, refl)
-snoc_of x (y ∷ ys) = let rest = snoc_of y ys in (x ∷ rest.0, rest.1, λ i. x ∷ rest.2 i)
-
--- where the parent stands nothing is added
-pub parents_there : (u : Tree) (ls : List Tree) (p : Names) → IsLayer u → HasParent u p → with_parents u ls p ≡ u
-parents_there u ls [] ok parent = refl
-parents_there u ls (x ∷ xs) ok parent =
-    let parts = snoc_of x xs in
-    ap (λ (p : Names). with_parents u ls p) parts.2 ∙ there_from u ls parts.0 [] parts.1 ok (some_dir (at u parts.0) (parent.parent parts.0 parts.1 parts.2))
 
 -- ---- a file that is copied up
 

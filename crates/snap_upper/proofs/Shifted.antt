@@ -35,6 +35,7 @@ use Rattle.snap_copyup.proofs.Alone.{below_seen, dir_seen}
 use Rattle.snap_copyup.proofs.ParentDirs.{AddsParents}
 use Rattle.snap_copyup.proofs.Growing.{Grows, grows_from}
 use Rattle.snap_copyup.proofs.Layers.{no_missing}
+use Rattle.snap_copyup.proofs.Wholes.{refused_later}
 use Rattle.snap_upper.specs.After.{tests, first_error, after, error_if, kind_error, is_same_name, limited, renamed, before_move, shifted}
 use Rattle.snap_upper.specs.declared.op.Op.TheVariants as op
 use Rattle.snap_upper.proofs.Outcomes.{after_passes, few_from, limited_fits, layer_fits, refused}
@@ -107,7 +108,7 @@ module _ (t : Tree) (p : Names) (sorted : IsStrictlySortedBy path_cmp (keys_of t
   dropped_there o e = ap (λ (x : Option Node). dropped (option_and_then number_of x) (outside p t.entries)) e
 
   -- it takes an inode at most, and nothing takes none
-  taken : (o : Option Node) → at t p ≡ o → ((k : ℕ) → number_at t p ≡ Some k → is_some (body t k) ≡ true) → inode_count t ≤ inode_count (without t p) + (cond (is_some o) 1 0)
+  pub taken : (o : Option Node) → at t p ≡ o → ((k : ℕ) → number_at t p ≡ Some k → is_some (body t k) ≡ true) → inode_count t ≤ inode_count (without t p) + (cond (is_some o) 1 0)
   taken None e bodies = omega (arith, inode_count-without t p bodies, dirs_there None e, whiteouts_there None e, dropped_there None e)
   taken (Some (Dir m b)) e bodies = omega (arith, inode_count-without t p bodies, dirs_there (Some (Dir m b)) e, whiteouts_there (Some (Dir m b)) e, dropped_there (Some (Dir m b)) e)
   taken (Some (File k)) e bodies = omega (arith, inode_count-without t p bodies, dirs_there (Some (File k)) e, whiteouts_there (Some (File k)) e, dropped_there (Some (File k)) e, dropped_few (Some k) (outside p t.entries))
@@ -141,6 +142,16 @@ move_refused (Err e) layer_errors.OutOfMemory v f of full same = inl of
 pub refused_same : {A : Type 0} (r : Result A FsError) (x : FsError) (t f : Tree) → IsErrAnd r (λ e. e ≡ x) → t ≡ f → IsRefusal t x → IfErr r (λ e. (e ≡ OutOfMemory) ⊎ (limited f ≡ Err e))
 refused_same (Ok y) x t f is same refusal = absurd is
 refused_same (Err e) x t f is same refusal = refused f e (subst (λ (z : Tree). IsRefusal z e) same (subst (λ (y : FsError). IsRefusal t y) (sym is) refusal))
+
+-- why it was not made is why the last one was not, where it is an earlier one that would pass the limits too, or the last one
+pub either_refused : (e : FsError) (t v f : Tree) → (is_within t ≡ false → is_within f ≡ false) → v ≡ f → IsRefusal t e ⊎ IsRefusal v e → IsRefusal f e
+either_refused e t v f full same (inl first) = refused_later e t f full first
+either_refused e t v f full same (inr last) = subst (λ (z : Tree). IsRefusal z e) same last
+
+-- the first one was not made
+pub refused_first : {A : Type 0} (r : Result A FsError) (x : FsError) (t v : Tree) → IsErrAnd r (λ e. e ≡ x) → IsRefusal t x → IfErr r (λ e. IsRefusal t e ⊎ IsRefusal v e)
+refused_first (Ok y) x t v is refusal = absurd is
+refused_first (Err e) x t v is refusal = inl (subst (λ (y : FsError). IsRefusal t y) (sym is) refusal)
 
 -- ---- the layer after the move
 

@@ -52,10 +52,8 @@ use std::alloc::AllocError;
 ///
 /// After any of them the layer is as it was. Cost: for each name of the path a look through the layers,
 /// and the bytes of a file that is written, cut or copied up; for a rename to a longer path also the paths that
-/// move, and for a directory that is removed or replaced the list of its names. A link to a directory
-/// that the layer lacks is done on a copy of the layer, which takes as much memory, and the time to copy
-/// all its bytes. So is a link of a lower file to a layer that is full, or nearly; and a rename of a lower
-/// object, or to a directory that the layer lacks.
+/// move, and for a directory that is removed or replaced the list of its names. A link or a rename also lists
+/// the paths of the directories that it adds.
 pub fn apply(layer: &mut Layer, lowers: &[Shared], op: &Op) -> Result<(), FsError>
     ensures ok { OnOk result (after op.now layer.old lowers.now ≡ Ok layer.new) }
     ensures error { IfErr result (λ e. (e ≡ FsError.OutOfMemory) ⊎ (after op.now layer.old lowers.now ≡ Err e)) }

@@ -1,47 +1,39 @@
-use Rattle.std.proofs.Common.{◌≡◌, ℕ, Some, None, sym, ap, subst, ◌∙◌}
-use Rattle.snap_layer.specs.Tree.{Tree, body, number_at}
-use Rattle.snap_layer.specs.Layers.{IsLayer}
-use Rattle.snap_layer.specs.Edits.{HasPlace, with_name, name_of}
+use Rattle.std.proofs.Common.{◌≡◌, OnOk, is_some, sym, ap, subst, ◌∙◌}
+use Rattle.snap_layer.specs.Tree.{Tree, at}
 use Rattle.snap_layer.proofs.Kept.{has_body}
-use Rattle.snap_upper.specs.After.{limited}
-use Rattle.snap_upper.proofs.Outcomes.{limited_fits, layer_fits}
-use Rattle.snap_upper.proofs.Linked.{link_refused, place, apart, number_left, name_put}
+use Rattle.snap_copyup.specs.Copying.{with_parents}
+use Rattle.snap_upper.specs.declared.op.Op.TheVariants as op
+use Rattle.snap_upper.specs.After.{next_layer}
+use Rattle.snap_upper.proofs.Linked.{whiteout_from, none_from, free}
+use Rattle.snap_upper.proofs.Linking.{way_last, other_number, own_name_place, own_made, own_full, later_refused}
 use Rattle.snap_upper.proofs.names.add_link.Goals as goal
 
-pub returns-in-Err-clause-error : goal.returns-in-Err-clause-error
-returns-in-Err-clause-error c =
-    link_refused c.args.layer.now c.args.lowers.now c.args.from.now c.args.to.now c.show_is_layer.ensures.layer c.show_are_layers.ensures c.requires c.in-Err.error c.in-Err.ensures.error
+pub add_dirs_and_name-requires-clause-way : goal.add_dirs_and_name-requires-clause-way
+add_dirs_and_name-requires-clause-way c = way_last c.args.layer.now c.args.lowers.now c.args.from.now c.args.to.now c.show_is_layer.ensures.layer c.show_are_layers.ensures c.requires
 
-pub returns-in_default-own_number-clause-ok : goal.returns-in_default-own_number-clause-ok
-returns-in_default-own_number-clause-ok c =
-    let left = number_left c.args.layer.now c.args.lowers.now c.args.from.now c.args.to.now c.show_is_layer.ensures.layer c.show_are_layers.ensures c.requires in
-    absurd (no_some (sym left.1 ∙ ap (λ (v : Tree). number_at v c.args.from.now) (sym c.in_default.ensures.ok) ∙ sym c.own_number.ensures ∙ c.in_default-own_number.is))
-  where
-    no_some : {k : ℕ} → Some k ≡ None → ⊥
-    no_some e = cc
+pub add_dirs_and_name-requires-clause-place : goal.add_dirs_and_name-requires-clause-place
+add_dirs_and_name-requires-clause-place c = own_name_place c.args.layer.now c.args.lowers.now c.args.from.now c.args.to.now c.show_is_layer.ensures.layer c.show_are_layers.ensures c.requires c.in-Some.number (sym c.own_number.ensures ∙ c.in-Some.is)
 
-pub add_name-requires-clause-place : goal.add_name-requires-clause-place
-add_name-requires-clause-place c =
-    subst (λ (v : Tree). HasPlace v c.args.to.now) (sym c.in_default.ensures.ok)
-    (place c.args.layer.now c.args.lowers.now c.args.from.now c.args.to.now c.show_is_layer.ensures.layer c.show_are_layers.ensures c.requires)
+pub add_dirs_and_name-requires-clause-there : goal.add_dirs_and_name-requires-clause-there
+add_dirs_and_name-requires-clause-there c = has_body c.args.layer.now c.show_is_layer.ensures.layer c.args.from.now c.in-Some.number (sym c.own_number.ensures ∙ c.in-Some.is)
 
-pub add_name-requires-clause-there : goal.add_name-requires-clause-there
-add_name-requires-clause-there c = has_body c.copy_up_and_add_dirs.new.layer c.show_is_layer-2.ensures.layer c.args.from.now c.in-Some.number (sym c.own_number.ensures ∙ c.in-Some.is)
+pub add_dirs_and_name-requires-clause-apart : goal.add_dirs_and_name-requires-clause-apart
+add_dirs_and_name-requires-clause-apart c = other_number c.args.layer.now c.args.lowers.now c.args.from.now c.args.to.now c.show_is_layer.ensures.layer c.show_are_layers.ensures c.requires c.in-Some.number
 
-pub add_name-requires-clause-apart : goal.add_name-requires-clause-apart
-add_name-requires-clause-apart c = λ e.
-    apart c.args.layer.now c.args.lowers.now c.args.from.now c.args.to.now c.show_is_layer.ensures.layer c.show_are_layers.ensures c.requires c.in-Some.number
-    (ap (λ (v : Tree). number_at v c.args.to.now) (sym c.in_default.ensures.ok) ∙ e)
+pub returns-in-Some-clause-ok : goal.returns-in-Some-clause-ok
+returns-in-Some-clause-ok c = subst (λ (t : Tree). OnOk c.add_dirs_and_name.result (c.add_dirs_and_name.new.layer ≡ t)) (own_made c.args.layer.now c.args.lowers.now c.args.from.now c.args.to.now c.show_is_layer.ensures.layer c.show_are_layers.ensures c.requires c.in-Some.number (sym c.own_number.ensures ∙ c.in-Some.is)) c.add_dirs_and_name.ensures.ok
 
-pub returns-clause-ok : goal.returns-clause-ok
-returns-clause-ok c =
+pub returns-in-Some-clause-error : goal.returns-in-Some-clause-error
+returns-in-Some-clause-error c =
     let u = c.args.layer.now in
     let ls = c.args.lowers.now in
-    let p = c.args.from.now in
-    let q = c.args.to.now in
-    let k = c.in-Some.number in
-    let same = c.in_default.ensures.ok in
-    let left = ap (λ (v : Tree). number_at v p) (sym same) ∙ sym c.own_number.ensures ∙ c.in-Some.is in
-    let made = name_put u ls p q c.show_is_layer.ensures.layer c.show_are_layers.ensures c.requires k left (subst IsLayer same c.show_is_layer-2.ensures.layer) in
-    let next = c.add_name.new.self in
-    ap limited (sym made ∙ ap (λ (v : Tree). with_name v q (name_of k (body v k))) (sym same) ∙ sym c.in_ok-add_name.ensures.ok) ∙ limited_fits next (layer_fits next c.show_is_layer-3.ensures.layer)
+    later_refused c.add_dirs_and_name.result (with_parents u ls c.args.to.now) (next_layer (op.Link c.args.from.now c.args.to.now) u ls)
+    (own_full u ls c.args.from.now c.args.to.now c.show_is_layer.ensures.layer c.show_are_layers.ensures c.requires c.in-Some.number (sym c.own_number.ensures ∙ c.in-Some.is))
+    c.add_dirs_and_name.ensures.error
+
+pub link_over_whiteout-requires-clause-held : goal.link_over_whiteout-requires-clause-held
+link_over_whiteout-requires-clause-held c =
+    whiteout_from (at c.args.layer.now c.args.to.now) (free c.args.layer.now c.args.lowers.now c.args.from.now c.args.to.now c.show_is_layer.ensures.layer c.show_are_layers.ensures c.requires) (ap is_some (sym c.at.ensures) ∙ sym c.is_some.ensures ∙ c.if-is_some.true)
+
+pub link_lower-requires-clause-bare : goal.link_lower-requires-clause-bare
+link_lower-requires-clause-bare c = none_from (at c.args.layer.now c.args.to.now) (ap is_some (sym c.at.ensures) ∙ sym c.is_some.ensures ∙ c.if-is_some.false)

@@ -1,34 +1,61 @@
-use Rattle.std.proofs.Common.{◌≡◌, Some, None, sym, ap, subst, ◌∙◌}
-use Rattle.snap_layer.specs.Tree.{Tree, at, body, number_at}
-use Rattle.snap_layer.specs.Layers.{IsLayer}
-use Rattle.snap_layer.specs.Edits.{HasPlace, with_name, name_of}
-use Rattle.snap_upper.proofs.Linked.{held_at, held_place, held_number, held_put}
+use Rattle.std.proofs.Common.{◌∷◌, sym, ap, subst, ◌∙◌}
+use Rattle.snap_layer.specs.Tree.{Tree, at}
+use Rattle.snap_layer.specs.Edits.{HasParent, with_name}
+use Rattle.snap_merge.specs.Walk.{walk}
+use Rattle.snap_copyup.specs.Copying.{below, copied, with_parents}
+use Rattle.snap_copyup.specs.Places.{IsRefusal}
+use Rattle.snap_copyup.proofs.Wholes.{IfErr-refused}
+use Rattle.snap_upper.specs.declared.op.Op.TheVariants as op
+use Rattle.snap_upper.specs.After.{next_layer}
+use Rattle.snap_upper.proofs.KindErrors.{link_error}
+use Rattle.snap_upper.proofs.Linked.{out}
+use Rattle.snap_upper.proofs.Linking.{over_full, over_held, over_lower, over_name, over_next, over_parent, over_way}
 use Rattle.snap_upper.proofs.names.link_over_whiteout.Goals as goal
 
-no_some : {A : Type 0} {x : A} → Some x ≡ None → ⊥
-no_some e = cc
+pub returns-in_err-dirs-clause-error : goal.returns-in_err-dirs-clause-error
+returns-in_err-dirs-clause-error c =
+    let u = c.args.layer.now in
+    let ls = c.args.lowers.now in
+    let from = c.args.from.now in
+    let to = c.args.to.now in
+    IfErr-refused c.from_residual.result c.in_err-dirs.field-0.0 (with_parents u ls from) (next_layer (op.Link from to) u ls) c.from_residual.ensures.1 (over_full u ls from to c.show_is_layer.ensures.layer c.show_are_layers.ensures c.requires.passes c.requires.held c.requires.lower) c.in_err-dirs.ensures.error
 
-pub returns-in_default-clause-ok : goal.returns-in_default-clause-ok
-returns-in_default-clause-ok c =
-    let number = held_number c.args.layer.now c.args.lowers.now c.args.from.now c.args.to.now c.show_is_layer.ensures.layer c.show_are_layers.ensures c.requires.passes c.requires.held in
-    absurd (no_some (sym number.1 ∙ ap (λ (v : Tree). number_at v c.args.from.now) (sym c.in_ok-copy_up.ensures.ok) ∙ sym c.own_number.ensures ∙ c.in_default.is))
+pub copy_over_whiteout-requires-clause-way : goal.copy_over_whiteout-requires-clause-way
+copy_over_whiteout-requires-clause-way c =
+    ap (λ (t : Tree). walk (t ∷ c.args.lowers.now) c.args.to.now) c.in_ok-dirs.ensures.ok ∙ over_way c.args.layer.now c.args.lowers.now c.args.from.now c.args.to.now c.show_is_layer.ensures.layer c.show_are_layers.ensures c.requires.passes c.requires.held c.requires.lower
 
-pub add_name-requires-clause-place : goal.add_name-requires-clause-place
-add_name-requires-clause-place c =
-    subst (λ (v : Tree). HasPlace v c.args.to.now) (sym c.in_ok-copy_up.ensures.ok)
-    (held_place c.args.layer.now c.args.lowers.now c.args.from.now c.args.to.now c.show_is_layer.ensures.layer c.show_are_layers.ensures c.requires.passes c.requires.held)
+pub copy_over_whiteout-requires-clause-name : goal.copy_over_whiteout-requires-clause-name
+copy_over_whiteout-requires-clause-name c =
+    ap (λ (t : Tree). link_error (below t c.args.lowers.now c.args.from.now)) c.in_ok-dirs.ensures.ok ∙ over_name c.args.layer.now c.args.lowers.now c.args.from.now c.args.to.now c.show_is_layer.ensures.layer c.show_are_layers.ensures c.requires.passes c.requires.held c.requires.lower
 
-pub returns-in_err-add_name-clause-unchanged : goal.returns-in_err-add_name-clause-unchanged
-returns-in_err-add_name-clause-unchanged c =
-    let there = held_at c.args.layer.now c.args.lowers.now c.args.from.now c.args.to.now c.show_is_layer.ensures.layer c.show_are_layers.ensures c.requires.passes c.requires.held in
-    absurd (no_some (sym there ∙ ap (λ (v : Tree). at v c.args.to.now) (sym c.in_ok-copy_up.ensures.ok) ∙ c.in_err-add_name.ensures.sure))
+pub copy_over_whiteout-requires-clause-lower : goal.copy_over_whiteout-requires-clause-lower
+copy_over_whiteout-requires-clause-lower c =
+    ap (λ (t : Tree). at t c.args.from.now) c.in_ok-dirs.ensures.ok ∙ over_lower c.args.layer.now c.args.lowers.now c.args.from.now c.args.to.now c.show_is_layer.ensures.layer c.show_are_layers.ensures c.requires.passes c.requires.held c.requires.lower
+
+pub copy_over_whiteout-requires-clause-parent : goal.copy_over_whiteout-requires-clause-parent
+copy_over_whiteout-requires-clause-parent c =
+    subst (λ (t : Tree). HasParent t c.args.from.now) (sym c.in_ok-dirs.ensures.ok) (over_parent c.args.layer.now c.args.lowers.now c.args.from.now c.args.to.now c.show_is_layer.ensures.layer c.show_are_layers.ensures c.requires.passes c.requires.held c.requires.lower)
+
+pub copy_over_whiteout-requires-clause-held : goal.copy_over_whiteout-requires-clause-held
+copy_over_whiteout-requires-clause-held c =
+    ap (λ (t : Tree). at t c.args.to.now) c.in_ok-dirs.ensures.ok ∙ over_held c.args.layer.now c.args.lowers.now c.args.from.now c.args.to.now c.show_is_layer.ensures.layer c.show_are_layers.ensures c.requires.passes c.requires.held c.requires.lower
+
+pub copy_over_whiteout-requires-clause-apart : goal.copy_over_whiteout-requires-clause-apart
+copy_over_whiteout-requires-clause-apart c = out c.args.layer.now c.args.lowers.now c.args.from.now c.args.to.now c.show_is_layer.ensures.layer c.show_are_layers.ensures c.requires.passes
+
+pub returns-in-Err-clause-error : goal.returns-in-Err-clause-error
+returns-in-Err-clause-error c =
+    let ls = c.args.lowers.now in
+    let from = c.args.from.now in
+    let to = c.args.to.now in
+    let same = ap (λ (t : Tree). with_name (copied t ls from) to (at (copied t ls from) from)) c.in_ok-dirs.ensures.ok ∙ over_next c.args.layer.now ls from to c.show_is_layer.ensures.layer c.show_are_layers.ensures c.requires.passes c.requires.held c.requires.lower in
+    subst (λ (t : Tree). IsRefusal t c.in-Err.error) same c.in-Err.ensures.error
 
 pub returns-clause-ok : goal.returns-clause-ok
 returns-clause-ok c =
-    let q = c.args.to.now in
-    let k = c.in-Some.number in
-    let same = c.in_ok-copy_up.ensures.ok in
-    let number = ap (λ (v : Tree). number_at v c.args.from.now) (sym same) ∙ sym c.own_number.ensures ∙ c.in-Some.is in
-    c.in_ok-add_name.ensures.ok
-    ∙ ap (λ (v : Tree). with_name v q (name_of k (body v k))) same
-    ∙ held_put c.args.layer.now c.args.lowers.now c.args.from.now q c.show_is_layer.ensures.layer c.show_are_layers.ensures c.requires.passes c.requires.held k number (subst IsLayer same c.show_is_layer-2.ensures.layer)
+    let ls = c.args.lowers.now in
+    let from = c.args.from.now in
+    let to = c.args.to.now in
+    c.in_default.ensures.ok
+    ∙ ap (λ (t : Tree). with_name (copied t ls from) to (at (copied t ls from) from)) c.in_ok-dirs.ensures.ok
+    ∙ over_next c.args.layer.now ls from to c.show_is_layer.ensures.layer c.show_are_layers.ensures c.requires.passes c.requires.held c.requires.lower

@@ -1,52 +1,69 @@
-use Rattle.std.proofs.Common.{◌≡◌, true, sym, ap, subst, ◌∙◌}
-use Rattle.std.specs.Prelude.{is_some}
+use Rattle.std.proofs.Common.{◌≡◌, true, false, refl, sym, ap, subst, ◌∙◌}
+use Rattle.std.specs.Prelude.{is_some, not}
 use Rattle.snap_layer.specs.Tree.{Tree, at}
+use Rattle.snap_layer.specs.Counts.{is_within}
 use Rattle.snap_layer.specs.Layers.{IsLayer}
 use Rattle.snap_layer.specs.Edits.{IsMovable}
-use Rattle.snap_copyup.specs.Copying.{below}
-use Rattle.snap_upper.specs.After.{limited, renamed, shifted}
+use Rattle.snap_copyup.specs.Copying.{below, with_parents}
+use Rattle.snap_upper.specs.After.{before_move, limited, renamed, shifted}
 use Rattle.snap_upper.proofs.Outcomes.{limited_fits, layer_fits}
 use Rattle.snap_upper.proofs.Movable.{renamable}
-use Rattle.snap_upper.proofs.Prepared.{prepared_movable, prepared_there}
-use Rattle.snap_upper.proofs.Shifted.{refused_same}
+use Rattle.snap_upper.proofs.Prepared.{own_copy, prepared_movable}
+use Rattle.snap_upper.proofs.Shifted.{refused_same, either_refused, prepared_full}
 use Rattle.snap_upper.proofs.names.shift.Goals as goal
 
-pub relocate-requires : goal.relocate-requires
-relocate-requires c =
+pub returns-in_err-shift_lower-clause-error : goal.returns-in_err-shift_lower-clause-error
+returns-in_err-shift_lower-clause-error c =
+    let f = renamed c.args.layer.now c.args.lowers.now c.args.from.now c.args.to.now in
+    refused_same c.from_residual.result c.in_err-shift_lower.field-0.0 f f c.from_residual.ensures.1 refl c.in_err-shift_lower.ensures.error
+
+pub returns-then-is_none-clause-ok : goal.returns-then-is_none-clause-ok
+returns-then-is_none-clause-ok c =
+    let next = c.shift_lower.new.layer in
+    ap limited (sym c.in_ok-shift_lower.ensures.ok) ∙ limited_fits next (layer_fits next c.show_is_layer-then-is_none.ensures.layer)
+
+pub add_dirs_and_move-requires-clause-way : goal.add_dirs_and_move-requires-clause-way
+add_dirs_and_move-requires-clause-way c = (renamable c.args.layer.now c.args.lowers.now c.args.from.now c.args.to.now c.requires.passes c.requires.moves).way_to
+
+pub add_dirs_and_move-requires-clause-movable : goal.add_dirs_and_move-requires-clause-movable
+add_dirs_and_move-requires-clause-movable c = λ okt.
     let u = c.args.layer.now in
     let ls = c.args.lowers.now in
     let from = c.args.from.now in
     let to = c.args.to.now in
     let ok = c.show_is_layer.ensures.layer in
     let is = renamable u ls from to c.requires.passes c.requires.moves in
-    let some : is_some (at u from) ≡ true = ap is_some (sym c.at.ensures) ∙ sym c.is_some.ensures ∙ c.if-is_some.true in
-    let same = prepared_there u ls from to ok c.show_are_layers.ensures is some (c.has_parent.ensures.0 c.if-has_parent.true) in
-    subst (λ (t : Tree). IsMovable t from to) same (prepared_movable u ls from to ok c.show_are_layers.ensures is c.names.ensures.valid (subst IsLayer (sym same) ok))
+    let some : is_some (at u from) ≡ true = ap is_some (sym c.at.ensures) ∙ c.is_none.ensures ∙ ap not c.if-is_none.false in
+    let same : before_move u ls from to ≡ with_parents u ls to = ap (λ (t : Tree). with_parents t ls to) (own_copy u ls from ok some) in
+    subst (λ (t : Tree). IsMovable t from to) same (prepared_movable u ls from to ok c.show_are_layers.ensures is c.names.ensures.valid (subst IsLayer (sym same) okt))
 
-pub returns-in_err-relocate-clause-error : goal.returns-in_err-relocate-clause-error
-returns-in_err-relocate-clause-error c =
+pub returns-in_err-add_dirs_and_move-clause-error : goal.returns-in_err-add_dirs_and_move-clause-error
+returns-in_err-add_dirs_and_move-clause-error c =
     let u = c.args.layer.now in
     let ls = c.args.lowers.now in
     let from = c.args.from.now in
     let to = c.args.to.now in
+    let ok = c.show_is_layer.ensures.layer in
     let is = renamable u ls from to c.requires.passes c.requires.moves in
-    let some : is_some (at u from) ≡ true = ap is_some (sym c.at.ensures) ∙ sym c.is_some.ensures ∙ c.if-is_some.true in
-    let same = prepared_there u ls from to c.show_is_layer.ensures.layer c.show_are_layers.ensures is some (c.has_parent.ensures.0 c.if-has_parent.true) in
+    let some : is_some (at u from) ≡ true = ap is_some (sym c.at.ensures) ∙ c.is_none.ensures ∙ ap not c.if-is_none.false in
+    let same : before_move u ls from to ≡ with_parents u ls to = ap (λ (t : Tree). with_parents t ls to) (own_copy u ls from ok some) in
     let leaves : is_some (below u ls from) ≡ c.args.leaves = sym c.requires.leaves in
     let covers : is_some (below u ls to) ≡ c.args.covers = sym c.requires.covers in
-    refused_same c.from_residual.result c.in_err-relocate.field-0.0 (shifted u from to c.args.leaves c.args.covers) (renamed u ls from to) c.from_residual.ensures.1 (λ i. shifted (sym same i) from to (sym leaves i) (sym covers i)) c.in_err-relocate.ensures.error
+    let f = renamed u ls from to in
+    let x = c.in_err-add_dirs_and_move.field-0.0 in
+    refused_same c.from_residual-in_err-add_dirs_and_move.result x f f c.from_residual-in_err-add_dirs_and_move.ensures.1 refl
+    (either_refused x (with_parents u ls to) (shifted (with_parents u ls to) from to c.args.leaves c.args.covers) f (λ full. prepared_full u ls from to ok c.show_are_layers.ensures is (subst (λ (t : Tree). is_within t ≡ false) (sym same) full)) (λ i. shifted (sym same i) from to (sym leaves i) (sym covers i)) c.in_err-add_dirs_and_move.ensures.error)
 
-pub returns-then-has_parent-clause-ok : goal.returns-then-has_parent-clause-ok
-returns-then-has_parent-clause-ok c =
+pub returns-clause-ok : goal.returns-clause-ok
+returns-clause-ok c =
     let u = c.args.layer.now in
     let ls = c.args.lowers.now in
     let from = c.args.from.now in
     let to = c.args.to.now in
-    let is = renamable u ls from to c.requires.passes c.requires.moves in
-    let some : is_some (at u from) ≡ true = ap is_some (sym c.at.ensures) ∙ sym c.is_some.ensures ∙ c.if-is_some.true in
-    let same = prepared_there u ls from to c.show_is_layer.ensures.layer c.show_are_layers.ensures is some (c.has_parent.ensures.0 c.if-has_parent.true) in
+    let some : is_some (at u from) ≡ true = ap is_some (sym c.at.ensures) ∙ c.is_none.ensures ∙ ap not c.if-is_none.false in
+    let same : before_move u ls from to ≡ with_parents u ls to = ap (λ (t : Tree). with_parents t ls to) (own_copy u ls from c.show_is_layer.ensures.layer some) in
     let leaves : is_some (below u ls from) ≡ c.args.leaves = sym c.requires.leaves in
     let covers : is_some (below u ls to) ≡ c.args.covers = sym c.requires.covers in
-    let next = c.relocate.new.layer in
-    let shifts : renamed u ls from to ≡ shifted u from to c.args.leaves c.args.covers = λ i. shifted (same i) from to (leaves i) (covers i) in
-    ap limited (shifts ∙ sym c.in_ok-relocate.ensures.ok) ∙ limited_fits next (layer_fits next c.show_is_layer-then-has_parent.ensures.layer)
+    let next = c.add_dirs_and_move.new.layer in
+    let shifts : renamed u ls from to ≡ shifted (with_parents u ls to) from to c.args.leaves c.args.covers = λ i. shifted (same i) from to (leaves i) (covers i) in
+    ap limited (shifts ∙ sym c.in_ok-add_dirs_and_move.ensures.ok) ∙ limited_fits next (layer_fits next c.show_is_layer-2.ensures.layer)

@@ -1,0 +1,93 @@
+// What was added to a layer is taken back.
+ghost use Rattle.std.specs.Prelude.{◌≡◌, ◌∷◌, List, OnOk, OnErr, IfOk, IfErr, Some, None};
+ghost use Rattle.snap_layer.specs.declared.node.Node.TheVariants as Node;
+ghost use Rattle.snap_layer.specs.Tree.{Tree};
+ghost use Rattle.snap_merge.specs.Walk.{walk};
+ghost use Rattle.snap_copyup.specs.Copying.{with_parents};
+ghost use Rattle.snap_copyup.specs.Places.{IsRefusal};
+ghost use Rattle.snap_copyup.specs.Undoing.{Undoes, IsNew};
+
+use super::parents::ensure_dirs;
+use snap_layer::{Layer, Shared};
+use snap_merge::FsError;
+use snap_path::Path;
+use std::alloc::AllocError;
+
+/// The directories above the path that the layer doesn't have, the lowest first: so `take_all` takes them back
+/// once `ensure_dirs` or `copy_up` has added them.
+///
+/// It fails only where memory is refused. Cost: for each name of the path a walk to it in the layer, and the
+/// text of each directory's path.
+pub fn missing_paths(layer: &Layer, path: &Path) -> Result<Vec<Path>, AllocError>
+    ensures { IfOk result (λ dirs. (lowers : List Tree) → walk (layer.now ∷ lowers) path.now ≡ None → Undoes dirs.items (with_parents layer.now lowers path.now) layer.now) }
+{
+    layer.show_is_layer();
+    let mut missing = Vec::new(layer.alloc());
+    for names in (0..path.names().len()).rev() {
+        if layer.at_front(path, names).is_none() {
+            missing.push(path.front(names)?)?;
+        }
+    }
+    Ok(missing)
+}
+
+/// Adds to the layer the directories above the path that it doesn't have, as `ensure_dirs` does, and gives
+/// their paths, the lowest first: so `take_all` takes them back.
+///
+/// The condition, the errors and what stands after them are those of `ensure_dirs`. Cost: where the directory
+/// of the path stands, a walk to it in the layer. Else as `ensure_dirs`, and the text of each path.
+pub fn add_dirs(layer: &mut Layer, lowers: &[Shared], path: &Path) -> Result<Vec<Path>, FsError>
+    requires { walk (layer.old ∷ lowers.now) path.now ≡ None }
+    ensures ok { OnOk result (layer.new ≡ with_parents layer.old lowers.now path.now) }
+    ensures undo { IfOk result (λ dirs. Undoes dirs.items layer.new layer.old) }
+    ensures error { IfErr result (λ e. IsRefusal (with_parents layer.old lowers.now path.now) e) }
+    ensures unchanged { OnErr result (layer.new ≡ layer.old) }
+{
+    layer.show_is_layer();
+    if layer.has_parent(path) {
+        return Ok(Vec::new(layer.alloc()));
+    }
+    let dirs = missing_paths(layer, path)?;
+    ensure_dirs(layer, lowers, path)?;
+    Ok(dirs)
+}
+
+/// Takes what stands at the paths, one after another.
+///
+/// The condition is that each can be taken then, as by `take_name`. Takes no memory. Cost: for each path that
+/// of `take_name`.
+pub fn take_all(layer: &mut Layer, paths: &[Path])
+    requires { (u : Tree) × Undoes paths.now layer.old u }
+    ensures { (u : Tree) → Undoes paths.now layer.old u → layer.new ≡ u }
+{
+    for path in paths {
+        layer.take_name(path);
+    }
+}
+
+/// Takes back a file or symlink that was put where nothing stood, with its number, which the next one gets.
+///
+/// The condition is that it is the last one that got a number. Takes no memory. Cost: that of `take_name`.
+pub fn take_new(layer: &mut Layer, path: &Path)
+    requires { (u : Tree) × IsNew None path.now layer.old u }
+    ensures { (u : Tree) → IsNew None path.now layer.old u → layer.new ≡ u }
+{
+    layer.show_is_layer();
+    layer.take_name(path);
+    layer.show_is_layer();
+    layer.give_back_number();
+}
+
+/// Takes back a file or symlink that was put in place of a whiteout, with its number, which the next one gets.
+///
+/// The condition is that it is the last one that got a number. Takes no memory, since something stands there.
+/// Cost: that of `add_whiteout`.
+pub fn cover_new(layer: &mut Layer, path: &Path)
+    requires { (u : Tree) × IsNew (Some Node.Whiteout) path.now layer.old u }
+    ensures { (u : Tree) → IsNew (Some Node.Whiteout) path.now layer.old u → layer.new ≡ u }
+{
+    layer.show_is_layer();
+    let _ = layer.add_whiteout(path);
+    layer.show_is_layer();
+    layer.give_back_number();
+}
