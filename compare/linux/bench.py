@@ -33,9 +33,12 @@ class Bench:
                 layers.close()
 
     def compare(self, script: Iterable[Command]) -> Found | None:
-        """The first difference of a script that is not declared, cut down to the fewest commands."""
-        found = self._run(script, self.counts, WHOLE_EVERY)
-        return found and shortest(found, lambda shorter: self._run(shorter, Counts(), whole_every=1))
+        """The first difference of a script that is not declared."""
+        return self._run(script, self.counts, WHOLE_EVERY)
+
+    def shortest(self, found: Found) -> Found:
+        """A difference by the fewest commands. All that a snapshot shows is compared after each of them."""
+        return shortest(found, lambda script: self._run(script, Counts(), whole_every=1))
 
     def _run(self, script: Iterable[Command], counts: Counts, whole_every: int) -> Found | None:
         with self.both() as (program, layers):

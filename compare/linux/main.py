@@ -137,7 +137,7 @@ def _compare(words: argparse.Namespace, bench: Bench) -> int:
     else:
         return 1
     if found:
-        _show(found, words.program)
+        _show(bench.shortest(found), words.program)
         return 1
     print(_told(bench.counts))
     return 0
@@ -166,7 +166,7 @@ def _compare_scripts(bench: Bench, paths: list[Path]) -> Found | None:
     for path in paths:
         found = bench.compare(_read(path))
         if found:
-            print(f"difference: by {path}")
+            print(f"difference: by {path}; it is cut down:")
             return found
     print(f"scripts: {len(paths)}, {bench.counts.steps} steps")
     return None
@@ -193,7 +193,7 @@ def _compare_sequences(bench: Bench, words: argparse.Namespace) -> Found | None:
         sequence = Sequence(Random(f"{words.seed} {number}"), words.layers)
         found = bench.compare(sequence.commands())
         if found:
-            print(f"difference: by script {number} of seed {words.seed}")
+            print(f"difference: by script {number} of seed {words.seed}; it is cut down:")
             return found
     print(f"seed {words.seed}: {number} scripts, {bench.counts.steps - first} steps")
     return None
