@@ -1,0 +1,184 @@
+//! The lines of a script: a JSON object a line, and an answer a line.
+
+use crate::json::{Object, Value, parse};
+use crate::layer::{FsError, Path, Seen, Usage, look};
+use crate::operation::Operation;
+use crate::store::{Content, Namespace, Refused, Store};
+use std::collections::BTreeMap;
+use std::error::Error;
+use std::io;
+
+pub fn run(mut lines: impl Iterator<Item = io::Result<String>>) -> Result<(), Box<dyn Error>> {
+    let first = lines.next().ok_or("no line")??;
+    let mut store = open(&first).ok_or("the first line is no `open`")?;
+    println!(r#"{{"ok":true}}"#);
+    for line in lines {
+        let line = line?;
+        let answer = answer(&mut store, &line).ok_or_else(|| format!("no such line: {line}"))?;
+        println!("{answer}");
+    }
+    Ok(())
+}
+
+fn open(line: &str) -> Option<Store> {
+    let object = parse(line)?;
+    let Some(Value::List(list)) = object.get("namespaces") else {
+        return None;
+    };
+    let mut namespaces = BTreeMap::new();
+    for item in list {
+        let Value::List(parts) = item else {
+            return None;
+        };
+        let [
+            Value::Text(name),
+            Value::Number(blocks),
+            Value::Number(inodes),
+        ] = &parts[..]
+        else {
+            return None;
+        };
+        let namespace = Namespace {
+            limit: Usage {
+                blocks: *blocks,
+                inodes: *inodes,
+            },
+            total: Usage::default(),
+            snapshots: BTreeMap::new(),
+        };
+        namespaces.insert(name.clone(), namespace);
+    }
+    Some(Store::open(namespaces))
+}
+
+/// The answer to the line, or nothing where it is none.
+fn answer(store: &mut Store, line: &str) -> Option<String> {
+    let object = parse(line)?;
+    let field = |name| text(&object, name);
+    let command = field("do")?;
+    let reply = match command {
+        "prepare" => store.prepare(field("ns")?, field("key")?, field("parent")?),
+        "commit" => store.commit(field("ns")?, field("key")?, field("name")?),
+        "remove" => store.remove(field("ns")?, field("key")?),
+        "stat" => store.stat(field("ns")?, field("key")?),
+        "walk" => store.walk(field("ns")?, field("after")?, 64),
+        "charge" => charge(store, field("ns")?, field("key")?, pair(&object, "need")?),
+        "report" => return Some(store.report()),
+        "reopen" => {
+            store.reopen();
+            return Some(r#"{"ok":true}"#.to_owned());
+        }
+        "look" => {
+            let path = Path::parse(field("path")?)?;
+            return Some(said(seen(store, field("ns")?, field("key")?, &path)));
+        }
+        _ => {
+            let operation = operation(command, &object)?;
+            return Some(said(operate(
+                store,
+                field("ns")?,
+                field("key")?,
+                &operation,
+                line,
+            )));
+        }
+    };
+    let reply = said(reply);
+    store.note(line, &reply);
+    Some(reply)
+}
+
+fn said(reply: Result<String, Refused>) -> String {
+    reply.unwrap_or_else(|refused| format!(r#"{{"error":"{refused}"}}"#))
+}
+
+fn text<'a>(object: &'a Object, name: &str) -> Option<&'a str> {
+    match object.get(name)? {
+        Value::Text(text) => Some(text),
+        _ => None,
+    }
+}
+
+fn pair(object: &Object, name: &str) -> Option<Usage> {
+    let Value::List(parts) = object.get(name)? else {
+        return None;
+    };
+    let [Value::Number(blocks), Value::Number(inodes)] = parts[..] else {
+        return None;
+    };
+    Some(Usage { blocks, inodes })
+}
+
+fn operation(command: &str, object: &Object) -> Option<Operation> {
+    let path = |name| Path::parse(text(object, name)?);
+    Some(match command {
+        "mkdir" => Operation::Mkdir {
+            path: path("path")?,
+            mode: 0o755,
+        },
+        "create" => Operation::Create {
+            path: path("path")?,
+            mode: 0o644,
+        },
+        "setmode" => Operation::SetMode {
+            path: path("path")?,
+            mode: 0o600,
+        },
+        "unlink" => Operation::Unlink {
+            path: path("path")?,
+        },
+        "rename" => Operation::Rename {
+            from: path("from")?,
+            to: path("to")?,
+        },
+        _ => return None,
+    })
+}
+
+/// Charges at least the amount for the active snapshot.
+fn charge(store: &mut Store, ns: &str, key: &str, need: Usage) -> Result<String, Refused> {
+    let old = store.snapshot(ns, key)?.charge;
+    let new = Usage {
+        blocks: old.blocks.max(need.blocks),
+        inodes: old.inodes.max(need.inodes),
+    };
+    let namespace = store.namespaces.get_mut(ns).ok_or("NoNamespace")?;
+    namespace.charge(old, new)?;
+    store.snapshot(ns, key)?.charge = new;
+    Ok(format!(r#"{{"share":{new}}}"#))
+}
+
+/// Carries the operation out, and charges what the layer then takes.
+fn operate(
+    store: &mut Store,
+    ns: &str,
+    key: &str,
+    operation: &Operation,
+    line: &str,
+) -> Result<String, Refused> {
+    let snapshot = store.snapshot(ns, key)?;
+    let Content::Active { upper, lowers, .. } = &mut snapshot.content else {
+        return Err("NotActive");
+    };
+    operation.apply(upper, lowers).map_err(FsError::name)?;
+    let count = upper.usage();
+    let mut share = snapshot.charge;
+    if count.blocks > share.blocks || count.inodes > share.inodes {
+        let reply = charge(store, ns, key, count)?;
+        store.note(line, &reply);
+        share = store.snapshot(ns, key)?.charge;
+    }
+    Ok(format!(r#"{{"count":{count},"share":{share}}}"#))
+}
+
+fn seen(store: &mut Store, ns: &str, key: &str, path: &Path) -> Result<String, Refused> {
+    let snapshot = store.snapshot(ns, key)?;
+    let Content::Active { upper, lowers, .. } = &snapshot.content else {
+        return Err("NotActive");
+    };
+    Ok(match look(upper, lowers, path) {
+        None => r#"{"seen":null}"#.to_owned(),
+        Some(Seen::Dir { mode }) => format!(r#"{{"seen":{{"dir":{mode}}}}}"#),
+        Some(Seen::File { mode, size }) => format!(r#"{{"seen":{{"file":{mode},"size":{size}}}}}"#),
+    })
+}
