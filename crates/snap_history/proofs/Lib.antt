@@ -1,0 +1,4 @@
+mod Names
+mod Turning
+pub mod Law
+mod Pages

@@ -1,0 +1,189 @@
+-- No call changes the name or the place of a namespace.
+use Rattle.std.proofs.Common.{◌≡◌, ℕ, ◌+◌, ◌<◌, List, [], ◌∷◌, Bool, true, false, Some, None, refl, ap, ◌∙◌, arith}
+use Rattle.std.proofs.lemmas.Bool.Decides.{nat_tests}
+use Rattle.std.specs.Option.{option_map_or}
+use Rattle.std.specs.Prelude.{◌&&◌, not, nat_le, nat_lt, if◌then◌else◌, Option, Result, Ok, Err}
+use Rattle.snap_layer.specs.Tree.{Tree}
+use Rattle.snap_usage.specs.declared.usage.Usage.{Usage}
+use Rattle.snap_usage.specs.Counted.{covers}
+use Rattle.snap_lease.specs.Leases.{is_guarded, has_lease}
+use Rattle.snap_record.specs.Labels.{Bytes, Label}
+use Rattle.snap_record.specs.Records.{usage_of, info_of}
+use Rattle.snap_record.specs.Updates.{is_granted, is_well_formed}
+use Rattle.snap_record.specs.declared.filter.Filter.{Filter}
+use Rattle.snap_record.specs.declared.record.Record.{Record}
+use Rattle.snap_call.specs.declared.call.Call.{Call}
+use Rattle.snap_call.specs.declared.call.Call.TheVariants as calls
+use Rattle.snap_call.specs.declared.call.Given.{Given}
+use Rattle.snap_call.specs.declared.call.Given.TheVariants.{Nothing, Count, Layer}
+use Rattle.snap_call.specs.declared.entry.Entry.{Entry}
+use Rattle.snap_call.specs.declared.refusal.Refusal.{Refusal}
+use Rattle.snap_call.specs.declared.refusal.Refusal.TheVariants.{NoNamespace, NumbersSpent}
+use Rattle.snap_call.specs.declared.reply.Reply.{Reply}
+use Rattle.snap_call.specs.declared.reply.Reply.TheVariants.{Opened, Info, Usage as UsageReply, Refused}
+use Rattle.snap_call.specs.declared.state.State.{State}
+use Rattle.snap_call.specs.Forms.{is_key, is_limit, is_page, is_start}
+use Rattle.snap_call.specs.Records.{record_at, has_key, has_children, is_active, is_committed, active_at, charge_of}
+use Rattle.snap_call.specs.State.{place_of}
+use Rattle.snap_call.specs.Step.{refused, session, prepared, prepare_at, prepare, granted, charge_to, charge, trim, commit_as, commit, discard, ask_record, ask, step, IsAllowed, place_for, slot_for, unless_refused, mounts, view_at, view, remove_record, remove_at, remove, update_record, update_at, update, walk_at, walk, in_namespace, has_named, set_limit_at, set_limit, lease_create, lease_add_record, lease_add, lease_release, sweep_at}
+use Rattle.snap_call.specs.Journal.{Replays}
+use Rattle.snap_call.proofs.Leasing.{place_of-limited}
+
+-- the namespaces have the same names at the same places
+abbrev IsNext : State → State → Type 0
+IsNext s t = (name : Bytes) → place_of name t.namespaces ≡ place_of name s.namespaces
+
+either : (s : State) (b : Bool) (p q : State × Reply) → IsNext s p.0 → IsNext s q.0 → IsNext s (if b then p else q).0
+either s true p q h k = h
+either s false p q h k = k
+
+unless_refusing : (s : State) (r : Result ℕ Refusal) (next : ℕ → State × Reply) → ((n : ℕ) → IsNext s (next n).0) → IsNext s (unless_refused s r next).0
+unless_refusing s (Ok n) next h = h n
+unless_refusing s (Err why) next h = (λ name. refl)
+
+preparing_at : (s : State) (key parent : Bytes) (labels : List Label) (place : ℕ) → IsNext s (prepare_at s key parent labels place).0
+preparing_at s key parent labels place = unless_refusing s (slot_for s place) (prepared s place key parent labels) (λ slot. (λ name. refl))
+
+preparing : (s : State) (namespace key parent : Bytes) (labels : List Label) → IsNext s (prepare s namespace key parent labels).0
+preparing s namespace key parent labels = unless_refusing s (place_for s namespace key parent labels) (prepare_at s key parent labels) (preparing_at s key parent labels)
+
+viewing_at : (s : State) (key parent : Bytes) (labels : List Label) (place : ℕ) → IsNext s (view_at s key parent labels place).0
+viewing_at s key parent labels place = either s (nat_le s.next_id 4294967295) _ _ (λ name. refl) (λ name. refl)
+
+viewing : (s : State) (namespace key parent : Bytes) (labels : List Label) → IsNext s (view s namespace key parent labels).0
+viewing s namespace key parent labels = unless_refusing s (place_for s namespace key parent labels) (view_at s key parent labels) (viewing_at s key parent labels)
+
+charging_to : (s : State) (slot : ℕ) (r : Record) (o : Option Usage) → IsNext s (charge_to s slot r o).0
+charging_to s slot r (Some to) = (λ name. refl)
+charging_to s slot r None = (λ name. refl)
+
+charging : (s : State) (slot : ℕ) (need want : Usage) (o : Option Record) → IsNext s (charge s slot need want o).0
+charging s slot need want (Some r) = charging_to s slot r (granted s r.namespace (usage_of r.content) need want)
+charging s slot need want None = (λ name. refl)
+
+trimming : (s : State) (slot : ℕ) (given : Given) (o : Option Record) → IsNext s (trim s slot given o).0
+trimming s slot (Count now) (Some r) = (λ name. refl)
+trimming s slot (Count now) None = (λ name. refl)
+trimming s slot Nothing o = (λ name. refl)
+trimming s slot (Layer layer) o = (λ name. refl)
+
+committing_as : (s : State) (slot : ℕ) (name : Bytes) (lease : Option Bytes) (layer : Tree) (o : Option Record) → IsNext s (commit_as s slot name lease layer o).0
+committing_as s slot name lease layer (Some r) =
+    either s (is_key name && option_map_or is_key lease true) _ _
+    (either s (has_key r.namespace name s.records) _ _ (λ name. refl)
+    (either s (has_named s r.namespace lease) _ _ (λ name. refl) (λ name. refl)))
+    (λ name. refl)
+committing_as s slot name lease layer None = (λ name. refl)
+
+committing : (s : State) (slot : ℕ) (name : Bytes) (lease : Option Bytes) (given : Given) → IsNext s (commit s slot name lease given).0
+committing s slot name lease (Layer layer) = committing_as s slot name lease layer (active_at slot s.records)
+committing s slot name lease Nothing = (λ name. refl)
+committing s slot name lease (Count now) = (λ name. refl)
+
+discarding : (s : State) (slot : ℕ) (o : Option Record) → IsNext s (discard s slot o).0
+discarding s slot (Some r) = (λ name. refl)
+discarding s slot None = (λ name. refl)
+
+asking_record : (s : State) (answer : Record → Reply) (o : Option Record) → IsNext s (ask_record s answer o).0
+asking_record s answer None = (λ name. refl)
+asking_record s answer (Some r) = (λ name. refl)
+
+asking_in : (s : State) (answer : Record → Reply) (key : Bytes) (o : Option ℕ) → IsNext s (option_map_or (λ place. ask_record s answer (record_at place key s.records)) o (refused s NoNamespace)).0
+asking_in s answer key None = (λ name. refl)
+asking_in s answer key (Some place) = asking_record s answer (record_at place key s.records)
+
+asking : (s : State) (answer : Record → Reply) (namespace key : Bytes) → IsNext s (ask s answer namespace key).0
+asking s answer namespace key = either s (is_key key) _ _ (asking_in s answer key (place_of namespace s.namespaces)) (λ name. refl)
+
+removing_record : (s : State) (namespace key : Bytes) (place : ℕ) (o : Option Record) → IsNext s (remove_record s namespace key place o).0
+removing_record s namespace key place None = (λ name. refl)
+removing_record s namespace key place (Some r) =
+    either s (has_children place key s.records) _ _ (λ name. refl)
+    (either s (is_active r.content) _ _ (λ name. refl)
+    (either s (is_guarded s.leases namespace key) _ _ (λ name. refl) (λ name. refl)))
+
+removing_at : (s : State) (namespace key : Bytes) (o : Option ℕ) → IsNext s (remove_at s namespace key o).0
+removing_at s namespace key None = (λ name. refl)
+removing_at s namespace key (Some place) = removing_record s namespace key place (record_at place key s.records)
+
+removing : (s : State) (namespace key : Bytes) → IsNext s (remove s namespace key).0
+removing s namespace key = either s (is_key key) _ _ (removing_at s namespace key (place_of namespace s.namespaces)) (λ name. refl)
+
+updating_record : (s : State) (place : ℕ) (key : Bytes) (given : List Label) (paths : List Bytes) (o : Option Record) → IsNext s (update_record s place key given paths o).0
+updating_record s place key given paths None = (λ name. refl)
+updating_record s place key given paths (Some r) =
+    either s (is_granted r.labels given paths) _ _ (λ name. refl) (λ name. refl)
+
+updating_at : (s : State) (key : Bytes) (given : List Label) (paths : List Bytes) (o : Option ℕ) → IsNext s (update_at s key given paths o).0
+updating_at s key given paths None = (λ name. refl)
+updating_at s key given paths (Some place) = updating_record s place key given paths (record_at place key s.records)
+
+updating : (s : State) (namespace key : Bytes) (given : List Label) (paths : List Bytes) → IsNext s (update s namespace key given paths).0
+updating s namespace key given paths = either s (is_key key && is_well_formed given paths) _ _ (updating_at s key given paths (place_of namespace s.namespaces)) (λ name. refl)
+
+walking_at : (s : State) (after : Bytes) (most : ℕ) (asked : Filter) (o : Option ℕ) → IsNext s (walk_at s after most asked o).0
+walking_at s after most asked None = (λ name. refl)
+walking_at s after most asked (Some place) = (λ name. refl)
+
+walking : (s : State) (namespace after : Bytes) (most : ℕ) (asked : Filter) → IsNext s (walk s namespace after most asked).0
+walking s namespace after most asked = either s (is_start after && is_page most) _ _ (walking_at s after most asked (place_of namespace s.namespaces)) (λ name. refl)
+
+in_place : (s : State) (namespace : Bytes) (next : ℕ → State × Reply) → ((place : ℕ) → IsNext s (next place).0) → IsNext s (in_namespace s namespace next).0
+in_place s namespace next h = by (place_of namespace s.namespaces)
+  where
+    by : (o : Option ℕ) → IsNext s (option_map_or next o (refused s NoNamespace)).0
+    by None = (λ name. refl)
+    by (Some place) = h place
+
+limiting : (s : State) (namespace : Bytes) (limit : Usage) → IsNext s (set_limit s namespace limit).0
+limiting s namespace limit = either s (is_limit limit) _ _ (in_place s namespace (set_limit_at s limit) (λ place. either s (covers limit (charge_of place s.records)) _ _ (λ name. place_of-limited limit name place s.namespaces) (λ name. refl))) (λ name. refl)
+
+creating : (s : State) (namespace lease : Bytes) (until : Option ℕ) → IsNext s (lease_create s namespace lease until).0
+creating s namespace lease until = either s (is_key lease) _ _ (in_place s namespace _ (λ place. either s (has_lease s.leases namespace lease) _ _ (λ name. refl) (λ name. refl))) (λ name. refl)
+
+adding_record : (s : State) (namespace lease name : Bytes) (o : Option Record) → IsNext s (lease_add_record s namespace lease name o).0
+adding_record s namespace lease name None = (λ name. refl)
+adding_record s namespace lease name (Some r) = either s (not (is_committed r.content)) _ _ (λ name. refl) (either s (not (has_lease s.leases namespace lease)) _ _ (λ name. refl) (λ name. refl))
+
+adding : (s : State) (namespace lease name : Bytes) → IsNext s (lease_add s namespace lease name).0
+adding s namespace lease name = either s (is_key lease && is_key name) _ _ (in_place s namespace _ (λ place. adding_record s namespace lease name (record_at place name s.records))) (λ name. refl)
+
+releasing : (s : State) (namespace lease : Bytes) → IsNext s (lease_release s namespace lease).0
+releasing s namespace lease = either s (is_key lease) _ _ (in_place s namespace _ (λ place. either s (has_lease s.leases namespace lease) _ _ (λ name. refl) (λ name. refl))) (λ name. refl)
+
+-- a session is counted where one is left
+abbrev opened : State → Bool → State × Reply
+opened s b = if b then (record s { sessions = s.sessions + 1; entries = s.entries + 1 }, Opened) else (s, Refused NumbersSpent)
+
+opening : (s : State) → s.sessions < 65536 → IsNext s (session s).0
+opening s left = at (nat_lt s.sessions 65536) refl
+  where
+    at : (b : Bool) → nat_lt s.sessions 65536 ≡ b → IsNext s (opened s b).0
+    at true is = (λ name. refl)
+    at false is = absurd (grind (arith, nat_tests))
+
+-- each allowed call leaves them so
+pub step-names : (s : State) (call : Call) (given : Given) → IsAllowed s call given → IsNext s (step s call given).0
+step-names s calls.Session given left = opening s left
+step-names s (calls.Prepare namespace key parent labels) given h = preparing s namespace key parent labels
+step-names s (calls.Charge slot id need want) given h = charging s slot need want (active_at slot s.records)
+step-names s (calls.Trim slot id) given h = trimming s slot given (active_at slot s.records)
+step-names s (calls.Commit slot id name lease) given h = committing s slot name lease given
+step-names s (calls.Discard slot id) given h = discarding s slot (active_at slot s.records)
+step-names s (calls.Stat namespace key) given h = asking s (λ r. Info (info_of r)) namespace key
+step-names s (calls.Usage namespace key) given h = asking s (λ r. UsageReply (usage_of r.content)) namespace key
+step-names s (calls.Mounts namespace key) given h = asking s (mounts s) namespace key
+step-names s (calls.View namespace key parent labels) given h = viewing s namespace key parent labels
+step-names s (calls.Remove namespace key) given h = removing s namespace key
+step-names s (calls.Update namespace key labels paths) given h = updating s namespace key labels paths
+step-names s (calls.Walk namespace after most asked) given h = walking s namespace after most asked
+step-names s (calls.SetLimit namespace limit) given h = limiting s namespace limit
+step-names s (calls.LeaseCreate namespace lease until) given h = creating s namespace lease until
+step-names s (calls.LeaseAdd namespace lease name) given h = adding s namespace lease name
+step-names s (calls.LeaseRelease namespace lease) given h = releasing s namespace lease
+step-names s (calls.Sweep namespace moment) given h = in_place s namespace (sweep_at s namespace moment) (λ place. (λ name. refl))
+
+-- over a whole journal
+pub Replays-names : (s : State) (j : List Entry) (t : State) → Replays s j t → (name : Bytes) → place_of name t.namespaces ≡ place_of name s.namespaces
+Replays-names s [] t h name = ap (λ (u : State). place_of name u.namespaces) h
+Replays-names s (e ∷ es) t h name = Replays-names (step s e.call e.given).0 es t h.2 name ∙ step-names s e.call e.given h.0 name

@@ -1,0 +1,10 @@
+use Rattle.std.proofs.Common.{◌≡◌, ◌≤◌, replicate, None, vec_len}
+use Rattle.std.specs.Vec.{vec_capacity}
+use Rattle.snap_history.proofs.shares.Shares.none.Given as goal
+
+abbrev pub invariant-loop : goal.invariant-loop
+invariant-loop l = record {
+  items : l.list.items ≡ replicate l.counter None;
+  len : vec_len l.list ≡ l.counter;
+  room : 64 ≤ vec_capacity l.list;
+}

@@ -1,0 +1,99 @@
+ghost use Rattle.std.specs.Prelude.{◌≡◌, ◌-◌, ◌+◌, ◌≤◌, ◌<◌, ◌^◌, ℕ, Some, List, IfOk, length};
+ghost use Rattle.snap_call.specs.Good.{Good};
+ghost use Rattle.snap_call.specs.Journal.{Replays};
+ghost use Rattle.snap_call.specs.Records.{charge_of, open_count};
+ghost use Rattle.snap_call.specs.State.{place_of};
+ghost use Rattle.snap_call.specs.declared.state.State.{State};
+ghost use Rattle.snap_history.specs.Changes.{changes_of, charge_before, infos_of, no_shares};
+ghost use Rattle.snap_history.specs.History.{history, history_page};
+
+use crate::change::{Change, turned};
+use crate::info::{EntryInfo, entry_info};
+use crate::shares::Shares;
+use snap_call::Entry;
+use snap_record::Sequence;
+use snap_usage::Usage;
+use std::alloc::{AllocError, Global};
+
+// The changes of the entries.
+fn changes(alloc: Global, entries: &[Entry], name: &str) -> Result<Vec<Change>, AllocError>
+    ensures { IfOk result (λ changes. changes.items ≡ changes_of name.now no_shares entries.now) }
+{
+    let mut shares = Shares::none(alloc)?;
+    let mut changes = Vec::new(alloc);
+    for entry in entries {
+        changes.push(shares.change_of(name, entry))?;
+        shares.follow(name, entry);
+    }
+    Ok(changes)
+}
+
+// The charge before these changes, from the one after them.
+fn charge_before(now: Usage, changes: &[Change]) -> Usage
+    ensures { result ≡ charge_before now changes.now }
+{
+    let mut charge = now;
+    let mut left = changes.len();
+    while left > 0 {
+        left -= 1;
+        let change = changes[left];
+        charge = turned(charge, change.left, change.found);
+    }
+    charge
+}
+
+// The entries of the namespace that have a greater number, at most so many; the first entry has the number
+// after `before`.
+fn infos(
+    alloc: Global,
+    entries: &[Entry],
+    before: u64,
+    name: &str,
+    opening: Usage,
+    after: u64,
+    most: usize,
+) -> Result<Sequence<EntryInfo>, AllocError>
+    requires { before + length entries.now < 2 ^ 64 }
+    ensures { IfOk result (λ infos. infos ≡ history_page after most (infos_of name.now before no_shares opening entries.now)) }
+{
+    let mut shares = Shares::none(alloc)?;
+    let mut infos = Sequence::new(alloc);
+    let mut charge = opening;
+    let mut number = before;
+    for entry in entries {
+        number += 1;
+        let change = shares.change_of(name, entry);
+        charge = turned(charge, change.found, change.left);
+        if shares.is_own(name, &entry.call) && after < number && infos.len() < most {
+            infos.push(entry_info(number, entry, charge)?)?;
+        }
+        shares.follow(name, entry);
+    }
+    Ok(infos)
+}
+
+/// The entries of a round that are a namespace's and have a greater number than `after`, in order, at most
+/// so many, each with what the namespace is charged after it. `last` is the number of the last entry, and
+/// `now` what the namespace is charged after it.
+///
+/// The cost grows with the entries, and the memory too: a change for each, and what is answered.
+pub fn history(
+    alloc: Global,
+    entries: &[Entry],
+    last: u64,
+    name: &str,
+    now: Usage,
+    after: u64,
+    most: usize,
+) -> Result<Sequence<EntryInfo>, AllocError>
+    requires { length entries.now ≤ last }
+    // The entries lead from the state that the round began at to one with this number and this charge.
+    ensures { IfOk result (λ infos. (s t : State) (place : ℕ) → Good s → open_count s.records ≡ 0 → Replays s entries.now t
+        → place_of name.now t.namespaces ≡ Some place → t.entries ≡ last → charge_of place t.records ≡ now
+        → infos ≡ history_page after most (history place s entries.now)) }
+{
+    let before = last - entries.len() as u64;
+    let changes = changes(alloc, entries, name)?;
+    let opening = charge_before(now, &changes);
+    infos(alloc, entries, before, name, opening, after, most)
+}

@@ -1,0 +1,16 @@
+//! What the entries of a round made of a namespace's charge.
+//!
+//! The answer is one definition, `history` in `specs/History.antt`, over the states that the entries lead
+//! to. It is found without these states: an entry's call and reply tell what it changed.
+#![tactic(auto)]
+
+mod change;
+mod charges;
+mod info;
+mod kind;
+mod shares;
+mod target;
+
+pub use charges::history;
+pub use info::EntryInfo;
+pub use kind::{CallKind, call_kind};

@@ -1,0 +1,5 @@
+//! A test of the entries of a namespace and of what it is charged after each; no part of the product.
+#![tactic(auto)]
+
+#[cfg(test)]
+mod round;
