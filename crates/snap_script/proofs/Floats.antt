@@ -14,9 +14,10 @@ use Rattle.snap_call.specs.declared.refusal.Refusal.{Refusal}
 use Rattle.snap_call.specs.declared.refusal.Refusal.TheVariants as refusals
 use Rattle.snap_script.specs.declared.answer.Shown.{Shown}
 use Rattle.snap_script.specs.declared.answer.Shown.TheVariants as shown
+use Rattle.snap_script.specs.declared.answer.TreeNode.{TreeNode}
 use Rattle.snap_script.specs.declared.answer.Answer.{Answer}
 use Rattle.snap_script.specs.declared.answer.Answer.TheVariants as answers
-use Rattle.snap_script.specs.Answers.{number_data, usage_data, members_with, shown_data, answer_data, info_data, mount_data}
+use Rattle.snap_script.specs.Answers.{number_data, usage_data, members_with, shown_data, answer_data, info_data, mount_data, node_data}
 
 first_is : (a b : Bool) → a || b ≡ false → a ≡ false
 first_is false b h = refl
@@ -68,6 +69,10 @@ infos_have_none : (infos : List Info) → items_have_float (items_of (map info_d
 infos_have_none [] = refl
 infos_have_none (info ∷ infos) = both_are _ _ (info_has_none info) (infos_have_none infos)
 
+nodes_have_none : (nodes : List TreeNode) → items_have_float (items_of (map node_data nodes)) ≡ false
+nodes_have_none [] = refl
+nodes_have_none (node ∷ nodes) = nodes_have_none nodes
+
 text_or_null : (b : Bool) (text : List ℕ) → has_float (if b then string text else null) ≡ false
 text_or_null true text = refl
 text_or_null false text = refl
@@ -88,6 +93,7 @@ no_float (answers.Mounts mounts) = both_are _ _ (mounts_have_none mounts) refl
 no_float (answers.Seen seen) = both_are _ _ (shown_has_none seen) refl
 no_float (answers.Names names) = both_are _ _ (texts_have_none names) refl
 no_float (answers.Swept removed leases freed) = both_are _ _ (texts_have_none removed) refl
+no_float (answers.Tree nodes) = both_are _ _ (nodes_have_none nodes) refl
 no_float (answers.Report entries actives records totals) = both_are _ _ (members_have_none usage_data (λ usage. refl) totals no_members refl) refl
 no_float (answers.Jobs committed discarded refused totals) = both_are _ _ (members_have_none usage_data (λ usage. refl) totals no_members refl) refl
 no_float (answers.Refused refusal) = refusal_has_none refusal

@@ -19,6 +19,7 @@ use Rattle.snap_merge.specs.declared.error.FsError.{FsError}
 use Rattle.snap_merge.specs.declared.error.FsError.TheVariants as errors
 use Rattle.snap_script.specs.declared.answer.Shown.{Shown}
 use Rattle.snap_script.specs.declared.answer.Shown.TheVariants as shown
+use Rattle.snap_script.specs.declared.answer.TreeNode.{TreeNode}
 use Rattle.snap_script.specs.declared.answer.Answer.{Answer}
 use Rattle.snap_script.specs.declared.answer.Answer.TheVariants as answers
 
@@ -109,6 +110,16 @@ shown_data (Some (shown.Dir mode)) = object (only (codes "dir") (number_data mod
 shown_data (Some (shown.File mode size)) = object (member (codes "file") (number_data mode) (only (codes "size") (number_data size)))
 shown_data (Some (shown.Symlink target)) = object (only (codes "symlink") (text_data target))
 
+-- a snapshot of a forest, with the word of its kind
+abbrev pub node_data : TreeNode → Data
+node_data node = object
+    (member (codes "children") (number_data node.children)
+    (member (codes "id") (number_data node.id)
+    (member (codes "key") (string node.key)
+    (member (codes "kind") (string (kind_word node.kind))
+    (member (codes "parent") (string node.parent)
+    (only (codes "usage") (usage_data node.usage)))))))
+
 -- an answer: the first bytes of a file are in lower hexadecimal, and a refusal over the limit has what is free
 abbrev pub answer_data : Answer → Data
 answer_data answers.Done = object (only (codes "ok") (boolean true))
@@ -133,6 +144,7 @@ answer_data (answers.Seen seen) = object (only (codes "seen") (shown_data seen))
 answer_data (answers.Names names) = object (only (codes "names") (array (items_of (map string names))))
 answer_data (answers.Head head size) = object (member (codes "head") (string (encode_lower head)) (only (codes "size") (number_data size)))
 answer_data (answers.Path path) = object (only (codes "path") (string (text_of path)))
+answer_data (answers.Tree nodes) = object (only (codes "tree") (array (items_of (map node_data nodes))))
 answer_data (answers.Report entries actives records totals) = object
     (member (codes "entries") (number_data entries)
     (member (codes "open") (number_data actives)

@@ -96,6 +96,7 @@ command_of verbs.LeaseRelease line = do l ← lease_of line; Ok (commands.Call (
 command_of verbs.Sweep line = do Ok (commands.Call (calls.Sweep (← text fields.Namespace line) (← required as_natural fields.Moment line)))
 command_of (verbs.File verb) line = do s ← named line; Ok (commands.File s.0 s.1 (← file_command_of verb line) (← optional as_usage fields.Extra (Ok (record { blocks = 0; inodes = 0 })) line))
 command_of (verbs.Lookup asked) line = do s ← named line; Ok (commands.Lookup s.0 s.1 asked (← text fields.Path line))
+command_of verbs.Tree line = do Ok (commands.Tree (← text fields.Namespace line))
 command_of verbs.Report line = Ok commands.Report
 
 -- the words of the commands
@@ -135,6 +136,7 @@ words =
     ∷ (codes "list", verbs.Lookup lookups.List)
     ∷ (codes "read", verbs.Lookup lookups.Read)
     ∷ (codes "resolve", verbs.Lookup lookups.Resolve)
+    ∷ (codes "tree", verbs.Tree)
     ∷ (codes "report", verbs.Report)
     ∷ []
 

@@ -4,7 +4,7 @@ ghost use Rattle.snap_script.specs.Answers.{answer_data, answer_line};
 
 use crate::values::{
     changed, committed, done, error, error_name, freed, head, info, infos, jobs, mounts, names,
-    path, prepared, refused, report, seen, session, share, swept, usage, viewed,
+    path, prepared, refused, report, seen, session, share, swept, tree, usage, viewed,
 };
 use serde_json::Value;
 use snap_call::Refusal;
@@ -12,7 +12,7 @@ use snap_layer::Bytes;
 use snap_merge::FsError;
 use snap_mount::Mount;
 use snap_path::{Name, Path};
-use snap_record::{Info, Sequence, Text};
+use snap_record::{Info, Kind, Sequence, Text};
 use snap_usage::Usage;
 use std::alloc::{AllocError, Global};
 
@@ -25,6 +25,20 @@ pub enum Shown {
     File { mode: u32, size: u64 },
     /// A symlink. Its target is null in the answer where it isn't UTF-8, which no script makes.
     Symlink { target: Bytes },
+}
+
+/// A snapshot as one of the forest of its namespace.
+#[derive(Debug, Drop)]
+pub struct TreeNode {
+    pub key: Text,
+    pub kind: Kind,
+    pub id: u32,
+    /// What the namespace is charged for it alone.
+    pub usage: Usage,
+    /// The key of its parent; empty where it has none.
+    pub parent: Text,
+    /// How many snapshots of the namespace stand on it.
+    pub children: u64,
 }
 
 /// What a line of a script is answered, and the lines of a script of jobs together.
@@ -90,6 +104,9 @@ pub enum Answer {
     },
     /// The path that another leads to: `{"path":"/d/x"}`.
     Path(Path),
+    /// The snapshots of a namespace, in byte order of their keys:
+    /// `{"tree":[{"children":0,"id":1,"key":"k","kind":"Active","parent":"","usage":[1,1]}]}`.
+    Tree(Sequence<TreeNode>),
     /// The journal's entries, the open snapshots, the records, and the total of each namespace:
     /// `{"entries":8,"open":0,"records":1,"totals":{"a":[4,3]}}`.
     Report {
@@ -145,6 +162,7 @@ impl Answer {
             Answer::Names(own) => names(alloc, own.as_slice()),
             Answer::Head { head: own, size } => head(alloc, own.as_slice(), *size),
             Answer::Path(own) => path(alloc, own),
+            Answer::Tree(nodes) => tree(alloc, nodes.as_slice()),
             Answer::Report {
                 entries,
                 actives,

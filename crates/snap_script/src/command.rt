@@ -67,6 +67,10 @@ pub enum Command {
         lookup: Lookup,
         path: Text,
     },
+    /// Asks for the snapshots of a namespace, as a forest by parent.
+    Tree {
+        namespace: Text,
+    },
     /// Asks for the store's totals.
     Report,
 }

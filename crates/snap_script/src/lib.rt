@@ -15,7 +15,7 @@ mod parse;
 mod values;
 mod verb;
 
-pub use answer::{Answer, Shown};
+pub use answer::{Answer, Shown, TreeNode};
 pub use command::{Command, FileCommand, Lookup, names_of, path_of};
 pub use fault::{Fault, Field, ReadError};
 pub use line::{Line, MAX_LINE_BYTES, is_empty, read_line, read_object, read_open};

@@ -423,6 +423,14 @@ fn lookup(alloc: Global, lookup: Lookup, line: &Value) -> Result<Command, ReadEr
     })
 }
 
+#[tactic(auto, unfolding(crate::specs::Commands::command_of))]
+fn tree(alloc: Global, line: &Value) -> Result<Command, ReadError>
+    ensures { Gives (λ c. c) result (command_of verbs.Tree (view line.now)) }
+{
+    let namespace = text(alloc, Field::Namespace, line)?;
+    Ok(Command::Tree { namespace })
+}
+
 /// The command of a line by its verb.
 #[tactic(auto, unfolding(crate::specs::Commands::command_of))]
 pub(crate) fn command_of(alloc: Global, verb: Verb, line: &Value) -> Result<Command, ReadError>
@@ -451,6 +459,7 @@ pub(crate) fn command_of(alloc: Global, verb: Verb, line: &Value) -> Result<Comm
         Verb::Sweep => sweep(alloc, line),
         Verb::File(verb) => file(alloc, verb, line),
         Verb::Lookup(own) => lookup(alloc, own, line),
+        Verb::Tree => tree(alloc, line),
         Verb::Report => Ok(Command::Report),
     }
 }

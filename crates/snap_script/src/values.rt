@@ -2,10 +2,10 @@
 ghost use Rattle.std.specs.Prelude.{◌≡◌, Some, IfOk, OnOk, map};
 ghost use Rattle.serde_json.specs.Data.{string, array, object, no_members, put};
 ghost use Rattle.serde_json.specs.View.{view, items_of, members_view};
-ghost use Rattle.snap_script.specs.Answers.{answer_data, error_data, error_name, info_data, members_with, number_data, refusal_name, shown_data, text_data, usage_data, mount_data};
+ghost use Rattle.snap_script.specs.Answers.{answer_data, error_data, error_name, info_data, members_with, node_data, number_data, refusal_name, shown_data, text_data, usage_data, mount_data};
 ghost use Rattle.snap_script.specs.declared.answer.Answer.TheVariants as answers;
 
-use crate::answer::Shown;
+use crate::answer::{Shown, TreeNode};
 use serde_json::{Map, Value, json};
 use snap_call::Refusal;
 use snap_merge::FsError;
@@ -233,6 +233,37 @@ pub(crate) fn changed(alloc: Global, count: Usage, share: Usage) -> Result<Value
     let count = usage_value(alloc, count)?;
     let share = usage_value(alloc, share)?;
     json!(in alloc; {"count": count, "share": share})
+}
+
+fn node_value(alloc: Global, node: &TreeNode) -> Result<Value, AllocError>
+    ensures { IfOk result (λ v. view v ≡ node_data node.now) }
+{
+    let usage = usage_value(alloc, node.usage)?;
+    json!(in alloc; {
+        "children": node.children,
+        "id": node.id,
+        "key": node.key.as_str(),
+        "kind": node.kind.as_str(),
+        "parent": node.parent.as_str(),
+        "usage": usage
+    })
+}
+
+fn nodes_value(alloc: Global, nodes: &[TreeNode]) -> Result<Value, AllocError>
+    ensures { IfOk result (λ v. view v ≡ array (items_of (map node_data nodes.now))) }
+{
+    let mut items = Vec::new(alloc);
+    for node in nodes {
+        items.push(node_value(alloc, node)?)?;
+    }
+    Ok(Value::Array(items))
+}
+
+pub(crate) fn tree(alloc: Global, nodes: &[TreeNode]) -> Result<Value, AllocError>
+    ensures { IfOk result (λ v. view v ≡ answer_data (answers.Tree nodes.now)) }
+{
+    let nodes = nodes_value(alloc, nodes)?;
+    json!(in alloc; {"tree": nodes})
 }
 
 pub(crate) fn report(

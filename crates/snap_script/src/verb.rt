@@ -30,6 +30,7 @@ pub(crate) enum Verb {
     Sweep,
     File(FileVerb),
     Lookup(Lookup),
+    Tree,
     Report,
 }
 
@@ -49,7 +50,7 @@ pub(crate) enum FileVerb {
 }
 
 /// The words of the commands.
-const WORDS: [(&str, Verb); 35] = [
+const WORDS: [(&str, Verb); 36] = [
     ("open", Verb::Open),
     ("session", Verb::Session),
     ("reopen", Verb::Reopen),
@@ -84,6 +85,7 @@ const WORDS: [(&str, Verb); 35] = [
     ("list", Verb::Lookup(Lookup::List)),
     ("read", Verb::Lookup(Lookup::Read)),
     ("resolve", Verb::Lookup(Lookup::Resolve)),
+    ("tree", Verb::Tree),
     ("report", Verb::Report),
 ];
 

@@ -1,4 +1,5 @@
 pub mod Opened
+pub mod Tree
 pub mod Commands
 pub mod Wanting
 pub mod Script

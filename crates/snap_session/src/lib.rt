@@ -13,6 +13,7 @@ mod round;
 mod run;
 mod script;
 mod step;
+mod tree;
 
 pub use run::{replay, replay_within};
 pub use script::Script;

@@ -8,6 +8,7 @@ use crate::file_commands::file;
 use crate::lookups::lookup;
 use crate::round::reopen;
 use crate::step::called;
+use crate::tree::tree;
 use snap_call::Refusal;
 use snap_ledger::StoreName;
 use snap_record::{Sequence, Text};
@@ -109,6 +110,7 @@ fn on_store<N: StoreName>(
             lookup: asked,
             path,
         } => lookup(alloc, world, namespace, key, asked, path),
+        Command::Tree { namespace } => tree(alloc, world, names, namespace),
         Command::Report => report(alloc, world, names),
     }
 }

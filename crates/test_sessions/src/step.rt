@@ -50,7 +50,10 @@ impl<'a, N: StoreName, R: Wait> Round<'a, N, R> {
                 path,
             } => self.lookup(namespace.as_str(), key.as_str(), lookup, &path),
             // No line of an open store asks for the first, and `step` takes the others.
-            Command::Open { config: _ } | Command::Reopen { journal: _ } | Command::Report => {
+            Command::Open { config: _ }
+            | Command::Reopen { journal: _ }
+            | Command::Tree { namespace: _ }
+            | Command::Report => {
                 Err(Refused::Book(Refusal::BadArgument))
             }
         }
@@ -80,7 +83,7 @@ impl<'a, N: StoreName, R: Wait> Round<'a, N, R> {
         }
     }
 
-    // A command: the next round's entries, where the round ends. A report is not answered.
+    // A command: the next round's entries, where the round ends. A report is not answered, nor is a tree.
     fn step<W: Write>(
         &mut self,
         n: u64,
@@ -88,6 +91,7 @@ impl<'a, N: StoreName, R: Wait> Round<'a, N, R> {
         output: &mut W,
     ) -> Result<Option<u64>, Stop> {
         match command {
+            Command::Tree { namespace: _ } => Ok(None),
             Command::Report => Ok(None),
             Command::Reopen { journal } => Ok(self.ends(journal, output)?.then_some(journal)),
             command => {

@@ -1,0 +1,83 @@
+// The snapshots of a namespace as a forest by parent.
+ghost use Rattle.std.specs.Prelude.{◌≡◌, IfOk, count_by};
+ghost use Rattle.snap_call.specs.Records.{is_child};
+ghost use Rattle.snap_session.specs.Tree.{is_in, tree_node, forest, place_among, tree};
+
+use snap_call::Refusal;
+use snap_ledger::StoreName;
+use snap_record::{Record, Sequence, Text};
+use snap_script::{Answer, TreeNode};
+use snap_world::{NoMemory, World};
+use std::alloc::{AllocError, Global};
+
+// The record is in the namespace at the place and on this parent.
+fn is_child(record: &Record, place: usize, key: &str) -> bool
+    ensures { result ≡ is_child place key.now record.now }
+{
+    record.namespace == place && record.parent.as_str() == key
+}
+
+// How many snapshots of the namespace at the place are on this parent.
+fn children_of(records: &[Record], place: usize, key: &str) -> u64
+    ensures { result ≡ count_by (is_child place key.now) records.now }
+{
+    let count = records
+        .iter()
+        .filter(|record| is_child(record, place, key))
+        .count();
+    count as u64
+}
+
+#[tactic(auto, unfolding(crate::specs::Tree::tree_node))]
+fn tree_node(records: &[Record], record: &Record) -> Result<TreeNode, AllocError>
+    ensures { IfOk result (λ node. node ≡ tree_node records.now record.now) }
+{
+    Ok(TreeNode {
+        key: record.key.clone()?,
+        kind: record.content.kind(),
+        id: record.id,
+        usage: record.content.usage(),
+        parent: record.parent.clone()?,
+        children: children_of(records, record.namespace, record.key.as_str()),
+    })
+}
+
+// The record is one of the namespace at the place.
+fn is_in(record: &Record, place: usize) -> bool
+    ensures { result ≡ is_in place record.now }
+{
+    record.namespace == place
+}
+
+fn forest(alloc: Global, records: &[Record], place: usize) -> Result<Sequence<TreeNode>, AllocError>
+    ensures { IfOk result (λ nodes. nodes ≡ forest place records.now) }
+{
+    let mut nodes = Sequence::new(alloc);
+    for record in records {
+        if is_in(record, place) {
+            nodes.push(tree_node(records, record)?)?;
+        }
+    }
+    Ok(nodes)
+}
+
+// The place of the namespace of this name.
+fn place_among(names: &[Text], namespace: &str) -> Option<usize>
+    ensures { result ≡ place_among namespace.now names.now }
+{
+    names.iter().position(|name| name.as_str() == namespace)
+}
+
+pub(crate) fn tree<N: StoreName>(
+    alloc: Global,
+    world: &World<N>,
+    names: &[Text],
+    namespace: Text,
+) -> Result<Answer, NoMemory>
+    ensures { IfOk result (λ answer. answer ≡ tree (record { world = world.now; names = names.now }) namespace) }
+{
+    let Some(place) = place_among(names, namespace.as_str()) else {
+        return Ok(Answer::Refused(Refusal::NoNamespace));
+    };
+    Ok(Answer::Tree(forest(alloc, world.records(), place)?))
+}
