@@ -10,11 +10,11 @@ use snap_script::{Answer, TreeNode};
 use snap_world::{NoMemory, World};
 use std::alloc::{AllocError, Global};
 
-// The record is in the namespace at the place and on this parent.
-fn is_child(record: &Record, place: usize, key: &str) -> bool
-    ensures { result ≡ is_child place key.now record.now }
+// The snapshot is in the namespace at the place and on this parent.
+fn is_child(snapshot: &Record, place: usize, key: &str) -> bool
+    ensures { result ≡ is_child place key.now snapshot.now }
 {
-    record.namespace == place && record.parent.as_str() == key
+    snapshot.namespace == place && snapshot.parent.as_str() == key
 }
 
 // How many snapshots of the namespace at the place are on this parent.
@@ -29,24 +29,24 @@ fn children_of(records: &[Record], place: usize, key: &str) -> u64
 }
 
 #[tactic(auto, unfolding(crate::specs::Tree::tree_node))]
-fn tree_node(records: &[Record], record: &Record) -> Result<TreeNode, AllocError>
-    ensures { IfOk result (λ node. node ≡ tree_node records.now record.now) }
+fn tree_node(records: &[Record], snapshot: &Record) -> Result<TreeNode, AllocError>
+    ensures { IfOk result (λ node. node ≡ tree_node records.now snapshot.now) }
 {
     Ok(TreeNode {
-        key: record.key.clone()?,
-        kind: record.content.kind(),
-        id: record.id,
-        usage: record.content.usage(),
-        parent: record.parent.clone()?,
-        children: children_of(records, record.namespace, record.key.as_str()),
+        key: snapshot.key.clone()?,
+        kind: snapshot.content.kind(),
+        id: snapshot.id,
+        usage: snapshot.content.usage(),
+        parent: snapshot.parent.clone()?,
+        children: children_of(records, snapshot.namespace, snapshot.key.as_str()),
     })
 }
 
-// The record is one of the namespace at the place.
-fn is_in(record: &Record, place: usize) -> bool
-    ensures { result ≡ is_in place record.now }
+// The snapshot is one of the namespace at the place.
+fn is_in(snapshot: &Record, place: usize) -> bool
+    ensures { result ≡ is_in place snapshot.now }
 {
-    record.namespace == place
+    snapshot.namespace == place
 }
 
 fn forest(alloc: Global, records: &[Record], place: usize) -> Result<Sequence<TreeNode>, AllocError>
