@@ -53,9 +53,7 @@ impl<'a, N: StoreName, R: Wait> Round<'a, N, R> {
             Command::Open { config: _ }
             | Command::Reopen { journal: _ }
             | Command::Tree { namespace: _ }
-            | Command::Report => {
-                Err(Refused::Book(Refusal::BadArgument))
-            }
+            | Command::Report => { Err(Refused::Book(Refusal::BadArgument)) }
         }
     }
 
