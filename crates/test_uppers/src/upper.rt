@@ -47,6 +47,21 @@ fn file_numbers_end(rt: HostRuntime) -> Result<(), Fail> {
     Ok(())
 }
 
+/// Makes an empty file in a layer alone.
+fn create(layer: &mut Layer, path: &str) -> Result<(), FsError> {
+    let path = Path::parse(layer.alloc(), path)?;
+    apply(layer, &[], &Op::Create { path, mode: 420 })
+}
+
+#[test]
+fn the_last_file_number_is_given(rt: HostRuntime) -> Result<(), Fail> {
+    let mut layer = Layer::empty_from(rt.alloc(), DEFAULT_MODE, 4_294_967_294)?;
+    create(&mut layer, "/f")?;
+    let second = create(&mut layer, "/g");
+    assert!(rt; second == Err(FsError::LayerFull));
+    Ok(())
+}
+
 fn is_opaque(node: Option<Node>) -> bool {
     match node {
         Some(Node::Dir { opaque, .. }) => opaque,
