@@ -94,14 +94,16 @@ enum Task {
 const WORKERS: &str = "workers";
 
 // What goes in and out of `run`. The last line works as it stands.
-const RUN_HELP: &str = r#"In: a JSON object a line. The first opens a store, as below; docs/SCRIPT.md has them all.
+const RUN_HELP: &str =
+    r#"In: a JSON object a line. The first opens a store, as below; docs/SCRIPT.md has them all.
 Out: a JSON object for each; {"error":NAME,"from":WHERE} where it is refused.
 Status: 0 done, 2 bad words or a bad line, 3 a read or a write failed, 4 want of memory.
 Example:
   printf '%s\n' '{"do":"open","root":"/r","namespaces":[["a",9,9]]}' '{"do":"report"}' | snap_replay run"#;
 
 // The same for `writers`.
-const WRITERS_HELP: &str = r#"In: a JSON object a line. The first opens a store, each other one is a job: a snapshot's whole life.
+const WRITERS_HELP: &str =
+    r#"In: a JSON object a line. The first opens a store, each other one is a job: a snapshot's whole life.
 Out: one line: how many jobs were committed, discarded and refused, and what is charged then.
 Status: as of run, and 5 where the store could not be closed.
 Example:

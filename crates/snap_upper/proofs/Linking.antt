@@ -306,20 +306,28 @@ module _ (v : Tree) (ls : List Tree) (from to : Names) (ok : IsLayer v) (layers 
       by : (o : Option Object) → below v ls from ≡ o → link_error o ≡ None → CanStand (last_of None o) v from → (n : Node) × (b : Body) × IsCopied v ls from (last_of None o) n b
       by None e is fit = absurd (cc)
       by (Some (dir m)) e is fit = absurd (cc)
-      by (Some (file m bytes)) e is fit = (File v.next, body_kinds.File m bytes, record {
-        numbered = refl;
-        named = refl;
-        copy = copied_missing v ls from none ∙ ap (with_object v from) e;
-        puts = λ p. refl;
-        fits = λ p place. (place, fit.1, fit.2);
-      })
-      by (Some (symlink target)) e is fit = (Symlink v.next, body_kinds.Symlink target, record {
-        numbered = refl;
-        named = refl;
-        copy = copied_missing v ls from none ∙ ap (with_object v from) e;
-        puts = λ p. refl;
-        fits = λ p place. (place, fit.1);
-      })
+      by (Some (file m bytes)) e is fit = (
+        File v.next,
+        body_kinds.File m bytes,
+        record {
+          numbered = refl;
+          named = refl;
+          copy = copied_missing v ls from none ∙ ap (with_object v from) e;
+          puts = λ p. refl;
+          fits = λ p place. (place, fit.1, fit.2);
+        },
+      )
+      by (Some (symlink target)) e is fit = (
+        Symlink v.next,
+        body_kinds.Symlink target,
+        record {
+          numbered = refl;
+          named = refl;
+          copy = copied_missing v ls from none ∙ ap (with_object v from) e;
+          puts = λ p. refl;
+          fits = λ p place. (place, fit.1);
+        },
+      )
 
   abbrev wanted : Tree
   wanted = with_name (copied v ls from) to (at (copied v ls from) from)

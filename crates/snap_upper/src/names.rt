@@ -13,7 +13,9 @@ ghost use Rattle.snap_upper.specs.After.{tests, first_error, limited, next_layer
 ghost use Rattle.snap_upper.specs.declared.op.Op.TheVariants as op;
 
 use super::change::own_number;
-use snap_copyup::{add_dirs, copy_below, copy_up, cover_new, missing_paths, put, take_all, take_new};
+use snap_copyup::{
+    add_dirs, copy_below, copy_up, cover_new, missing_paths, put, take_all, take_new,
+};
 use snap_layer::{Layer, Shared};
 use snap_merge::{FsError, show_are_layers};
 use snap_path::Path;
