@@ -161,8 +161,20 @@ def _read(path: bytes) -> Answer:
         os.close(descriptor)
 
 
+def _opened(path: bytes) -> int:
+    """What a path leads to. A walk that the kernel begins anew goes on counting the links of its first attempt, so
+    it can meet too many where there are not: it is asked again, when what it needs is in its caches."""
+    for _ in range(3):
+        try:
+            return os.open(path, os.O_PATH)
+        except OSError as error:
+            if error.errno != errno.ELOOP:
+                raise
+    return os.open(path, os.O_PATH)
+
+
 def _resolve(path: bytes) -> str:
-    descriptor = os.open(path, os.O_PATH)
+    descriptor = _opened(path)
     try:
         return os.readlink(str(descriptor).encode(), dir_fd=_descriptors).decode()
     finally:
