@@ -10,8 +10,15 @@ use snap_store::{Session, Swept};
 use std::alloc::{AllocError, Global};
 use std::sync::Wait;
 
-// The ids of the ancestors, as the last entry of the tape has them.
+// The ids of the ancestors, as the last entry of the tape has them; asked for again where memory was refused.
 fn chain_of(alloc: Global, session: &Session) -> Result<Sequence<u32>, AllocError> {
+    match copied_chain(alloc, session) {
+        Ok(chain) => Ok(chain),
+        Err(_) => copied_chain(alloc, session),
+    }
+}
+
+fn copied_chain(alloc: Global, session: &Session) -> Result<Sequence<u32>, AllocError> {
     let Some(entry) = session.tape().last() else {
         return Ok(Sequence::new(alloc));
     };
@@ -38,6 +45,7 @@ impl<'a, N: StoreName, R: Wait> Round<'a, N, R> {
         let session = session_at(&mut self.sessions, n)?;
         let room = Room::new(self.alloc)?;
         let (own_namespace, own_key) = (namespace.clone()?, key.clone()?);
+        self.hands.reserve(1)?;
         let active = self.store.prepare(
             self.rt,
             session,
@@ -62,11 +70,12 @@ impl<'a, N: StoreName, R: Wait> Round<'a, N, R> {
         labels: &Labels,
     ) -> Result<Answer, Refused> {
         let session = session_at(&mut self.sessions, n)?;
+        let kept = self.known.kept_as(namespace, key)?;
         let view = self
             .store
             .view(self.rt, session, namespace, key, parent, labels)?;
         let id = view.id();
-        self.known.keep(namespace, key, Some(view))?;
+        self.known.keep(kept, Some(view))?;
         let chain = chain_of(self.alloc, session)?;
         Ok(Answer::Viewed { id, chain })
     }

@@ -56,10 +56,11 @@ impl<'a, N: StoreName, R: Wait> Round<'a, N, R> {
     ) -> Result<Answer, Refused> {
         let place = self.found(namespace, key)?;
         let session = session_at(&mut self.sessions, n)?;
+        let kept = self.known.kept_as(namespace, name)?;
         let hand = take(&mut self.hands, place)?;
         match hand.commit(session, name, lease) {
             Ok(answer) => {
-                self.known.keep(namespace, name, None)?;
+                self.known.keep(kept, None)?;
                 Ok(answer)
             }
             Err((why, hand)) => {
@@ -77,6 +78,7 @@ impl<'a, N: StoreName, R: Wait> Round<'a, N, R> {
     ) -> Result<Answer, Refused> {
         let place = self.found(namespace, key)?;
         let session = session_at(&mut self.sessions, n)?;
+        session.reserve(1)?;
         let hand = take(&mut self.hands, place)?;
         Ok(Answer::Freed(hand.discard(session)?))
     }

@@ -6,7 +6,7 @@ use std::alloc::{AllocError, Global};
 
 // A committed snapshot, or a view of one.
 #[derive(Drop)]
-struct Kept {
+pub(crate) struct Kept {
     namespace: Text,
     key: Text,
     view: Option<Viewed>,
@@ -66,19 +66,28 @@ impl Known {
         kept.view.as_ref()
     }
 
-    // A view, or else a committed snapshot, has come.
-    pub(crate) fn keep(
-        &mut self,
-        namespace: &str,
-        key: &str,
-        view: Option<Viewed>,
-    ) -> Result<(), AllocError> {
-        let kept = Kept {
+    // A committed snapshot of this key, and room to keep it.
+    pub(crate) fn kept_as(&mut self, namespace: &str, key: &str) -> Result<Kept, AllocError> {
+        self.kept.reserve(1)?;
+        Ok(Kept {
             namespace: Text::copy_of(self.alloc, namespace)?,
             key: Text::copy_of(self.alloc, key)?,
+            view: None,
+        })
+    }
+
+    // It has come, or a view of its key. Takes no memory where it has room.
+    pub(crate) fn keep(&mut self, kept: Kept, view: Option<Viewed>) -> Result<(), AllocError> {
+        let Kept {
+            namespace,
+            key,
+            view: _,
+        } = kept;
+        self.kept.push(Kept {
+            namespace,
+            key,
             view,
-        };
-        self.kept.push(kept)?;
+        })?;
         Ok(())
     }
 

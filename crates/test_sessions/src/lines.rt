@@ -30,12 +30,16 @@ pub(crate) fn next_command(
     Ok(None)
 }
 
+// The command was carried out, so where memory for the line is refused it is made again.
 pub(crate) fn write_answer<W: Write>(
     alloc: Global,
     output: &mut W,
     answer: &Answer,
 ) -> Result<(), Stop> {
-    let line = answer.line(alloc)?;
+    let line = match answer.line(alloc) {
+        Ok(line) => line,
+        Err(_) => answer.line(alloc)?,
+    };
     match output.write_all(line.as_bytes()) {
         Ok(()) => Ok(()),
         Err(_) => Err(Stop::OutputFailed),

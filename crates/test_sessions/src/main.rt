@@ -6,9 +6,11 @@
 //! operations through `run`, and the close.
 //!
 //! `report` is not answered, since a store lends no records. At the end of the input what is still held is
-//! discarded, the store is closed with all sessions, and the report of the closed store is written. The
-//! status is 1 where the store is not closed, 2 for a line that is no command, 3 where a read or a write
-//! failed, and 4 for want of memory.
+//! discarded, the store is closed with all sessions, and the report of the closed store is written. Where
+//! memory is refused to a line of an open store, the line is carried out once more: so a run in which one
+//! allocation is refused there writes what a run with ample memory writes. The status is 1 where the store is
+//! not closed, 2 for a line that is no command, 3 where a read or a write failed, and 4 for want of memory
+//! elsewhere.
 #![tactic(auto)]
 
 mod calls;

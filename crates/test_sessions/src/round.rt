@@ -2,9 +2,11 @@
 use crate::hand::Hand;
 use crate::known::Known;
 use crate::refused::Refused;
+use crate::stop::Stop;
 use snap_book::Refusal;
 use snap_call::limits::MAX_JOURNAL;
 use snap_ledger::StoreName;
+use snap_script::Answer;
 use snap_store::{Session, Store};
 use std::alloc::{AllocError, Global};
 use std::sync::Wait;
@@ -35,6 +37,14 @@ pub(crate) fn session_at(sessions: &mut Vec<Session>, n: u64) -> Result<&mut Ses
     }
 }
 
+// Memory for an entry, asked for again where it was refused.
+fn reserve_again(session: &mut Session) -> Result<(), AllocError> {
+    match session.reserve(1) {
+        Ok(()) => Ok(()),
+        Err(_) => session.reserve(1),
+    }
+}
+
 impl<'a, N: StoreName, R: Wait> Round<'a, N, R> {
     // Without a session.
     pub(crate) fn begin(
@@ -55,10 +65,27 @@ impl<'a, N: StoreName, R: Wait> Round<'a, N, R> {
 
     // Opens a session: its number.
     pub(crate) fn open_session(&mut self) -> Result<u64, Refused> {
+        self.sessions.reserve(1)?;
         let session = self.store.session(self.rt)?;
         let number = session.number();
         self.sessions.push(session)?;
         Ok(number)
+    }
+
+    fn open_first(&mut self) -> Result<Answer, Stop> {
+        match self.open_session() {
+            Ok(_) => Ok(Answer::Done),
+            Err(refused) => refused.answer(),
+        }
+    }
+
+    // What `open` and `reopen` are answered: whether session 0 is open. It is opened again where memory was
+    // refused.
+    pub(crate) fn first_session(&mut self) -> Result<Answer, Stop> {
+        match self.open_first() {
+            Err(Stop::NoMemory) => self.open_first(),
+            answer => answer,
+        }
     }
 
     // The place of the hand that has the key.
@@ -96,6 +123,7 @@ impl<'a, N: StoreName, R: Wait> Round<'a, N, R> {
         } = self;
         if let Some(session) = sessions.first_mut() {
             for hand in hands {
+                reserve_again(session)?;
                 let _ = hand.discard(session)?;
             }
         }

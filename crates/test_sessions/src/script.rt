@@ -3,7 +3,6 @@ ghost use Rattle.std.specs.Prelude.{◌≡◌};
 
 use crate::known::Known;
 use crate::lines::{Told, next_command, write_answer};
-use crate::refused::Refused;
 use crate::round::{Ended, Round};
 use crate::stop::Stop;
 use snap_book::{Config, Refusal};
@@ -62,24 +61,20 @@ fn first_config<W: Write>(
     Ok(None)
 }
 
-// What `open` and `reopen` are answered: whether session 0 is open.
-fn first_answer(opened: Result<u64, Refused>) -> Result<Answer, Stop> {
-    match opened {
-        Ok(_) => Ok(Answer::Done),
-        Err(refused) => refused.answer(),
-    }
-}
-
+// Where memory is refused the store and the sessions come back, and it is closed again.
 fn close<N: StoreName>(store: Store<N>, sessions: Vec<Session>) -> Result<Closed<N>, Stop> {
     match store.close(sessions) {
         Ok(closed) => Ok(closed),
         Err(
             NotClosed {
-                store: _,
-                sessions: _,
+                store,
+                sessions,
                 cause: Cause::OutOfMemory,
             },
-        ) => Err(Stop::NoMemory),
+        ) => match store.close(sessions) {
+            Ok(closed) => Ok(closed),
+            Err(_) => Err(Stop::NotClosed),
+        },
         Err(_) => Err(Stop::NotClosed),
     }
 }
@@ -94,7 +89,7 @@ fn one_round<N: StoreName, R: Wait, W: Write>(
     output: &mut W,
 ) -> Result<Past<N>, Stop> {
     let mut round = Round::begin(alloc, rt, &store, known);
-    let answer = first_answer(round.open_session())?;
+    let answer = round.first_session()?;
     write_answer(alloc, output, &answer)?;
     let next = round.play(lines, output)?;
     let Ended { sessions, known } = round.end()?;
@@ -150,7 +145,10 @@ fn rounds<N: StoreName, R: Wait, W: Write>(
             next,
         } = past;
         let Some(journal) = next else {
-            let answer = report(alloc, &closed, names.names())?;
+            let answer = match report(alloc, &closed, names.names()) {
+                Ok(answer) => answer,
+                Err(_) => report(alloc, &closed, names.names())?,
+            };
             return write_answer(alloc, output, &answer);
         };
         let Ok(reopened) = Store::reopen(closed, journal) else {

@@ -1,11 +1,11 @@
 // One command of a round.
-use crate::lines::{Told, next_command, write_answer};
+use crate::lines::write_answer;
 use crate::refused::Refused;
 use crate::round::Round;
 use crate::stop::Stop;
 use snap_book::Refusal;
 use snap_ledger::StoreName;
-use snap_script::{Answer, Command};
+use snap_script::{Answer, Command, Line, read_line};
 use std::io::Write;
 use std::str::Lines;
 use std::sync::Wait;
@@ -99,6 +99,22 @@ impl<'a, N: StoreName, R: Wait> Round<'a, N, R> {
         }
     }
 
+    // Carries a line out.
+    fn attempt<W: Write>(&mut self, line: &str, output: &mut W) -> Result<Option<u64>, Stop> {
+        match read_line(self.alloc, line.as_bytes(), true)? {
+            Line::Empty => Ok(None),
+            Line::Command { session, command } => self.step(session, command, output),
+        }
+    }
+
+    // Carries a line out, and once more where memory was refused: then nothing was answered.
+    fn line<W: Write>(&mut self, line: &str, output: &mut W) -> Result<Option<u64>, Stop> {
+        match self.attempt(line, output) {
+            Err(Stop::NoMemory) => self.attempt(line, output),
+            ended => ended,
+        }
+    }
+
     // Carries out the commands of the round. The next round's entries; none at the end of the script.
     pub(crate) fn play<W: Write>(
         &mut self,
@@ -106,11 +122,10 @@ impl<'a, N: StoreName, R: Wait> Round<'a, N, R> {
         output: &mut W,
     ) -> Result<Option<u64>, Stop> {
         for _ in 0..u64::MAX {
-            let Some(told) = next_command(self.alloc, lines, true)? else {
+            let Some(line) = lines.next() else {
                 return Ok(None);
             };
-            let Told { session, command } = told;
-            if let Some(journal) = self.step(session, command, output)? {
+            if let Some(journal) = self.line(line, output)? {
                 return Ok(Some(journal));
             }
         }
