@@ -1,8 +1,8 @@
 -- For whoever keeps counts beside a list: each key's count is the number of the list's items with that key.
 -- A key is a text, or a pair of a namespace and a text; `n` reads the counts at a key, as `λ q. count_in q counts`.
-use Rattle.std.proofs.Common.{◌≡◌, ℕ, ◌+◌, ◌-◌, ◌<◌, Bool, true, false, cond, List, [], ◌∷◌, ◌++◌, filter, not, length, get_or, set, count_by, refl, sym, ap, ◌∙◌, arith}
+use Rattle.std.proofs.Common.{◌≡◌, ℕ, ◌+◌, ◌-◌, ◌<◌, Bool, cond, List, [], ◌∷◌, ◌++◌, length, get_or, set, count_by, ap, arith}
 use Rattle.std.specs.List.{remove}
-use Rattle.std.proofs.lemmas.List.Sums.{sum_by-cons, sum_by_push, sum_by-remove, sum_by-set}
+use Rattle.std.proofs.lemmas.List.Sums.{sum_by_push, sum_by-remove, sum_by-set}
 
 -- what one item adds to a count
 abbrev pub one_if : Bool → ℕ

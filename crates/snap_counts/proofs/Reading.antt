@@ -1,5 +1,5 @@
 -- What a map of texts says by the bytes of its keys, before and after one key changes.
-use Rattle.std.proofs.Common.{◌≡◌, ◌≢◌, ◌↔◌, ℕ, ◌+◌, ◌-◌, ◌<◌, Bool, true, false, cond, List, [], ◌∷◌, ◌&&◌, length, Option, None, Some, String, BTreeMap, string_bytes, refl, sym, ap, ◌∙◌, arith, unwrap_or, bytes_eq}
+use Rattle.std.proofs.Common.{◌≡◌, ◌≢◌, ℕ, ◌+◌, Bool, true, false, cond, List, [], ◌∷◌, ◌&&◌, length, Option, None, Some, String, BTreeMap, string_bytes, refl, sym, ap, ◌∙◌, arith, unwrap_or, bytes_eq}
 use Rattle.std.specs.BTreeMap.{get_by_text, btree_map_len, is_at}
 use Rattle.std.specs.Cmp.Lexicographic.{slice_cmp, nat_list_eq_equiv}
 use Rattle.std.specs.Map.{lookup, update}
@@ -9,7 +9,6 @@ use Rattle.std.specs.String.{string_cmp}
 use Rattle.std.specs.Ordering.{nat_cmp}
 use Rattle.std.proofs.lemmas.Map.{update-update}
 use Rattle.std.proofs.lemmas.Map.Text.{btree_map_updates_text, is_eq-slice_cmp}
-use Rattle.std.proofs.lemmas.Bool.Decides.{nat_tests}
 use Rattle.std.proofs.lemmas.Slice.Eq.{bytes_eq-Decides}
 use Rattle.snap_counts.specs.Counts.{by_bytes, count_in, count_within}
 use Rattle.snap_counts.proofs.Lists.{one_if}

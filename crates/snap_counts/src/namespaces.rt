@@ -90,7 +90,7 @@ impl NamespaceCounts {
         };
         counts.take(text);
         if counts.is_empty() {
-            self.map.remove(namespace);
+            drop(self.map.remove(namespace));
         }
     }
 }

@@ -1,8 +1,8 @@
-use Rattle.std.proofs.Common.{◌∙◌, ◌≡◌, ◌≢◌, ◌+◌, ◌<◌, ◌^◌, ℕ, List, None, Some, ap, arith, refl, sym, unwrap_or}
+use Rattle.std.proofs.Common.{◌∙◌, ◌≡◌, ◌+◌, ◌<◌, ◌^◌, None, Some, ap, arith, refl, sym, unwrap_or}
 use Rattle.std.specs.BTreeMap.{get_by_text}
 use Rattle.std.specs.Option.{option_copied_mut}
 use Rattle.snap_counts.specs.Counts.{count_in}
-use Rattle.snap_counts.proofs.Reading.{IsSound-Sets, Sets-inserted, Sets-none, Sets-written, count-by_bytes, counts_step, more_some, no_sum, sum_is, zero_in}
+use Rattle.snap_counts.proofs.Reading.{IsSound-Sets, Sets-inserted, Sets-written, count-by_bytes, counts_step, more_some, no_sum, sum_is, zero_in}
 use Rattle.snap_counts.proofs.counts.Counts.add.Goals as goal
 
 pub invariant_of-self : goal.invariant_of-self

@@ -1,4 +1,4 @@
-use Rattle.std.proofs.Common.{◌∙◌, ◌≡◌, ℕ, ap, arith, sym, unwrap_or}
+use Rattle.std.proofs.Common.{◌∙◌, ◌≡◌, ap, arith, sym, unwrap_or}
 use Rattle.std.specs.BTreeMap.{get_by_text}
 use Rattle.snap_counts.specs.Counts.{count_in}
 use Rattle.snap_counts.proofs.Reading.{count-by_bytes}

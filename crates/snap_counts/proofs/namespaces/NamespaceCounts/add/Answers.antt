@@ -1,4 +1,4 @@
-use Rattle.std.proofs.Common.{◌∙◌, ◌≡◌, ◌+◌, ◌<◌, ◌^◌, ℕ, List, [], None, Some, ap, arith, refl, sym, unwrap_or, bytes_eq}
+use Rattle.std.proofs.Common.{◌∙◌, ◌≡◌, ◌+◌, [], None, Some, ap, arith, refl, sym, unwrap_or, bytes_eq}
 use Rattle.std.proofs.lemmas.Result.{on_ok_weaker, on_err_weaker}
 use Rattle.std.specs.BTreeMap.{get_by_text}
 use Rattle.std.specs.Option.{option_copied_mut}

@@ -1,6 +1,4 @@
-use Rattle.std.proofs.Common.{◌∙◌, ◌≡◌, List, [], None, Some, ap, sym, unwrap_or}
-use Rattle.std.specs.BTreeMap.{get_by_text}
-use Rattle.std.specs.Option.{option_copied}
+use Rattle.std.proofs.Common.{◌∙◌, [], ap, sym, unwrap_or}
 use Rattle.snap_counts.specs.Counts.{count_in, count_within}
 use Rattle.snap_counts.proofs.Reading.{count_within-by_bytes}
 use Rattle.snap_counts.proofs.namespaces.NamespaceCounts.count.Goals as goal
