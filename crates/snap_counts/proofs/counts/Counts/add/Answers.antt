@@ -29,18 +29,18 @@ pub invariant_of-self-in-Some : goal.invariant_of-self-in-Some
 invariant_of-self-in-Some c =
     let m = c.self.inside.map in
     let n = c.in-Some.number.now in
-    let more = c.in-Some-checked_add.more in
-    let sets = Sets-written m (c.get_mut.follows.lender more) c.args.text.now n more c.in-Some.ensures.value (c.get_mut.follows.holds more).3 in
-    IsSound-Sets m (c.get_mut.follows.lender more) c.args.text.now (Some more) sets (more_some n more (sum_is c.checked_add.result (n + 1 < 2 ^ 64) (n + 1) more c.checked_add.ensures c.in-Some-checked_add.is)) c.self.invariant
+    let is : c.in-Some-checked_add.more ≡ n + 1 = sum_is c.checked_add.result (n + 1 < 2 ^ 64) (n + 1) c.in-Some-checked_add.more c.checked_add.ensures c.in-Some-checked_add.is in
+    IsSound-Sets m (c.get_mut.follows.lender _) c.args.text.now (Some _) (Sets-written m (c.get_mut.follows.lender _) c.args.text.now n _ c.in-Some.ensures.value (c.get_mut.follows.holds _).3)
+    (more_some n _ (omega (arith, is))) c.self.invariant
 
 pub returns-in-Some-clause-ok : goal.returns-in-Some-clause-ok
 returns-in-Some-clause-ok c =
     let m = c.self.inside.map in
     let n = c.in-Some.number.now in
-    let more = c.in-Some-checked_add.more in
-    let is : more ≡ n + 1 = sum_is c.checked_add.result (n + 1 < 2 ^ 64) (n + 1) more c.checked_add.ensures c.in-Some-checked_add.is in
-    let sets = Sets-written m (c.get_mut.follows.lender more) c.args.text.now n more c.in-Some.ensures.value (c.get_mut.follows.holds more).3 in
-    counts_step (λ a b. a + b) (λ a. omega arith) m (c.get_mut.follows.lender more) c.args.self.now c.args.text.now (Some more) c.self.view_is sets (is ∙ ap (λ o. unwrap_or o 0 + 1) c.in-Some.ensures.value)
+    let is : c.in-Some-checked_add.more ≡ n + 1 = sum_is c.checked_add.result (n + 1 < 2 ^ 64) (n + 1) c.in-Some-checked_add.more c.checked_add.ensures c.in-Some-checked_add.is in
+    let read : n ≡ unwrap_or (get_by_text m c.args.text.now) 0 = ap (λ o. unwrap_or o 0) c.in-Some.ensures.value in
+    counts_step (λ a b. a + b) (λ a. omega arith) m (c.get_mut.follows.lender _) c.args.self.now c.args.text.now (Some _) c.self.view_is
+    (Sets-written m (c.get_mut.follows.lender _) c.args.text.now n _ c.in-Some.ensures.value (c.get_mut.follows.holds _).3) (omega (arith, is, read))
 
 pub returns-in_err-key-clause-there : goal.returns-in_err-key-clause-there
 returns-in_err-key-clause-there c = λ some fits.

@@ -12,24 +12,25 @@ returns-in_default c =
     counts_step (λ a b. a - b) (λ a. omega arith) m c.get_mut.follows.lender-at-none c.args.self.now c.args.text.now None c.self.view_is
     (Sets-none m c.get_mut.follows.lender-at-none c.args.text.now absent c.get_mut.follows.holds-at-none) (ap (λ o. unwrap_or o 0 - 1) (sym absent))
 
--- one less than a number above 1
-some_left : (n : ℕ) → 1 < n → Some (n - 1) ≢ Some 0
-some_left n more e = let zero : n - 1 ≡ 0 = cc in absurd (omega arith)
+-- a number that isn't 0
+some_left : (n : ℕ) → 0 < n → Some n ≢ Some 0
+some_left n more e = let zero : n ≡ 0 = cc in absurd (omega arith)
 
 pub invariant_of-self-then-number-gt1 : goal.invariant_of-self-then-number-gt1
 invariant_of-self-then-number-gt1 c =
     let m = c.self.inside.map in
     let n = c.in-Some.number.now in
     let more : 1 < n = grind (arith, nat_tests) in
-    let sets = Sets-written m (c.get_mut.follows.lender (n - 1)) c.args.text.now n (n - 1) c.in-Some.ensures.value (c.get_mut.follows.holds (n - 1)).3 in
-    IsSound-Sets m (c.get_mut.follows.lender (n - 1)) c.args.text.now (Some (n - 1)) sets (some_left n more) c.self.invariant
+    IsSound-Sets m (c.get_mut.follows.lender _) c.args.text.now (Some _) (Sets-written m (c.get_mut.follows.lender _) c.args.text.now n _ c.in-Some.ensures.value (c.get_mut.follows.holds _).3)
+    (some_left _ (omega (arith, more))) c.self.invariant
 
 pub returns-then-number-gt1 : goal.returns-then-number-gt1
 returns-then-number-gt1 c =
     let m = c.self.inside.map in
     let n = c.in-Some.number.now in
-    let sets = Sets-written m (c.get_mut.follows.lender (n - 1)) c.args.text.now n (n - 1) c.in-Some.ensures.value (c.get_mut.follows.holds (n - 1)).3 in
-    counts_step (λ a b. a - b) (λ a. omega arith) m (c.get_mut.follows.lender (n - 1)) c.args.self.now c.args.text.now (Some (n - 1)) c.self.view_is sets (ap (λ o. unwrap_or o 0 - 1) c.in-Some.ensures.value)
+    let read : n ≡ unwrap_or (get_by_text m c.args.text.now) 0 = ap (λ o. unwrap_or o 0) c.in-Some.ensures.value in
+    counts_step (λ a b. a - b) (λ a. omega arith) m (c.get_mut.follows.lender _) c.args.self.now c.args.text.now (Some _) c.self.view_is
+    (Sets-written m (c.get_mut.follows.lender _) c.args.text.now n _ c.in-Some.ensures.value (c.get_mut.follows.holds _).3) (omega (arith, read))
 
 pub invariant_of-self-else-number-gt1 : goal.invariant_of-self-else-number-gt1
 invariant_of-self-else-number-gt1 c =
