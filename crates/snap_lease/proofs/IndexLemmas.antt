@@ -1,13 +1,13 @@
 -- The counts of names beside the leases, before and after a change.
-use Rattle.std.proofs.Common.{◌≡◌, ◌≢◌, ℕ, zero, suc, ◌+◌, ◌-◌, ◌<◌, Bool, true, false, not, cond, List, [], ◌∷◌, ◌++◌, ◌&&◌, ◌||◌, map, filter, count_by, length, get_or, set, take, Option, refl, sym, ap, subst, ◌∙◌, arith, true≢false, bytes_eq}
+use Rattle.std.proofs.Common.{◌≡◌, ℕ, zero, suc, ◌+◌, ◌-◌, ◌<◌, Bool, true, false, not, cond, List, [], ◌∷◌, ◌++◌, ◌&&◌, ◌||◌, map, count_by, length, get_or, set, take, Option, refl, sym, ap, ◌∙◌, arith, true≢false, bytes_eq}
 use Rattle.std.proofs.lemmas.List.{map-append, take_more}
 use Rattle.std.proofs.lemmas.List.Folds.{list_any_at}
 use Rattle.std.proofs.lemmas.List.Sums.{sum_by-cons, sum_by-set, sum_by_more, sum_by_push}
 use Rattle.std.proofs.lemmas.Slice.Eq.{bytes_eq-Decides}
-use Rattle.std.specs.List.{list_any, AllByRecursion, IsDistinct}
+use Rattle.std.specs.List.{AllByRecursion, IsDistinct}
 use Rattle.snap_counts.specs.Counts.{count_within}
-use Rattle.snap_lease.specs.Lease.{Lease, NamesOnce, is_lease, is_of, does_name, empty_lease, with_lease_name}
-use Rattle.snap_lease.specs.Leases.{AreDistinct, guards, has_ended, has_lease, naming_count, with_name_added, without_ended, without_lease}
+use Rattle.snap_lease.specs.Lease.{Lease, is_lease, is_of, does_name, empty_lease, with_lease_name}
+use Rattle.snap_lease.specs.Leases.{AreDistinct, guards, has_ended, has_lease, naming_count, without_ended, without_lease}
 use Rattle.snap_lease.specs.Index.{AreNameCounts, AreUncounted, IsRecounted, IsUncounted, NameCounts}
 use Rattle.snap_lease.specs.Live.{is_among}
 use Rattle.snap_lease.proofs.CountLemmas.{bytes_eq-other, count_by-filter, does_name-with_name, is_of-with_name}

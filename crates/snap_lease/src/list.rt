@@ -98,9 +98,10 @@ impl Leases {
 
     /// Names the snapshot in the lease too, as its last name. A name that is there already changes nothing.
     ///
-    /// `NoLease` where the namespace has no lease of this name. `OutOfMemory` where memory is refused, which it takes for the
-    /// text and for a place in the set, and not for a name that is there already. After either the leases are as they were.
-    /// Its cost grows with the number of leases.
+    /// `NoLease` where the namespace has no lease of this name. `OutOfMemory` where memory is refused, which it takes for copies
+    /// of the text, for a place in the set and for the count of the name, and not for a name that is there already. After
+    /// either the leases are as they were. Its cost grows with the number of leases, and with the logarithm of the number of
+    /// names that the namespace's leases have.
     #[tactic(auto, using(crate::proofs::ListLemmas::has_lease_at_place))]
     pub fn add(&mut self, namespace: &str, lease: &str, name: &str) -> Result<(), LeaseError>
         // The lease has the name, once, and every other lease stays.
@@ -123,7 +124,9 @@ impl Leases {
 
     /// Takes the lease away with its names, as containerd's `leases.Manager.Delete` does.
     ///
-    /// `NoLease`, and nothing changed, where the namespace has no lease of this name. Takes no memory. Its cost grows with the number of leases.
+    /// `NoLease`, and nothing changed, where the namespace has no lease of this name. Takes no memory. Its cost grows with the
+    /// number of leases, and for each name of the lease with the logarithm of the number of names that the namespace's leases
+    /// have.
     #[tactic(auto, using(crate::proofs::ListLemmas::has_lease_at_place))]
     pub fn release(&mut self, namespace: &str, lease: &str) -> Result<(), LeaseError>
         // The others stay as they are, in their order.
@@ -143,9 +146,7 @@ impl Leases {
         Ok(())
     }
 
-    /// Whether a lease of the namespace names the snapshot, live or ended.
-    ///
-    /// Takes no memory. Its cost grows with the number of leases.
+    /// Whether a lease of the namespace names the snapshot, live or ended. Takes no memory, and costs what `count` does.
     pub fn holds(&self, namespace: &str, name: &str) -> bool
         ensures value { result ≡ is_guarded self.now namespace.now name.now }
         ensures count { IsTrue result ↔ (0 < naming_count self.now namespace.now name.now) }
@@ -173,7 +174,8 @@ impl Leases {
 
     /// The number of the namespace's leases that name the snapshot, live or ended.
     ///
-    /// Takes no memory. Its cost grows with the number of leases.
+    /// Takes no memory. Its cost grows with the logarithms of the number of namespaces and of the number of names that the
+    /// namespace's leases have, and not with the leases.
     pub fn count(&self, namespace: &str, name: &str) -> u64
         ensures value { result ≡ naming_count self.now namespace.now name.now }
 
@@ -224,7 +226,8 @@ impl Leases {
 
     /// Takes away the namespace's leases that have ended at the moment, with their names.
     ///
-    /// Takes no memory. Its cost grows with the number of leases.
+    /// Takes no memory. Its cost grows with the number of leases, and for each name of a lease that goes with the logarithm of
+    /// the number of names that the namespace's leases have.
     pub fn drop_ended(&mut self, namespace: &str, now: u64)
         ensures leases { self.new ≡ without_ended self.old namespace.now now }
         ensures counts { CountsLive self.old self.new namespace.now now }

@@ -8,5 +8,5 @@ pub returns-clause-counted : goal.returns-clause-counted
 returns-clause-counted c =
     let absent : does_name c.args.name.now c.args.self.now ≡ false = sym c.does_name.ensures ∙ c.if-does_name.false in
     let namespace : c.as_str.result.now ≡ c.args.self.now.namespace = c.as_str.ensures.value ∙ ap (λ (l : Lease). l.namespace) c.self.view_is in
-    recounted-new c.args.name.now c.args.self.now c.put.new.self c.args.counts.now c.add.new.self absent c.in_default.ensures.ok
+    recounted-new c.args.name.now c.args.self.now _ c.args.counts.now _ absent c.in_default.ensures.ok
     (λ space q. c.in_ok-add.ensures.ok space q ∙ ap (λ n. count_within space q c.args.counts.now + one_if (bytes_eq space n && bytes_eq q c.args.name.now)) namespace)

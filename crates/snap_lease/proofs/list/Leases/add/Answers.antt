@@ -44,12 +44,11 @@ pub invariant_of-self-2 : goal.invariant_of-self-2
 invariant_of-self-2 c =
     let distinct = AreDistinct-with_name_added c.args.namespace.now c.args.lease.now c.args.name.now c.self.inside.list.items c.self.invariant.0 in
     let once = NamesOnce-with_name_added c.args.namespace.now c.args.lease.now c.args.name.now c.self.inside.list.items c.self.invariant.1 in
-    let at = added c in
-    (
+    let at = added c in (
       subst AreDistinct (sym (new_items c)) distinct,
       subst (AllByRecursion NamesOnce) (sym (new_items c)) once,
       counts-changed c.self.inside.list.items c.in-Some.place c.index_mut-entry.result.now c.add.new.self c.index_mut-entry.result.now c.self.inside.counts c.add.new.counts
-      c.self.invariant.2 at.within at.entry_is c.in_ok-add.ensures.counted,
+          c.self.invariant.2 at.within at.entry_is c.in_ok-add.ensures.counted,
     )
 
 pub returns-clause-ok : goal.returns-clause-ok

@@ -13,10 +13,9 @@ invariant_of-self-2 c =
     let new : has_lease c.self.inside.list.items c.in_ok-entry.entry.namespace c.in_ok-entry.entry.name ≡ false =
     ap (λ (l : Lease). has_lease c.self.inside.list.items l.namespace l.name) entry ∙ ap (λ ls. has_lease ls c.args.namespace.now c.args.lease.now) c.self.view_is ∙ absent in
     let items : c.push.new.self.items ≡ c.self.inside.list.items ++ c.in_ok-entry.entry ∷ [] = c.in_ok-push.ensures.items in
-    let once : NamesOnce c.in_ok-entry.entry = subst NamesOnce (sym entry) (NamesOnce-empty c.args.namespace.now c.args.lease.now c.args.until) in
-    (
+    let once : NamesOnce c.in_ok-entry.entry = subst NamesOnce (sym entry) (NamesOnce-empty c.args.namespace.now c.args.lease.now c.args.until) in (
       subst AreDistinct (sym items) (AreDistinct-push c.self.inside.list.items c.in_ok-entry.entry c.self.invariant.0 new),
       subst (AllByRecursion NamesOnce) (sym items) (all-push NamesOnce c.self.inside.list.items c.in_ok-entry.entry c.self.invariant.1 once),
       counts-created c.self.inside.list.items c.push.new.self.items c.self.inside.counts c.in_ok-entry.entry c.self.invariant.2
-      (λ space name. ap (guards space name) entry ∙ guards-empty space name c.args.namespace.now c.args.lease.now c.args.until) items,
+          (λ space name. ap (guards space name) entry ∙ guards-empty space name c.args.namespace.now c.args.lease.now c.args.until) items,
     )

@@ -17,8 +17,7 @@ pub invariant_of-self : goal.invariant_of-self
 invariant_of-self c =
     let ls = c.self.inside.list.items in
     let uncounted : AreUncounted (has_ended c.args.namespace.now c.args.now) ls c.self.inside.counts c.take_ended.new.counts =
-    subst (λ xs. AreUncounted (has_ended c.args.namespace.now c.args.now) xs c.self.inside.counts c.take_ended.new.counts) c.as_slice.ensures.value c.take_ended.ensures in
-    (
+    subst (λ xs. AreUncounted (has_ended c.args.namespace.now c.args.now) xs c.self.inside.counts c.take_ended.new.counts) c.as_slice.ensures.value c.take_ended.ensures in (
       subst AreDistinct (sym (kept c)) (AreDistinct-filter _ _ c.self.invariant.0),
       subst (AllByRecursion NamesOnce) (sym (kept c)) (all-filter NamesOnce _ _ c.self.invariant.1),
       subst (λ xs. AreNameCounts xs c.take_ended.new.counts) (sym (kept c)) (counts-ended c.args.namespace.now c.args.now ls c.self.inside.counts c.take_ended.new.counts c.self.invariant.2 uncounted),

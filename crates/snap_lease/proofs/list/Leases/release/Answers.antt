@@ -6,7 +6,7 @@ use Rattle.snap_lease.specs.Lease.{NamesOnce, is_lease}
 use Rattle.snap_lease.specs.Leases.{AreDistinct, without_lease, CountsReleased}
 use Rattle.snap_lease.proofs.CountLemmas.{CountsReleased-without_lease}
 use Rattle.snap_lease.specs.Index.{AreNameCounts}
-use Rattle.snap_lease.proofs.IndexLemmas.{all-at, counts-released}
+use Rattle.snap_lease.proofs.IndexLemmas.{counts-released}
 use Rattle.snap_lease.proofs.ListLemmas.{AreDistinct-filter, all-filter}
 use Rattle.snap_lease.proofs.list.Leases.release.Goals as goal
 
@@ -20,8 +20,7 @@ invariant_of-self c =
     let place = c.in-Some.place in
     let first = position-Some (is_lease c.args.namespace.now c.args.lease.now) ls place c.index.result.now (ap (position (is_lease c.args.namespace.now c.args.lease.now)) c.self.view_is ∙ sym c.in-Some.ensures) in
     let counts = counts-released c.args.namespace.now c.args.lease.now ls place c.index.result.now c.index.result.now c.self.inside.counts c.take_counts.new.counts
-    c.self.invariant.2 c.self.invariant.0 first.0 first.1 c.index.ensures c.take_counts.ensures in
-    (
+    c.self.invariant.2 c.self.invariant.0 first.0 first.1 c.index.ensures c.take_counts.ensures in (
       subst AreDistinct (sym (kept c)) (AreDistinct-filter _ _ c.self.invariant.0),
       subst (AllByRecursion NamesOnce) (sym (kept c)) (all-filter NamesOnce _ _ c.self.invariant.1),
       subst (λ ls. AreNameCounts ls c.take_counts.new.counts) (sym (kept c)) counts,
