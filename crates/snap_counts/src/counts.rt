@@ -89,7 +89,7 @@ impl Counts {
 
     /// Takes one count of the text back. A text that isn't counted changes nothing.
     ///
-    /// Takes no memory, and gives the text's back with its last count. It costs what `count` does.
+    /// Takes no memory. The text goes with its last count. It costs what `count` does.
     pub fn take(&mut self, text: &str)
         ensures { (q : List ℕ) → count_in q self.new ≡ count_in q self.old - (if bytes_eq q text.now then 1 else 0) }
     {
