@@ -326,8 +326,8 @@ impl<N: StoreName> Accounts<N> {
     /// `Walk` a page of infos, `Sweep` what goes; a limit and a lease are set without more. The refusals
     /// are those of [`snap_call`]'s `step`, in its order. Takes memory for the reply and the change. The
     /// cost grows with the records and with the texts and labels of those that are found; that of mounts
-    /// and of a view with the records times the ancestors, that of a removal with the leases and the
-    /// names in them too, that of a call on a lease with the leases, and that of a sweep is that of
+    /// and of a view with the records times the ancestors, that of a removal with the logarithm
+    /// of the number of names in leases too, that of a call on a lease with the leases, and that of a sweep is that of
     /// [`plan_sweep`](snap_call::State::plan_sweep).
     pub fn plan(&self, alloc: Global, call: &Call) -> Result<(Reply, Change), AllocError>
         requires plain { IsPlain call.now }

@@ -74,7 +74,7 @@ module _ {X : Type 0} where
   count_by-map p f [] = refl
   count_by-map p f (x ∷ xs) = count_by-cons p (f x) (map f xs) ∙ ap (λ n. cond (p (f x)) 1 0 + n) (count_by-map p f xs) ∙ sym (count_by-cons (λ y. p (f y)) x xs)
 
-bytes_eq-other : (xs ys : List ℕ) → xs ≢ ys → bytes_eq xs ys ≡ false
+pub bytes_eq-other : (xs ys : List ℕ) → xs ≢ ys → bytes_eq xs ys ≡ false
 bytes_eq-other xs ys differ = by (bytes_eq xs ys) refl
   where
     by : (b : Bool) → bytes_eq xs ys ≡ b → bytes_eq xs ys ≡ false
@@ -188,7 +188,7 @@ does_name-with_name other name l = by (does_name name l) (bytes_eq other name) r
     by false e absent same =
         ap (does_name other) (with_name-new name l absent) ∙ list_any-append (bytes_eq other) l.names (name ∷ []) ∙ ap (λ b. does_name other l || b) (or_false (bytes_eq other name))
 
-is_of-with_name : (space name : List ℕ) (l : Lease) → is_of space (with_lease_name name l) ≡ is_of space l
+pub is_of-with_name : (space name : List ℕ) (l : Lease) → is_of space (with_lease_name name l) ≡ is_of space l
 is_of-with_name space name l = ap (bytes_eq space) (with_name-namespace name l)
 
 module _ (namespace lease name : List ℕ) where

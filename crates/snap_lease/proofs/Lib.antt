@@ -1,4 +1,5 @@
 pub mod CountLemmas
+pub mod IndexLemmas
 pub mod LeaseLemmas
 pub mod ListLemmas
 pub mod Walks

@@ -1,3 +1,4 @@
+pub mod Index
 pub mod Lease
 pub mod Leases
 pub mod Live

@@ -1,10 +1,12 @@
 //! One lease, over texts that it owns.
-ghost use Rattle.std.specs.Prelude.{◌≡◌, ◌||◌, List, ℕ, map, string_bytes, IsTrue, IsOk, IfOk, OnOk, OnErr};
-ghost use Rattle.snap_lease.specs.Lease.{is_of, is_lease, does_name, is_live, empty_lease, with_lease_name};
+ghost use Rattle.std.specs.Prelude.{◌≡◌, ◌||◌, false, List, ℕ, map, string_bytes, IsTrue, IsOk, IfOk, OnOk, OnErr};
+ghost use Rattle.snap_lease.specs.Lease.{is_of, is_lease, does_name, is_live, empty_lease, with_lease_name, NamesOnce};
+ghost use Rattle.snap_lease.specs.Index.{IsSame, IsRecounted, IsUncounted};
 ghost use Rattle.snap_lease.specs.Live.{is_among};
 
 use crate::live::LiveNames;
 use indexmap::IndexSet;
+use snap_counts::NamespaceCounts;
 use std::alloc::{AllocError, Global};
 use std::marker::Model;
 
@@ -75,18 +77,50 @@ impl LeaseEntry {
         }
     }
 
-    /// Names the snapshot too. A name that is there already takes no memory.
-    pub(crate) fn add(&mut self, alloc: Global, name: &str) -> Result<(), AllocError>
+    // Puts a name that the lease lacks last.
+    fn put(&mut self, alloc: Global, name: &str) -> Result<(), AllocError>
+        requires { does_name name.now self.old ≡ false }
         ensures ok { OnOk result (self.new ≡ with_lease_name name.now self.old) }
+        ensures err { OnErr result (self.new ≡ self.old) }
+    {
+        let name = String::from_str(alloc, name)?;
+        self.names.insert(name)?;
+        Ok(())
+    }
+
+    /// Names the snapshot too, and counts the name in its namespace. A name that is there already takes no memory.
+    pub(crate) fn add(
+        &mut self,
+        alloc: Global,
+        name: &str,
+        counts: &mut NamespaceCounts,
+    ) -> Result<(), AllocError>
+        ensures ok { OnOk result (self.new ≡ with_lease_name name.now self.old) }
+        ensures counted { OnOk result (IsRecounted self.old self.new counts.old counts.new) }
         ensures there { IsTrue (does_name name.now self.old) → IsOk result }
         ensures err { OnErr result (self.new ≡ self.old) }
+        ensures err_counts { OnErr result (IsSame counts.old counts.new) }
     {
         if self.does_name(name) {
             return Ok(());
         }
-        let name = String::from_str(alloc, name)?;
-        self.names.insert(name)?;
+        counts.add(self.namespace.as_str(), name)?;
+        if let Err(refused) = self.put(alloc, name) {
+            counts.take(self.namespace.as_str(), name);
+            return Err(refused);
+        }
         Ok(())
+    }
+
+    /// Takes one count of each of its names back.
+    pub(crate) fn take_counts(&self, counts: &mut NamespaceCounts)
+        requires { NamesOnce self.now }
+        ensures { IsUncounted self.now counts.old counts.new }
+    {
+        let namespace = self.namespace.as_str();
+        for name in self.names.as_slice() {
+            counts.take(namespace, name.as_str());
+        }
     }
 
     /// A copy of the names, in order.

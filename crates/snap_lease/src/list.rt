@@ -3,11 +3,13 @@ ghost use Rattle.std.specs.Prelude.{◌≡◌, ◌≢◌, ◌↔◌, ◌<◌, �
 ghost use Rattle.std.specs.List.{AllByRecursion};
 ghost use Rattle.snap_lease.specs.Lease.{empty_lease, is_lease, NamesOnce};
 ghost use Rattle.snap_lease.specs.Leases.{AreDistinct, has_lease, names_in_lease, lease_names, naming_count, is_guarded, is_guarded_at, has_ended, with_name_added, without_lease, without_ended, CountsAdded, CountsReleased, CountsLive};
+ghost use Rattle.snap_lease.specs.Index.{AreUncounted};
 ghost use Rattle.snap_lease.specs.Live.{is_among};
 
 use crate::LeaseError;
 use crate::entry::LeaseEntry;
 use crate::live::LiveNames;
+use snap_counts::NamespaceCounts;
 use std::alloc::{AllocError, Global};
 use std::marker::Model;
 
@@ -15,11 +17,13 @@ use std::marker::Model;
 ///
 /// Contracts see them as a list of records, in the order in which the leases were created; a release and a sweep leave the
 /// others in their order. The names of a lease are in the order in which they were added, each once. No two leases of one
-/// namespace have the same name.
+/// namespace have the same name. Beside them stands how many leases of each namespace name a snapshot, so [`Leases::holds`]
+/// and [`Leases::count`] pass over no lease.
 #[derive(Drop)]
 pub struct Leases {
     alloc: Global,
     list: Vec<LeaseEntry>,
+    counts: NamespaceCounts,
 }
 
 impl Model for Leases {
@@ -27,12 +31,13 @@ impl Model for Leases {
     ghost use Rattle.std.specs.List.{AllByRecursion};
     ghost use Rattle.snap_lease.specs.Lease.{Lease, NamesOnce};
     ghost use Rattle.snap_lease.specs.Leases.{AreDistinct};
+    ghost use Rattle.snap_lease.specs.Index.{AreNameCounts};
 
     ghost Value = { List Lease };
 
     ghost view = { λ a. a.list.items };
 
-    ghost invariant = { λ a. AreDistinct a.list.items × AllByRecursion NamesOnce a.list.items };
+    ghost invariant = { λ a. AreDistinct a.list.items × AllByRecursion NamesOnce a.list.items × AreNameCounts a.list.items a.counts };
 }
 
 impl Leases {
@@ -43,6 +48,7 @@ impl Leases {
         Leases {
             alloc,
             list: Vec::new(alloc),
+            counts: NamespaceCounts::new(alloc),
         }
     }
 
@@ -92,9 +98,10 @@ impl Leases {
 
     /// Names the snapshot in the lease too, as its last name. A name that is there already changes nothing.
     ///
-    /// `NoLease` where the namespace has no lease of this name. `OutOfMemory` where memory is refused, which it takes for the
-    /// text and for a place in the set, and not for a name that is there already. After either the leases are as they were.
-    /// Its cost grows with the number of leases.
+    /// `NoLease` where the namespace has no lease of this name. `OutOfMemory` where memory is refused, which it takes for copies
+    /// of the text, for a place in the set and for the count of the name, and not for a name that is there already. After
+    /// either the leases are as they were. Its cost grows with the number of leases, and with the logarithm of the number of
+    /// names that the namespace's leases have.
     #[tactic(auto, using(crate::proofs::ListLemmas::has_lease_at_place))]
     pub fn add(&mut self, namespace: &str, lease: &str, name: &str) -> Result<(), LeaseError>
         // The lease has the name, once, and every other lease stays.
@@ -111,13 +118,16 @@ impl Leases {
             return Err(LeaseError::NoLease);
         };
         let entry = &mut self.list[place];
-        entry.add(self.alloc, name)?;
+        entry.add(self.alloc, name, &mut self.counts)?;
         Ok(())
     }
 
     /// Takes the lease away with its names, as containerd's `leases.Manager.Delete` does.
     ///
-    /// `NoLease`, and nothing changed, where the namespace has no lease of this name. Takes no memory. Its cost grows with the number of leases.
+    /// `NoLease`, and nothing changed, where the namespace has no lease of this name. Takes no memory. Its cost grows with the
+    /// number of leases, and for each name of the lease with the logarithm of the number of names that the namespace's leases
+    /// have.
+    #[tactic(auto, using(crate::proofs::ListLemmas::has_lease_at_place))]
     pub fn release(&mut self, namespace: &str, lease: &str) -> Result<(), LeaseError>
         // The others stay as they are, in their order.
         ensures ok { OnOk result (self.new ≡ without_lease self.old namespace.now lease.now) }
@@ -128,16 +138,15 @@ impl Leases {
         ensures only { IsOkUnless result LeaseError.NoLease }
         ensures err { OnErr result (self.new ≡ self.old) }
     {
-        if !self.has(namespace, lease) {
+        let Some(place) = self.place_of(namespace, lease) else {
             return Err(LeaseError::NoLease);
-        }
+        };
+        self.list[place].take_counts(&mut self.counts);
         self.list.retain(|l| !l.is_lease(namespace, lease));
         Ok(())
     }
 
-    /// Whether a lease of the namespace names the snapshot, live or ended.
-    ///
-    /// Takes no memory. Its cost grows with the number of leases.
+    /// Whether a lease of the namespace names the snapshot, live or ended. Takes no memory, and costs what `count` does.
     pub fn holds(&self, namespace: &str, name: &str) -> bool
         ensures value { result ≡ is_guarded self.now namespace.now name.now }
         ensures count { IsTrue result ↔ (0 < naming_count self.now namespace.now name.now) }
@@ -165,7 +174,8 @@ impl Leases {
 
     /// The number of the namespace's leases that name the snapshot, live or ended.
     ///
-    /// Takes no memory. Its cost grows with the number of leases.
+    /// Takes no memory. Its cost grows with the logarithms of the number of namespaces and of the number of names that the
+    /// namespace's leases have, and not with the leases.
     pub fn count(&self, namespace: &str, name: &str) -> u64
         ensures value { result ≡ naming_count self.now namespace.now name.now }
 
@@ -174,10 +184,7 @@ impl Leases {
         ensures distinct { AreDistinct self.now }
         ensures once { AllByRecursion NamesOnce self.now }
     {
-        self.list
-            .iter()
-            .filter(|l| l.is_of(namespace) && l.does_name(name))
-            .count() as u64
+        self.counts.count(namespace, name)
     }
 
     /// Whether a lease of the namespace that is live at the moment names the snapshot.
@@ -219,12 +226,26 @@ impl Leases {
 
     /// Takes away the namespace's leases that have ended at the moment, with their names.
     ///
-    /// Takes no memory. Its cost grows with the number of leases.
+    /// Takes no memory. Its cost grows with the number of leases, and for each name of a lease that goes with the logarithm of
+    /// the number of names that the namespace's leases have.
     pub fn drop_ended(&mut self, namespace: &str, now: u64)
         ensures leases { self.new ≡ without_ended self.old namespace.now now }
         ensures counts { CountsLive self.old self.new namespace.now now }
     {
+        take_ended(self.list.as_slice(), &mut self.counts, namespace, now);
         self.list
             .retain(|l| !(l.is_of(namespace) && !l.is_live(now)));
+    }
+}
+
+// Takes back the counts of the names in the namespace's leases that have ended at the moment.
+fn take_ended(list: &[LeaseEntry], counts: &mut NamespaceCounts, namespace: &str, now: u64)
+    requires { AllByRecursion NamesOnce list.now }
+    ensures { AreUncounted (has_ended namespace.now now) list.now counts.old counts.new }
+{
+    for lease in list {
+        if lease.is_of(namespace) && !lease.is_live(now) {
+            lease.take_counts(counts);
+        }
     }
 }

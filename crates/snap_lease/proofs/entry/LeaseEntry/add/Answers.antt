@@ -1,12 +1,12 @@
-use Rattle.std.proofs.Common.{◌∙◌, ◌≡◌, false, ap, refl, sym}
-use Rattle.snap_lease.specs.Lease.{does_name, with_lease_name}
-use Rattle.snap_lease.specs.contracts.entry.LeaseEntry.{the_view}
-use Rattle.snap_lease.proofs.LeaseLemmas.{with_name-inserted}
+use Rattle.std.proofs.Common.{◌∙◌, ◌≡◌, ◌&&◌, ◌+◌, false, ap, bytes_eq, sym}
+use Rattle.snap_counts.specs.Counts.{count_within}
+use Rattle.snap_lease.specs.Lease.{Lease, does_name}
+use Rattle.snap_lease.proofs.IndexLemmas.{one_if, recounted-new}
 use Rattle.snap_lease.proofs.entry.LeaseEntry.add.Goals as goal
 
-pub returns-clause-ok : goal.returns-clause-ok
-returns-clause-ok c =
-    let absent : does_name c.args.name.now (the_view c.self.inside) ≡ false = ap (does_name c.args.name.now) c.self.view_is ∙ sym c.does_name.ensures ∙ c.if-does_name.false in
-    with_name-inserted c.args.name.now (the_view c.self.inside) c.self.inside.names.keys c.insert.new.self.keys c.in_ok-name.name
-    absent refl c.in_ok-name.ensures.ok c.in_ok-insert.ensures.keys
-    ∙ ap (with_lease_name c.args.name.now) c.self.view_is
+pub returns-clause-counted : goal.returns-clause-counted
+returns-clause-counted c =
+    let absent : does_name c.args.name.now c.args.self.now ≡ false = sym c.does_name.ensures ∙ c.if-does_name.false in
+    let namespace : c.as_str.result.now ≡ c.args.self.now.namespace = c.as_str.ensures.value ∙ ap (λ (l : Lease). l.namespace) c.self.view_is in
+    recounted-new c.args.name.now c.args.self.now _ c.args.counts.now _ absent c.in_default.ensures.ok
+    (λ space q. c.in_ok-add.ensures.ok space q ∙ ap (λ n. count_within space q c.args.counts.now + one_if (bytes_eq space n && bytes_eq q c.args.name.now)) namespace)

@@ -4,6 +4,7 @@ use Rattle.std.specs.List.{AllByRecursion}
 use Rattle.snap_lease.specs.Lease.{Lease, does_name, is_lease, with_lease_name, NamesOnce}
 use Rattle.snap_lease.specs.Leases.{AreDistinct, CountsAdded, lease_names, with_name_added}
 use Rattle.snap_lease.proofs.CountLemmas.{CountsAdded-with_name_added, lease_names-at}
+use Rattle.snap_lease.proofs.IndexLemmas.{counts-changed}
 use Rattle.snap_lease.proofs.ListLemmas.{AreDistinct-with_name_added, NamesOnce-with_name_added, set-with_name_added}
 use Rattle.snap_lease.proofs.list.Leases.add.Goals as goal
 
@@ -43,7 +44,12 @@ pub invariant_of-self-2 : goal.invariant_of-self-2
 invariant_of-self-2 c =
     let distinct = AreDistinct-with_name_added c.args.namespace.now c.args.lease.now c.args.name.now c.self.inside.list.items c.self.invariant.0 in
     let once = NamesOnce-with_name_added c.args.namespace.now c.args.lease.now c.args.name.now c.self.inside.list.items c.self.invariant.1 in
-    (subst AreDistinct (sym (new_items c)) distinct, subst (AllByRecursion NamesOnce) (sym (new_items c)) once)
+    let at = added c in (
+      subst AreDistinct (sym (new_items c)) distinct,
+      subst (AllByRecursion NamesOnce) (sym (new_items c)) once,
+      counts-changed c.self.inside.list.items c.in-Some.place c.index_mut-entry.result.now c.add.new.self c.index_mut-entry.result.now c.self.inside.counts c.add.new.counts
+          c.self.invariant.2 at.within at.entry_is c.in_ok-add.ensures.counted,
+    )
 
 pub returns-clause-ok : goal.returns-clause-ok
 returns-clause-ok c = new_items c ∙ ap (λ ls. with_name_added ls c.args.namespace.now c.args.lease.now c.args.name.now) c.self.view_is
