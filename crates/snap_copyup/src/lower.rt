@@ -5,7 +5,7 @@ ghost use Rattle.snap_path.specs.Text.{Names};
 ghost use Rattle.snap_layer.specs.Tree.{at};
 ghost use Rattle.snap_merge.specs.Objects.{object, seen};
 ghost use Rattle.snap_merge.specs.Walk.{walk};
-ghost use Rattle.snap_copyup.specs.Copying.{below, copied_up, is_pure};
+ghost use Rattle.snap_copyup.specs.Copying.{below, copied_up, is_pure, is_pure_over};
 ghost use Rattle.snap_copyup.specs.Places.{last_of, IsRefusal};
 
 use super::parents::{Last, put};
@@ -37,8 +37,18 @@ pub fn below<'a>(layer: &Layer, lowers: &'a [Shared], path: &Path) -> Option<See
 pub fn is_pure(layer: &Layer, lowers: &[Shared], path: &Path) -> bool
     ensures { result ≡ is_pure layer.now lowers.now path.now }
 {
-    match layer.at(path) {
-        Some(Node::Dir { opaque, .. }) => opaque || !is_dir(below(layer, lowers, path)),
+    is_pure_over(layer.at(path), below(layer, lowers, path))
+}
+
+/// Whether the node is a directory that is opaque, or that has no directory under it: what `is_pure` says,
+/// where the layer has the node at a path, and the lower layers show what is under it.
+///
+/// Takes no memory. The cost is constant.
+pub fn is_pure_over(node: Option<Node>, under: Option<Seen<'_>>) -> bool
+    ensures { result ≡ is_pure_over node (option_map object under.entry) }
+{
+    match node {
+        Some(Node::Dir { opaque, .. }) => opaque || !is_dir(under),
         Some(Node::File { .. }) => false,
         Some(Node::Symlink { .. }) => false,
         Some(Node::Whiteout) => false,

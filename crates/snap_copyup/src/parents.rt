@@ -33,9 +33,9 @@ pub enum Last {
 /// The condition is that each directory above the path is seen as one over the lower layers, the nearest
 /// first, so that `Stack::walk` finds no error. `LayerFull` where the layer would have more than 65,536
 /// inodes. `OutOfMemory` where memory for a path or an entry is refused. After either the layer is as it
-/// was: what had been added is taken back, which takes no memory. Cost: for each name of the path a walk to
-/// it in the layer, and for each directory that is missing also that of `below`. The calls nest as deep as
-/// the path has names.
+/// was: what had been added is taken back, which takes no memory. Cost: where the path's directory stands, a
+/// walk to it in the layer. Else for each name of the path a walk to it, and for each directory that is missing
+/// also that of `below`; the calls then nest as deep as the path has names.
 pub fn ensure_dirs(layer: &mut Layer, lowers: &[Shared], path: &Path) -> Result<(), FsError>
     requires { walk (layer.old ∷ lowers.now) path.now ≡ None }
     ensures ok { OnOk result (layer.new ≡ with_parents layer.old lowers.now path.now) }
@@ -63,6 +63,10 @@ pub fn put(layer: &mut Layer, lowers: &[Shared], path: &Path, last: Last) -> Res
     ensures unchanged { OnErr result (layer.new ≡ layer.old) }
 {
     show_are_layers(lowers);
+    layer.show_is_layer();
+    if layer.has_parent(path) {
+        return put_last(layer, path, last);
+    }
     put_from(layer, lowers, path, 0, last)
 }
 

@@ -1,5 +1,5 @@
 -- A directory of a table, by its path.
-use Rattle.std.proofs.Common.{◌≡◌, ℕ, Bool, true, false, List, [], ◌∷◌, ◌++◌, Option, Some, None, IsSome, refl, sym, ap, subst, ◌∙◌}
+use Rattle.std.proofs.Common.{◌≡◌, ℕ, true, false, List, [], ◌∷◌, ◌++◌, Option, Some, None, IsSome, refl, sym, ap, subst, ◌∙◌}
 use Rattle.std.specs.Option.{option_map}
 use Rattle.std.specs.Map.{lookup}
 use Rattle.std.specs.BTreeMap.{is_at}
@@ -12,7 +12,7 @@ use Rattle.snap_layer.specs.declared.inode.Inode.{Inode}
 use Rattle.snap_layer.specs.declared.inode.Target.{Target}
 use Rattle.snap_layer.specs.declared.inode.Target.TheVariants as target
 use Rattle.snap_layer.specs.Tree.{path_cmp, Tree, at, is_dir, IsDirAt}
-use Rattle.snap_layer.specs.Directory.{Directory, dir_of, found, entry}
+use Rattle.snap_layer.specs.Directory.{Directory, dir_of, entry}
 use Rattle.snap_layer.specs.Walk.{walk, entry_at, node_at, seen, stands, view_of, IsTable}
 use Rattle.snap_layer.specs.Holds.{Holds}
 use Rattle.snap_layer.specs.Reached.{OnlyPath}

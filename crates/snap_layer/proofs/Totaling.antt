@@ -170,8 +170,28 @@ dir_there t p dir = by (at t p) refl dir
 
 -- ---- what is left
 
-pub left_facts : (t : Tree) (p : Names) → (dir_count (without t p) + count_by is_dir (values_of (inside p t.entries)) ≡ dir_count t) × (whiteout_count (without t p) + count_by is_whiteout (values_of (inside p t.entries)) ≡ whiteout_count t)
+left_facts : (t : Tree) (p : Names) → (dir_count (without t p) + count_by is_dir (values_of (inside p t.entries)) ≡ dir_count t) × (whiteout_count (without t p) + count_by is_whiteout (values_of (inside p t.entries)) ≡ whiteout_count t)
 left_facts t p = (omega (arith, sum_by-filter dirs (λ e. begins p e.0) t.entries), omega (arith, sum_by-filter whites (λ e. begins p e.0) t.entries))
+
+-- what a layer takes is what is left, and what goes
+pub record IsLeft (t : Tree) (p : Names) (totals : Totals) (dirs whiteouts files freed : ℕ) : Type 0 where
+  pub inodes_are : inode_count (without t p) + dirs + whiteouts + files ≡ totals.inodes
+  pub blocks_are : block_count (without t p) + dirs + freed ≡ totals.blocks
+
+-- v is the layer t, and q the path
+pub left_is : (t v : Tree) → v ≡ t → (p q : Names) → q ≡ p → (totals : Totals) → Counts totals v → (many whites files freed : ℕ)
+    → many ≡ count_by is_dir (values_of (inside q v.entries)) → whites ≡ count_by is_whiteout (values_of (inside q v.entries))
+    → length (without t p).bodies + files ≡ length t.bodies → sum_by body_blocks (values_of (without t p).bodies) + freed ≡ sum_by body_blocks (values_of t.bodies)
+    → IsLeft t p totals many whites files freed
+left_is t v same p q path totals had many whites files freed dirs_are whites_are files_are freed_are =
+    let counts : Counts totals t = subst (Counts totals) same had in
+    let facts = left_facts t p in
+    let d : many ≡ count_by is_dir (values_of (inside p t.entries)) = dirs_are ∙ (λ i. count_by is_dir (values_of (inside (path i) (same i).entries))) in
+    let w : whites ≡ count_by is_whiteout (values_of (inside p t.entries)) = whites_are ∙ (λ i. count_by is_whiteout (values_of (inside (path i) (same i).entries))) in
+    record {
+      inodes_are = omega (arith, counts.inodes, facts.0, facts.1, d, w, files_are);
+      blocks_are = omega (arith, counts.blocks, facts.0, d, freed_are);
+    }
 
 pub fewer_inodes : (t : Tree) → IsLayer t → (p : Names) → inode_count (without t p) ≤ 65536
 fewer_inodes t ok p = omega (arith, ok.few, inode_count-without t p (has_body t ok p))

@@ -29,11 +29,12 @@ impl Layer {
         ensures err { OnErr result (self.new ≡ self.old) }
     {
         self.show_is_layer();
-        let inodes = self.inodes_without(path) + 1;
+        let (rest, blocks) = self.left(path);
+        let inodes = rest + 1;
         if inodes > MAX_INODES {
             return Err(LayerError::LayerFull);
         }
-        Ok(self.put_dir(path, mode, opaque, inodes)?)
+        Ok(self.put_dir(path, mode, opaque, inodes, blocks)?)
     }
 
     /// Adds a regular file with the next number, in place of what stands at the path, and gives the number.
@@ -52,14 +53,15 @@ impl Layer {
         ensures err { OnErr result (self.new ≡ self.old) }
     {
         let number = self.next_number();
-        let inodes = self.inodes_without(path) + 1;
+        let (rest, blocks) = self.left(path);
+        let inodes = rest + 1;
         if number == u32::MAX {
             return Err(LayerError::LayerFull);
         }
         if inodes > MAX_INODES {
             return Err(LayerError::LayerFull);
         }
-        self.insert(path, Body::File { mode, bytes }, inodes)?;
+        self.insert(path, Body::File { mode, bytes }, inodes, blocks)?;
         Ok(number)
     }
 
@@ -76,14 +78,15 @@ impl Layer {
         ensures err { OnErr result (self.new ≡ self.old) }
     {
         let number = self.next_number();
-        let inodes = self.inodes_without(path) + 1;
+        let (rest, blocks) = self.left(path);
+        let inodes = rest + 1;
         if number == u32::MAX {
             return Err(LayerError::LayerFull);
         }
         if inodes > MAX_INODES {
             return Err(LayerError::LayerFull);
         }
-        self.insert(path, Body::Symlink { target }, inodes)?;
+        self.insert(path, Body::Symlink { target }, inodes, blocks)?;
         Ok(number)
     }
 
@@ -101,8 +104,8 @@ impl Layer {
         ensures err { OnErr result (self.new ≡ self.old) }
     {
         self.show_is_layer();
-        let inodes = self.inodes_without(path);
-        self.put_name(path, number, inodes)
+        let (inodes, blocks) = self.left(path);
+        self.put_name(path, number, inodes, blocks)
     }
 
     /// Adds a whiteout, in place of what stands at the path: nothing, a name, a whiteout, or a directory
@@ -119,11 +122,12 @@ impl Layer {
         ensures err { OnErr result (self.new ≡ self.old) }
     {
         self.show_is_layer();
-        let inodes = self.inodes_without(path) + 1;
+        let (rest, blocks) = self.left(path);
+        let inodes = rest + 1;
         if inodes > MAX_INODES {
             return Err(LayerError::LayerFull);
         }
-        Ok(self.put_whiteout(path, inodes)?)
+        Ok(self.put_whiteout(path, inodes, blocks)?)
     }
 
     /// Takes a name, a whiteout, or a directory with its whiteouts. A file or symlink goes with its last
@@ -168,11 +172,12 @@ impl Layer {
         ensures err { OnErr result (self.new ≡ self.old) }
     {
         self.show_is_layer();
-        let inodes = self.inodes_without(to) + usize::from(leaves);
+        let (rest, blocks) = self.left(to);
+        let inodes = rest + usize::from(leaves);
         if inodes > MAX_INODES {
             return Err(LayerError::LayerFull);
         }
-        Ok(self.relocate(from, to, leaves, inodes)?)
+        Ok(self.relocate(from, to, leaves, inodes, blocks)?)
     }
 
     /// Gives a file other bytes, for all its names.
@@ -237,13 +242,6 @@ impl Layer {
         self.table.set_file_mode(number, mode);
     }
 
-    /// The file number at the path.
-    pub(crate) fn number_at(&self, path: &Path) -> Option<u32>
-        ensures { result ≡ number_at self.now path.now }
-    {
-        self.at(path)?.number()
-    }
-
     /// The totals with so many inodes and blocks, once something stands at the path.
     fn totals_at(&self, path: &Path, inodes: usize, blocks: u64) -> Result<Totals, AllocError>
         ensures inodes { IfOk result (λ v. v.inodes ≡ inodes) }
@@ -269,7 +267,9 @@ impl Layer {
         mode: u32,
         opaque: bool,
         inodes: usize,
+        blocks: u64,
     ) -> Result<(), AllocError>
+        requires blocks { blocks ≡ block_count (without self.old path.now) }
         requires room { HasRoom self.old path.now }
         requires layer { IsLayer (with_node self.old path.now (Node.Dir mode opaque)) }
         requires count { inodes ≡ inode_count (with_node self.old path.now (Node.Dir mode opaque)) }
@@ -277,7 +277,6 @@ impl Layer {
         ensures err { OnErr result (self.new ≡ self.old) }
     {
         self.show_is_layer();
-        let (_, blocks) = self.left(path);
         let totals = self.totals_at(path, inodes, blocks + 1)?;
         self.table.put_dir(path, mode, opaque)?;
         self.totals = totals;
@@ -285,7 +284,8 @@ impl Layer {
     }
 
     /// Puts a whiteout in place of what stands at the path.
-    fn put_whiteout(&mut self, path: &Path, inodes: usize) -> Result<(), AllocError>
+    fn put_whiteout(&mut self, path: &Path, inodes: usize, blocks: u64) -> Result<(), AllocError>
+        requires blocks { blocks ≡ block_count (without self.old path.now) }
         requires place { HasPlace self.old path.now }
         requires layer { IsLayer (with_node self.old path.now Node.Whiteout) }
         requires count { inodes ≡ inode_count (with_node self.old path.now Node.Whiteout) }
@@ -294,7 +294,6 @@ impl Layer {
         ensures err { OnErr result (self.new ≡ self.old) }
     {
         self.show_is_layer();
-        let (_, blocks) = self.left(path);
         let totals = self.totals_at(path, inodes, blocks)?;
         self.table.whiteout(path)?;
         self.totals = totals;
@@ -302,7 +301,14 @@ impl Layer {
     }
 
     /// Puts one more name of the file or symlink in place of what stands at the path.
-    fn put_name(&mut self, path: &Path, number: u32, inodes: usize) -> Result<(), AllocError>
+    fn put_name(
+        &mut self,
+        path: &Path,
+        number: u32,
+        inodes: usize,
+        blocks: u64,
+    ) -> Result<(), AllocError>
+        requires blocks { blocks ≡ block_count (without self.old path.now) }
         requires place { HasPlace self.old path.now }
         requires there { IsSome (body self.old number) }
         requires apart { number_at self.old path.now ≡ Some number → ⊥ }
@@ -313,7 +319,6 @@ impl Layer {
     {
         let _ = path.names();
         self.show_is_layer();
-        let (_, blocks) = self.left(path);
         let totals = self.totals_at(path, inodes, blocks)?;
         self.table.put_name(path, number)?;
         self.totals = totals;
@@ -321,7 +326,14 @@ impl Layer {
     }
 
     /// Puts a new file or symlink, which has the next number, in place of what stands at the path.
-    fn insert(&mut self, path: &Path, body: Body, inodes: usize) -> Result<(), AllocError>
+    fn insert(
+        &mut self,
+        path: &Path,
+        body: Body,
+        inodes: usize,
+        blocks: u64,
+    ) -> Result<(), AllocError>
+        requires blocks { blocks ≡ block_count (without self.old path.now) }
         requires place { HasPlace self.old path.now }
         requires last { self.old.next < 4294967295 }
         requires layer { IsLayer (with_new self.old path.now (leaf_node self.old.next body) body) }
@@ -330,7 +342,6 @@ impl Layer {
         ensures err { OnErr result (self.new ≡ self.old) }
     {
         self.show_is_layer();
-        let (_, blocks) = self.left(path);
         let totals = self.totals_at(path, inodes, blocks + body.blocks())?;
         self.table.put_leaf(path, body)?;
         self.totals = totals;
@@ -362,7 +373,9 @@ impl Layer {
         to: &Path,
         leaves: bool,
         inodes: usize,
+        blocks: u64,
     ) -> Result<(), AllocError>
+        requires blocks { blocks ≡ block_count (without self.old to.now) }
         requires movable { IsMovable self.old from.now to.now }
         requires layer { IsLayer (with_moved self.old from.now to.now leaves) }
         requires count { inodes ≡ inode_count (with_moved self.old from.now to.now leaves) }
@@ -370,7 +383,6 @@ impl Layer {
         ensures err { OnErr result (self.new ≡ self.old) }
     {
         self.show_is_layer();
-        let (_, blocks) = self.left(to);
         let totals = self.totals_at(to, inodes, blocks)?;
         self.table.relocate(from, to, leaves)?;
         self.totals = totals;

@@ -1,10 +1,10 @@
 // A layer, and what is read of it.
-ghost use Rattle.std.specs.Prelude.{◌≡◌, ◌↔◌, ◌≤◌, ◌+◌, [], ◌++◌, IfOk, IsSome, IsTrue, length, take, find, nat_lt};
+ghost use Rattle.std.specs.Prelude.{◌≡◌, ◌↔◌, ◌≤◌, ◌+◌, [], ◌++◌, IfOk, IsSome, IsTrue, length, take, find, nat_lt, option_and_then};
 ghost use Rattle.std.specs.Option.{option_copied};
 ghost use Rattle.std.specs.List.{sum_by};
 ghost use Rattle.std.specs.Map.{keys_of, values_of};
 ghost use Rattle.snap_path.specs.Text.{Names, IsPath, text_below};
-ghost use Rattle.snap_layer.specs.Tree.{at, body, names_below};
+ghost use Rattle.snap_layer.specs.Tree.{at, body, names_below, number_of};
 ghost use Rattle.snap_layer.specs.Counts.{dir_count, whiteout_count, name_count, inode_count, block_count, body_blocks};
 ghost use Rattle.snap_layer.specs.Layers.{IsLayer};
 ghost use Rattle.snap_layer.specs.Equal.{tree_eq};
@@ -173,8 +173,6 @@ impl Layer {
         ensures few { result ≤ 65536 }
         ensures path { IsPath path.now }
     {
-        let _ = path.names();
-        self.show_is_layer();
         let (inodes, _) = self.left(path);
         inodes
     }
@@ -183,22 +181,28 @@ impl Layer {
     pub(crate) fn left(&self, path: &Path) -> (usize, u64)
         ensures inodes { result.0 ≡ inode_count (without self.now path.now) }
         ensures blocks { result.1 ≡ block_count (without self.now path.now) }
+        ensures few { result.0 ≤ 65536 }
+        ensures path { IsPath path.now }
     {
-        let (dirs, whiteouts) = self.table.tally_inside(path.names());
-        let (files, freed) = self.last_body(path);
+        self.show_is_layer();
+        let node = self.at(path);
+        let (dirs, whiteouts) = self.table.tally_inside(path.names(), node);
+        let (files, freed) = self.last_body(path, node);
         (
             self.totals.inodes - dirs - whiteouts - files,
             self.totals.blocks - dirs as u64 - freed,
         )
     }
 
-    /// The inodes and blocks of the file or symlink that has its last name at the path: none where there is none.
-    fn last_body(&self, path: &Path) -> (usize, u64)
+    /// The inodes and blocks of the file or symlink that has its last name at the path, where the node stands:
+    /// none where there is none.
+    fn last_body(&self, path: &Path, node: Option<Node>) -> (usize, u64)
+        requires node { node ≡ at self.now path.now }
         ensures inodes { length (without self.now path.now).bodies + result.0 ≡ length self.now.bodies }
         ensures blocks { sum_by body_blocks (values_of (without self.now path.now).bodies) + result.1 ≡ sum_by body_blocks (values_of self.now.bodies) }
     {
         self.show_is_layer();
-        let Some(number) = self.number_at(path) else {
+        let Some(number) = number_in(node) else {
             return (0, 0);
         };
         if self.link_count(number) != 1 {
@@ -356,6 +360,13 @@ impl Layer {
     {
         self.table.is_same(&other.table)
     }
+}
+
+/// The file number that the node names, if it is a name.
+fn number_in(node: Option<Node>) -> Option<u32>
+    ensures { result ≡ option_and_then number_of node }
+{
+    node?.number()
 }
 
 /// Layers are equal where their entries, their bodies and their next numbers are. Takes no memory. Cost: the

@@ -136,11 +136,17 @@ impl<'a> Stack<'a> {
         Ok(())
     }
 
-    /// Walks to the path, and answers what is seen there.
-    fn walk_to(&self, path: &Path) -> Result<Option<Seen<'a>>, FsError>
+    /// Walks to the path as [`walk`](Stack::walk) does, and answers what is seen there, or nothing. Bytes and
+    /// targets are lent by the layer that has them.
+    ///
+    /// Errors and cost are those of `walk`. Takes no memory.
+    pub fn walk_to(&self, path: &Path) -> Result<Option<Seen<'a>>, FsError>
         ensures ok { IfOk result (λ o. (walk self.now path.now ≡ None) × (option_map object o ≡ seen self.now path.now)) }
         ensures err { IfErr result (λ e. walk self.now path.now ≡ Some e) }
+        // Each layer is one by `IsLayer`, and this call says so to a caller.
+        ensures layers { AreLayers self.now }
     {
+        self.show_are_layers();
         let names = path.names();
         let reach = self.reach(names);
         if names.len() <= reach.dirs {

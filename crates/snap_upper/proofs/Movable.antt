@@ -63,7 +63,7 @@ or_memory P (Err e) holds = inr holds
 
 module _ (u : Tree) (ls : List Tree) (from to : Names) where
   -- their error is the rename's
-  pub ends_fail : (s : List Tree) (r : Result Bool FsError) (x : FsError) → s ≡ u ∷ ls → IsErrAnd r (λ e. e ≡ x) → Some x ≡ first_error (ends s from to)
+  pub ends_fail : {A : Type 0} (s : List Tree) (r : Result A FsError) (x : FsError) → s ≡ u ∷ ls → IsErrAnd r (λ e. e ≡ x) → Some x ≡ first_error (ends s from to)
       → IfErr r (λ e. first_error (tests (op.Rename from to) (u ∷ ls)) ≡ Some e)
   ends_fail s (Ok b) x is same fails = absurd same
   ends_fail s (Err e) x is same fails = front_fails (ends (u ∷ ls) from to) (if is_same_name u from to then [] else move_tests u ls from to) e (ap (λ (z : List Tree). first_error (ends z from to)) (sym is) ∙ sym fails ∙ ap (λ (y : FsError). Some y) (sym same))
@@ -74,11 +74,11 @@ module _ (u : Tree) (ls : List Tree) (from to : Names) where
       front_passes (ends (u ∷ ls) from to) (if is_same_name u from to then [] else move_tests u ls from to) (ap (λ (z : List Tree). first_error (ends z from to)) (sym is) ∙ sym passes)
       ∙ ap first_error (cond-false (is_same_name u from to) [] (move_tests u ls from to) other)
 
-  module _ (s : List Tree) (r : Result Bool FsError) (x : FsError) (is : s ≡ u ∷ ls) (passes : None ≡ first_error (ends s from to)) (other : is_same_name u from to ≡ false) (same : IsErrAnd r (λ e. e ≡ x)) where
+  module _ {A : Type 0} (s : List Tree) (r : Result A FsError) (x : FsError) (is : s ≡ u ∷ ls) (passes : None ≡ first_error (ends s from to)) (other : is_same_name u from to ≡ false) (same : IsErrAnd r (λ e. e ≡ x)) where
     pub move_fails : first_error (move_tests u ls from to) ≡ Some x → IfErr r (λ e. first_error (tests (op.Rename from to) (u ∷ ls)) ≡ Some e)
     move_fails fails = by r same
       where
-        by : (r : Result Bool FsError) → IsErrAnd r (λ e. e ≡ x) → IfErr r (λ e. first_error (tests (op.Rename from to) (u ∷ ls)) ≡ Some e)
+        by : (r : Result A FsError) → IsErrAnd r (λ e. e ≡ x) → IfErr r (λ e. first_error (tests (op.Rename from to) (u ∷ ls)) ≡ Some e)
         by (Ok b) same = absurd same
         by (Err e) same = move_decides s is passes other ∙ fails ∙ ap (λ (y : FsError). Some y) (sym same)
 
@@ -86,7 +86,7 @@ module _ (u : Tree) (ls : List Tree) (from to : Names) where
     move_fails_or (inr fails) = or_memory (λ e. first_error (tests (op.Rename from to) (u ∷ ls)) ≡ Some e) r (move_fails fails)
     move_fails_or (inl memory) = by r same
       where
-        by : (r : Result Bool FsError) → IsErrAnd r (λ e. e ≡ x) → IfErr r (λ e. (e ≡ OutOfMemory) ⊎ (first_error (tests (op.Rename from to) (u ∷ ls)) ≡ Some e))
+        by : (r : Result A FsError) → IsErrAnd r (λ e. e ≡ x) → IfErr r (λ e. (e ≡ OutOfMemory) ⊎ (first_error (tests (op.Rename from to) (u ∷ ls)) ≡ Some e))
         by (Ok b) same = absurd same
         by (Err e) same = inl (same ∙ memory)
 

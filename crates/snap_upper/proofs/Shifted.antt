@@ -317,12 +317,3 @@ stays_after u ls from to ok passes same = after_passes (op.Rename from to) u ls 
 -- one that has something to do is done, where it is within the limits
 pub moves_after : (u : Tree) (ls : List Tree) (from to : Names) → first_error (tests (op.Rename from to) (u ∷ ls)) ≡ None → is_same_name u from to ≡ false → limited (renamed u ls from to) ≡ after (op.Rename from to) u ls
 moves_after u ls from to passes other = sym (after_passes (op.Rename from to) u ls passes ∙ ap limited (cond-false (is_same_name u from to) u (renamed u ls from to) other))
-
--- the answer of the tests says whether it has something to do
-pub has_nothing : (moves same : Bool) → moves ≡ not same → moves ≡ false → same ≡ true
-has_nothing moves true is e = refl
-has_nothing moves false is e = absurd (no_bool (sym is ∙ e))
-
-pub has_something : (moves same : Bool) → moves ≡ not same → moves ≡ true → same ≡ false
-has_something moves false is e = refl
-has_something moves true is e = absurd (no_bool (sym e ∙ is))

@@ -1,5 +1,5 @@
 // The tests that an operation has to pass.
-ghost use Rattle.std.specs.Prelude.{◌≡◌, ◌⊎◌, ◌==◌, [], ◌∷◌, is_some, true, false, None, Some, OnOk, IfErr, ◌||◌, ◌&&◌, not, IfOk, Ok, Err};
+ghost use Rattle.std.specs.Prelude.{◌≡◌, ◌⊎◌, ◌==◌, [], ◌∷◌, is_some, true, false, None, Some, OnOk, IfErr, MatchOption, ◌||◌, ◌&&◌, not, IfOk, Ok, Err};
 ghost use Rattle.std.specs.Option.{option_map};
 ghost use Rattle.std.specs.Result.{result_err};
 ghost use Rattle.std.specs.List.{list_any};
@@ -7,11 +7,12 @@ ghost use Rattle.snap_path.specs.Text.{begins};
 ghost use Rattle.snap_merge.specs.declared.error.FsError.{FsError};
 ghost use Rattle.snap_merge.specs.Objects.{object, seen, is_shown_dir, AreLayers};
 ghost use Rattle.snap_merge.specs.Walk.{walk};
+ghost use Rattle.snap_copyup.specs.Copying.{below};
 ghost use Rattle.snap_upper.specs.After.{tests, first_error, error_if, has_names, is_no_target, move_tests, kind_error, is_root, is_same_name, is_same_path, is_same_number, moves_too_long, is_late, lists_names, error_by_kind};
 ghost use Rattle.snap_upper.specs.declared.op.Op.TheVariants as op;
 
 use super::change::own_number;
-use snap_copyup::is_pure;
+use snap_copyup::{below, is_pure_over};
 use snap_layer::{Bytes, Layer, Shared};
 use snap_merge::{FsError, Seen, Stack, is_dir};
 use snap_path::Path;
@@ -23,8 +24,7 @@ fn check_unseen(stack: &Stack<'_>, path: &Path) -> Result<(), FsError>
     ensures error { result_err result ≡ first_error (walk stack.now path.now ∷ error_if (is_some (seen stack.now path.now)) FsError.Exists ∷ []) }
     ensures layers { AreLayers stack.now }
 {
-    stack.walk(path)?;
-    if stack.look(path).is_some() {
+    if stack.walk_to(path)?.is_some() {
         return Err(FsError::Exists);
     }
     Ok(())
@@ -52,8 +52,7 @@ pub(crate) fn check_write(
     ensures error { result_err result ≡ first_error (tests (op.Write path.now offset bytes.now) stack.now) }
     ensures layers { AreLayers stack.now }
 {
-    stack.walk(path)?;
-    check_file(stack, path)?;
+    check_file(stack.walk_to(path)?)?;
     let end = offset.saturating_add(bytes.as_slice().len() as u64);
     if end > MAX_FILE_BYTES {
         return Err(FsError::TooBig);
@@ -66,8 +65,7 @@ pub(crate) fn check_truncate(stack: &Stack<'_>, path: &Path, size: u64) -> Resul
     ensures error { result_err result ≡ first_error (tests (op.Truncate path.now size) stack.now) }
     ensures layers { AreLayers stack.now }
 {
-    stack.walk(path)?;
-    check_file(stack, path)?;
+    check_file(stack.walk_to(path)?)?;
     if size > MAX_FILE_BYTES {
         return Err(FsError::TooBig);
     }
@@ -79,8 +77,7 @@ pub(crate) fn check_mode(stack: &Stack<'_>, path: &Path, mode: u32) -> Result<()
     ensures error { result_err result ≡ first_error (tests (op.SetMode path.now mode) stack.now) }
     ensures layers { AreLayers stack.now }
 {
-    stack.walk(path)?;
-    check_has_mode(stack, path)?;
+    check_has_mode(stack.walk_to(path)?)?;
     if mode > MAX_MODE {
         return Err(FsError::Invalid);
     }
@@ -116,11 +113,11 @@ fn has_nul(bytes: &[u8]) -> bool
     bytes.iter().any(|byte| *byte == 0)
 }
 
-/// Tests whether a regular file is seen at the path.
-fn check_file(stack: &Stack<'_>, path: &Path) -> Result<(), FsError>
-    ensures { result_err result ≡ error_by_kind (Some FsError.IsDir) None (Some FsError.Invalid) (seen stack.now path.now) }
+/// Tests whether a regular file is seen.
+fn check_file(found: Option<Seen<'_>>) -> Result<(), FsError>
+    ensures { result_err result ≡ error_by_kind (Some FsError.IsDir) None (Some FsError.Invalid) (option_map object found.entry) }
 {
-    match stack.look(path) {
+    match found {
         Some(Seen::File { .. }) => Ok(()),
         Some(Seen::Dir { .. }) => Err(FsError::IsDir),
         Some(Seen::Symlink { .. }) => Err(FsError::Invalid),
@@ -128,11 +125,11 @@ fn check_file(stack: &Stack<'_>, path: &Path) -> Result<(), FsError>
     }
 }
 
-/// Tests whether a directory or a regular file, which have a mode, is seen at the path.
-fn check_has_mode(stack: &Stack<'_>, path: &Path) -> Result<(), FsError>
-    ensures { result_err result ≡ error_by_kind None None (Some FsError.Invalid) (seen stack.now path.now) }
+/// Tests whether a directory or a regular file, which have a mode, is seen.
+fn check_has_mode(found: Option<Seen<'_>>) -> Result<(), FsError>
+    ensures { result_err result ≡ error_by_kind None None (Some FsError.Invalid) (option_map object found.entry) }
 {
-    match stack.look(path) {
+    match found {
         Some(Seen::File { .. }) => Ok(()),
         Some(Seen::Dir { .. }) => Ok(()),
         Some(Seen::Symlink { .. }) => Err(FsError::Invalid),
@@ -145,20 +142,20 @@ pub(crate) fn check_link(stack: &Stack<'_>, from: &Path, to: &Path) -> Result<()
     ensures error { result_err result ≡ first_error (tests (op.Link from.now to.now) stack.now) }
     ensures layers { AreLayers stack.now }
 {
-    stack.walk(from)?;
-    stack.walk(to)?;
-    check_linked(stack, from)?;
-    if stack.look(to).is_some() {
+    let linked = stack.walk_to(from)?;
+    let target = stack.walk_to(to)?;
+    check_linked(linked)?;
+    if target.is_some() {
         return Err(FsError::Exists);
     }
     Ok(())
 }
 
-/// Tests whether a file or a symlink is seen at the path.
-fn check_linked(stack: &Stack<'_>, path: &Path) -> Result<(), FsError>
-    ensures { result_err result ≡ error_by_kind (Some FsError.NotPermitted) None None (seen stack.now path.now) }
+/// Tests whether a file or a symlink is seen.
+fn check_linked(found: Option<Seen<'_>>) -> Result<(), FsError>
+    ensures { result_err result ≡ error_by_kind (Some FsError.NotPermitted) None None (option_map object found.entry) }
 {
-    match stack.look(path) {
+    match found {
         Some(Seen::File { .. }) => Ok(()),
         Some(Seen::Symlink { .. }) => Ok(()),
         Some(Seen::Dir { .. }) => Err(FsError::NotPermitted),
@@ -166,13 +163,22 @@ fn check_linked(stack: &Stack<'_>, path: &Path) -> Result<(), FsError>
     }
 }
 
-/// Tests whether the name at the path can be taken.
-pub(crate) fn check_unlink(stack: &Stack<'_>, path: &Path) -> Result<(), FsError>
+/// Tests whether the name at the path can be taken. The answer is what is seen there.
+pub(crate) fn check_unlink<'a>(stack: &Stack<'a>, path: &Path) -> Result<Option<Seen<'a>>, FsError>
     ensures error { result_err result ≡ first_error (tests (op.Unlink path.now) stack.now) }
+    ensures seen { IfOk result (λ o. option_map object o ≡ seen stack.now path.now) }
     ensures layers { AreLayers stack.now }
 {
-    stack.walk(path)?;
-    match stack.look(path) {
+    let found = stack.walk_to(path)?;
+    check_name(found)?;
+    Ok(found)
+}
+
+/// Tests whether a file or a symlink is seen, whose name can be taken.
+fn check_name(found: Option<Seen<'_>>) -> Result<(), FsError>
+    ensures { result_err result ≡ error_by_kind (Some FsError.IsDir) None None (option_map object found.entry) }
+{
+    match found {
         Some(Seen::File { .. }) => Ok(()),
         Some(Seen::Symlink { .. }) => Ok(()),
         Some(Seen::Dir { .. }) => Err(FsError::IsDir),
@@ -180,30 +186,43 @@ pub(crate) fn check_unlink(stack: &Stack<'_>, path: &Path) -> Result<(), FsError
     }
 }
 
-/// Tests whether the directory at the path can be taken. The list of its names takes memory.
-pub(crate) fn check_rmdir(stack: &Stack<'_>, alloc: Global, path: &Path) -> Result<(), FsError>
+/// Tests whether the directory at the path can be taken. The answer is what is seen there. The list of its
+/// names takes memory.
+pub(crate) fn check_rmdir<'a>(
+    stack: &Stack<'a>,
+    alloc: Global,
+    path: &Path,
+) -> Result<Option<Seen<'a>>, FsError>
     ensures ok { OnOk result (first_error (tests (op.Rmdir path.now) stack.now) ≡ None) }
+    ensures seen { IfOk result (λ o. option_map object o ≡ seen stack.now path.now) }
     ensures error { IfErr result (λ e. (e ≡ FsError.OutOfMemory) ⊎ (first_error (tests (op.Rmdir path.now) stack.now) ≡ Some e)) }
     ensures sure { lists_names (op.Rmdir path.now) stack.now ≡ false → IfErr result (λ e. first_error (tests (op.Rmdir path.now) stack.now) ≡ Some e) }
     ensures layers { AreLayers stack.now }
 {
-    stack.walk(path)?;
+    let found = stack.walk_to(path)?;
     if path.names().is_empty() {
         return Err(FsError::Invalid);
     }
-    check_dir(stack, path)?;
-    check_empty(stack, alloc, path)
+    check_dir(found)?;
+    check_empty(stack, alloc, path, found)?;
+    Ok(found)
 }
 
 /// Tests that nothing is seen in the path's directory, if there is one.
-pub(crate) fn check_empty(stack: &Stack<'_>, alloc: Global, path: &Path) -> Result<(), FsError>
+fn check_empty(
+    stack: &Stack<'_>,
+    alloc: Global,
+    path: &Path,
+    found: Option<Seen<'_>>,
+) -> Result<(), FsError>
+    requires seen { option_map object found ≡ seen stack.now path.now }
     requires way { walk stack.now path.now ≡ None }
     requires layers { AreLayers stack.now }
     ensures ok { OnOk result (has_names stack.now path.now ≡ false) }
     ensures error { IfErr result (λ e. (e ≡ FsError.OutOfMemory) ⊎ ((e ≡ FsError.NotEmpty) × (has_names stack.now path.now ≡ true))) }
     ensures sure { is_shown_dir (seen stack.now path.now) ≡ false → result_err result ≡ None }
 {
-    if !is_dir(stack.look(path)) {
+    if !is_dir(found) {
         return Ok(());
     }
     let names = stack.list(alloc, path)?;
@@ -213,11 +232,11 @@ pub(crate) fn check_empty(stack: &Stack<'_>, alloc: Global, path: &Path) -> Resu
     Ok(())
 }
 
-/// Tests whether a directory is seen at the path.
-fn check_dir(stack: &Stack<'_>, path: &Path) -> Result<(), FsError>
-    ensures { result_err result ≡ error_by_kind None (Some FsError.NotDir) (Some FsError.NotDir) (seen stack.now path.now) }
+/// Tests whether a directory is seen.
+fn check_dir(found: Option<Seen<'_>>) -> Result<(), FsError>
+    ensures { result_err result ≡ error_by_kind None (Some FsError.NotDir) (Some FsError.NotDir) (option_map object found.entry) }
 {
-    match stack.look(path) {
+    match found {
         Some(Seen::Dir { .. }) => Ok(()),
         Some(Seen::File { .. }) => Err(FsError::NotDir),
         Some(Seen::Symlink { .. }) => Err(FsError::NotDir),
@@ -225,43 +244,93 @@ fn check_dir(stack: &Stack<'_>, path: &Path) -> Result<(), FsError>
     }
 }
 
-/// Tests whether a rename can be done. The answer is whether it has something to do: one path, or two
+/// What the lower layers show at both ends of a rename, and the layer doesn't hide.
+#[derive(Clone, Copy)]
+pub(crate) struct Sides {
+    /// Whether they show something at `from`.
+    pub(crate) leaves: bool,
+    /// Whether they show something at `to`.
+    pub(crate) covers: bool,
+}
+
+/// What is seen at both ends of a rename.
+#[derive(Clone, Copy)]
+struct Ends<'a> {
+    moved: Option<Seen<'a>>,
+    target: Option<Seen<'a>>,
+}
+
+/// Tests whether a rename can be done. The answer is nothing where it has nothing to do: one path, or two
 /// names of one file in the layer, stay as they are.
 pub(crate) fn check_rename(
     layer: &Layer,
     lowers: &[Shared],
     from: &Path,
     to: &Path,
-) -> Result<bool, FsError>
+) -> Result<Option<Sides>, FsError>
     ensures ok { OnOk result (first_error (tests (op.Rename from.now to.now) (layer.now ∷ lowers.now)) ≡ None) }
-    ensures moves { IfOk result (λ moves. moves ≡ not (is_same_name layer.now from.now to.now)) }
+    ensures moves { IfOk result (λ o. MatchOption o (is_same_name layer.now from.now to.now ≡ true) (λ sides. (is_same_name layer.now from.now to.now ≡ false) × (sides.leaves ≡ is_some (below layer.now lowers.now from.now)) × (sides.covers ≡ is_some (below layer.now lowers.now to.now)))) }
     ensures error { IfErr result (λ e. (e ≡ FsError.OutOfMemory) ⊎ (first_error (tests (op.Rename from.now to.now) (layer.now ∷ lowers.now)) ≡ Some e)) }
     // Memory is taken for the names of a directory that is seen at `to`.
     ensures sure { lists_names (op.Rename from.now to.now) (layer.now ∷ lowers.now) ≡ false → IfErr result (λ e. first_error (tests (op.Rename from.now to.now) (layer.now ∷ lowers.now)) ≡ Some e) }
     ensures layers { AreLayers (layer.now ∷ lowers.now) }
 {
-    check_ends(&Stack::over(layer, lowers), from, to)?;
+    let ends = check_ends(&Stack::over(layer, lowers), from, to)?;
     if is_same_name(layer, from, to) {
-        return Ok(false);
+        return Ok(None);
     }
-    check_move(layer, lowers, from, to)?;
-    Ok(true)
+    let under = under(layer, lowers, from, ends.moved);
+    check_move(layer, lowers, from, to, ends, under)?;
+    let leaves = under.is_some();
+    let covers = is_below(layer, lowers, to, ends.target);
+    Ok(Some(Sides { leaves, covers }))
 }
 
 /// Tests the ways to both paths, that neither is the root, and that something is seen at `from`.
-fn check_ends(stack: &Stack<'_>, from: &Path, to: &Path) -> Result<(), FsError>
+fn check_ends<'a>(stack: &Stack<'a>, from: &Path, to: &Path) -> Result<Ends<'a>, FsError>
     ensures error { result_err result ≡ first_error (walk stack.now from.now ∷ walk stack.now to.now ∷ error_if (is_root from.now || is_root to.now) FsError.Invalid ∷ error_if (not (is_some (seen stack.now from.now))) FsError.NotFound ∷ []) }
+    ensures seen { IfOk result (λ ends. (option_map object ends.moved ≡ seen stack.now from.now) × (option_map object ends.target ≡ seen stack.now to.now)) }
     ensures layers { AreLayers stack.now }
 {
-    stack.walk(from)?;
-    stack.walk(to)?;
+    let moved = stack.walk_to(from)?;
+    let target = stack.walk_to(to)?;
     if from.names().is_empty() || to.names().is_empty() {
         return Err(FsError::Invalid);
     }
-    if stack.look(from).is_none() {
+    if moved.is_none() {
         return Err(FsError::NotFound);
     }
-    Ok(())
+    Ok(Ends { moved, target })
+}
+
+/// What the lower layers show at the path, and the layer doesn't hide there. Where the layer has nothing at the
+/// path, that is what is seen.
+fn under<'a>(
+    layer: &Layer,
+    lowers: &'a [Shared],
+    path: &Path,
+    found: Option<Seen<'a>>,
+) -> Option<Seen<'a>>
+    requires seen { option_map object found ≡ seen (layer.now ∷ lowers.now) path.now }
+    ensures { option_map object result ≡ below layer.now lowers.now path.now }
+{
+    if layer.at(path).is_none() {
+        return found;
+    }
+    below(layer, lowers, path)
+}
+
+/// Whether the lower layers show something at the path, and the layer doesn't hide it there.
+pub(crate) fn is_below(
+    layer: &Layer,
+    lowers: &[Shared],
+    path: &Path,
+    found: Option<Seen<'_>>,
+) -> bool
+    requires seen { option_map object found ≡ seen (layer.now ∷ lowers.now) path.now }
+    ensures { result ≡ is_some (below layer.now lowers.now path.now) }
+{
+    under(layer, lowers, path, found).is_some()
 }
 
 /// Whether both are one path, or two names of one file in the layer.
@@ -289,8 +358,18 @@ fn is_same_number(one: Option<u32>, other: Option<u32>) -> bool
     }
 }
 
-/// Tests whether what is seen at `from` can move to `to`. The list of the names at `to` takes memory.
-fn check_move(layer: &Layer, lowers: &[Shared], from: &Path, to: &Path) -> Result<(), FsError>
+/// Tests whether what is seen at `from`, and below the layer there, can move to `to`. The list of the names at
+/// `to` takes memory.
+fn check_move(
+    layer: &Layer,
+    lowers: &[Shared],
+    from: &Path,
+    to: &Path,
+    ends: Ends<'_>,
+    under: Option<Seen<'_>>,
+) -> Result<(), FsError>
+    requires seen { (option_map object ends.moved ≡ seen (layer.now ∷ lowers.now) from.now) × (option_map object ends.target ≡ seen (layer.now ∷ lowers.now) to.now) }
+    requires under { option_map object under ≡ below layer.now lowers.now from.now }
     requires way { walk (layer.now ∷ lowers.now) to.now ≡ None }
     requires roots { (is_root from.now || is_root to.now) ≡ false }
     requires layers { AreLayers (layer.now ∷ lowers.now) }
@@ -298,16 +377,15 @@ fn check_move(layer: &Layer, lowers: &[Shared], from: &Path, to: &Path) -> Resul
     ensures error { IfErr result (λ e. (e ≡ FsError.OutOfMemory) ⊎ (first_error (move_tests layer.now lowers.now from.now to.now) ≡ Some e)) }
     ensures sure { (is_shown_dir (seen (layer.now ∷ lowers.now) to.now) && is_late (first_error (move_tests layer.now lowers.now from.now to.now))) ≡ false → IfErr result (λ e. first_error (move_tests layer.now lowers.now from.now to.now) ≡ Some e) }
 {
-    let stack = Stack::over(layer, lowers);
-    let moved = stack.look(from);
+    let Ends { moved, target } = ends;
     if is_dir(moved) && to.begins(from) {
         return Err(FsError::Invalid);
     }
-    check_kinds(moved, stack.look(to))?;
-    if is_dir(moved) && !is_pure(layer, lowers, from) {
+    check_kinds(moved, target)?;
+    if is_dir(moved) && !is_pure_over(layer.at(from), under) {
         return Err(FsError::CrossDevice);
     }
-    check_empty(&stack, layer.alloc(), to)?;
+    check_empty(&Stack::over(layer, lowers), layer.alloc(), to, target)?;
     if is_too_long(layer, from, to) {
         return Err(FsError::BadPath);
     }

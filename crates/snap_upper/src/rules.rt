@@ -12,7 +12,7 @@ ghost use Rattle.snap_upper.specs.declared.op.Op.TheVariants as op;
 use super::change::{Change, Edit, New, is_whiteout, own_number};
 use super::checks::{
     check_link, check_mode, check_new, check_rename, check_rmdir, check_symlink, check_truncate,
-    check_unlink, check_write,
+    check_unlink, check_write, is_below,
 };
 use super::op::Op;
 use snap_copyup::below;
@@ -221,9 +221,9 @@ fn unlink<'a>(layer: &Layer, lowers: &'a [Shared], path: &'a Path) -> Result<Cha
     ensures ok { IfOk result (λ c. IsChange c (op.Unlink path.now) layer.now lowers.now) }
     ensures error { IfErr result (λ e. after (op.Unlink path.now) layer.now lowers.now ≡ Err e) }
 {
-    check_unlink(&Stack::over(layer, lowers), path)?;
+    let found = check_unlink(&Stack::over(layer, lowers), path)?;
     layer.show_is_layer();
-    let covers = is_below(layer, lowers, path);
+    let covers = is_below(layer, lowers, path, found);
     Ok(Change::Erase { path, covers })
 }
 
@@ -232,9 +232,9 @@ fn rmdir<'a>(layer: &Layer, lowers: &'a [Shared], path: &'a Path) -> Result<Chan
     ensures error { IfErr result (λ e. (e ≡ FsError.OutOfMemory) ⊎ (after (op.Rmdir path.now) layer.now lowers.now ≡ Err e)) }
     ensures sure { lists_names (op.Rmdir path.now) (layer.now ∷ lowers.now) ≡ false → IfErr result (λ e. after (op.Rmdir path.now) layer.now lowers.now ≡ Err e) }
 {
-    check_rmdir(&Stack::over(layer, lowers), layer.alloc(), path)?;
+    let found = check_rmdir(&Stack::over(layer, lowers), layer.alloc(), path)?;
     layer.show_is_layer();
-    let covers = is_below(layer, lowers, path);
+    let covers = is_below(layer, lowers, path, found);
     Ok(Change::Erase { path, covers })
 }
 
@@ -249,22 +249,13 @@ fn rename<'a>(
     ensures sure { lists_names (op.Rename from.now to.now) (layer.now ∷ lowers.now) ≡ false → IfErr result (λ e. after (op.Rename from.now to.now) layer.now lowers.now ≡ Err e) }
 {
     layer.show_is_layer();
-    if !check_rename(layer, lowers, from, to)? {
+    let Some(sides) = check_rename(layer, lowers, from, to)? else {
         return Ok(Change::Nothing);
-    }
-    let leaves = is_below(layer, lowers, from);
-    let covers = is_below(layer, lowers, to);
+    };
     Ok(Change::Move {
         from,
         to,
-        leaves,
-        covers,
+        leaves: sides.leaves,
+        covers: sides.covers,
     })
-}
-
-/// Whether the lower layers show something at the path, and the layer doesn't hide it there.
-fn is_below(layer: &Layer, lowers: &[Shared], path: &Path) -> bool
-    ensures { result ≡ is_some (below layer.now lowers.now path.now) }
-{
-    below(layer, lowers, path).is_some()
 }

@@ -100,14 +100,14 @@ impl Table {
         stands(&self.slots, self.root, names)
     }
 
-    /// How many directories and how many whiteouts stand at the path and below it. Only where a directory stands
-    /// is there a walk.
-    pub(crate) fn tally_inside(&self, front: &[Name]) -> (usize, usize)
+    /// How many directories and how many whiteouts stand at the path, where the node is, and below it. Only where
+    /// it is a directory is there a walk.
+    pub(crate) fn tally_inside(&self, front: &[Name], node: Option<Node>) -> (usize, usize)
+        requires node { node ≡ at self.now front.now }
         ensures dirs { result.0 ≡ count_by is_dir (values_of (inside front.now self.now.entries)) }
         ensures whiteouts { result.1 ≡ count_by is_whiteout (values_of (inside front.now self.now.entries)) }
     {
         let _ = self.next_number();
-        let node = self.node_at(front);
         if !is_directory(node) {
             return counts_of(node);
         }
@@ -135,7 +135,7 @@ impl Table {
     pub fn tally(&self) -> (usize, usize)
         ensures { result ≡ (dir_count self.now, whiteout_count self.now) }
     {
-        self.tally_inside(&[])
+        self.tally_walk(&[])
     }
 
     /// The names in a directory, in byte order, whiteouts among them. There are none where no directory

@@ -1,4 +1,4 @@
-use Rattle.std.proofs.Common.{◌∙◌, sym}
+use Rattle.std.proofs.Common.{◌∙◌}
 use Rattle.snap_merge.proofs.Reaching.{hides_covered, hides_whole, hides_stop}
 use Rattle.snap_merge.proofs.look.hides_names.Goals as goal
 

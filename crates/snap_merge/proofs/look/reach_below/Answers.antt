@@ -1,4 +1,4 @@
-use Rattle.std.proofs.Common.{◌+◌, ◌∷◌, List, drop, subst}
+use Rattle.std.proofs.Common.{◌+◌, List, drop, subst}
 use Rattle.std.specs.Option.{option_map}
 use Rattle.snap_layer.specs.Tree.{Tree}
 use Rattle.snap_merge.specs.Objects.{object}

@@ -1,4 +1,4 @@
-use Rattle.std.proofs.Common.{◌≡◌, true, false, sym, ◌∙◌}
+use Rattle.std.proofs.Common.{sym, ◌∙◌}
 use Rattle.snap_merge.proofs.Reaching.{upper_covered, upper_hidden, upper_open, here_shown, here_hidden, here_open}
 use Rattle.snap_merge.proofs.look.step_through.Goals as goal
 use Rattle.snap_merge.proofs.look.step_through.Goals.{then-trace-via-then-trace, then-trace-via-else-trace+then-node_hides}

@@ -1,6 +1,6 @@
-use Rattle.std.proofs.Common.{◌≡◌, ◌+◌, Some, None, sym, ap, ◌∙◌, length, arith}
+use Rattle.std.proofs.Common.{◌≡◌, Some, sym, ap, ◌∙◌, length, arith}
 use Rattle.std.specs.Prelude.{Option}
-use Rattle.snap_layer.specs.Directory.{Directory, entry}
+use Rattle.snap_layer.specs.Directory.{Directory}
 use Rattle.snap_merge.proofs.Reaching.{traced_none, traced_leaf, goes_on, above_more, covered_more, traced_end}
 use Rattle.snap_merge.proofs.look.trace_in.Goals as goal
 

@@ -1,24 +1,15 @@
 use Rattle.std.proofs.Common.{sym}
-use Rattle.snap_upper.specs.After.{is_same_name}
-use Rattle.snap_upper.proofs.Shifted.{stays_after, moves_after, has_nothing, has_something}
+use Rattle.std.proofs.lemmas.Option.{MatchOption-at_none, MatchOption-at_some}
+use Rattle.snap_upper.proofs.Shifted.{stays_after, moves_after}
 use Rattle.snap_upper.proofs.rules.rename.Goals as goal
 
-pub returns-then-not-branch-clause-ok : goal.returns-then-not-branch-clause-ok
-returns-then-not-branch-clause-ok c =
-    let u = c.args.layer.now in
-    let ls = c.args.lowers.now in
-    let from = c.args.from.now in
-    let to = c.args.to.now in
-    let ok = c.show_is_layer.ensures.layer in
-    let same = has_nothing c.in_ok-check_rename.field-0 (is_same_name u from to) c.in_ok-check_rename.ensures.moves c.if-not-branch.true in
-    record { layers = c.in_ok-check_rename.ensures.layers.1; ready = tt; same = sym (stays_after u ls from to ok c.in_ok-check_rename.ensures.ok same) }
+pub returns-in_default-clause-ok : goal.returns-in_default-clause-ok
+returns-in_default-clause-ok c =
+    let same = MatchOption-at_none _ _ c.in_default.is c.in_ok-sides.ensures.moves in
+    record { layers = c.in_ok-sides.ensures.layers.1; ready = tt; same = sym (stays_after c.args.layer.now c.args.lowers.now c.args.from.now c.args.to.now c.show_is_layer.ensures.layer c.in_ok-sides.ensures.ok same) }
 
 pub returns-clause-ok : goal.returns-clause-ok
 returns-clause-ok c =
-    let u = c.args.layer.now in
-    let ls = c.args.lowers.now in
-    let from = c.args.from.now in
-    let to = c.args.to.now in
-    let passes = c.in_ok-check_rename.ensures.ok in
-    let other = has_something c.in_ok-check_rename.field-0 (is_same_name u from to) c.in_ok-check_rename.ensures.moves c.if-not-branch.false in
-    record { layers = c.in_ok-check_rename.ensures.layers.1; ready = (passes, other, c.is_below-leaves.ensures, c.is_below-covers.ensures); same = moves_after u ls from to passes other }
+    let passes = c.in_ok-sides.ensures.ok in
+    let moves = MatchOption-at_some _ _ c.in-Some.sides c.in-Some.is c.in_ok-sides.ensures.moves in
+    record { layers = c.in_ok-sides.ensures.layers.1; ready = (passes, moves.0, moves.1, moves.2); same = moves_after c.args.layer.now c.args.lowers.now c.args.from.now c.args.to.now passes moves.0 }

@@ -13,6 +13,6 @@ returns-clause-ok c =
     let ls = c.args.lowers.now in
     let p = c.args.path.now in
     let ok = c.show_is_layer.ensures.layer in
-    let passes : first_error (tests (op.Rmdir p) (u ∷ ls)) ≡ None = ap (λ (s : List Tree). first_error (tests (op.Rmdir p) s)) (sym c.over.ensures) ∙ c.in_ok-check_rmdir.ensures.ok in
+    let passes : first_error (tests (op.Rmdir p) (u ∷ ls)) ≡ None = ap (λ (s : List Tree). first_error (tests (op.Rmdir p) s)) (sym c.over.ensures) ∙ c.in_ok-found.ensures.ok in
     let erasable = IsErasable-dir (u ∷ ls) p passes in
-    record { layers = (subst AreLayers c.over.ensures c.in_ok-check_rmdir.ensures.layers).1; ready = (erasable.way, erasable.there, erasable.below_root, erasable.clear, c.is_below-covers.ensures); same = sym (after_passes (op.Rmdir p) u ls passes) }
+    record { layers = (subst AreLayers c.over.ensures c.in_ok-found.ensures.layers).1; ready = (erasable.way, erasable.there, erasable.below_root, erasable.clear, c.is_below-covers.ensures); same = sym (after_passes (op.Rmdir p) u ls passes) }

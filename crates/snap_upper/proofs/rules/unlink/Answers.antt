@@ -12,7 +12,7 @@ returns-clause-ok c =
     let ls = c.args.lowers.now in
     let p = c.args.path.now in
     let ok = c.show_is_layer.ensures.layer in
-    let passes = stack_passes (op.Unlink p) _ (u ∷ ls) c.over.ensures c.in_ok-check_unlink.ensures.error in
-    let layers = subst AreLayers c.over.ensures c.in_ok-check_unlink.ensures.layers in
+    let passes = stack_passes (op.Unlink p) _ (u ∷ ls) c.over.ensures c.in_ok-found.ensures.error in
+    let layers = subst AreLayers c.over.ensures c.in_ok-found.ensures.layers in
     let erasable = IsErasable-name (u ∷ ls) p layers (dir_seen u ls [] ok.root) passes in
     record { layers = layers.1; ready = (erasable.way, erasable.there, erasable.below_root, erasable.clear, c.is_below-covers.ensures); same = sym (after_passes (op.Unlink p) u ls passes) }

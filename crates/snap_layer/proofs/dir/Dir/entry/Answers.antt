@@ -1,8 +1,8 @@
-use Rattle.std.proofs.Common.{◌≡◌, Some, None, refl, sym, ap, ◌∙◌, true}
+use Rattle.std.proofs.Common.{◌≡◌, Some, None, refl, sym, ap, ◌∙◌}
 use Rattle.snap_layer.specs.contracts.node.Node as node_contracts
 use Rattle.snap_layer.specs.declared.inode.Target.TheVariants.{Whiteout, Inode}
 use Rattle.snap_layer.specs.declared.node.Node.TheVariants as node
-use Rattle.snap_layer.specs.Tree.{is_dir, IsDirAt}
+use Rattle.snap_layer.specs.Tree.{IsDirAt}
 use Rattle.snap_layer.specs.Walk.{entry_at, node_at}
 use Rattle.snap_layer.proofs.Walking.{same_entries}
 use Rattle.snap_layer.proofs.Dirs.{child_path, dir_at, not_none, entry_none, entry_leaf, entry_dir, entry_there}

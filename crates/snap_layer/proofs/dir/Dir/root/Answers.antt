@@ -1,6 +1,5 @@
 use Rattle.std.proofs.Common.{[], refl, sym, ap, ◌∙◌}
 use Rattle.snap_path.specs.Text.{Names}
-use Rattle.snap_layer.specs.Directory.{Directory}
 use Rattle.snap_layer.specs.contracts.node.Node as node_contracts
 use Rattle.snap_layer.proofs.Walking.{same_entries}
 use Rattle.snap_layer.proofs.Dirs.{root_path}

@@ -9,23 +9,23 @@ use Rattle.snap_layer.proofs.layer.Layer.add_dir.Goals as goal
 
 pub returns-then-inodes-gt-MAX_INODES-clause-full : goal.returns-then-inodes-gt-MAX_INODES-clause-full
 returns-then-inodes-gt-MAX_INODES-clause-full c =
-    let b = dir_becomes c.args.self.now c.show_is_layer.ensures.layer c.args.path.now c.inodes_without-inodes.ensures.path _ c.inodes_without-inodes.ensures.count c.args.mode c.args.opaque c.requires.room c.requires.mode in
+    let b = dir_becomes c.args.self.now c.show_is_layer.ensures.layer c.args.path.now c.left-rest.ensures.path _ c.left-rest.ensures.inodes c.args.mode c.args.opaque c.requires.room c.requires.mode in
     let same = with_node-free c.args.self.now c.show_is_layer.ensures.layer c.args.path.now (Dir c.args.mode c.args.opaque) c.requires.room.free in
     full_said (with_entry c.args.self.now c.args.path.now (Dir c.args.mode c.args.opaque)) (ap is_within (sym same) ∙ b.full c.if-inodes-gt-MAX_INODES.true)
 
 pub put_dir-requires-clause-layer : goal.put_dir-requires-clause-layer
 put_dir-requires-clause-layer c =
-    let b = dir_becomes c.args.self.now c.show_is_layer.ensures.layer c.args.path.now c.inodes_without-inodes.ensures.path _ c.inodes_without-inodes.ensures.count c.args.mode c.args.opaque c.requires.room c.requires.mode in
+    let b = dir_becomes c.args.self.now c.show_is_layer.ensures.layer c.args.path.now c.left-rest.ensures.path _ c.left-rest.ensures.inodes c.args.mode c.args.opaque c.requires.room c.requires.mode in
     b.layer c.if-inodes-gt-MAX_INODES.false
 
 pub put_dir-requires-clause-count : goal.put_dir-requires-clause-count
 put_dir-requires-clause-count c =
-    let b = dir_becomes c.args.self.now c.show_is_layer.ensures.layer c.args.path.now c.inodes_without-inodes.ensures.path _ c.inodes_without-inodes.ensures.count c.args.mode c.args.opaque c.requires.room c.requires.mode in
+    let b = dir_becomes c.args.self.now c.show_is_layer.ensures.layer c.args.path.now c.left-rest.ensures.path _ c.left-rest.ensures.inodes c.args.mode c.args.opaque c.requires.room c.requires.mode in
     b.count
 
 pub returns-in_err-put_dir-clause-full : goal.returns-in_err-put_dir-clause-full
 returns-in_err-put_dir-clause-full c =
-    let b = dir_becomes c.args.self.now c.show_is_layer.ensures.layer c.args.path.now c.inodes_without-inodes.ensures.path _ c.inodes_without-inodes.ensures.count c.args.mode c.args.opaque c.requires.room c.requires.mode in
+    let b = dir_becomes c.args.self.now c.show_is_layer.ensures.layer c.args.path.now c.left-rest.ensures.path _ c.left-rest.ensures.inodes c.args.mode c.args.opaque c.requires.room c.requires.mode in
     let same = with_node-free c.args.self.now c.show_is_layer.ensures.layer c.args.path.now (Dir c.args.mode c.args.opaque) c.requires.room.free in
     let p = err_from_is_err_and c.from_residual.result c.from_residual.ensures.1 in
     memory_said c.from_residual.result _ (with_entry c.args.self.now c.args.path.now (Dir c.args.mode c.args.opaque)) p.1 p.2 (ap is_within (sym same) ∙ b.fits c.if-inodes-gt-MAX_INODES.false)
@@ -37,6 +37,6 @@ returns-clause-ok c =
 
 pub returns-clause-full : goal.returns-clause-full
 returns-clause-full c =
-    let b = dir_becomes c.args.self.now c.show_is_layer.ensures.layer c.args.path.now c.inodes_without-inodes.ensures.path _ c.inodes_without-inodes.ensures.count c.args.mode c.args.opaque c.requires.room c.requires.mode in
+    let b = dir_becomes c.args.self.now c.show_is_layer.ensures.layer c.args.path.now c.left-rest.ensures.path _ c.left-rest.ensures.inodes c.args.mode c.args.opaque c.requires.room c.requires.mode in
     let same = with_node-free c.args.self.now c.show_is_layer.ensures.layer c.args.path.now (Dir c.args.mode c.args.opaque) c.requires.room.free in
     ok_said _ (with_entry c.args.self.now c.args.path.now (Dir c.args.mode c.args.opaque)) (ap is_within (sym same) ∙ b.fits c.if-inodes-gt-MAX_INODES.false)

@@ -6,26 +6,26 @@ use Rattle.snap_layer.proofs.layer.Layer.add_whiteout.Goals as goal
 
 pub returns-then-inodes-gt-MAX_INODES-clause-full : goal.returns-then-inodes-gt-MAX_INODES-clause-full
 returns-then-inodes-gt-MAX_INODES-clause-full c =
-    let b = whiteout_becomes c.args.self.now c.show_is_layer.ensures.layer c.args.path.now c.inodes_without-inodes.ensures.path _ c.inodes_without-inodes.ensures.count c.requires in
+    let b = whiteout_becomes c.args.self.now c.show_is_layer.ensures.layer c.args.path.now c.left-rest.ensures.path _ c.left-rest.ensures.inodes c.requires in
     full_said (with_node c.args.self.now c.args.path.now Whiteout) (b.full c.if-inodes-gt-MAX_INODES.true)
 
 pub put_whiteout-requires-clause-layer : goal.put_whiteout-requires-clause-layer
 put_whiteout-requires-clause-layer c =
-    let b = whiteout_becomes c.args.self.now c.show_is_layer.ensures.layer c.args.path.now c.inodes_without-inodes.ensures.path _ c.inodes_without-inodes.ensures.count c.requires in
+    let b = whiteout_becomes c.args.self.now c.show_is_layer.ensures.layer c.args.path.now c.left-rest.ensures.path _ c.left-rest.ensures.inodes c.requires in
     b.layer c.if-inodes-gt-MAX_INODES.false
 
 pub put_whiteout-requires-clause-count : goal.put_whiteout-requires-clause-count
 put_whiteout-requires-clause-count c =
-    let b = whiteout_becomes c.args.self.now c.show_is_layer.ensures.layer c.args.path.now c.inodes_without-inodes.ensures.path _ c.inodes_without-inodes.ensures.count c.requires in
+    let b = whiteout_becomes c.args.self.now c.show_is_layer.ensures.layer c.args.path.now c.left-rest.ensures.path _ c.left-rest.ensures.inodes c.requires in
     b.count
 
 pub returns-in_err-put_whiteout-clause-full : goal.returns-in_err-put_whiteout-clause-full
 returns-in_err-put_whiteout-clause-full c =
-    let b = whiteout_becomes c.args.self.now c.show_is_layer.ensures.layer c.args.path.now c.inodes_without-inodes.ensures.path _ c.inodes_without-inodes.ensures.count c.requires in
+    let b = whiteout_becomes c.args.self.now c.show_is_layer.ensures.layer c.args.path.now c.left-rest.ensures.path _ c.left-rest.ensures.inodes c.requires in
     let p = err_from_is_err_and c.from_residual.result c.from_residual.ensures.1 in
     memory_said c.from_residual.result _ (with_node c.args.self.now c.args.path.now Whiteout) p.1 p.2 (b.fits c.if-inodes-gt-MAX_INODES.false)
 
 pub returns-clause-full : goal.returns-clause-full
 returns-clause-full c =
-    let b = whiteout_becomes c.args.self.now c.show_is_layer.ensures.layer c.args.path.now c.inodes_without-inodes.ensures.path _ c.inodes_without-inodes.ensures.count c.requires in
+    let b = whiteout_becomes c.args.self.now c.show_is_layer.ensures.layer c.args.path.now c.left-rest.ensures.path _ c.left-rest.ensures.inodes c.requires in
     ok_said _ (with_node c.args.self.now c.args.path.now Whiteout) (b.fits c.if-inodes-gt-MAX_INODES.false)

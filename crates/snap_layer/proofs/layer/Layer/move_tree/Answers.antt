@@ -15,26 +15,26 @@ as_number false = refl
 
 pub returns-then-inodes-gt-MAX_INODES-clause-full : goal.returns-then-inodes-gt-MAX_INODES-clause-full
 returns-then-inodes-gt-MAX_INODES-clause-full c =
-    let b = moved_becomes c.args.self.now c.args.from.now c.args.to.now c.args.leaves c.inodes_without.result _ c.show_is_layer.ensures.layer c.requires c.inodes_without.ensures.count (ap (λ n. c.inodes_without.result + n) (c.from.ensures ∙ as_number c.args.leaves)) in
+    let b = moved_becomes c.args.self.now c.args.from.now c.args.to.now c.args.leaves c.left-rest.result.0 _ c.show_is_layer.ensures.layer c.requires c.left-rest.ensures.inodes (ap (λ n. c.left-rest.result.0 + n) (c.from.ensures ∙ as_number c.args.leaves)) in
     full_said (with_moved c.args.self.now c.args.from.now c.args.to.now c.args.leaves) (b.full c.if-inodes-gt-MAX_INODES.true)
 
 pub relocate-requires-clause-layer : goal.relocate-requires-clause-layer
 relocate-requires-clause-layer c =
-    let b = moved_becomes c.args.self.now c.args.from.now c.args.to.now c.args.leaves c.inodes_without.result _ c.show_is_layer.ensures.layer c.requires c.inodes_without.ensures.count (ap (λ n. c.inodes_without.result + n) (c.from.ensures ∙ as_number c.args.leaves)) in
+    let b = moved_becomes c.args.self.now c.args.from.now c.args.to.now c.args.leaves c.left-rest.result.0 _ c.show_is_layer.ensures.layer c.requires c.left-rest.ensures.inodes (ap (λ n. c.left-rest.result.0 + n) (c.from.ensures ∙ as_number c.args.leaves)) in
     b.layer c.if-inodes-gt-MAX_INODES.false
 
 pub relocate-requires-clause-count : goal.relocate-requires-clause-count
 relocate-requires-clause-count c =
-    let b = moved_becomes c.args.self.now c.args.from.now c.args.to.now c.args.leaves c.inodes_without.result _ c.show_is_layer.ensures.layer c.requires c.inodes_without.ensures.count (ap (λ n. c.inodes_without.result + n) (c.from.ensures ∙ as_number c.args.leaves)) in
+    let b = moved_becomes c.args.self.now c.args.from.now c.args.to.now c.args.leaves c.left-rest.result.0 _ c.show_is_layer.ensures.layer c.requires c.left-rest.ensures.inodes (ap (λ n. c.left-rest.result.0 + n) (c.from.ensures ∙ as_number c.args.leaves)) in
     b.count
 
 pub returns-in_err-relocate-clause-full : goal.returns-in_err-relocate-clause-full
 returns-in_err-relocate-clause-full c =
-    let b = moved_becomes c.args.self.now c.args.from.now c.args.to.now c.args.leaves c.inodes_without.result _ c.show_is_layer.ensures.layer c.requires c.inodes_without.ensures.count (ap (λ n. c.inodes_without.result + n) (c.from.ensures ∙ as_number c.args.leaves)) in
+    let b = moved_becomes c.args.self.now c.args.from.now c.args.to.now c.args.leaves c.left-rest.result.0 _ c.show_is_layer.ensures.layer c.requires c.left-rest.ensures.inodes (ap (λ n. c.left-rest.result.0 + n) (c.from.ensures ∙ as_number c.args.leaves)) in
     let p = err_from_is_err_and c.from_residual.result c.from_residual.ensures.1 in
     memory_said c.from_residual.result _ (with_moved c.args.self.now c.args.from.now c.args.to.now c.args.leaves) p.1 p.2 (b.fits c.if-inodes-gt-MAX_INODES.false)
 
 pub returns-clause-full : goal.returns-clause-full
 returns-clause-full c =
-    let b = moved_becomes c.args.self.now c.args.from.now c.args.to.now c.args.leaves c.inodes_without.result _ c.show_is_layer.ensures.layer c.requires c.inodes_without.ensures.count (ap (λ n. c.inodes_without.result + n) (c.from.ensures ∙ as_number c.args.leaves)) in
+    let b = moved_becomes c.args.self.now c.args.from.now c.args.to.now c.args.leaves c.left-rest.result.0 _ c.show_is_layer.ensures.layer c.requires c.left-rest.ensures.inodes (ap (λ n. c.left-rest.result.0 + n) (c.from.ensures ∙ as_number c.args.leaves)) in
     ok_said _ (with_moved c.args.self.now c.args.from.now c.args.to.now c.args.leaves) (b.fits c.if-inodes-gt-MAX_INODES.false)

@@ -24,7 +24,7 @@ invariant_of-self-2 c =
     let there = body_some c.args.self.now c.args.number c.requires.there in
     let b = name_becomes c.args.self.now ok c.args.path.now c.names.ensures.valid c.requires.place c.args.number there.0 c.requires.apart there.1 in
     let is : c.put_name.new.self ≡ with_node c.args.self.now c.args.path.now (leaf_node c.args.number there.0) = c.in_ok-put_name.ensures.ok there.0 (ap (λ u. body u c.args.number) c.self.view_is ∙ there.1) ∙ ap (λ u. with_node u c.args.path.now (leaf_node c.args.number there.0)) c.self.view_is in
-    subst (Counts c.in_ok-totals.totals) (sym is) (counts_node c.args.self.now ok c.args.path.now c.in_ok-totals.totals c.in_ok-totals.ensures.paths (leaf_node c.args.number there.0) (c.in_ok-totals.ensures.inodes ∙ c.requires.count ∙ b.count) (omega (arith, c.in_ok-totals.ensures.blocks, c.left-blocks.ensures.blocks, name_no_dir c.args.number there.0)))
+    subst (Counts c.in_ok-totals.totals) (sym is) (counts_node c.args.self.now ok c.args.path.now c.in_ok-totals.totals c.in_ok-totals.ensures.paths (leaf_node c.args.number there.0) (c.in_ok-totals.ensures.inodes ∙ c.requires.count ∙ b.count) (omega (arith, c.in_ok-totals.ensures.blocks, c.requires.blocks, name_no_dir c.args.number there.0)))
 
 pub returns-clause-ok : goal.returns-clause-ok
 returns-clause-ok c =

@@ -9,4 +9,4 @@ pub invariant_of-self-2 : goal.invariant_of-self-2
 invariant_of-self-2 c =
     let ok : IsLayer c.args.self.now = c.show_is_layer.ensures.layer in
     let is : c.relocate.new.self ≡ with_moved c.args.self.now c.args.from.now c.args.to.now c.args.leaves = c.in_ok-relocate.ensures.ok ∙ ap (λ u. with_moved u c.args.from.now c.args.to.now c.args.leaves) c.self.view_is in
-    subst (Counts c.in_ok-totals.totals) (sym is) (counts_moved c.args.self.now ok c.args.to.now c.in_ok-totals.totals c.in_ok-totals.ensures.paths c.args.from.now c.args.leaves c.requires.movable.not_around (c.in_ok-totals.ensures.inodes ∙ c.requires.count) (omega (arith, c.in_ok-totals.ensures.blocks, c.left-blocks.ensures.blocks)))
+    subst (Counts c.in_ok-totals.totals) (sym is) (counts_moved c.args.self.now ok c.args.to.now c.in_ok-totals.totals c.in_ok-totals.ensures.paths c.args.from.now c.args.leaves c.requires.movable.not_around (c.in_ok-totals.ensures.inodes ∙ c.requires.count) (omega (arith, c.in_ok-totals.ensures.blocks, c.requires.blocks)))

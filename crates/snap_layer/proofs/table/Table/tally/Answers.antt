@@ -8,6 +8,6 @@ use Rattle.snap_layer.proofs.table.Table.tally.Goals as goal
 
 pub returns : goal.returns
 returns c =
-    let dirs : c.tally_inside.result.0 ≡ dir_count c.args.self.now = c.tally_inside.ensures.dirs ∙ ap (λ (es : Entries). count_by is_dir (values_of es)) (inside_root c.args.self.now.entries) in
-    let whiteouts : c.tally_inside.result.1 ≡ whiteout_count c.args.self.now = c.tally_inside.ensures.whiteouts ∙ ap (λ (es : Entries). count_by is_whiteout (values_of es)) (inside_root c.args.self.now.entries) in
+    let dirs : c.tally_walk.result.0 ≡ dir_count c.args.self.now = c.tally_walk.ensures.dirs ∙ ap (λ (es : Entries). count_by is_dir (values_of es)) (inside_root c.args.self.now.entries) in
+    let whiteouts : c.tally_walk.result.1 ≡ whiteout_count c.args.self.now = c.tally_walk.ensures.whiteouts ∙ ap (λ (es : Entries). count_by is_whiteout (values_of es)) (inside_root c.args.self.now.entries) in
     λ i. (dirs i, whiteouts i)

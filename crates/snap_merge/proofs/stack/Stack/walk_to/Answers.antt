@@ -1,7 +1,7 @@
-use Rattle.std.proofs.Common.{◌≡◌, ◌<◌, ◌≤◌, ℕ, Option, Some, None, length, sym, ap, subst, ◌∙◌, arith}
+use Rattle.std.proofs.Common.{◌<◌, ◌≤◌, Option, None, length, ap, subst, ◌∙◌, arith}
 use Rattle.std.specs.Option.{option_map}
 use Rattle.snap_path.specs.Text.{Names}
-use Rattle.snap_merge.specs.Objects.{Object, object, is_shown_dir}
+use Rattle.snap_merge.specs.Objects.{Object, object}
 use Rattle.snap_merge.specs.Walk.{walk_on}
 use Rattle.snap_merge.specs.Reach.{Reached}
 use Rattle.snap_merge.proofs.Reaching.{walk_passes, walk_stops, walk_on_some, reached_whole}
