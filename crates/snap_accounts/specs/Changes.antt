@@ -12,8 +12,8 @@ use Rattle.snap_call.specs.declared.state.State.{State}
 use Rattle.snap_call.specs.declared.config.Namespace.{Namespace}
 use Rattle.snap_call.specs.Forms.{is_limit}
 use Rattle.snap_call.specs.Records.{charge_of, committed_at, has_children, is_active, record_at}
-use Rattle.snap_call.specs.Reached.{swept as swept_records}
-use Rattle.snap_call.specs.State.{ids_of, name_at, place_of, shown_layers}
+use Rattle.snap_call.specs.Reached.{swept as swept_records, swept_keys}
+use Rattle.snap_call.specs.State.{name_at, place_of, shown_layers}
 use Rattle.snap_call.specs.Step.{added, counted, leasing, limited_at, removed_at, relabelled_at, swept_at}
 use Rattle.snap_accounts.specs.declared.change.Change.{Change}
 use Rattle.snap_accounts.specs.declared.change.Change.TheVariants.{Nothing, View, Removal, Labels, Limit, Lease, LeaseName, LeaseEnd, Sweep}
@@ -29,7 +29,7 @@ changed s (Limit place n) = limited_at s place n.limit
 changed s (Lease namespace lease until) = leasing s (s.leases ++ empty_lease namespace lease until ∷ [])
 changed s (LeaseName namespace lease name) = leasing s (with_name_added s.leases namespace lease name)
 changed s (LeaseEnd namespace lease) = leasing s (without_lease s.leases namespace lease)
-changed s (Sweep place namespace moment ids freed) = swept_at s namespace place moment
+changed s (Sweep place namespace moment keys freed) = swept_at s namespace place moment
 
 -- the record is that of a view, under the next id, and can be added
 pub record IsNewView (s : State) (r : Record) : Type 0 where
@@ -61,10 +61,10 @@ pub record IsName (s : State) (namespace lease name : Bytes) : Type 0 where
   pub there : has_lease s.leases namespace lease ≡ true
   pub committed : IsSomeAnd (place_of namespace s.namespaces) (λ place. IsSome (committed_at place name s.records))
 
--- the ids are those of what a sweep of the namespace at the place takes away at the moment, for which it is charged so much
-pub record IsSweep (s : State) (place : ℕ) (namespace : Bytes) (moment : ℕ) (ids : List ℕ) (freed : Usage) : Type 0 where
+-- the keys are those of what a sweep of the namespace at the place takes away at the moment, for which it is charged so much
+pub record IsSweep (s : State) (place : ℕ) (namespace : Bytes) (moment : ℕ) (keys : List Bytes) (freed : Usage) : Type 0 where
   pub named : place_of namespace s.namespaces ≡ Some place
-  pub swept : ids ≡ ids_of (swept_records s namespace place moment)
+  pub swept : keys ≡ swept_keys s namespace place moment
   pub charged : freed ≡ charge_of place (swept_records s namespace place moment)
 
 -- the change can be made: a view can be added, a snapshot can go, the limit covers the charge, the namespace has no such lease yet, the lease can be given the name, there is a lease to go, a sweep takes these away
@@ -75,5 +75,5 @@ CanChange s (Limit place n) = IsLimitFor s place n
 CanChange s (Lease namespace lease until) = IsSpace s namespace × (has_lease s.leases namespace lease ≡ false)
 CanChange s (LeaseName namespace lease name) = IsName s namespace lease name
 CanChange s (LeaseEnd namespace lease) = has_lease s.leases namespace lease ≡ true
-CanChange s (Sweep place namespace moment ids freed) = IsSweep s place namespace moment ids freed
+CanChange s (Sweep place namespace moment keys freed) = IsSweep s place namespace moment keys freed
 CanChange s change = Unit {0}

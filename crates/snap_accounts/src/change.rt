@@ -15,7 +15,7 @@ ghost use Rattle.snap_accounts.specs.Vacant.{IsSite};
 
 use crate::accounts::Accounts;
 use snap_call::limits::MAX_ID;
-use snap_call::{Call, Chain, Ids, Namespace, Refusal, Reply, is_key};
+use snap_call::{Call, Chain, Namespace, Refusal, Reply, is_key};
 use snap_layer::{Layer, Shared};
 use snap_ledger::StoreName;
 use snap_path::limits::DEFAULT_MODE;
@@ -64,13 +64,13 @@ pub enum Change {
         namespace: Text,
         lease: Text,
     },
-    /// A sweep of the namespace, which has this place, at a moment: the snapshots of these ids go, for
+    /// A sweep of the namespace, which has this place, at a moment: the snapshots of these keys go, for
     /// which it is charged so much, and its leases that have ended.
     Sweep {
         place: usize,
         namespace: Text,
         moment: u64,
-        ids: Ids,
+        keys: Sequence<Text>,
         freed: Usage,
     },
 }
@@ -325,9 +325,10 @@ impl<N: StoreName> Accounts<N> {
     /// ancestors, `Remove` what the snapshot was charged, `Update` the info with the labels after it,
     /// `Walk` a page of infos, `Sweep` what goes; a limit and a lease are set without more. The refusals
     /// are those of [`snap_call`]'s `step`, in its order. Takes memory for the reply and the change. The
-    /// cost grows with the records and with the texts and labels of those that are found; that of mounts
-    /// and of a view with the records times the ancestors, that of a removal with the logarithm
-    /// of the number of names in leases too, that of a call on a lease with the leases, and that of a sweep is that of
+    /// cost grows with the logarithm of the number of records and with the texts and labels of those that
+    /// are found; that of mounts and of a view with that logarithm times the ancestors, that of a walk with
+    /// the records that it passes over, that of a removal with the logarithm of the number of names in leases
+    /// too, that of a call on a lease with the leases, and that of a sweep is that of
     /// [`plan_sweep`](snap_call::State::plan_sweep).
     pub fn plan(&self, alloc: Global, call: &Call) -> Result<(Reply, Change), AllocError>
         requires plain { IsPlain call.now }
@@ -441,9 +442,9 @@ impl<N: StoreName> Accounts<N> {
                 place,
                 namespace,
                 moment,
-                ids,
+                keys,
                 freed,
-            } => self.sweep(place, namespace.as_str(), moment, &ids, freed),
+            } => self.sweep(place, namespace.as_str(), moment, keys.as_slice(), freed),
         }
         Ok(())
     }

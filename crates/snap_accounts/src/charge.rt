@@ -140,7 +140,8 @@ impl<N: StoreName> Accounts<N> {
 
     /// Charges the slot of the share for the wanted usage where the limit of its namespace covers that,
     /// else for the needed one; never for less than it is charged already. `Err` has what is free, which
-    /// covers neither. Both count an entry. Takes no memory. The cost grows with the records.
+    /// covers neither. Both count an entry. Takes no memory. The cost grows with the logarithm of the
+    /// number of records.
     pub fn charge(&mut self, share: &mut Share<N>, need: Usage, want: Usage) -> Result<Usage, Usage>
         requires slot { share.old.slot < 64 }
         requires entries { self.old.entries < 2 ^ 63 }
@@ -179,7 +180,7 @@ impl<N: StoreName> Accounts<N> {
     }
 
     /// Lowers the charge of the share's slot to a count that it covers, and counts an entry. Takes no
-    /// memory. The cost grows with the records.
+    /// memory. The cost grows with the logarithm of the number of records.
     pub fn trim(&mut self, share: &mut Share<N>, count: Usage)
         requires slot { share.old.slot < 64 }
         requires entries { self.old.entries < 2 ^ 63 }
@@ -197,7 +198,7 @@ impl<N: StoreName> Accounts<N> {
     }
 
     /// Removes the snapshot of the share's slot, and frees the slot; the answer is what it was charged.
-    /// It counts an entry. Takes no memory. The cost grows with the records.
+    /// It counts an entry. Takes no memory. The cost grows with the records behind its key, which move.
     pub fn discard(&mut self, share: Share<N>) -> Usage
         requires slot { share.slot < 64 }
         requires entries { self.old.entries < 2 ^ 63 }

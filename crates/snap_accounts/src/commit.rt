@@ -33,8 +33,8 @@ fn is_formed(name: &str, lease: &Option<Text>) -> bool
 impl<N: StoreName> Accounts<N> {
     /// Why the snapshot of an open slot can't be committed under the name, if it can't. In this order:
     /// `BadArgument` for a name or a lease that has not its form; `AlreadyExists` where its namespace has
-    /// the name; `NoLease` where it has not the lease. Takes no memory. The cost grows with the records
-    /// and the leases.
+    /// the name; `NoLease` where it has not the lease. Takes no memory. The cost grows with the logarithm of
+    /// the number of records, and with the leases.
     pub fn check_commit(&self, slot: u64, name: &str, lease: &Option<Text>) -> Result<(), Refusal>
         requires { (charge_at slot self.now.records).issued ≡ true }
         ensures formed { OnOk result ((is_key name.now && option_map_or is_key lease.now true) ≡ true) }
@@ -72,8 +72,10 @@ impl<N: StoreName> Accounts<N> {
     /// count of the layer, which is the answer, and no longer for the rest of the share.
     /// [`Accounts::check_commit`] tests the name and the lease.
     ///
-    /// Takes memory for the name in the lease alone; where that is refused, nothing changes, and the share
-    /// and the layer come back. The cost grows with the records, the leases and the layer.
+    /// Takes memory for the committed record, with copies of its name, its parent and its labels, and for a
+    /// name that is new to the lease; where that is refused, nothing changes, and the share and the layer
+    /// come back. The cost grows with the logarithm of the number of records, with these texts, and with the
+    /// leases.
     pub fn commit(
         &mut self,
         share: Share<N>,
@@ -101,12 +103,11 @@ impl<N: StoreName> Accounts<N> {
         let usage = count(layer.layer());
         let after = self.total_with(place, held, usage);
         let number = self.state.entries + 1;
-        let Ok(()) = self.state.name_in(place, name.as_str(), lease) else {
+        let Ok(()) = self.state.commit(slot, &name, lease, &layer) else {
             return Err((share, layer));
         };
         self.totals.set(place, after);
         self.slots.spend(share);
-        self.state.records.commit(slot, name, layer, number);
         self.opened -= 1;
         self.state.entries = number;
         Ok(usage)

@@ -111,8 +111,8 @@ impl<N: StoreName> Accounts<N> {
     /// parent's name; `AlreadyExists` where it has one of the key; `NotCommitted` where the parent is not
     /// committed; `TooDeep` where the snapshot would have more than 64 committed ancestors;
     /// `TooManyActives` where all 64 slots are open; `OverLimit` with what is free, where 1/1 does not
-    /// fit; `NumbersSpent` after the id 4,294,967,295. Takes no memory. The cost grows with the records
-    /// times the ancestors, and with the number of labels.
+    /// fit; `NumbersSpent` after the id 4,294,967,295. Takes no memory. The cost grows with the
+    /// logarithm of the number of records, once for each ancestor, and with the number of labels.
     pub fn vacancy(
         &self,
         namespace: &str,
@@ -184,8 +184,8 @@ impl<N: StoreName> Accounts<N> {
     /// Adds an active snapshot with these labels, charged 1/1 for its root, and counts an entry. The answer
     /// is the share of its slot. [`Accounts::vacancy`] is the test of the condition.
     ///
-    /// Takes memory for the record; where that is refused, nothing changes. The cost grows with the
-    /// records, the texts and the labels.
+    /// Takes memory for the record, its place and its slot; where that is refused, nothing changes. The cost
+    /// grows with the texts and the labels, and with the records behind the key, which move.
     pub fn add(
         &mut self,
         alloc: Global,

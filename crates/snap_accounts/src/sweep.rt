@@ -8,7 +8,7 @@ ghost use Rattle.snap_accounts.specs.Entries.{IsInEntry};
 
 use crate::accounts::Accounts;
 use crate::change::Change;
-use snap_call::{Ids, Refusal, Reply, Sweep};
+use snap_call::{Refusal, Reply, Sweep};
 use snap_ledger::StoreName;
 use snap_record::Text;
 use snap_usage::{Usage, difference};
@@ -29,12 +29,8 @@ impl<N: StoreName> Accounts<N> {
         ensures possible { IfOk result (λ p. CanChange self.now p.1) }
     {
         let state = self.state();
-        let sweep = state.plan_sweep(alloc, place, namespace.as_str(), moment)?;
-        let Sweep {
-            removed,
-            freed,
-            ids,
-        } = sweep;
+        let Sweep { removed, freed } = state.plan_sweep(alloc, place, namespace.as_str(), moment)?;
+        let keys = removed.clone()?;
         let leases = state.leases.ended(namespace.as_str(), moment);
         let namespace = namespace.clone()?;
         let reply = Reply::Swept {
@@ -46,7 +42,7 @@ impl<N: StoreName> Accounts<N> {
             place,
             namespace,
             moment,
-            ids,
+            keys,
             freed,
         };
         Ok((reply, change))
@@ -69,23 +65,23 @@ impl<N: StoreName> Accounts<N> {
         }
     }
 
-    // The snapshots of the ids go, and the leases that have ended, and the namespace is no longer charged
+    // The snapshots of the keys go, and the leases that have ended, and the namespace is no longer charged
     // for the snapshots.
     pub(crate) fn sweep(
         &mut self,
         place: usize,
         namespace: &str,
         moment: u64,
-        ids: &Ids,
+        keys: &[Text],
         freed: Usage,
     )
-        requires possible { IsSweep self.old place namespace.now moment ids.now freed }
+        requires possible { IsSweep self.old place namespace.now moment keys.now freed }
         requires entries { self.old.entries < 2 ^ 63 }
         ensures done { self.new ≡ swept_at self.old namespace.now place moment }
         ensures open { open_count self.new.records ≡ open_count self.old.records }
     {
         let rest = difference(self.total(place), freed);
-        self.state.records.remove_ids(ids);
+        self.state.records.take_keys(place, keys);
         self.state.leases.drop_ended(namespace, moment);
         self.totals.set(place, rest);
         self.state.entries += 1;

@@ -20,7 +20,7 @@ ghost use Rattle.snap_book.specs.Slot.{found_of, slot_of};
 use crate::journal::{Journal, Opening, session_entry};
 use snap_accounts::{Accounts, Change};
 use snap_call::limits::MAX_SESSIONS;
-use snap_call::{Call, Config, Entry, Given, Refusal, Reply};
+use snap_call::{Call, Config, Entry, Given, Records, Refusal, Reply};
 use snap_ledger::{NewTable, StoreName};
 use snap_record::{Content, Record};
 use snap_usage::Usage;
@@ -118,7 +118,7 @@ impl<N: StoreName> Book<N> {
 
     /// The records of all snapshots, in order of their namespaces' places and the bytes of their keys.
     /// Takes no memory. The cost is constant.
-    pub fn records(&self) -> &[Record]
+    pub fn records(&self) -> &Records
         ensures records { result.now ≡ self.now.state.records }
         // What holds of every book.
         ensures good { Good self.now.state }
@@ -126,7 +126,7 @@ impl<N: StoreName> Book<N> {
         ensures replays { Replays self.now.opening self.now.journal self.now.state }
         ensures below { length self.now.journal + open_count self.now.state.records ≤ self.now.limit }
     {
-        self.accounts.state().records.as_slice()
+        &self.accounts.state().records
     }
 
     /// How many snapshots are open. Takes no memory. The cost is constant.

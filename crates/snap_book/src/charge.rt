@@ -56,7 +56,7 @@ impl<N: StoreName> Book<N> {
     ///
     /// `JournalFull` where each further entry is kept for an open snapshot's end; then `OutOfMemory`
     /// where memory for the entry is refused; then `OverLimit` with what is free. After any of them
-    /// the snapshot is as it was. The cost grows with the records.
+    /// the snapshot is as it was. The cost grows with the logarithm of the number of records.
     pub fn charge(
         &mut self,
         session: u64,

@@ -107,10 +107,11 @@ impl<N: StoreName> Book<N> {
     /// name that has not its form, `NoNamespace`; then `LeaseCreate` `LeaseExists`, `LeaseAdd` `NotFound`,
     /// `NotCommitted` and `NoLease`, `LeaseRelease` `NoLease`. `Sweep`: `NoNamespace` alone.
     ///
-    /// Its cost grows with the records, and with the texts and labels of those that are found; that of a
-    /// removal with the leases and the names in them too, that of mounts and of a view with the records
-    /// times the ancestors, that of a call on a lease with the leases and the records, that of a sweep
-    /// with the leases and their names, and with the records times the logarithm of their number.
+    /// Its cost grows with the logarithm of the number of records, and with the texts and labels of those
+    /// that are found; that of mounts and of a view with that logarithm times the ancestors, that of a walk
+    /// with the records, that of a removal with the records, the leases and the names in them, that of a call
+    /// on a lease with the leases, that of a sweep with the leases and their names, and with the records times
+    /// the logarithm of their number.
     pub fn do_call(&mut self, session: u64, call: Call) -> Reply
         requires { IsPlain call }
         ensures answered { AnsweredBy self.old self.new session call Nothing result }

@@ -249,8 +249,9 @@ impl<N: StoreName> Book<N> {
     /// would have more than 64 committed ancestors; `TooManyActives` where all 64 slots are open;
     /// `OverLimit` with what is free; `NumbersSpent` after the id 4,294,967,295. At last `OutOfMemory`
     /// where memory for the snapshot is refused. `JournalFull` and `OutOfMemory` leave the book as it
-    /// was, the others all but the journal. Its cost grows with the records times the ancestors, and with
-    /// the texts and the labels.
+    /// was, the others all but the journal. Its cost grows with the logarithm of the number of
+    /// records, once for each ancestor, with the texts and the labels, and with the records behind the key,
+    /// which move.
     pub fn prepare(
         &mut self,
         session: u64,

@@ -1,16 +1,12 @@
 -- What the code's searches through the records find.
-use Rattle.std.proofs.Common.{◌≡◌, ℕ, zero, suc, ◌+◌, ◌<◌, List, [], ◌∷◌, length, get_or, set, Bool, true, false, position, Option, Some, None, sym, refl, ap, ◌∙◌, arith, ap₂}
+use Rattle.std.proofs.Common.{◌≡◌, ℕ, zero, suc, ◌+◌, ◌<◌, List, [], ◌∷◌, length, get_or, set, Bool, true, false, position, Option, Some, None, sym, refl, ap, ◌∙◌, arith}
 use Rattle.std.proofs.lemmas.List.Quantifiers.{position-Some}
 use Rattle.std.proofs.lemmas.Iterator.Adapters.{position_from-zero}
-use Rattle.std.specs.Option.{MatchOption}
 use Rattle.std.specs.List.{find, position_from, insert, remove}
-use Rattle.snap_layer.specs.Tree.{Tree}
-use Rattle.snap_usage.specs.declared.usage.Usage.{Usage}
-use Rattle.snap_usage.specs.Counted.{count_of}
 use Rattle.snap_record.specs.Labels.{Bytes, Label}
 use Rattle.snap_record.specs.declared.record.Record.{Record}
-use Rattle.snap_record.specs.declared.record.Content.TheVariants.{Active, Committed}
-use Rattle.snap_call.specs.Records.{is_later, is_named, is_slot, active_at, with_record, without, without_slot, recharged, relabelled, with_labels, committed_as}
+use Rattle.snap_record.specs.declared.record.Content.{Content}
+use Rattle.snap_call.specs.Records.{is_later, is_named, is_slot, active_at, with_record, with_content_at, without, without_slot, relabelled, with_labels}
 
 -- an insertion before the first record that comes later
 pub with_record_found : (r : Record) (rs : List Record) (i : ℕ) (d : Record) → i < length rs → is_later r (get_or rs i d) ≡ true → ((k : ℕ) → k < i → is_later r (get_or rs k d) ≡ false) → insert rs i r ≡ with_record r rs
@@ -61,31 +57,6 @@ without-Some p rs i r e at =
 pub without-None : (p : Record → Bool) (rs : List Record) → position p rs ≡ None → (rs ≡ without p rs) × (None ≡ find p rs)
 without-None p rs e = without_absent p 0 rs (sym (position_from-zero p rs) ∙ e)
 
--- the record at the place of a slot is charged
-recharged_found : (slot : ℕ) (to : Usage) (rs : List Record) (i : ℕ) (d : Record) → i < length rs → is_slot slot (get_or rs i d) ≡ true → ((k : ℕ) → k < i → is_slot slot (get_or rs k d) ≡ false)
-    → set rs i (record (get_or rs i d) { content = Active slot to }) ≡ recharged slot to rs
-recharged_found slot to [] i d lt here before = absurd (omega arith)
-recharged_found slot to (r ∷ rs) zero d lt here before = rw here refl
-recharged_found slot to (r ∷ rs) (suc i) d lt here before =
-    let no : is_slot slot r ≡ false = before 0 (omega arith) in
-    rw no (ap (λ l. r ∷ l) (recharged_found slot to rs i d (omega arith) here (λ k h. before (suc k) (omega arith))))
-
-recharged_absent : (slot : ℕ) (to : Usage) (i : ℕ) (rs : List Record) → position_from (is_slot slot) i rs ≡ None → rs ≡ recharged slot to rs
-recharged_absent slot to i [] e = refl
-recharged_absent slot to i (r ∷ rs) e = at (is_slot slot r) refl (recharged_absent slot to (i + 1) rs)
-  where
-    at : (b : Bool) → is_slot slot r ≡ b → (position_from (is_slot slot) (i + 1) rs ≡ None → rs ≡ recharged slot to rs) → r ∷ rs ≡ recharged slot to (r ∷ rs)
-    at true is next = let f = rw is at e in absurd (cc)
-    at false is next = let f = rw is at e in rw is (ap (λ l. r ∷ l) (next f))
-
-pub recharged-Some : (slot : ℕ) (to : Usage) (rs : List Record) (i : ℕ) (r : Record) → position (is_slot slot) rs ≡ Some i → r ≡ get_or rs i r → set rs i (record r { content = Active slot to }) ≡ recharged slot to rs
-recharged-Some slot to rs i r e at =
-    let f = position-Some (is_slot slot) rs i r e in
-    ap (λ (x : Record). set rs i (record x { content = Active slot to })) at ∙ recharged_found slot to rs i r f.0 f.1 f.2
-
-pub recharged-None : (slot : ℕ) (to : Usage) (rs : List Record) → position (is_slot slot) rs ≡ None → rs ≡ recharged slot to rs
-recharged-None slot to rs e = recharged_absent slot to 0 rs (sym (position_from-zero (is_slot slot) rs) ∙ e)
-
 -- the record at the place of a key gets the labels
 relabelled_found : (place : ℕ) (key : Bytes) (labels : List Label) (number : ℕ) (rs : List Record) (i : ℕ) (d : Record) → i < length rs → is_named place key (get_or rs i d) ≡ true → ((k : ℕ) → k < i → is_named place key (get_or rs k d) ≡ false)
     → set rs i (with_labels labels number (get_or rs i d)) ≡ relabelled place key labels number rs
@@ -111,14 +82,30 @@ relabelled-Some place key labels number rs i r e at =
 pub relabelled-None : (place : ℕ) (key : Bytes) (labels : List Label) (number : ℕ) (rs : List Record) → position (is_named place key) rs ≡ None → rs ≡ relabelled place key labels number rs
 relabelled-None place key labels number rs e = relabelled_absent place key labels number 0 rs (sym (position_from-zero (is_named place key) rs) ∙ e)
 
--- a record that is taken and put back as a committed one
-pub committed_back : (name : List ℕ) (layer : Tree) (number : ℕ) (r : Record) (u : Usage) (slot : ℕ) (rs ts : List Record) → u ≡ count_of layer → ts ≡ without_slot slot rs
-    → with_record (record r { key = name; content = Committed layer u; created = number; updated = number }) ts ≡ with_record (committed_as name layer number r) (without_slot slot rs)
-committed_back name layer number r u slot rs ts count taken =
-    ap₂ (λ u ts. with_record (record r { key = name; content = Committed layer u; created = number; updated = number }) ts) count taken
+-- the record at the place of a key gets the content
+with_content_found : (place : ℕ) (key : Bytes) (content : Content) (rs : List Record) (i : ℕ) (d : Record) → i < length rs → is_named place key (get_or rs i d) ≡ true → ((k : ℕ) → k < i → is_named place key (get_or rs k d) ≡ false)
+    → set rs i (record (get_or rs i d) { content = content }) ≡ with_content_at place key content rs
+with_content_found place key content [] i d lt here before = absurd (omega arith)
+with_content_found place key content (r ∷ rs) zero d lt here before = rw here refl
+with_content_found place key content (r ∷ rs) (suc i) d lt here before =
+    let no : is_named place key r ≡ false = before 0 (omega arith) in
+    rw no (ap (λ l. r ∷ l) (with_content_found place key content rs i d (omega arith) here (λ k h. before (suc k) (omega arith))))
 
-pub MatchOption-from_some : {A : Type 0} (o : Option A) (P : Type 0) (Q : A → Type 0) (x : A) → o ≡ Some x → Q x → MatchOption o P Q
-MatchOption-from_some o P Q x e q = rw e q
+with_content_absent : (place : ℕ) (key : Bytes) (content : Content) (i : ℕ) (rs : List Record) → position_from (is_named place key) i rs ≡ None → rs ≡ with_content_at place key content rs
+with_content_absent place key content i [] e = refl
+with_content_absent place key content i (r ∷ rs) e = at (is_named place key r) refl (with_content_absent place key content (i + 1) rs)
+  where
+    at : (b : Bool) → is_named place key r ≡ b → (position_from (is_named place key) (i + 1) rs ≡ None → rs ≡ with_content_at place key content rs) → r ∷ rs ≡ with_content_at place key content (r ∷ rs)
+    at true is next = let f = rw is at e in absurd (cc)
+    at false is next = let f = rw is at e in rw is (ap (λ l. r ∷ l) (next f))
+
+pub with_content-Some : (place : ℕ) (key : Bytes) (content : Content) (rs : List Record) (i : ℕ) (r : Record) → position (is_named place key) rs ≡ Some i → r ≡ get_or rs i r → set rs i (record r { content = content }) ≡ with_content_at place key content rs
+with_content-Some place key content rs i r e at =
+    let f = position-Some (is_named place key) rs i r e in
+    ap (λ (x : Record). set rs i (record x { content = content })) at ∙ with_content_found place key content rs i r f.0 f.1 f.2
+
+pub with_content-None : (place : ℕ) (key : Bytes) (content : Content) (rs : List Record) → position (is_named place key) rs ≡ None → rs ≡ with_content_at place key content rs
+with_content-None place key content rs e = with_content_absent place key content 0 rs (sym (position_from-zero (is_named place key) rs) ∙ e)
 
 pub without_slot-free : (slot : ℕ) (rs : List Record) → active_at slot rs ≡ None → without_slot slot rs ≡ rs
 without_slot-free slot [] e = refl
@@ -127,6 +114,3 @@ without_slot-free slot (r ∷ rs) e = at (is_slot slot r) refl (without_slot-fre
     at : (b : Bool) → is_slot slot r ≡ b → (active_at slot rs ≡ None → without_slot slot rs ≡ rs) → without_slot slot (r ∷ rs) ≡ r ∷ rs
     at true is next = let f = rw is at e in absurd (cc)
     at false is next = let f = rw is at e in rw is (ap (λ l. r ∷ l) (next f))
-
-pub MatchOption-from_none : {A : Type 0} (o : Option A) (P : Type 0) (Q : A → Type 0) → o ≡ None → P → MatchOption o P Q
-MatchOption-from_none o P Q e p = rw e p

@@ -1,5 +1,5 @@
 pub mod Lists
-pub mod Ordered
+pub mod InOrder
 pub mod Chains
 pub mod Sums
 pub mod Alike
@@ -12,6 +12,9 @@ mod Ascending
 mod Marks
 pub mod Gathered
 mod Equal
+mod Indexed
+mod Referred
+mod Committing
 pub mod Leasing
 pub mod Keeping
 pub mod Reaching

@@ -1,10 +1,36 @@
 -- What is kept of the records so that searches needn't go over the list.
 -- Cited by invariants and private clauses alone.
-use Rattle.std.specs.Prelude.{◌≡◌, false, List}
+use Rattle.std.specs.Prelude.{◌≡◌, ℕ, false, List, Option, None, Some, slice_get}
+use Rattle.std.specs.List.{AllByRecursion}
+use Rattle.std.specs.List.Sorted.{IsStrictlySortedBy}
+use Rattle.std.specs.Option.{option_map, option_and_then}
 use Rattle.std.specs.Ordering.{is_gt}
+use Rattle.snap_record.specs.declared.record.Content.{Content}
+use Rattle.snap_record.specs.declared.record.Content.TheVariants.{Active}
 use Rattle.snap_record.specs.declared.record.Record.{Record}
-use Rattle.snap_call.specs.Records.{record_cmp, AllPairwise}
+use Rattle.snap_call.specs.Records.{record_cmp, active_at, AllPairwise, AreApart, HasLowSlot}
+use Rattle.snap_call.specs.declared.open_slots.Name.{Name}
 
 -- the records are in order: none comes after a later one
 abbrev pub IsAscending : List Record → Type 0
 IsAscending rs = AllPairwise (λ r t. is_gt (record_cmp r t) ≡ false) rs
+
+-- the name that a table has for a slot; nothing past its end
+abbrev pub name_in : ℕ → List (Option Name) → Option Name
+name_in slot names = option_and_then (λ name. name) (slice_get names slot)
+
+-- the slot of an active snapshot
+abbrev pub slot_of : Content → Option ℕ
+slot_of (Active slot charged) = Some slot
+slot_of content = None
+
+-- a record's name
+abbrev pub name_of : Record → Name
+name_of r = record { place = r.namespace; key = r.key }
+
+-- each record has a key of its own and, where it is active, a slot of its own below 64, and the table has for each slot the name of the record that is active there
+pub record AreIndexed (rs : List Record) (names : List (Option Name)) : Type 0 where
+  pub sorted : IsStrictlySortedBy record_cmp rs
+  pub apart : AllPairwise AreApart rs
+  pub low : AllByRecursion (λ r. HasLowSlot r.content) rs
+  pub slots : (slot : ℕ) → name_in slot names ≡ option_map name_of (active_at slot rs)

@@ -2,7 +2,6 @@ pub mod Forms
 pub mod Records
 pub mod State
 pub mod Reached
-pub mod Ids
 pub mod Indexes
 pub mod Marked
 pub mod Good

@@ -113,6 +113,11 @@ without_slot slot rs = without (is_slot slot) rs
 abbrev pub without_key : ℕ → Bytes → List Record → List Record
 without_key place key rs = without (is_named place key) rs
 
+-- without those of these keys in the namespace
+abbrev pub without_keys : ℕ → List Bytes → List Record → List Record
+without_keys place [] rs = rs
+without_keys place (key ∷ keys) rs = without_keys place keys (without_key place key rs)
+
 -- the records after the one that is active in the slot is charged so much
 abbrev pub recharged : ℕ → Usage → List Record → List Record
 recharged slot to [] = []
@@ -126,6 +131,11 @@ with_labels labels number r = record r { labels = labels; updated = number }
 abbrev pub relabelled : ℕ → Bytes → List Label → ℕ → List Record → List Record
 relabelled place key labels number [] = []
 relabelled place key labels number (r ∷ rs) = if is_named place key r then with_labels labels number r ∷ rs else r ∷ relabelled place key labels number rs
+
+-- the records after that of the key in the namespace has this content
+abbrev pub with_content_at : ℕ → Bytes → Content → List Record → List Record
+with_content_at place key content [] = []
+with_content_at place key content (r ∷ rs) = if is_named place key r then record r { content = content } ∷ rs else r ∷ with_content_at place key content rs
 
 -- a record of the namespace at the place, whose key comes after this text, and that has every part of the filter
 abbrev pub is_walked : ℕ → Bytes → Filter → Record → Bool

@@ -1,28 +1,25 @@
-ghost use Rattle.std.specs.Prelude.{◌≡◌, ◌<◌, ◌≤◌, [], true, false, not, filter, length, position, option_copied, OnOk, OnErr, OnSome, IfErr, IfOk, MatchOption, IsTrue, ◌↔◌, vec_len, vec_capacity};
-ghost use Rattle.std.specs.Ordering.{is_lt};
-ghost use Rattle.std.specs.List.{insert, list_any};
-ghost use Rattle.std.specs.List.Sorted.{IsPartitionPoint};
-ghost use Rattle.snap_call.specs.Records.{record_at, record_cmp, has_key, has_children, is_child, is_named, is_slot, active_at, with_record, without_key, without_slot, recharged, relabelled, is_walked, page, committed_as, lowest_free};
-ghost use Rattle.snap_call.specs.Ids.{has_id};
-ghost use Rattle.snap_call.specs.Indexes.{IsAscending};
-ghost use Rattle.snap_call.specs.Marked.{key_cmp};
+ghost use Rattle.std.specs.Prelude.{◌≡◌, ◌<◌, [], true, false, not, filter, map, length, option_copied, None, OnOk, OnErr, IfErr, IfOk, IsTrue, ◌↔◌, ℕ};
+ghost use Rattle.std.specs.List.{list_any};
+ghost use Rattle.snap_call.specs.Records.{record_at, has_key, has_children, is_slot, active_at, with_record, without_key, without_keys, without_slot, recharged, relabelled, page, lowest_free, HasLowSlot};
+ghost use Rattle.snap_call.specs.Indexes.{slot_of};
 
-use crate::ids::Ids;
-use snap_layer::Shared;
+use crate::open_slots::{Name, OpenSlots};
+use crate::ordered::Ordered;
 use snap_ledger::MAX_SLOTS;
 use snap_record::{Content, Filter, Info, Labels, Record, Sequence, Text};
-use snap_usage::{Usage, count};
+use snap_usage::Usage;
 use std::alloc::{AllocError, AllocFailed, Global};
-use std::cmp::Ordering;
 use std::marker::Model;
 
 /// The records of a store, in order of their namespaces' places and the bytes of their keys.
 /// Contracts see the list.
 ///
 /// A key is found by a binary search: its cost grows with the logarithm of the number of records.
-#[derive(Debug, Drop)]
+/// A table has the name of the snapshot that is active in each slot.
+#[derive(Drop)]
 pub struct Records {
-    list: Vec<Record>,
+    rows: Ordered,
+    slots: OpenSlots,
 }
 
 impl Model for Records {
@@ -31,11 +28,22 @@ impl Model for Records {
 
     ghost Value = { List Record };
 
-    ghost use Rattle.snap_call.specs.Indexes.{IsAscending};
+    ghost use Rattle.snap_call.specs.Indexes.{AreIndexed};
 
-    ghost view = { λ r. r.list.items };
+    ghost view = { λ r. r.rows };
 
-    ghost invariant = { λ r. IsAscending r.list.items };
+    ghost invariant = { λ r. AreIndexed r.rows r.slots };
+}
+
+// The slot of an active snapshot.
+fn slot_of(content: &Content) -> Option<u64>
+    ensures { result ≡ slot_of content.now }
+{
+    match content {
+        Content::View { .. } => None,
+        Content::Active { slot, .. } => Some(*slot),
+        Content::Committed { .. } => None,
+    }
 }
 
 impl Records {
@@ -44,71 +52,72 @@ impl Records {
         ensures { result ≡ [] }
     {
         Records {
-            list: Vec::new(alloc),
+            rows: Ordered::new(alloc),
+            slots: OpenSlots::new(alloc),
         }
     }
 
-    /// The records, in their order.
-    pub fn as_slice(&self) -> &[Record]
-        ensures { result.now ≡ self.now }
+    /// The records, in their order. Takes memory for the list. The cost grows with their number.
+    pub fn list(&self, alloc: Global) -> Result<Vec<&Record>, AllocError>
+        ensures { IfOk result (λ list. map (λ r. r.now) list.items ≡ self.now) }
     {
-        self.list.as_slice()
+        self.rows.list(alloc)
     }
 
-    /// How many records there are.
+    /// How many records there are. Takes no memory. The cost is constant.
     pub fn len(&self) -> usize
         ensures { result ≡ length self.now }
     {
-        self.list.len()
+        self.rows.len()
     }
 
-    /// Whether there are no records.
+    /// Whether there are no records. Takes no memory. The cost is constant.
     pub fn is_empty(&self) -> bool
         ensures { IsTrue result ↔ (self.now ≡ []) }
     {
-        self.list.is_empty()
+        self.rows.len() == 0
     }
 
     /// Whether the namespace at the place has a snapshot of this key. Takes no memory.
     pub fn has_key(&self, place: usize, key: &str) -> bool
         ensures { result ≡ has_key place key.now self.now }
     {
-        place_of_key(&self.list, place, key).is_some()
+        self.rows.get(place, key).is_some()
     }
 
     /// The record of this key in the namespace at the place. Takes no memory.
     pub fn record_at(&self, place: usize, key: &str) -> Option<&Record>
         ensures { option_copied result ≡ record_at place key.now self.now }
     {
-        match place_of_key(&self.list, place, key) {
-            Some(at) => Some(&self.list[at]),
-            None => None,
-        }
+        self.rows.get(place, key)
     }
 
-    /// Whether the namespace at the place has a snapshot on this parent. Takes no memory.
+    /// Whether the namespace at the place has a snapshot on this parent. Takes no memory. It goes over the
+    /// records.
     pub fn has_children(&self, place: usize, key: &str) -> bool
         ensures { result ≡ has_children place key.now self.now }
     {
-        self.list.iter().any(|record| is_child(record, place, key))
+        self.rows.has_children(place, key)
     }
 
     /// The record that is active in the slot, if the slot is open. Takes no memory.
     pub fn active_at(&self, slot: u64) -> Option<&Record>
         ensures { option_copied result ≡ active_at slot self.now }
     {
-        self.list.iter().find(|record| is_slot(record, slot))
+        let Some(name) = self.slots.get(slot) else {
+            return None;
+        };
+        self.rows.get(name.place, name.key.as_str())
     }
 
-    /// Whether a snapshot is active in the slot. Takes no memory.
+    /// Whether a snapshot is active in the slot. Takes no memory. The cost is constant.
     pub fn is_open(&self, slot: u64) -> bool
         ensures { result ≡ list_any (is_slot slot) self.now }
     {
-        self.list.iter().any(|record| is_slot(record, slot))
+        self.slots.get(slot).is_some()
     }
 
-    /// The lowest slot that is not open, if there is one. Takes no memory. It goes over the records
-    /// once for each slot that is open.
+    /// The lowest slot that is not open, if there is one. Takes no memory. The cost is constant.
     pub fn lowest_free(&self) -> Option<u64>
         ensures { result ≡ lowest_free 64 self.now }
     {
@@ -120,15 +129,34 @@ impl Records {
         None
     }
 
-    /// Puts a record in its place. Where memory is wanting, the records are as they were and the
-    /// error gives the record back.
+    /// Puts a record in its place. Its key is new in its namespace, and where it is active its slot is
+    /// free. Where memory is wanting, the records are as they were and the error gives the record back.
     pub fn insert(&mut self, added: Record) -> Result<(), AllocFailed<Record>>
+        requires new { has_key added.namespace added.key self.old ≡ false }
+        requires low { HasLowSlot added.content }
+        requires free { (slot : ℕ) → is_slot slot added ≡ true → active_at slot self.old ≡ None }
         ensures ok { OnOk result (self.new ≡ with_record added self.old) }
         ensures err { OnErr result (self.new ≡ self.old) }
         ensures value_returned { IfErr result (λ e. e.value ≡ added) }
     {
-        let place = place_for(&self.list, &added);
-        self.list.insert(place, added)
+        let Some(slot) = slot_of(&added.content) else {
+            return self.rows.insert(added);
+        };
+        let Ok(key) = added.key.clone() else {
+            return Err(AllocFailed { value: added });
+        };
+        let Ok(()) = self.slots.reserve(slot) else {
+            return Err(AllocFailed { value: added });
+        };
+        let name = Name {
+            place: added.namespace,
+            key,
+        };
+        let inserted = self.rows.insert(added);
+        if inserted.is_ok() {
+            self.slots.set(slot, name);
+        }
+        inserted
     }
 
     /// Takes the record of a slot away. Where the slot is not open, the records are as they were.
@@ -137,7 +165,10 @@ impl Records {
         ensures taken { self.new ≡ without_slot slot self.old }
         ensures record_taken { result ≡ active_at slot self.old }
     {
-        take_active(&mut self.list, slot)
+        let Some(name) = self.slots.take(slot) else {
+            return None;
+        };
+        self.rows.remove(name.place, name.key.as_str())
     }
 
     /// Takes the record of the key in the namespace at the place away. Where there is none, the records
@@ -146,17 +177,24 @@ impl Records {
         ensures taken { self.new ≡ without_key place key.now self.old }
         ensures record_taken { result ≡ record_at place key.now self.old }
     {
-        match place_of_key(&self.list, place, key) {
-            Some(at) => Some(self.list.remove(at)),
-            None => None,
-        }
+        let Some(taken) = self.rows.remove(place, key) else {
+            return None;
+        };
+        let Some(slot) = slot_of(&taken.content) else {
+            return Some(taken);
+        };
+        let _ = self.slots.take(slot);
+        Some(taken)
     }
 
-    /// Takes the records away that have one of these ids, in one pass. Takes no memory.
-    pub fn remove_ids(&mut self, ids: &Ids)
-        ensures { self.new ≡ filter (λ r. not (has_id r.id ids.now)) self.old }
+    /// Takes the records of these keys in the namespace at the place away. A key that it has not changes
+    /// nothing. Takes no memory.
+    pub fn take_keys(&mut self, place: usize, keys: &[Text])
+        ensures { self.new ≡ without_keys place keys.now self.old }
     {
-        self.list.retain(|snapshot| !ids.has(snapshot.id));
+        for key in keys {
+            let _ = self.take_key(place, key.as_str());
+        }
     }
 
     /// Charges the record of a slot for so much. Where the slot is not open, the records are as
@@ -164,11 +202,12 @@ impl Records {
     pub fn recharge(&mut self, slot: u64, to: Usage)
         ensures { self.new ≡ recharged slot to self.old }
     {
-        let Some(place) = place_of_slot(&self.list, slot) else {
+        let Some(name) = self.slots.get(slot) else {
             return;
         };
-        let record = &mut self.list[place];
-        record.content = Content::Active { slot, charged: to };
+        let content = Content::Active { slot, charged: to };
+        self.rows
+            .set_content(name.place, name.key.as_str(), content);
     }
 
     /// Gives the record of the key in the namespace at the place these labels, as the journal entry of
@@ -176,12 +215,7 @@ impl Records {
     pub fn relabel(&mut self, place: usize, key: &str, labels: Labels, number: u64)
         ensures { self.new ≡ relabelled place key.now labels number self.old }
     {
-        let Some(at) = place_of_key(&self.list, place, key) else {
-            return;
-        };
-        let record = &mut self.list[at];
-        record.labels = labels;
-        record.updated = number;
+        self.rows.relabel(place, key, labels, number);
     }
 
     /// The infos of the records of the namespace at the place whose keys come after the text and that
@@ -197,150 +231,6 @@ impl Records {
     ) -> Result<Sequence<Info>, AllocError>
         ensures { IfOk result (λ infos. infos ≡ page place after.now most asked.now self.now) }
     {
-        let mut infos = Sequence::new(alloc);
-        for record in &self.list {
-            if infos.len() < most && is_walked(record, place, after, asked) {
-                infos.push(record.info()?)?;
-            }
-        }
-        Ok(infos)
+        self.rows.page(alloc, place, after, most, asked)
     }
-
-    /// Makes the active record of a slot a committed one: it has the name, the layer with its count
-    /// and the number of the journal entry, and stands where the name has its place. Where the slot
-    /// is not open, the records are as they were.
-    ///
-    /// Takes no memory: the record goes into the room that it left. Besides the search its cost is
-    /// that of [`count`].
-    pub fn commit(&mut self, slot: u64, name: Text, layer: Shared, number: u64)
-        ensures { MatchOption (active_at slot self.old) (self.new ≡ self.old) (λ r. self.new ≡ with_record (committed_as name layer number r) (without_slot slot self.old)) }
-    {
-        let Some(mut record) = take_active(&mut self.list, slot) else {
-            return;
-        };
-        let usage = count(layer.layer());
-        record.key = name;
-        record.content = Content::Committed { layer, usage };
-        record.created = number;
-        record.updated = number;
-        put_reserved(&mut self.list, record);
-    }
-}
-
-/// Takes the record of a slot away, and so leaves room for one.
-fn take_active(list: &mut Vec<Record>, slot: u64) -> Option<Record>
-    ensures taken { list.new.items ≡ without_slot slot list.old.items }
-    ensures record_taken { result ≡ active_at slot list.old.items }
-    ensures room { OnSome result (vec_len list.new < vec_capacity list.new) }
-{
-    match place_of_slot(list, slot) {
-        Some(place) => Some(list.remove(place)),
-        None => None,
-    }
-}
-
-/// Puts a record in its place, where the list has room for it.
-fn put_reserved(list: &mut Vec<Record>, added: Record)
-    requires room { vec_len list.old < vec_capacity list.old }
-    requires ascending { IsAscending list.old.items }
-    ensures { list.new.items ≡ with_record added list.old.items }
-{
-    let place = place_for(list, &added);
-    let _ = list.insert(place, added);
-}
-
-/// Whether the one record comes before the other: by the places of their namespaces, then by the
-/// bytes of their keys.
-fn is_before(a: &Record, b: &Record) -> bool
-    ensures { result ≡ is_lt (record_cmp a.now b.now) }
-{
-    match a.namespace.cmp(&b.namespace) {
-        Ordering::Less => true,
-        Ordering::Equal => a.key.cmp(&b.key).is_lt(),
-        Ordering::Greater => false,
-    }
-}
-
-/// How the record stands to the key in the namespace at the place, in the order of the records.
-fn compare(snapshot: &Record, place: usize, key: &str) -> Ordering
-    ensures { result ≡ key_cmp place key.now snapshot.now }
-{
-    match snapshot.namespace.cmp(&place) {
-        Ordering::Equal => snapshot.key.as_str().cmp(key),
-        other => other,
-    }
-}
-
-/// Whether the record has this key in the namespace at this place.
-fn is_named(snapshot: &Record, place: usize, key: &str) -> bool
-    ensures { result ≡ is_named place key.now snapshot.now }
-{
-    snapshot.namespace == place && snapshot.key.as_str() == key
-}
-
-/// Whether the record is in the namespace at this place and on this parent.
-fn is_child(snapshot: &Record, place: usize, parent: &str) -> bool
-    ensures { result ≡ is_child place parent.now snapshot.now }
-{
-    snapshot.namespace == place && snapshot.parent.as_str() == parent
-}
-
-/// Whether the record is one of the namespace at this place, has a key that comes after the text, and
-/// has every part of the filter.
-fn is_walked(snapshot: &Record, place: usize, after: &str, asked: &Filter) -> bool
-    ensures { result ≡ is_walked place after.now asked.now snapshot.now }
-{
-    snapshot.namespace == place
-        && after.cmp(snapshot.key.as_str()).is_lt()
-        && snapshot.matches(asked)
-}
-
-/// Whether the record is active in the slot.
-fn is_slot(snapshot: &Record, slot: u64) -> bool
-    ensures { result ≡ is_slot slot snapshot.now }
-{
-    match &snapshot.content {
-        Content::View { .. } => false,
-        Content::Active { slot: own, .. } => *own == slot,
-        Content::Committed { .. } => false,
-    }
-}
-
-/// Where the record goes in the list: before the first one that comes later. A binary search.
-fn place_for(list: &[Record], snapshot: &Record) -> usize
-    requires { IsAscending list.now }
-    ensures within { result ≤ length list.now }
-    ensures in_order { insert list.now result snapshot.now ≡ with_record snapshot.now list.now }
-{
-    list.partition_point(|other| !is_before(snapshot, other))
-}
-
-/// Where the first record stands that doesn't come before the key in the namespace at the place. A
-/// binary search.
-fn place_from(list: &[Record], place: usize, key: &str) -> usize
-    requires { IsAscending list.now }
-    ensures within { result ≤ length list.now }
-    ensures parted { IsPartitionPoint (λ r. is_lt (key_cmp place key.now r) ≡ true) (λ r. is_lt (key_cmp place key.now r) ≡ false) list.now result }
-{
-    list.partition_point(|snapshot| compare(snapshot, place, key).is_lt())
-}
-
-/// Where the record of the key in the namespace at the place stands. A binary search.
-pub(crate) fn place_of_key(list: &[Record], place: usize, key: &str) -> Option<usize>
-    requires { IsAscending list.now }
-    ensures { result ≡ position (is_named place key.now) list.now }
-{
-    let at = place_from(list, place, key);
-    if at < list.len() && is_named(&list[at], place, key) {
-        Some(at)
-    } else {
-        None
-    }
-}
-
-/// Where the record of the slot stands.
-fn place_of_slot(list: &[Record], slot: u64) -> Option<usize>
-    ensures { result ≡ position (is_slot slot) list.now }
-{
-    list.iter().position(|snapshot| is_slot(snapshot, slot))
 }

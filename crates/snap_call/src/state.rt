@@ -1,18 +1,21 @@
-ghost use Rattle.std.specs.Prelude.{◌≡◌, ◌<◌, length, true, OnOk, OnErr};
+ghost use Rattle.std.specs.Prelude.{◌≡◌, ◌<◌, ◌+◌, ◌^◌, length, true, false, Some, OnOk, OnErr, IfOk};
 ghost use Rattle.snap_call.specs.Forms.{is_config};
 ghost use Rattle.snap_call.specs.Good.{Good};
+ghost use Rattle.snap_call.specs.Records.{active_at, committed_as, has_key, with_record, without_slot};
 ghost use Rattle.snap_call.specs.State.{opening, place_of, name_at, limit_at, limited};
 ghost use Rattle.snap_call.specs.Step.{IsAllowed, step, has_named, leases_after};
 ghost use Rattle.snap_call.specs.declared.call.Call.{Call};
 ghost use Rattle.snap_call.specs.declared.call.Given.{Given};
 ghost use Rattle.snap_call.specs.declared.state.State.{State};
+ghost use Rattle.snap_record.specs.declared.record.Record.{Record};
 
 use crate::config::{Config, Namespace};
 use crate::forms::has_name;
 use crate::records::Records;
+use snap_layer::Shared;
 use snap_lease::Leases;
-use snap_record::{Sequence, Text};
-use snap_usage::Usage;
+use snap_record::{Content, Record, Sequence, Text};
+use snap_usage::{Usage, count};
 use std::alloc::{AllocError, Global};
 
 /// The state of a store.
@@ -29,6 +32,32 @@ pub struct State {
     pub sessions: u64,
     /// How many entries were ever recorded.
     pub entries: u64,
+}
+
+// The record of an active snapshot as it is once it is committed under the name with the layer, by the
+// entry of this number.
+fn committed_as(
+    active: &Record,
+    name: &Text,
+    layer: &Shared,
+    number: u64,
+) -> Result<Record, AllocError>
+    ensures { IfOk result (λ r. r ≡ committed_as name.now layer.now number active.now) }
+{
+    let usage = count(layer.layer());
+    Ok(Record {
+        namespace: active.namespace,
+        key: name.clone()?,
+        parent: active.parent.clone()?,
+        id: active.id,
+        labels: active.labels.clone()?,
+        created: number,
+        updated: number,
+        content: Content::Committed {
+            layer: layer.again()?,
+            usage,
+        },
+    })
 }
 
 impl State {
@@ -109,6 +138,43 @@ impl State {
             Ok(()) => Ok(()),
             Err(_) => Err(AllocError),
         }
+    }
+
+    /// Makes the active snapshot of a slot a committed one of this name and layer, as the next journal entry
+    /// leaves it, and names it in the lease of its namespace, where one is given. The slot is free then. The
+    /// entries are not counted.
+    ///
+    /// Takes memory for a record, with copies of the name, the parent and the labels, for its place, and for a
+    /// name that is new to the lease; where that is refused, nothing changes. The cost grows with the logarithm
+    /// of the number of records, with these texts, and with the leases.
+    pub fn commit(
+        &mut self,
+        slot: u64,
+        name: &Text,
+        lease: &Option<Text>,
+        layer: &Shared,
+    ) -> Result<(), AllocError>
+        requires good { Good self.old }
+        requires entries { self.old.entries < 2 ^ 63 }
+        requires new { (r : Record) → active_at slot self.old.records ≡ Some r → has_key r.namespace name.now self.old.records ≡ false }
+        requires named { (r : Record) → active_at slot self.old.records ≡ Some r → has_named self.old r.namespace lease.now ≡ true }
+        ensures ok { OnOk result ((r : Record) → active_at slot self.old.records ≡ Some r → self.new ≡ record self.old { records = with_record (committed_as name.now layer.now (self.old.entries + 1) r) (without_slot slot self.old.records); leases = leases_after self.old r.namespace name.now lease.now }) }
+        ensures err { OnErr result (self.new ≡ self.old) }
+    {
+        let Some(active) = self.records.active_at(slot) else {
+            return Err(AllocError);
+        };
+        let place = active.namespace;
+        let committed = committed_as(active, name, layer, self.entries + 1)?;
+        let Ok(()) = self.records.insert(committed) else {
+            return Err(AllocError);
+        };
+        let Ok(()) = self.name_in(place, name.as_str(), lease) else {
+            let _ = self.records.take_key(place, name.as_str());
+            return Err(AllocError);
+        };
+        let _ = self.records.take_slot(slot);
+        Ok(())
     }
 
     /// The name of the namespace at the place; no text past the last one. Takes no memory.

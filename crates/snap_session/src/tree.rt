@@ -1,5 +1,5 @@
 // The snapshots of a namespace as a forest by parent.
-ghost use Rattle.std.specs.Prelude.{◌≡◌, IfOk, count_by};
+ghost use Rattle.std.specs.Prelude.{◌≡◌, IfOk, count_by, map};
 ghost use Rattle.snap_call.specs.Records.{is_child};
 ghost use Rattle.snap_session.specs.Tree.{is_in, tree_node, forest, place_among, tree};
 
@@ -18,8 +18,8 @@ fn is_child(snapshot: &Record, place: usize, key: &str) -> bool
 }
 
 // How many snapshots of the namespace at the place are on this parent.
-fn children_of(records: &[Record], place: usize, key: &str) -> u64
-    ensures { result ≡ count_by (is_child place key.now) records.now }
+fn children_of(records: &[&Record], place: usize, key: &str) -> u64
+    ensures { result ≡ count_by (is_child place key.now) (map (λ r. r.now) records.now) }
 {
     let count = records
         .iter()
@@ -29,8 +29,8 @@ fn children_of(records: &[Record], place: usize, key: &str) -> u64
 }
 
 #[tactic(auto, unfolding(crate::specs::Tree::tree_node))]
-fn tree_node(records: &[Record], snapshot: &Record) -> Result<TreeNode, AllocError>
-    ensures { IfOk result (λ node. node ≡ tree_node records.now snapshot.now) }
+fn tree_node(records: &[&Record], snapshot: &Record) -> Result<TreeNode, AllocError>
+    ensures { IfOk result (λ node. node ≡ tree_node (map (λ r. r.now) records.now) snapshot.now) }
 {
     Ok(TreeNode {
         key: snapshot.key.clone()?,
@@ -49,8 +49,12 @@ fn is_in(snapshot: &Record, place: usize) -> bool
     snapshot.namespace == place
 }
 
-fn forest(alloc: Global, records: &[Record], place: usize) -> Result<Sequence<TreeNode>, AllocError>
-    ensures { IfOk result (λ nodes. nodes ≡ forest place records.now) }
+fn forest(
+    alloc: Global,
+    records: &[&Record],
+    place: usize,
+) -> Result<Sequence<TreeNode>, AllocError>
+    ensures { IfOk result (λ nodes. nodes ≡ forest place (map (λ r. r.now) records.now)) }
 {
     let mut nodes = Sequence::new(alloc);
     for record in records {
@@ -79,5 +83,6 @@ pub(crate) fn tree<N: StoreName>(
     let Some(place) = place_among(names, namespace.as_str()) else {
         return Ok(Answer::Refused(Refusal::NoNamespace));
     };
-    Ok(Answer::Tree(forest(alloc, world.records(), place)?))
+    let records = world.records().list(alloc)?;
+    Ok(Answer::Tree(forest(alloc, &records, place)?))
 }

@@ -84,8 +84,9 @@ fn key_of<N: StoreName>(
 fn open_keys<N: StoreName>(alloc: Global, book: &Book<N>) -> Result<Sequence<OpenKey>, NoMemory>
     ensures { IfOk result (λ keys. keys ≡ open_keys book.now.state) }
 {
+    let records = book.records().list(alloc)?;
     let mut keys = Sequence::new(alloc);
-    for record in book.records() {
+    for record in &records {
         if is_active(record) {
             keys.push(key_of(alloc, book, record)?)?;
         }

@@ -10,8 +10,8 @@ ghost use Rattle.snap_store.specs.Closing.{IsClosed, IsKept};
 use crate::cause::{Cause, close_cause};
 use crate::store::Store;
 use snap_book::{Book, Entry, Refusal};
+use snap_call::Records;
 use snap_ledger::StoreName;
-use snap_record::Record;
 use snap_tape::Session;
 use snap_usage::Usage;
 use std::alloc::Global;
@@ -126,7 +126,7 @@ impl<N: StoreName> Closed<N> {
 
     /// The records of all snapshots, in order of their namespaces' places and the bytes of their keys; none is
     /// active. Takes no memory. The cost is constant.
-    pub fn records(&self) -> &[Record]
+    pub fn records(&self) -> &Records
         ensures { result.now ≡ self.now.state.records }
     {
         self.book.records()

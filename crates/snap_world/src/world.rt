@@ -14,10 +14,10 @@ ghost use Rattle.snap_world.specs.Stacks.{IsOver, stack_of};
 use crate::hands::Hands;
 use crate::step::{Answer, Step};
 use snap_book::Book;
-use snap_call::{Config, Entry, Refusal};
+use snap_call::{Config, Entry, Records, Refusal};
 use snap_ledger::{NewTable, StoreName};
 use snap_merge::Stack;
-use snap_record::{Content, Record};
+use snap_record::Content;
 use snap_usage::Usage;
 use std::alloc::{AllocError, AllocFailed, Global};
 use std::marker::Model;
@@ -192,7 +192,7 @@ impl<N: StoreName> World<N> {
 
     /// The records of all snapshots, in order of their namespaces' places and the bytes of their keys.
     /// Takes no memory. The cost is constant.
-    pub fn records(&self) -> &[Record]
+    pub fn records(&self) -> &Records
         ensures records { result.now ≡ self.now.state.records }
         // What holds of every world.
         ensures fits { Fits self.now }

@@ -1,4 +1,4 @@
-use Rattle.std.proofs.Common.{◌≡◌, ◌+◌, ◌-◌, List, set, Some, false, refl, sym, ap, ◌∙◌, subst, arith}
+use Rattle.std.proofs.Common.{◌≡◌, ◌+◌, ◌-◌, List, set, Some, true, false, refl, sym, ap, ◌∙◌, subst, arith}
 use Rattle.snap_usage.specs.declared.usage.Usage.{Usage}
 use Rattle.snap_usage.specs.Counted.{Covers, count_of}
 use Rattle.snap_layer.specs.Tree.{Tree}
@@ -8,9 +8,8 @@ use Rattle.snap_record.specs.Records.{usage_of}
 use Rattle.snap_record.specs.declared.record.Record.{Record}
 use Rattle.std.specs.Prelude.{Option}
 use Rattle.snap_call.specs.declared.state.State.{State}
-use Rattle.snap_call.specs.Good.{Good}
 use Rattle.snap_call.specs.Records.{charge_of, charge_at, active_at, has_key, with_record, without_slot, committed_as, open_count}
-use Rattle.snap_call.specs.Step.{leases_after}
+use Rattle.snap_call.specs.Step.{has_named, leases_after}
 use Rattle.snap_call.proofs.Sums.{charge_with}
 use Rattle.snap_call.proofs.Slots.{charge_at-issued}
 use Rattle.snap_call.proofs.Counts.{open_count-committed, open_count-some}
@@ -18,8 +17,21 @@ use Rattle.snap_call.proofs.Keeping.{good_committed}
 use Rattle.snap_accounts.specs.Accounts.{AreAccounts}
 use Rattle.snap_accounts.specs.Totals.{place_if}
 use Rattle.snap_accounts.proofs.Accounting.{accounts_committed}
-use Rattle.snap_accounts.proofs.Commits.{commits_from}
+use Rattle.snap_accounts.proofs.Commits.{committed_from, place-free, place-named}
 use Rattle.snap_accounts.proofs.accounts.Accounts.commit.Goals as goal
+
+pub commit-requires-clause-good : goal.commit-requires-clause-good
+commit-requires-clause-good g c = c.self.invariant.good
+
+pub commit-requires-clause-new : goal.commit-requires-clause-new
+commit-requires-clause-new g c =
+    let same = c.self.view_is ∙ c.meet-held.ensures.same in
+    place-free c.slot-slot.result c.args.share.slot c.args.name c.self.inside.state _ c.slot-slot.ensures same c.requires.free
+
+pub commit-requires-clause-named : goal.commit-requires-clause-named
+commit-requires-clause-named g c =
+    let same = c.self.view_is ∙ c.meet-held.ensures.same in
+    place-named c.slot-slot.result c.args.share.slot c.args.lease.now c.self.inside.state _ c.slot-slot.ensures same c.requires.named
 
 pub overflow_sub-self : goal.overflow_sub-self
 overflow_sub-self g c =
@@ -36,8 +48,8 @@ returns-clause-open g c =
     let slot = c.args.share.slot in
     let same = c.self.view_is ∙ c.meet-held.ensures.same in
     let found = charge_at-issued slot s.records (ap (λ (u : State). (charge_at slot u.records).issued) same ∙ c.meet-held.ensures.met.0) in
-    let is = commits_from c.slot-slot.result slot c.args.name c.args.layer (s.entries + 1) s.records c.name_in.new.self.records c.commit.new.self found.0 c.slot-slot.ensures found.1 (ap (λ (u : State). u.records) c.in-Ok.ensures.ok) c.commit.ensures in
-    ap (λ (l : List Record). open_count l + 1) is ∙ (open_count-committed slot c.args.name c.args.layer (s.entries + 1) s.records found.0 found.1 ∙ ap (λ (u : State). open_count u.records) same)
+    let done = committed_from c.slot-slot.result slot c.args.name c.args.lease.now c.args.layer s c.commit.new.self found.0 c.slot-slot.ensures found.1 c.in-Ok.ensures.ok in
+    ap (λ (u : State). open_count u.records + 1) done ∙ (open_count-committed slot c.args.name c.args.layer (s.entries + 1) s.records found.0 found.1 ∙ ap (λ (u : State). open_count u.records) same)
 
 pub invariant_of-self-2 : goal.invariant_of-self-2
 invariant_of-self-2 g c =
@@ -53,21 +65,17 @@ invariant_of-self-2 g c =
     let own : usage_of r.content ≡ c.args.share.usage = found.3 ∙ (ap (λ (u : State). (charge_at slot u.records).usage) same ∙ c.meet-held.ensures.met.2) in
     let held : usage_of r.content ≡ c.meet-held.result = own ∙ sym c.meet-held.ensures.held in
     let place : c.place-place.result ≡ r.namespace = c.place-place.ensures.place ∙ ((λ i. place_if (active_at (c.slot-slot.ensures i) (sym c.self.view_is i).records)) ∙ ap place_if e) in
-    let count : c.count-usage.result ≡ count_of layer = c.count-usage.ensures.count ∙ ap count_of c.layer.ensures.value in
+    let count : c.count-usage.result ≡ count_of layer = c.count-usage.ensures.count ∙ ap count_of c.layer-2.ensures.value in
     let after : c.total_with-after.result ≡ charge_with r (count_of layer) s.records = c.total_with-after.ensures ∙ (λ i. plus (minus (charge_of (place i) (sym c.self.view_is i).records) (sym held i)) (count i)) in
     let free : has_key r.namespace name s.records ≡ false =
     ap (λ (o : Option Record). has_key (place_if o) name s.records) (sym e) ∙ (ap (λ (u : State). has_key (place_if (active_at slot u.records)) name u.records) same ∙ c.requires.free) in
-    let text : c.as_str.result.now ≡ name = c.as_str.ensures in
-    let named : c.name_in.new.self ≡ record s { leases = leases_after s r.namespace name lease } = c.in-Ok.ensures.ok ∙ (λ i. record s { leases = leases_after s (place i) (text i) lease }) in
-    let is : c.commit.new.self ≡ with_record (committed_as name layer (s.entries + 1) r) (without_slot slot s.records) =
-    commits_from c.slot-slot.result slot name layer (s.entries + 1) s.records c.name_in.new.self.records c.commit.new.self r c.slot-slot.ensures e (ap (λ (u : State). u.records) c.in-Ok.ensures.ok) c.commit.ensures in
+    let done = committed_from c.slot-slot.result slot name lease layer s c.commit.new.self r c.slot-slot.ensures e c.in-Ok.ensures.ok in
     let less = open_count-committed slot name layer (s.entries + 1) s.records r e in
-    let left = ap open_count is in
     let good = good_committed s slot name lease layer r c.self.invariant.good e free (subst (λ (u : Usage). Covers u (count_of layer)) (sym own) c.requires.covers) in
-    subst (λ (u : State). AreAccounts (record u { records = c.commit.new.self; entries = s.entries + 1 }) c.set.new.self c.spend.new.self (c.self.inside.opened - 1)) (sym named)
-    (accounts_committed s (record s { records = c.commit.new.self; leases = leases_after s r.namespace name lease; entries = s.entries + 1 }) c.self.inside.totals _ c.self.inside.slots _ c.self.inside.opened (c.self.inside.opened - 1) slot (s.entries + 1) name layer r c.self.invariant
-    (subst (λ (l : List Record). Good (record s { records = l; leases = leases_after s r.namespace name lease; entries = s.entries + 1 })) (sym is) good)
-    e c.requires.slot refl is
-    (omega (arith, less, left, c.self.invariant.open_are))
+    subst (λ (u : State). AreAccounts (record u { entries = s.entries + 1 }) c.set.new.self c.spend.new.self (c.self.inside.opened - 1)) (sym done)
+    (accounts_committed s (record s { records = with_record (committed_as name layer (s.entries + 1) r) (without_slot slot s.records); leases = leases_after s r.namespace name lease; entries = s.entries + 1 }) c.self.inside.totals _ c.self.inside.slots _ c.self.inside.opened (c.self.inside.opened - 1) slot (s.entries + 1) name layer r c.self.invariant
+    good
+    e c.requires.slot refl refl
+    (omega (arith, less, c.self.invariant.open_are))
     (c.set.ensures ∙ (λ i. set c.self.inside.totals (place i) (after i)))
     (c.spend.ensures.charges ∙ ap (λ (x : ShareState). set c.self.inside.slots x.slot (free_charge x.slot)) c.meet-held.ensures.share))

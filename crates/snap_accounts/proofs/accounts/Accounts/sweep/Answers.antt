@@ -19,14 +19,14 @@ difference-rest-requires g c =
     (subst (λ (u : Usage). Covers (charge_of c.args.place s.records) u) (sym c.requires.possible.charged) (swept_covers s c.args.namespace.now c.args.place c.args.moment))
 
 -- what the sweep takes away, of the state inside
-possible : (g : _) (c : goal.After-self-1 g) → IsSweep c.self.inside.state c.args.place c.args.namespace.now c.args.moment c.args.ids.now c.args.freed
-possible g c = subst (λ (u : State). IsSweep u c.args.place c.args.namespace.now c.args.moment c.args.ids.now c.args.freed) (sym c.self.view_is) c.requires.possible
+possible : (g : _) (c : goal.After-self-1 g) → IsSweep c.self.inside.state c.args.place c.args.namespace.now c.args.moment c.args.keys.now c.args.freed
+possible g c = subst (λ (u : State). IsSweep u c.args.place c.args.namespace.now c.args.moment c.args.keys.now c.args.freed) (sym c.self.view_is) c.requires.possible
 
-left : (g : _) (c : goal.After-self-1 g) → c.remove_ids.new.self ≡ unswept c.self.inside.state c.args.namespace.now c.args.place c.args.moment
-left g c = c.remove_ids.ensures ∙ stay c.self.inside.state c.args.place c.args.namespace.now c.args.moment c.args.ids.now c.args.freed (possible g c) c.self.invariant.good
+left : (g : _) (c : goal.After-self-1 g) → c.take_keys.new.self ≡ unswept c.self.inside.state c.args.namespace.now c.args.place c.args.moment
+left g c = c.take_keys.ensures ∙ stay c.self.inside.state c.args.place c.args.namespace.now c.args.moment c.args.keys.now c.args.freed (possible g c) c.self.invariant.good
 
 -- the state after it
-after : (g : _) (c : goal.After-self-1 g) → record c.self.inside.state { records = c.remove_ids.new.self; leases = c.drop_ended.new.self; entries = c.self.inside.state.entries + 1 } ≡ swept_at c.self.inside.state c.args.namespace.now c.args.place c.args.moment
+after : (g : _) (c : goal.After-self-1 g) → record c.self.inside.state { records = c.take_keys.new.self; leases = c.drop_ended.new.self; entries = c.self.inside.state.entries + 1 } ≡ swept_at c.self.inside.state c.args.namespace.now c.args.place c.args.moment
 after g c = λ i. record c.self.inside.state { records = left g c i; leases = c.drop_ended.ensures.leases i; entries = c.self.inside.state.entries + 1 }
 
 pub invariant_of-self : goal.invariant_of-self
@@ -34,7 +34,7 @@ invariant_of-self g c =
     let s = c.self.inside.state in
     let total : c.total.result ≡ charge_of c.args.place s.records = c.total.ensures.total ∙ ap (λ (u : State). charge_of c.args.place u.records) (sym c.self.view_is) in
     subst (λ (u : State). AreAccounts u c.set.new.self c.self.inside.slots c.self.inside.opened) (sym (after g c))
-    (accounts_swept s c.args.place c.args.namespace.now c.args.moment c.args.ids.now c.args.freed (possible g c) c.self.inside.totals c.set.new.self c.self.inside.slots c.self.inside.opened c.self.invariant
+    (accounts_swept s c.args.place c.args.namespace.now c.args.moment c.args.keys.now c.args.freed (possible g c) c.self.inside.totals c.set.new.self c.self.inside.slots c.self.inside.opened c.self.invariant
     (c.set.ensures ∙ (λ i. set c.self.inside.totals c.args.place ((c.difference-rest.ensures ∙ (λ j. minus (total j) c.args.freed)) i))))
 
 pub returns-clause-done : goal.returns-clause-done

@@ -1,11 +1,9 @@
-use Rattle.std.proofs.Common.{◌∙◌, ap, List, position}
-use Rattle.std.specs.Option.{is_some}
+use Rattle.std.proofs.Common.{◌∙◌, ap, List}
 use Rattle.snap_record.specs.declared.record.Record.{Record}
-use Rattle.snap_call.specs.Records.{is_named}
-use Rattle.snap_call.proofs.Ascending.{is_some-position}
+use Rattle.snap_call.specs.Records.{has_key}
+use Rattle.snap_call.proofs.Indexed.{has_key-found}
 use Rattle.snap_call.proofs.records.Records.has_key.Goals as goal
 
 pub returns : goal.returns
 returns c =
-    let named = is_named c.args.place c.args.key.now in
-    c.is_some.ensures ∙ ap is_some c.place_of_key.ensures ∙ ap (λ (l : List Record). is_some (position named l)) (c.deref.ensures.value ∙ c.self.view_is) ∙ is_some-position named c.args.self.now
+    c.is_some.ensures ∙ has_key-found c.args.place c.args.key.now c.self.inside.rows c.get.result c.get.ensures ∙ ap (λ (l : List Record). has_key c.args.place c.args.key.now l) c.self.view_is

@@ -1,28 +1,31 @@
-use Rattle.std.proofs.Common.{List, None, Some, ap, get_or, position, set, subst, sym, ◌∙◌, ◌≡◌}
-use Rattle.snap_call.specs.Records.{is_slot}
+use Rattle.std.proofs.Common.{◌≡◌, ◌∙◌, ap, sym, subst, List, None, Some}
+use Rattle.std.specs.Option.{option_copied}
 use Rattle.snap_record.specs.declared.record.Record.{Record}
 use Rattle.snap_record.specs.declared.record.Content.TheVariants.{Active}
-use Rattle.snap_call.proofs.CodeLemmas.{recharged-Some, recharged-None}
-use Rattle.snap_call.specs.Indexes.{IsAscending}
-use Rattle.snap_call.proofs.Ascending.{ascending-recharged}
+use Rattle.snap_record.specs.Labels.{Bytes}
+use Rattle.snap_call.specs.Indexes.{AreIndexed, name_in}
+use Rattle.snap_call.specs.Records.{active_at, recharged, with_content_at}
+use Rattle.snap_call.proofs.Indexed.{indexed-recharged, recharged-none, recharged_at, unnamed}
 use Rattle.snap_call.proofs.records.Records.recharge.Goals as goal
 
 pub returns-in_default : goal.returns-in_default
 returns-in_default c =
-    let at : position (is_slot c.args.slot) c.args.self.now ≡ None = ap (λ (l : List Record). position (is_slot c.args.slot) l) (sym (c.deref.ensures.value ∙ c.self.view_is)) ∙ sym c.place_of_slot.ensures ∙ c.in_default.is in
-    recharged-None c.args.slot c.args.to _ at
+    let none : name_in c.args.slot c.self.inside.slots ≡ None = sym c.get.ensures ∙ ap option_copied c.in_default.is in
+    let free : active_at c.args.slot c.args.self.now ≡ None = ap (λ (l : List Record). active_at c.args.slot l) (sym c.self.view_is) ∙ unnamed c.self.inside.rows c.self.inside.slots c.self.invariant c.args.slot none in
+    sym (recharged-none c.args.slot c.args.to c.args.self.now free)
 
 pub returns : goal.returns
 returns c =
-    let r = c.index_mut-record.result.now in
-    let found : position (is_slot c.args.slot) c.args.self.now ≡ Some c.in-Some.place = ap (λ (l : List Record). position (is_slot c.args.slot) l) (sym (c.deref.ensures.value ∙ c.self.view_is)) ∙ sym c.place_of_slot.ensures ∙ c.in-Some.is in
-    let at : r ≡ get_or c.args.self.now c.in-Some.place r = c.index_mut-record.ensures.value ∙ ap (λ l. get_or l c.in-Some.place r) c.self.view_is in
-    ap (λ (l : List Record). set l c.in-Some.place (record r { content = Active c.args.slot c.args.to })) c.self.view_is
-    ∙ recharged-Some c.args.slot c.args.to _ c.in-Some.place r found at
+    let n = c.in-Some.name.now in
+    let some : name_in c.args.slot c.self.inside.slots ≡ Some n = sym c.get.ensures ∙ ap option_copied c.in-Some.is in
+    c.set_content.ensures ∙ ap (λ (k : Bytes). with_content_at n.place k (Active c.args.slot c.args.to) c.self.inside.rows) c.as_str.ensures
+    ∙ recharged_at c.self.inside.rows c.self.inside.slots c.self.invariant c.args.slot n c.args.to some ∙ ap (λ (l : List Record). recharged c.args.slot c.args.to l) c.self.view_is
 
 pub invariant_of-self : goal.invariant_of-self
 invariant_of-self c =
-    let P : List Record → Type 0 = λ l. IsAscending l in
-    let rs = c.self.inside.list.items in
-    let found : position (is_slot c.args.slot) rs ≡ Some c.in-Some.place = ap (λ (l : List Record). position (is_slot c.args.slot) l) (sym c.deref.ensures.value) ∙ sym c.place_of_slot.ensures ∙ c.in-Some.is in
-    subst P (sym (recharged-Some c.args.slot c.args.to rs c.in-Some.place c.index_mut-record.result.now found c.index_mut-record.ensures.value)) (ascending-recharged c.args.slot c.args.to rs c.self.invariant)
+    let n = c.in-Some.name.now in
+    let some : name_in c.args.slot c.self.inside.slots ≡ Some n = sym c.get.ensures ∙ ap option_copied c.in-Some.is in
+    let is : c.set_content.new.self ≡ recharged c.args.slot c.args.to c.self.inside.rows =
+    c.set_content.ensures ∙ ap (λ (k : Bytes). with_content_at n.place k (Active c.args.slot c.args.to) c.self.inside.rows) c.as_str.ensures
+    ∙ recharged_at c.self.inside.rows c.self.inside.slots c.self.invariant c.args.slot n c.args.to some in
+    subst (λ (l : List Record). AreIndexed l c.self.inside.slots) (sym is) (indexed-recharged c.self.inside.rows c.self.inside.slots c.self.invariant c.args.slot c.args.to n some)
