@@ -143,6 +143,14 @@ impl<N: StoreName> Book<N> {
         self.accounts.state().sessions
     }
 
+    /// The number of the last entry, counted through all rounds, and 0 before the first one. Takes no memory.
+    /// The cost is constant.
+    pub fn last_entry(&self) -> u64
+        ensures { result ≡ self.now.state.entries }
+    {
+        self.accounts.state().entries
+    }
+
     /// What the namespace is charged, in blocks of 4096 bytes and inodes: the stored usages of its
     /// committed snapshots and the charges of its active ones. `None` where the store has no such
     /// namespace. Takes no memory. The cost grows with the number of namespaces.

@@ -1,6 +1,7 @@
 -- No answer has a float.
 use Rattle.std.proofs.Common.{◌≡◌, ℕ, List, [], ◌∷◌, map, Bool, true, false, true≢false, Ordering, Less, Equal, Greater, nat_cmp, refl}
-use Rattle.std.specs.Prelude.{◌||◌, if◌then◌else◌, Option, Some, None}
+use Rattle.std.specs.Prelude.{◌||◌, if◌then◌else◌, Option, Some, None, codes}
+use Rattle.std.specs.Option.{option_map}
 use Rattle.std.specs.Str.{is_utf8}
 use Rattle.std.specs.Ordering.{match_ordering}
 use Rattle.std.specs.Cmp.Lexicographic.{slice_cmp}
@@ -12,12 +13,13 @@ use Rattle.snap_record.specs.declared.info.Info.{Info}
 use Rattle.snap_mount.specs.declared.mount.Mount.{Mount}
 use Rattle.snap_call.specs.declared.refusal.Refusal.{Refusal}
 use Rattle.snap_call.specs.declared.refusal.Refusal.TheVariants as refusals
+use Rattle.snap_history.specs.declared.info.EntryInfo.{EntryInfo}
 use Rattle.snap_script.specs.declared.answer.Shown.{Shown}
 use Rattle.snap_script.specs.declared.answer.Shown.TheVariants as shown
 use Rattle.snap_script.specs.declared.answer.TreeNode.{TreeNode}
 use Rattle.snap_script.specs.declared.answer.Answer.{Answer}
 use Rattle.snap_script.specs.declared.answer.Answer.TheVariants as answers
-use Rattle.snap_script.specs.Answers.{number_data, usage_data, members_with, shown_data, answer_data, info_data, mount_data, node_data}
+use Rattle.snap_script.specs.Answers.{number_data, usage_data, members_with, maybe, refusal_name, shown_data, answer_data, entry_data, info_data, mount_data, node_data}
 
 first_is : (a b : Bool) → a || b ≡ false → a ≡ false
 first_is false b h = refl
@@ -73,6 +75,20 @@ nodes_have_none : (nodes : List TreeNode) → items_have_float (items_of (map no
 nodes_have_none [] = refl
 nodes_have_none (node ∷ nodes) = nodes_have_none nodes
 
+maybe_has_none : {A : Type 0} (value : A → Data) → ((a : A) → has_float (value a) ≡ false) → (key : List ℕ) (o : Option A) (rest : Members) → members_have_float rest ≡ false → members_have_float (maybe key (option_map value o) rest) ≡ false
+maybe_has_none value f key None rest h = h
+maybe_has_none value f key (Some a) rest h = both_are _ _ (f a) h
+
+entry_has_none : (entry : EntryInfo) → has_float (entry_data entry) ≡ false
+entry_has_none entry =
+    maybe_has_none number_data (λ n. refl) (codes "id") entry.id _
+    (maybe_has_none string (λ text. refl) (codes "key") entry.key _
+    (maybe_has_none (λ why. string (refusal_name why)) (λ why. refl) (codes "refused") entry.refused _ refl))
+
+entries_have_none : (entries : List EntryInfo) → items_have_float (items_of (map entry_data entries)) ≡ false
+entries_have_none [] = refl
+entries_have_none (entry ∷ entries) = both_are _ _ (entry_has_none entry) (entries_have_none entries)
+
 text_or_null : (b : Bool) (text : List ℕ) → has_float (if b then string text else null) ≡ false
 text_or_null true text = refl
 text_or_null false text = refl
@@ -94,6 +110,7 @@ no_float (answers.Seen seen) = both_are _ _ (shown_has_none seen) refl
 no_float (answers.Names names) = both_are _ _ (texts_have_none names) refl
 no_float (answers.Swept removed leases freed) = both_are _ _ (texts_have_none removed) refl
 no_float (answers.Tree nodes) = both_are _ _ (nodes_have_none nodes) refl
+no_float (answers.Journal entries) = both_are _ _ (entries_have_none entries) refl
 no_float (answers.Report entries actives records totals) = both_are _ _ (members_have_none usage_data (λ usage. refl) totals no_members refl) refl
 no_float (answers.Jobs committed discarded refused totals) = both_are _ _ (members_have_none usage_data (λ usage. refl) totals no_members refl) refl
 no_float (answers.Refused refusal) = refusal_has_none refusal

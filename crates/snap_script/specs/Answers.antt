@@ -1,6 +1,7 @@
 -- What a line is answered: JSON, the keys of each object in byte order; cited by the public clause of `Answer::line`.
 -- Cited by `Answer::line`, `replay_within`, `replay` and others.
 use Rattle.std.specs.Prelude.{ℕ, true, if◌then◌else◌, List, [], ◌∷◌, ◌++◌, Option, Some, None, codes, map}
+use Rattle.std.specs.Option.{option_map}
 use Rattle.std.specs.Str.{is_utf8}
 use Rattle.hex.specs.Hex.{encode_lower}
 use Rattle.serde_json.specs.Data.{Data, null, boolean, number, string, array, object, unsigned, no_items, item, Members, no_members, member, put}
@@ -15,6 +16,8 @@ use Rattle.snap_mount.specs.declared.mount.Mount.{Mount}
 use Rattle.snap_mount.specs.Mounts.{mount_kind_word}
 use Rattle.snap_call.specs.declared.refusal.Refusal.{Refusal}
 use Rattle.snap_call.specs.declared.refusal.Refusal.TheVariants as refusals
+use Rattle.snap_history.specs.Entries.{call_word}
+use Rattle.snap_history.specs.declared.info.EntryInfo.{EntryInfo}
 use Rattle.snap_merge.specs.declared.error.FsError.{FsError}
 use Rattle.snap_merge.specs.declared.error.FsError.TheVariants as errors
 use Rattle.snap_script.specs.declared.answer.Shown.{Shown}
@@ -120,6 +123,22 @@ node_data node = object
     (member (codes "parent") (string node.parent)
     (only (codes "usage") (usage_data node.usage)))))))
 
+-- a member that may be absent, before the others
+abbrev pub maybe : List ℕ → Option Data → Members → Members
+maybe key None rest = rest
+maybe key (Some value) rest = member key value rest
+
+-- an entry of a namespace, with the word of its call: without an id, a key or a refusal where it has none
+abbrev pub entry_data : EntryInfo → Data
+entry_data entry = object
+    (member (codes "call") (string (call_word entry.call))
+    (member (codes "charge") (usage_data entry.charge)
+    (maybe (codes "id") (option_map number_data entry.id)
+    (maybe (codes "key") (option_map string entry.key)
+    (member (codes "number") (number_data entry.number)
+    (maybe (codes "refused") (option_map (λ why. string (refusal_name why)) entry.refused)
+    (only (codes "session") (number_data entry.session))))))))
+
 -- an answer: the first bytes of a file are in lower hexadecimal, and a refusal over the limit has what is free
 abbrev pub answer_data : Answer → Data
 answer_data answers.Done = object (only (codes "ok") (boolean true))
@@ -145,6 +164,7 @@ answer_data (answers.Names names) = object (only (codes "names") (array (items_o
 answer_data (answers.Head head size) = object (member (codes "head") (string (encode_lower head)) (only (codes "size") (number_data size)))
 answer_data (answers.Path path) = object (only (codes "path") (string (text_of path)))
 answer_data (answers.Tree nodes) = object (only (codes "tree") (array (items_of (map node_data nodes))))
+answer_data (answers.Journal entries) = object (only (codes "journal") (array (items_of (map entry_data entries))))
 answer_data (answers.Report entries actives records totals) = object
     (member (codes "entries") (number_data entries)
     (member (codes "open") (number_data actives)

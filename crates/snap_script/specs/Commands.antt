@@ -97,6 +97,7 @@ command_of verbs.Sweep line = do Ok (commands.Call (calls.Sweep (← text fields
 command_of (verbs.File verb) line = do s ← named line; Ok (commands.File s.0 s.1 (← file_command_of verb line) (← optional as_usage fields.Extra (Ok (record { blocks = 0; inodes = 0 })) line))
 command_of (verbs.Lookup asked) line = do s ← named line; Ok (commands.Lookup s.0 s.1 asked (← text fields.Path line))
 command_of verbs.Tree line = do Ok (commands.Tree (← text fields.Namespace line))
+command_of verbs.Journal line = do Ok (commands.Journal (← text fields.Namespace line) (← optional as_natural fields.After (Ok 0) line) (← optional as_natural fields.Most (Ok 64) line))
 command_of verbs.Report line = Ok commands.Report
 
 -- the words of the commands
@@ -137,6 +138,7 @@ words =
     ∷ (codes "read", verbs.Lookup lookups.Read)
     ∷ (codes "resolve", verbs.Lookup lookups.Resolve)
     ∷ (codes "tree", verbs.Tree)
+    ∷ (codes "journal", verbs.Journal)
     ∷ (codes "report", verbs.Report)
     ∷ []
 

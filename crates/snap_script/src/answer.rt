@@ -3,11 +3,12 @@ ghost use Rattle.serde_json.specs.View.{view};
 ghost use Rattle.snap_script.specs.Answers.{answer_data, answer_line};
 
 use crate::values::{
-    changed, committed, done, error, error_name, freed, head, info, infos, jobs, mounts, names,
-    path, prepared, refused, report, seen, session, share, swept, tree, usage, viewed,
+    changed, committed, done, error, error_name, freed, head, info, infos, jobs, journal, mounts,
+    names, path, prepared, refused, report, seen, session, share, swept, tree, usage, viewed,
 };
 use serde_json::Value;
 use snap_call::Refusal;
+use snap_history::EntryInfo;
 use snap_layer::Bytes;
 use snap_merge::FsError;
 use snap_mount::Mount;
@@ -107,6 +108,10 @@ pub enum Answer {
     /// The snapshots of a namespace, in byte order of their keys:
     /// `{"tree":[{"children":0,"id":1,"key":"k","kind":"Active","parent":"","usage":[1,1]}]}`.
     Tree(Sequence<TreeNode>),
+    /// The round's entries of a namespace, each with what the namespace is charged after it:
+    /// `{"journal":[{"call":"prepare","charge":[1,1],"id":1,"key":"k","number":2,"session":0}]}`, where it was
+    /// refused with the refusal's name, `"refused":"NotFound"`.
+    Journal(Sequence<EntryInfo>),
     /// The journal's entries, the open snapshots, the records, and the total of each namespace:
     /// `{"entries":8,"open":0,"records":1,"totals":{"a":[4,3]}}`.
     Report {
@@ -163,6 +168,7 @@ impl Answer {
             Answer::Head { head: own, size } => head(alloc, own.as_slice(), *size),
             Answer::Path(own) => path(alloc, own),
             Answer::Tree(nodes) => tree(alloc, nodes.as_slice()),
+            Answer::Journal(entries) => journal(alloc, entries.as_slice()),
             Answer::Report {
                 entries,
                 actives,

@@ -71,6 +71,12 @@ pub enum Command {
     Tree {
         namespace: Text,
     },
+    /// Asks for the round's entries of a namespace, after the entry of a number, at most so many.
+    Journal {
+        namespace: Text,
+        after: u64,
+        most: u64,
+    },
     /// Asks for the store's totals.
     Report,
 }

@@ -22,9 +22,9 @@ pub enum Field {
     Labels,
     /// The paths of the labels that an update changes.
     Paths,
-    /// The key after which a walk begins.
+    /// The key after which a walk begins, or the number of the entry after which those of a journal begin.
     After,
-    /// `max`, the most snapshots that a walk gives.
+    /// `max`, the most snapshots that a walk gives, or entries of a journal.
     Most,
     Kind,
     Need,

@@ -28,7 +28,7 @@ const FIRST_ID: u32 = 1;
 /// The mode of a new file, where the line has none.
 pub(crate) const FILE_MODE: u32 = 0o644;
 
-/// How many snapshots a walk gives at most, where the line doesn't say.
+/// How many snapshots a walk gives at most, and entries a journal, where the line doesn't say.
 const PAGE: u64 = 64;
 
 /// The namespace (`ns`) and the key of the snapshot that a line names, both texts. Neither has to have its
@@ -431,6 +431,17 @@ fn tree(alloc: Global, line: &Value) -> Result<Command, ReadError>
     Ok(Command::Tree { namespace })
 }
 
+#[tactic(auto, unfolding(crate::specs::Commands::command_of))]
+fn journal(alloc: Global, line: &Value) -> Result<Command, ReadError>
+    ensures { Gives (λ c. c) result (command_of verbs.Journal (view line.now)) }
+{
+    Ok(Command::Journal {
+        namespace: text(alloc, Field::Namespace, line)?,
+        after: number_or(0, Field::After, line)?,
+        most: number_or(PAGE, Field::Most, line)?,
+    })
+}
+
 /// The command of a line by its verb.
 #[tactic(auto, unfolding(crate::specs::Commands::command_of))]
 pub(crate) fn command_of(alloc: Global, verb: Verb, line: &Value) -> Result<Command, ReadError>
@@ -460,6 +471,7 @@ pub(crate) fn command_of(alloc: Global, verb: Verb, line: &Value) -> Result<Comm
         Verb::File(verb) => file(alloc, verb, line),
         Verb::Lookup(own) => lookup(alloc, own, line),
         Verb::Tree => tree(alloc, line),
+        Verb::Journal => journal(alloc, line),
         Verb::Report => Ok(Command::Report),
     }
 }

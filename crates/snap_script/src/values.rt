@@ -1,13 +1,15 @@
 // The JSON values of answers.
 ghost use Rattle.std.specs.Prelude.{◌≡◌, Some, IfOk, OnOk, map};
+ghost use Rattle.std.specs.Option.{option_map, option_map_or};
 ghost use Rattle.serde_json.specs.Data.{string, array, object, no_members, put};
 ghost use Rattle.serde_json.specs.View.{view, items_of, members_view};
-ghost use Rattle.snap_script.specs.Answers.{answer_data, error_data, error_name, info_data, members_with, node_data, number_data, refusal_name, shown_data, text_data, usage_data, mount_data};
+ghost use Rattle.snap_script.specs.Answers.{answer_data, error_data, error_name, entry_data, info_data, members_with, node_data, number_data, refusal_name, shown_data, text_data, usage_data, mount_data};
 ghost use Rattle.snap_script.specs.declared.answer.Answer.TheVariants as answers;
 
 use crate::answer::{Shown, TreeNode};
 use serde_json::{Map, Value, json};
 use snap_call::Refusal;
+use snap_history::EntryInfo;
 use snap_merge::FsError;
 use snap_mount::Mount;
 use snap_path::{Name, Path};
@@ -264,6 +266,84 @@ pub(crate) fn tree(alloc: Global, nodes: &[TreeNode]) -> Result<Value, AllocErro
 {
     let nodes = nodes_value(alloc, nodes)?;
     json!(in alloc; {"tree": nodes})
+}
+
+/// Adds a member, where there is one.
+fn put_if(
+    alloc: Global,
+    members: &mut Map<String, Value>,
+    key: &str,
+    value: Option<Value>,
+) -> Result<(), AllocError>
+    ensures { OnOk result (members_view members.new.entries ≡ option_map_or (λ d. put key.now d (members_view members.old.entries)) (option_map view value) (members_view members.old.entries)) }
+{
+    match value {
+        Some(value) => serde_json::put(members, alloc, key, value),
+        None => Ok(()),
+    }
+}
+
+fn id_value(id: Option<u32>) -> Option<Value>
+    ensures { option_map view result ≡ option_map number_data id }
+{
+    match id {
+        Some(id) => Some(Value::from(id)),
+        None => None,
+    }
+}
+
+fn key_value(alloc: Global, key: &Option<Text>) -> Result<Option<Value>, AllocError>
+    ensures { IfOk result (λ v. option_map view v ≡ option_map string key.now) }
+{
+    match key {
+        Some(key) => Ok(Some(Value::try_from_str(alloc, key.as_str())?)),
+        None => Ok(None),
+    }
+}
+
+fn refusal_value(alloc: Global, refused: Option<Refusal>) -> Result<Option<Value>, AllocError>
+    ensures { IfOk result (λ v. option_map view v ≡ option_map (λ why. string (refusal_name why)) refused) }
+{
+    match refused {
+        Some(why) => Ok(Some(Value::try_from_str(alloc, refusal_name(why))?)),
+        None => Ok(None),
+    }
+}
+
+fn entry_value(alloc: Global, entry: &EntryInfo) -> Result<Value, AllocError>
+    ensures { IfOk result (λ v. view v ≡ entry_data entry.now) }
+{
+    let call = Value::try_from_str(alloc, entry.call.as_str())?;
+    let charge = usage_value(alloc, entry.charge)?;
+    let id = id_value(entry.id);
+    let key = key_value(alloc, &entry.key)?;
+    let refused = refusal_value(alloc, entry.refused)?;
+    let mut members = Map::new(alloc);
+    serde_json::put(&mut members, alloc, "call", call)?;
+    serde_json::put(&mut members, alloc, "charge", charge)?;
+    put_if(alloc, &mut members, "id", id)?;
+    put_if(alloc, &mut members, "key", key)?;
+    serde_json::put(&mut members, alloc, "number", Value::from(entry.number))?;
+    put_if(alloc, &mut members, "refused", refused)?;
+    serde_json::put(&mut members, alloc, "session", Value::from(entry.session))?;
+    Ok(Value::Object(members))
+}
+
+fn entries_value(alloc: Global, entries: &[EntryInfo]) -> Result<Value, AllocError>
+    ensures { IfOk result (λ v. view v ≡ array (items_of (map entry_data entries.now))) }
+{
+    let mut items = Vec::new(alloc);
+    for entry in entries {
+        items.push(entry_value(alloc, entry)?)?;
+    }
+    Ok(Value::Array(items))
+}
+
+pub(crate) fn journal(alloc: Global, entries: &[EntryInfo]) -> Result<Value, AllocError>
+    ensures { IfOk result (λ v. view v ≡ answer_data (answers.Journal entries.now)) }
+{
+    let entries = entries_value(alloc, entries)?;
+    json!(in alloc; {"journal": entries})
 }
 
 pub(crate) fn report(

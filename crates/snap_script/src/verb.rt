@@ -31,6 +31,7 @@ pub(crate) enum Verb {
     File(FileVerb),
     Lookup(Lookup),
     Tree,
+    Journal,
     Report,
 }
 
@@ -50,7 +51,7 @@ pub(crate) enum FileVerb {
 }
 
 /// The words of the commands.
-const WORDS: [(&str, Verb); 36] = [
+const WORDS: [(&str, Verb); 37] = [
     ("open", Verb::Open),
     ("session", Verb::Session),
     ("reopen", Verb::Reopen),
@@ -86,6 +87,7 @@ const WORDS: [(&str, Verb); 36] = [
     ("read", Verb::Lookup(Lookup::Read)),
     ("resolve", Verb::Lookup(Lookup::Resolve)),
     ("tree", Verb::Tree),
+    ("journal", Verb::Journal),
     ("report", Verb::Report),
 ];
 

@@ -41,6 +41,7 @@ use Rattle.snap_script.specs.declared.command.Lookup.{Lookup}
 use Rattle.snap_script.specs.declared.command.Lookup.TheVariants as lookups
 use Rattle.snap_script.specs.Operations.{path_of, operation_of}
 use Rattle.snap_session.specs.Opened.{OpenedValue, new_world, share_at, count_at, totals_of}
+use Rattle.snap_session.specs.Journal.{journal_of}
 use Rattle.snap_session.specs.Tree.{tree}
 
 -- ---- one step, and its answer
@@ -176,6 +177,7 @@ on_store s n (commands.Discard namespace key) = on_key s.world namespace key (λ
 on_store s n (commands.File namespace key operation extra) = on_key s.world namespace key (λ slot id. performed n slot id (operation_of operation) extra s.world)
 on_store s n (commands.Lookup namespace key asked path) = (s.world, lookup asked (path_of path) (stack_of s.world namespace key))
 on_store s n (commands.Tree namespace) = (s.world, tree s namespace)
+on_store s n (commands.Journal namespace after most) = (s.world, journal_of s.world namespace after most)
 on_store s n commands.Report = (s.world, report s)
 
 -- ---- opening

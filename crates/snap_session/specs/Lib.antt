@@ -1,5 +1,6 @@
 pub mod Opened
 pub mod Tree
+pub mod Journal
 pub mod Commands
 pub mod Wanting
 pub mod Script

@@ -17,7 +17,7 @@ pub record OpenedValue : Type 0 where
 
 -- the world that a configuration opens
 abbrev pub new_world : Config → WorldValue
-new_world c = record { state = opening c; journal = []; limit = c.journal; hands = replicate 64 None }
+new_world c = record { state = opening c; journal = []; opening = opening c; limit = c.journal; hands = replicate 64 None }
 
 -- what the snapshot in the slot is charged; nothing where there is none
 abbrev pub share_at : ℕ → WorldValue → Usage

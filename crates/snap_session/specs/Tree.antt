@@ -1,5 +1,5 @@
 -- The snapshots of a namespace as a forest by parent.
--- Cited by `Script as TakeLine`, `replay_within`, `replay`.
+-- Cited by `Script as TakeLine`, `replay_within`, `replay` and others.
 use Rattle.std.specs.Prelude.{ℕ, ◌==◌, Bool, List, Option, None, Some, bytes_eq, count_by, filter, map, position}
 use Rattle.snap_record.specs.Labels.{Bytes}
 use Rattle.snap_record.specs.Records.{kind_of, usage_of}

@@ -7,6 +7,7 @@
 
 mod calls;
 mod file_commands;
+mod journal;
 mod lookups;
 mod opened;
 mod round;

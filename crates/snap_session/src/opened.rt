@@ -5,6 +5,7 @@ ghost use Rattle.snap_session.specs.Commands.{kept, on_store, report};
 
 use crate::calls::{charge, commit, discard, session, trim};
 use crate::file_commands::file;
+use crate::journal::journal;
 use crate::lookups::lookup;
 use crate::round::reopen;
 use crate::step::called;
@@ -111,6 +112,11 @@ fn on_store<N: StoreName>(
             path,
         } => lookup(alloc, world, namespace, key, asked, path),
         Command::Tree { namespace } => tree(alloc, world, names, namespace),
+        Command::Journal {
+            namespace,
+            after,
+            most,
+        } => journal(alloc, world, namespace, after, most),
         Command::Report => report(alloc, world, names),
     }
 }

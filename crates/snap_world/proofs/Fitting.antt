@@ -23,6 +23,7 @@ use Rattle.snap_call.specs.declared.reply.Reply.{Reply}
 use Rattle.snap_call.specs.declared.reply.Reply.TheVariants as replies
 use Rattle.snap_call.specs.declared.state.State.{State}
 use Rattle.snap_call.specs.Good.{Good}
+use Rattle.snap_call.specs.Journal.{entry}
 use Rattle.snap_call.specs.Records.{active_at, charge_of, has_children, has_key, is_active, is_committed, is_named, is_slot, recharged, record_at, relabelled, with_record, without_key, without_slot, committed_as}
 use Rattle.snap_call.specs.Forms.{is_key, is_limit, is_page, is_start}
 use Rattle.snap_call.specs.Reached.{unswept}
@@ -36,6 +37,7 @@ use Rattle.snap_call.proofs.Lists.{active_at-all}
 use Rattle.snap_call.proofs.InOrder.{has_key-without}
 use Rattle.snap_call.proofs.Lowest.{lowest_free-Some}
 use Rattle.snap_call.proofs.Places.{IsPlace, IsSlotFor, place_for-Ok, slot_for-Ok}
+use Rattle.snap_call.proofs.Replaying.{replays_push}
 use Rattle.snap_call.proofs.Sweeping.{active-ancestors, active_at-unswept}
 use Rattle.snap_call.proofs.Slots.{Active-is_slot, is_slot-other, active_at-with_record_own, active_at-with_record_other, active_at-without_slot_own, active_at-without_slot_other, active_at-without_idle, active_at-recharged_own, active_at-recharged_other, active_at-committed_own, active_at-committed_other}
 use Rattle.std.specs.Option.{option_map, option_map_or}
@@ -377,7 +379,13 @@ left_prepare s namespace key parent labels hands good agree places =
 
 -- a recorded call whose hands are left so
 fits_recorded : (w : WorldValue) (n : ℕ) (call : Call) (given : Given) (f : Reply → List (Option HandValue)) → Fits w → IsAllowed w.state call given → ((r : Reply) → length (f r) ≡ 64) → Left f (step w.state call given) → Fits (recorded w n call given f).0
-fits_recorded w n call given f fit allowed places left = record { good = good_step w.state call given fit.good allowed; places = places (step w.state call given).1; hands = left }
+fits_recorded w n call given f fit allowed places left = record {
+  good = good_step w.state call given fit.good allowed;
+  began = fit.began;
+  replays = replays_push w.opening w.journal w.state (entry n call given (step w.state call given).1) fit.replays allowed refl;
+  places = places (step w.state call given).1;
+  hands = left;
+}
 
 fits_admitted : (w : WorldValue) (more : ℕ) (left : List (Option HandValue)) (next : WorldValue × Answer) → Fits (record w { hands = left }) → Fits next.0 → Fits (admitted w more left next).0
 fits_admitted w more left next full not_full = cases_if (λ (p : WorldValue × Answer). Fits p.0) _ _ _ (λ e. full) (λ e. not_full)
@@ -449,7 +457,7 @@ fits_called w n (calls.Commit slot id name lease) fit =
     fits_on_hand w slot (is_under id) _ fit
     (λ h r low at stands is test. let inside : slot < length w.hands = (let p = fit.places in omega (arith, low)) in
     fits_admitted w 1 (with_hand slot (Some (sealed_hand h.snapshot)) w.hands) _
-    (record { good = fit.good; places = set_places w slot _ fit; hands = seals slot w.hands w.state.records h r fit.good.chains fit.hands inside stands is })
+    (record { good = fit.good; began = fit.began; replays = fit.replays; places = set_places w slot _ fit; hands = seals slot w.hands w.state.records h r fit.good.chains fit.hands inside stands is })
     (fits_recorded w n (calls.Commit slot id name lease) (Layer h.snapshot.layer) (λ reply. with_hand slot (committed_hand h.snapshot reply) w.hands) fit (covered_under w slot id h r stands is test) (λ reply. set_places w slot _ fit)
     (left_commit w.state slot name lease w.hands h r fit.good fit.hands inside stands is)))
 fits_called w n (calls.Discard slot id) fit =
@@ -507,6 +515,8 @@ fits_filed : (w : WorldValue) (slot : ℕ) (h : HandValue) (r : Record) (o : Out
 fits_filed w slot h r (Err e) fit low stands is covers_it = fit
 fits_filed w slot h r (Ok next) fit low stands is covers_it = record {
   good = fit.good;
+  began = fit.began;
+  replays = fit.replays;
   places = set_places w slot _ fit;
   hands = agree_set w.state.records w.state.records (same_here w.state.records) slot _ w.hands fit.hands (let p = fit.places in omega (arith, low))
       (subst (λ (x : Option Record). AgreesAt slot w.state.records (Some (record { snapshot = record { namespace = h.snapshot.namespace; key = h.snapshot.key; lowers = h.snapshot.lowers; layer = next; share = h.snapshot.share }; sealed = h.sealed })) x) (sym stands)
@@ -529,7 +539,7 @@ fits_sealed w slot fit = at (hand_at slot w.hands) refl
     at (Some h) e =
         let low : slot < 64 = (let p = hand_at-low slot h w.hands e in let q = fit.places in omega arith) in
         let r = holds w slot h fit low e in
-        record { good = fit.good; places = set_places w slot _ fit; hands = seals slot w.hands w.state.records h r.0 fit.good.chains fit.hands (hand_at-low slot h w.hands e) r.1 r.2 }
+        record { good = fit.good; began = fit.began; replays = fit.replays; places = set_places w slot _ fit; hands = seals slot w.hands w.state.records h r.0 fit.good.chains fit.hands (hand_at-low slot h w.hands e) r.1 r.2 }
 
 fits_left : (w v : WorldValue) (call : Call) → Fits w → IsLeft w call v → Fits v
 fits_left w v (calls.Charge slot id need want) fit h = subst Fits (sym h.2) fit

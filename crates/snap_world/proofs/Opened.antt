@@ -1,9 +1,8 @@
 -- A world that is opened.
-use Rattle.std.proofs.Common.{◌≡◌, ℕ, zero, suc, List, [], replicate, Bool, true, false, Option, None, refl, sym, ap, ◌∙◌, subst}
+use Rattle.std.proofs.Common.{◌≡◌, ℕ, zero, suc, List, [], replicate, Bool, true, false, Option, None, refl, sym, subst}
 use Rattle.std.specs.Prelude.{Ok, Err, IsErrOf}
 use Rattle.snap_call.specs.declared.refusal.Refusal.{Refusal}
 use Rattle.snap_call.specs.declared.config.Config.{Config}
-use Rattle.snap_call.specs.declared.state.State.{State}
 use Rattle.snap_call.specs.Forms.{is_config}
 use Rattle.snap_call.specs.State.{opening}
 use Rattle.snap_call.proofs.Kept.{good_opening}
@@ -19,9 +18,11 @@ not_false : (b : Bool) → (b ≡ false → ⊥) → b ≡ true
 not_false true h = refl
 not_false false h = absurd (h refl)
 
-opened_fits : (c : Config) → is_config c ≡ true → (j : BookValue) → Fits (record { state = opening c; journal = j.journal; limit = j.limit; hands = replicate 64 None })
-opened_fits c valid j = record {
+opened_fits : (c : Config) → is_config c ≡ true → Fits (record { state = opening c; journal = []; opening = opening c; limit = c.journal; hands = replicate 64 None })
+opened_fits c valid = record {
   good = good_opening c valid;
+  began = record { good = good_opening c valid; idle = refl; sessions = refl };
+  replays = refl;
   places = refl;
   hands = λ slot low. subst (λ (o : Option HandValue). AgreesAt slot [] o None) (sym (no_hand 64 slot)) tt;
 }
@@ -31,7 +32,7 @@ pub was_valid : (b : BookValue) (why : Refusal) (c : Config) → ((is_config c �
 was_valid b why c h e = let f : Ok b ≡ Err why = h e in absurd (cc)
 
 -- no hands, and no open slots
-pub fits_opening : (b t : BookValue) (hands : List (Option HandValue)) (c : Config) → (is_config c ≡ false → ⊥) → b ≡ t → t.state ≡ opening c → hands ≡ replicate 64 None → Fits (world_of b hands)
-fits_opening b t hands c valid is began none =
+pub fits_opening : (b : BookValue) (hands : List (Option HandValue)) (c : Config) → (is_config c ≡ false → ⊥) → b ≡ record { state = opening c; journal = []; opening = opening c; limit = c.journal; copy = None } → hands ≡ replicate 64 None → Fits (world_of b hands)
+fits_opening b hands c valid is none =
     subst (λ (l : List (Option HandValue)). Fits (world_of b l)) (sym none)
-    (subst (λ (s : State). Fits (record { state = s; journal = b.journal; limit = b.limit; hands = replicate 64 None })) (sym (ap (λ (v : BookValue). v.state) is ∙ began)) (opened_fits c (not_false (is_config c) valid) b))
+    (subst (λ (v : BookValue). Fits (world_of v (replicate 64 None))) (sym is) (opened_fits c (not_false (is_config c) valid)))

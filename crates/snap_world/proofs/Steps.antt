@@ -47,7 +47,7 @@ pub records : (old new : BookValue) (hands after : List (Option HandValue)) (n :
 records old new hands after n call given f reply r is =
     let journal : old.journal ++ entry n call given (step old.state call given).1 ∷ [] ≡ new.journal = ap (λ (a : Reply). old.journal ++ entry n call given a ∷ []) (sym r.answer) ∙ sym r.journal in
     let left : f (step old.state call given).1 ≡ after = ap f (sym r.answer) ∙ sym is in
-    λ i. (record { state = sym r.state i; journal = journal i; limit = sym r.limit i; hands = left i }, answers.Reply (sym r.answer i))
+    λ i. (record { state = sym r.state i; journal = journal i; opening = sym r.opening i; limit = sym r.limit i; hands = left i }, answers.Reply (sym r.answer i))
 
 no_want : Refused OutOfMemory ≡ Refused JournalFull → ⊥
 no_want e = cc

@@ -19,4 +19,4 @@ reopen_answer w journal = if nat_lt 0 (open_count w.state.records) then Err Stil
 
 -- the world of the next round, without entries; the hands stay
 abbrev pub reopened : WorldValue → ℕ → WorldValue
-reopened w journal = record { state = next_round w.state; journal = []; limit = journal; hands = w.hands }
+reopened w journal = record { state = next_round w.state; journal = []; opening = next_round w.state; limit = journal; hands = w.hands }

@@ -7,20 +7,22 @@ use Rattle.snap_record.specs.declared.record.Record.{Record}
 use Rattle.snap_call.specs.declared.entry.Entry.{Entry}
 use Rattle.snap_call.specs.declared.state.State.{State}
 use Rattle.snap_call.specs.Good.{Good}
+use Rattle.snap_call.specs.Journal.{Replays}
 use Rattle.snap_call.specs.Records.{active_at}
 use Rattle.snap_call.specs.State.{ancestors, layers_of}
 use Rattle.snap_book.specs.Active.{ActiveValue}
-use Rattle.snap_book.specs.Book.{BookValue}
+use Rattle.snap_book.specs.Book.{BookValue, IsOpening}
 
 -- the hand of an open slot: the snapshot as its writer has it, and whether its layer is sealed
 pub record HandValue : Type 0 where
   pub snapshot : ActiveValue
   pub sealed : Bool
 
--- a store, the entries of the round, the most entries, and the hand of each of the 64 slots
+-- a store, the entries of the round, the state that it began at, the most entries, and the hand of each of the 64 slots
 pub record WorldValue : Type 0 where
   pub state : State
   pub journal : List Entry
+  pub opening : State
   pub limit : ℕ
   pub hands : List (Option HandValue)
 
@@ -34,7 +36,7 @@ with_hand slot h hands = slice_set hands slot h
 
 -- the world of a book and of hands
 abbrev pub world_of : BookValue → List (Option HandValue) → WorldValue
-world_of b hands = record { state = b.state; journal = b.journal; limit = b.limit; hands = hands }
+world_of b hands = record { state = b.state; journal = b.journal; opening = b.opening; limit = b.limit; hands = hands }
 
 -- the hand is that of the record that is active in the slot: it has the record's namespace, key and id, the layers below its own are those of the record's committed ancestors, its share is what the record is charged, and the share covers the count of its layer
 pub record IsHandOf (k : ℕ) (rs : List Record) (h : HandValue) (r : Record) : Type 0 where
@@ -52,8 +54,10 @@ AgreesAt slot rs None None = Unit {0}
 AgreesAt slot rs (Some h) (Some r) = IsHandOf slot rs h r
 AgreesAt slot rs o found = ⊥
 
--- the state is good, and the hands are those of the open slots
+-- the state is good, the entries lead to it from a state that a round begins at, and the hands are those of the open slots
 pub record Fits (w : WorldValue) : Type 0 where
   pub good : Good w.state
+  pub began : IsOpening w.opening
+  pub replays : Replays w.opening w.journal w.state
   pub places : length w.hands ≡ 64
   pub hands : (slot : ℕ) → slot < 64 → AgreesAt slot w.state.records (hand_at slot w.hands) (active_at slot w.state.records)

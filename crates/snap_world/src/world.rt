@@ -2,10 +2,12 @@ ghost use Rattle.std.specs.Prelude.{◌≡◌, ◌↔◌, ◌⊎◌, [], Err, No
 ghost use Rattle.std.specs.Option.{option_map};
 ghost use Rattle.snap_usage.specs.Counted.{count_of};
 ghost use Rattle.snap_call.specs.Forms.{is_config};
+ghost use Rattle.snap_call.specs.Journal.{Replays};
 ghost use Rattle.snap_call.specs.Records.{charge_of, open_count};
 ghost use Rattle.snap_call.specs.State.{opening, place_of};
 ghost use Rattle.snap_call.specs.Totals.{counts_and_shares};
 ghost use Rattle.snap_call.specs.declared.refusal.Refusal.TheVariants.{BadArgument, OutOfMemory};
+ghost use Rattle.snap_book.specs.Book.{IsOpening};
 ghost use Rattle.snap_book.specs.Slot.{found_of, slot_of};
 ghost use Rattle.snap_world.specs.World.{Fits, hand_at};
 ghost use Rattle.snap_world.specs.Runs.{Moves, Runs};
@@ -77,7 +79,7 @@ impl<N: StoreName> World<N> {
     /// refused.
     pub fn open(alloc: Global, table: NewTable, config: Config) -> Result<World<N>, Refusal>
         requires { table ≡ N.table }
-        ensures opened { IfOk result (λ w. w ≡ record { state = opening config; journal = []; limit = config.journal; hands = replicate 64 None }) }
+        ensures opened { IfOk result (λ w. w ≡ record { state = opening config; journal = []; opening = opening config; limit = config.journal; hands = replicate 64 None }) }
         ensures bad { IsErrOf result BadArgument ↔ (is_config config ≡ false) }
         ensures err { IfErr result (λ why. (why ≡ BadArgument) ⊎ (why ≡ OutOfMemory)) }
     {
@@ -202,7 +204,10 @@ impl<N: StoreName> World<N> {
 
     /// The entries of the round. Takes no memory. The cost is constant.
     pub fn journal(&self) -> &[Entry]
-        ensures { result.now ≡ self.now.journal }
+        ensures entries { result.now ≡ self.now.journal }
+        // They lead from the state that the round began at to this one.
+        ensures began { IsOpening self.now.opening }
+        ensures replays { Replays self.now.opening self.now.journal self.now.state }
     {
         self.book.journal()
     }
@@ -212,5 +217,13 @@ impl<N: StoreName> World<N> {
         ensures { result ≡ self.now.state.sessions }
     {
         self.book.sessions()
+    }
+
+    /// The number of the last entry, counted through all rounds, and 0 before the first one. Takes no memory.
+    /// The cost is constant.
+    pub fn last_entry(&self) -> u64
+        ensures { result ≡ self.now.state.entries }
+    {
+        self.book.last_entry()
     }
 }

@@ -1,5 +1,7 @@
-//! A test of the entries of a namespace and of what it is charged after each; no part of the product.
+//! Tests of the entries of a namespace and of what it is charged after each; no part of the product.
 #![tactic(auto)]
 
 #[cfg(test)]
 mod round;
+#[cfg(test)]
+mod witness;

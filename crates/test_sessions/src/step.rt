@@ -53,6 +53,7 @@ impl<'a, N: StoreName, R: Wait> Round<'a, N, R> {
             Command::Open { config: _ }
             | Command::Reopen { journal: _ }
             | Command::Tree { namespace: _ }
+            | Command::Journal { .. }
             | Command::Report => { Err(Refused::Book(Refusal::BadArgument)) }
         }
     }
@@ -81,7 +82,7 @@ impl<'a, N: StoreName, R: Wait> Round<'a, N, R> {
         }
     }
 
-    // A command: the next round's entries, where the round ends. A report is not answered, nor is a tree.
+    // A command: the next round's entries, where the round ends. A report is not answered, nor is a tree or a journal.
     fn step<W: Write>(
         &mut self,
         n: u64,
@@ -90,6 +91,7 @@ impl<'a, N: StoreName, R: Wait> Round<'a, N, R> {
     ) -> Result<Option<u64>, Stop> {
         match command {
             Command::Tree { namespace: _ } => Ok(None),
+            Command::Journal { .. } => Ok(None),
             Command::Report => Ok(None),
             Command::Reopen { journal } => Ok(self.ends(journal, output)?.then_some(journal)),
             command => {
