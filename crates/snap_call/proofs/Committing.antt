@@ -1,11 +1,10 @@
 -- A commit: the committed record comes, and then the active one goes.
-use Rattle.std.proofs.Common.{◌≡◌, ℕ, ◌+◌, true, false, List, Some, None, refl, sym, ap, ◌∙◌, subst}
+use Rattle.std.proofs.Common.{◌≡◌, ℕ, ◌+◌, true, false, List, Some, None, refl, ap, ◌∙◌}
 use Rattle.std.specs.List.Sorted.{IsStrictlySortedBy}
 use Rattle.std.specs.Prelude.{Option}
 use Rattle.snap_layer.specs.Tree.{Tree}
 use Rattle.snap_record.specs.Labels.{Bytes}
 use Rattle.snap_record.specs.declared.record.Record.{Record}
-use Rattle.snap_lease.specs.Lease.{Lease}
 use Rattle.snap_call.specs.Records.{record_cmp, is_named, is_slot, has_key, with_record, without_key, without_slot, committed_as}
 use Rattle.snap_call.specs.Step.{has_named, leases_after}
 use Rattle.snap_call.specs.declared.state.State.{State}

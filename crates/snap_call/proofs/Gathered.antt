@@ -1,5 +1,5 @@
 -- What goes, summed over the marked records, and the records without those of some keys.
-use Rattle.std.proofs.Common.{◌≡◌, ◌≢◌, ℕ, ◌+◌, ◌<◌, ◌≤◌, Bool, true, false, List, [], ◌∷◌, ◌++◌, length, map, drop, get_or, refl, sym, ap, ◌∙◌, subst, arith, append_assoc, append-nil}
+use Rattle.std.proofs.Common.{◌≡◌, ℕ, ◌+◌, ◌<◌, ◌≤◌, Bool, true, false, List, [], ◌∷◌, ◌++◌, length, map, drop, get_or, refl, sym, ap, ◌∙◌, subst, arith, append_assoc, append-nil}
 use Rattle.std.proofs.lemmas.Bool.{and_from, and_left, and_parts, and_right, eqb-true, ne_eqb, eq-eqb}
 use Rattle.std.proofs.lemmas.List.{drop_more}
 use Rattle.std.specs.List.{AllByRecursion, filter}
@@ -17,7 +17,7 @@ use Rattle.snap_call.specs.declared.sweep.Sweep.{Sweep}
 use Rattle.snap_call.specs.Good.{Good}
 use Rattle.snap_call.specs.Marked.{marked}
 use Rattle.snap_call.specs.Reached.{is_reached, is_swept, swept_keys, unswept}
-use Rattle.snap_call.specs.Records.{charge_of, is_committed, is_named, record_cmp, without_key, without_keys, AllPairwise}
+use Rattle.snap_call.specs.Records.{charge_of, is_committed, is_named, record_cmp, without_key, without_keys}
 use Rattle.snap_call.proofs.Lists.{all-map}
 use Rattle.snap_call.proofs.InOrder.{own_named, unnamed_before}
 use Rattle.snap_call.proofs.Sums.{usage, blocks, inodes, part_of, plus-none, plus-joined}

@@ -1,5 +1,5 @@
 -- The table of slots agrees with the records, after each change.
-use Rattle.std.proofs.Common.{◌≡◌, ◌≢◌, ℕ, zero, suc, ◌<◌, Bool, true, false, true≢false, eqb, eq-eqb, cond, Bor, List, [], ◌∷◌, ◌++◌, Option, Some, None, Result, Ok, Err, OnOk, OnErr, IfErr, refl, sym, ap, ◌∙◌, subst, ⊎_elim}
+use Rattle.std.proofs.Common.{◌≡◌, ◌≢◌, ℕ, zero, suc, ◌<◌, Bool, true, false, true≢false, eqb, eq-eqb, cond, Bor, List, [], ◌∷◌, ◌++◌, Option, Some, None, Result, Ok, Err, OnOk, OnErr, refl, sym, ap, ◌∙◌, subst, ⊎_elim}
 use Rattle.std.proofs.lemmas.Bool.{false_from_ne_true}
 use Rattle.std.proofs.lemmas.Bool.Decides.{eqb_tells}
 use Rattle.std.specs.List.{AllByRecursion, find, list_any}
@@ -9,15 +9,14 @@ use Rattle.std.specs.Result.{is_ok}
 use Rattle.std.specs.Prelude.{if◌then◌else◌, ◌||◌}
 use Rattle.snap_usage.specs.declared.usage.Usage.{Usage}
 use Rattle.snap_record.specs.Labels.{Bytes, Label}
-use Rattle.snap_record.specs.Records.{usage_of}
 use Rattle.snap_record.specs.declared.record.Content.{Content}
 use Rattle.snap_record.specs.declared.record.Content.TheVariants.{View, Active, Committed}
 use Rattle.snap_record.specs.declared.record.Record.{Record}
 use Rattle.snap_call.specs.Indexes.{AreIndexed, name_in, name_of, slot_of}
-use Rattle.snap_call.specs.Records.{record_cmp, is_named, record_at, has_key, has_slot, is_slot, is_active, active_at, with_record, without, without_slot, without_key, with_content_at, recharged, relabelled, AllPairwise, AreApart, HasLowSlot}
+use Rattle.snap_call.specs.Records.{is_named, record_at, has_key, has_slot, is_slot, is_active, active_at, with_record, without, without_slot, without_key, with_content_at, recharged, relabelled, AllPairwise, AreApart, HasLowSlot}
 use Rattle.snap_call.specs.declared.open_slots.Name.{Name}
 use Rattle.snap_call.proofs.Alike.{AreAlike, all-relabelled, alike-active_at, alike-active_at_None, bare, bare-relabelled, pairwise-relabelled, sorted-relabelled}
-use Rattle.snap_call.proofs.Lists.{active_at-is_slot, all-map, find-passes, same_slot, all-recharged, all-with_record, all-without, find-all, find-none, found-any, none_some, pairwise-recharged, pairwise-with_record, pairwise-without, some_same, with_charge}
+use Rattle.snap_call.proofs.Lists.{active_at-is_slot, all-map, find-passes, same_slot, all-recharged, all-with_record, all-without, find-all, find-none, none_some, pairwise-recharged, pairwise-with_record, pairwise-without, some_same, with_charge}
 use Rattle.snap_call.proofs.Keeping.{place_anew}
 use Rattle.snap_call.proofs.InOrder.{own_found, own_named, sorted-recharged, sorted-with_record, sorted-without}
 use Rattle.snap_call.proofs.Slots.{active_at-recharged_other, active_at-recharged_own, active_at-with_record_other, active_at-with_record_own, active_at-without_idle, active_at-without_slot_other, active_at-without_slot_own, is_slot-other}

@@ -1,4 +1,4 @@
-use Rattle.std.proofs.Common.{Bor, List, arith, rules}
+use Rattle.std.proofs.Common.{Bor, arith, rules}
 use Rattle.std.specs.Ordering.{is_lt}
 use Rattle.std.proofs.lemmas.List.Sorted.{IsPartitionPoint-from_clause}
 use Rattle.snap_record.specs.declared.record.Record.{Record}

@@ -1,4 +1,4 @@
-use Rattle.std.proofs.Common.{◌≡◌, ◌<◌, length, sym, ap, ◌∙◌, arith}
+use Rattle.std.proofs.Common.{◌<◌, length, sym, ap, ◌∙◌, arith}
 use Rattle.snap_call.specs.Records.{is_named}
 use Rattle.snap_call.proofs.Ascending.{ascending-sorted, search-here, search-other, search-past}
 use Rattle.snap_call.proofs.Referred.{all_now, at-now, length-now}
