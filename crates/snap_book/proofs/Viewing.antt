@@ -23,7 +23,7 @@ use Rattle.snap_call.specs.Records.{has_key, is_named, record_cmp, with_record}
 use Rattle.snap_call.specs.State.{place_of, ancestors, ids_of, shown_layers}
 use Rattle.snap_call.specs.Step.{added, new_view, place_for, refused, step, unless_refused, view, view_at, viewed}
 use Rattle.snap_call.proofs.Lists.{all-map, all-with_record, none-passes}
-use Rattle.snap_call.proofs.Ordered.{record_cmp_total, tied-is_named}
+use Rattle.snap_call.proofs.InOrder.{record_cmp_total, tied-is_named}
 use Rattle.snap_call.proofs.Places.{place_for-Ok}
 use Rattle.snap_accounts.specs.declared.change.Change.{Change}
 use Rattle.snap_accounts.specs.declared.change.Change.TheVariants.{View}

@@ -21,7 +21,7 @@ use Rattle.snap_call.specs.Records.{AllPairwise, record_cmp, is_later, is_named,
 use Rattle.snap_call.proofs.CodeLemmas.{with_record_found, with_record-None}
 use Rattle.snap_call.proofs.Lists.{all-map, all-with_record, pairwise-filter, pairwise-without, pairwise-recharged}
 use Rattle.snap_call.proofs.Alike.{pairwise-relabelled}
-use Rattle.snap_call.proofs.Ordered.{record_cmp_total}
+use Rattle.snap_call.proofs.InOrder.{record_cmp_total}
 use Rattle.snap_call.proofs.Searches.{probe, named_tied, tied_named, position-absent, position-found}
 
 -- ---- orders

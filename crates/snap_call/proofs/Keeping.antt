@@ -27,7 +27,7 @@ use Rattle.snap_call.specs.Good.{IsGuarding, IsCounted, IsShown, Good}
 use Rattle.snap_call.specs.Step.{counted, one, new_active, prepared, committed, leases_after, added, new_view, viewed, removed_at}
 use Rattle.snap_call.proofs.Leasing.{place_of-name_at, guarding-with_name}
 use Rattle.snap_call.proofs.Lists.{all-map, all-both, committed-from, find-with_record_own, find-none, none-passes, record_at-is_named, same_slot, active_at-all, all-with_record, pairwise-with_record, all-without, pairwise-without, all-beside, all-recharged, pairwise-recharged}
-use Rattle.snap_call.proofs.Ordered.{sorted-with_record, sorted-without, sorted-recharged, has_key-without}
+use Rattle.snap_call.proofs.InOrder.{sorted-with_record, sorted-without, sorted-recharged, has_key-without}
 use Rattle.snap_call.proofs.Chains.{HasParent, chain, Keeps, KeepsFor, Every, every, OnParent, on_parent, AreOn, all_on, IsOther, Keeps-after, Keeps-with_record, Keeps-without_slot, Keeps-recharged, on_other, keeps-without_key, keeps-HasParent, keeps-NamesStand, keeps-some_chain, keeps-ancestors, chain-found}
 use Rattle.snap_call.proofs.Sums.{charge_with, charge_of-with_record_own, charge_of-with_record_other, charge_of-covers, charge_of-without_own, charge_of-without_other, charge_of-recharged_own, charge_of-recharged_other, charge_of-committed_own, charge_of-committed_other}
 use Rattle.snap_call.proofs.Alike.{AreAlike, bare-relabelled, all-relabelled, pairwise-relabelled, sorted-relabelled, alike-HasParent, alike-IsGuarding, alike-charge_of, alike-layers, alike-some_chain}

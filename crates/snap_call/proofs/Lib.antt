@@ -1,5 +1,7 @@
 pub mod Lists
-pub mod Ordered
+pub mod InOrder
+pub mod Entries
+pub mod Spaces
 pub mod Chains
 pub mod Sums
 pub mod Alike

@@ -11,7 +11,7 @@ use Rattle.snap_call.specs.State.{ancestors}
 use Rattle.snap_call.specs.Reached.{is_root, is_above, is_reached}
 use Rattle.snap_call.specs.Good.{Good}
 use Rattle.snap_call.proofs.Lists.{some_same, find-passes, find-all, found-any, any-found, committed_at-record_at}
-use Rattle.snap_call.proofs.Ordered.{own_found}
+use Rattle.snap_call.proofs.InOrder.{own_found}
 use Rattle.snap_call.proofs.Chains.{chain, OnParent, on_parent-map, KeyOf, IsLink, ancestors-head, ancestors-links}
 
 -- the reached keys, as a set

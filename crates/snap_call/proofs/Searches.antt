@@ -16,7 +16,7 @@ use Rattle.snap_record.specs.Labels.{Bytes}
 use Rattle.snap_record.specs.declared.record.Record.{Record}
 use Rattle.snap_call.specs.Records.{record_cmp, is_named}
 use Rattle.snap_call.specs.Marked.{key_cmp}
-use Rattle.snap_call.proofs.Ordered.{record_cmp_total, tied-is_named}
+use Rattle.snap_call.proofs.InOrder.{record_cmp_total, tied-is_named}
 
 -- ---- where the first stands that passes a test
 

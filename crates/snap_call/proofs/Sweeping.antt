@@ -24,7 +24,7 @@ use Rattle.snap_call.specs.Reached.{is_above, is_reached, is_swept, swept, unswe
 use Rattle.snap_call.specs.Good.{IsGuarding, IsCounted, IsShown, Good}
 use Rattle.snap_call.specs.Step.{refused, swept_at, sweep_at, sweep}
 use Rattle.snap_call.proofs.Lists.{all-each, all-map, all-both, all-any, all-kept, pairwise-filter, find-all, find-filter, find-passes, committed-parts, committed-from}
-use Rattle.snap_call.proofs.Ordered.{own_found, sorted-filter}
+use Rattle.snap_call.proofs.InOrder.{own_found, sorted-filter}
 use Rattle.snap_call.proofs.Chains.{HasParent, NamesStand, chain, OnParent, on_parent, on_parent-map, KeepsFor, AreOn, keeps-ancestors}
 use Rattle.snap_call.proofs.Sums.{Covers-plus, charge_of-elsewhere, charge_of-filter, minus-plus, plus-none}
 use Rattle.snap_call.proofs.Counts.{open_count-filter}

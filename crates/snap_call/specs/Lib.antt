@@ -1,5 +1,6 @@
 pub mod Forms
 pub mod Records
+pub mod Spaces
 pub mod State
 pub mod Reached
 pub mod Ids

@@ -12,6 +12,7 @@ mod entry;
 mod forms;
 mod ids;
 pub mod limits;
+mod ordered;
 mod records;
 mod refusal;
 mod reply;

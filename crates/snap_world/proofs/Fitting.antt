@@ -33,7 +33,7 @@ use Rattle.snap_call.proofs.Chains.{chain, Every, OnParent, every, on_parent, Is
 use Rattle.snap_call.proofs.Keeping.{covers-Covers}
 use Rattle.snap_call.proofs.Kept.{good_step}
 use Rattle.snap_call.proofs.Lists.{active_at-all}
-use Rattle.snap_call.proofs.Ordered.{has_key-without}
+use Rattle.snap_call.proofs.InOrder.{has_key-without}
 use Rattle.snap_call.proofs.Lowest.{lowest_free-Some}
 use Rattle.snap_call.proofs.Places.{IsPlace, IsSlotFor, place_for-Ok, slot_for-Ok}
 use Rattle.snap_call.proofs.Sweeping.{active-ancestors, active_at-unswept}

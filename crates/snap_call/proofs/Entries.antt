@@ -1,0 +1,250 @@
+-- The entries of one namespace, by their keys, as a list of records.
+use Rattle.std.proofs.Common.{◌≡◌, ℕ, zero, suc, ◌+◌, ◌-◌, ◌<◌, ◌≤◌, Bool, true, false, true≢false, eq-eqb, cond, List, [], ◌∷◌, ◌++◌, length, take, map, Some, None, Result, Ok, Err, OnOk, OnErr, refl, sym, ap, ◌∙◌, subst, string_bytes, string_cmp, arith, append_assoc, append-nil}
+use Rattle.std.specs.Prelude.{if◌then◌else◌, ◌&&◌, not, bytes_eq, filter, find}
+use Rattle.std.specs.Map.{lookup, remove_entry, set_value, values_of}
+use Rattle.std.specs.BTreeMap.{is_at, insert_entry}
+use Rattle.std.specs.declared.cmp.Ordering.{Ordering}
+use Rattle.std.specs.declared.cmp.Ordering.TheVariants.{Less, Equal, Greater}
+use Rattle.std.specs.Ordering.{is_lt, is_eq, nat_cmp, ordering_then, match_ordering}
+use Rattle.std.specs.Cmp.Lexicographic.{slice_cmp}
+use Rattle.std.specs.declared.string.String.{String}
+use Rattle.std.proofs.lemmas.Bool.{or_parts}
+use Rattle.std.proofs.lemmas.List.{length_push}
+use Rattle.std.proofs.lemmas.Cmp.{nat_cmp_total, tied_itself}
+use Rattle.std.proofs.lemmas.Map.Lookups.{exact_bytes}
+use Rattle.std.proofs.lemmas.Map.Text.{is_eq-slice_cmp}
+use Rattle.snap_lease.proofs.ListLemmas.{bytes_eq_comm}
+use Rattle.snap_record.specs.Filters.{is_match}
+use Rattle.snap_record.specs.Labels.{Bytes, Label}
+use Rattle.snap_record.specs.Records.{info_of}
+use Rattle.snap_record.specs.declared.filter.Filter.{Filter}
+use Rattle.snap_record.specs.declared.info.Info.{Info}
+use Rattle.snap_record.specs.declared.record.Content.{Content}
+use Rattle.snap_record.specs.declared.record.Record.{Record}
+use Rattle.snap_call.specs.Records.{record_cmp, is_named, record_at, has_key, with_record, without, with_labels, relabelled, with_content_at, is_walked, page}
+use Rattle.snap_call.specs.Spaces.{IsOf, IsKeyed}
+use Rattle.snap_call.proofs.Lists.{some_same}
+use Rattle.snap_call.proofs.InOrder.{tied-is_named}
+
+-- ---- the first record that passes a test, changed
+
+abbrev pub amended : (Record → Bool) → (Record → Record) → List Record → List Record
+amended p f [] = []
+amended p f (r ∷ rs) = if p r then f r ∷ rs else r ∷ amended p f rs
+
+pub amended-none : (p : Record → Bool) (f : Record → Record) (rs : List Record) → find p rs ≡ None → amended p f rs ≡ rs
+amended-none p f [] none = refl
+amended-none p f (r ∷ rs) none = step (p r) none (amended-none p f rs)
+  where
+    step : (b : Bool) → cond b (Some r) (find p rs) ≡ None → (find p rs ≡ None → amended p f rs ≡ rs) → (if b then f r ∷ rs else r ∷ amended p f rs) ≡ r ∷ rs
+    step true none next = absurd (cc)
+    step false none next = ap (λ l. r ∷ l) (next none)
+
+pub without-none : (p : Record → Bool) (rs : List Record) → find p rs ≡ None → without p rs ≡ rs
+without-none p [] none = refl
+without-none p (r ∷ rs) none = step (p r) none (without-none p rs)
+  where
+    step : (b : Bool) → cond b (Some r) (find p rs) ≡ None → (find p rs ≡ None → without p rs ≡ rs) → (if b then rs else r ∷ without p rs) ≡ r ∷ rs
+    step true none next = absurd (cc)
+    step false none next = ap (λ l. r ∷ l) (next none)
+
+abbrev pub with_content : Content → Record → Record
+with_content content r = record r { content = content }
+
+pub amended-relabelled : (place : ℕ) (key : Bytes) (labels : List Label) (number : ℕ) (rs : List Record) → relabelled place key labels number rs ≡ amended (is_named place key) (with_labels labels number) rs
+amended-relabelled place key labels number [] = refl
+amended-relabelled place key labels number (r ∷ rs) = ap (λ l. if is_named place key r then with_labels labels number r ∷ rs else r ∷ l) (amended-relabelled place key labels number rs)
+
+pub amended-with_content_at : (place : ℕ) (key : Bytes) (content : Content) (rs : List Record) → with_content_at place key content rs ≡ amended (is_named place key) (with_content content) rs
+amended-with_content_at place key content [] = refl
+amended-with_content_at place key content (r ∷ rs) = ap (λ l. if is_named place key r then with_content content r ∷ rs else r ∷ l) (amended-with_content_at place key content rs)
+
+-- a record's key comes after the text
+abbrev pub is_after : Bytes → Record → Bool
+is_after after r = is_lt (slice_cmp nat_cmp after r.key)
+
+-- ---- by key
+
+module _ {Z : Type 0} where
+  -- an entry's key is the one that is sought where its record has that name
+  at_named : (place : ℕ) (key : Bytes) (e : String Z × Record) → string_bytes e.0 ≡ e.1.key → e.1.namespace ≡ place → is_eq (slice_cmp nat_cmp key (string_bytes e.0)) ≡ is_named place key e.1
+  at_named place key e own of =
+      is_eq-slice_cmp key (string_bytes e.0)
+      ∙ ap (bytes_eq key) own
+      ∙ bytes_eq_comm key e.1.key
+      ∙ sym (ap (λ b. b && bytes_eq e.1.key key) (eq-eqb e.1.namespace place of))
+
+  -- the test of a key, as a map's calls have it
+  abbrev pub by_text : Bytes → String Z → Bool
+  by_text key = is_at (λ (k : String Z). slice_cmp nat_cmp key (string_bytes k))
+
+  pub lookup-named : (place : ℕ) (key : Bytes) (es : List (String Z × Record)) → IsKeyed es → IsOf place (values_of es) → lookup (by_text key) es ≡ record_at place key (values_of es)
+  lookup-named place key [] keyed of = refl
+  lookup-named place key (e ∷ es) keyed of =
+      ap (λ b. cond b (Some e.1) (lookup (by_text key) es)) (at_named place key e keyed.0 of.0)
+      ∙ ap (λ o. cond (is_named place key e.1) (Some e.1) o) (lookup-named place key es keyed.1 of.1)
+
+  pub remove-named : (place : ℕ) (key : Bytes) (es : List (String Z × Record)) → IsKeyed es → IsOf place (values_of es) → values_of (remove_entry (by_text key) es) ≡ without (is_named place key) (values_of es)
+  remove-named place key [] keyed of = refl
+  remove-named place key (e ∷ es) keyed of =
+      ap (λ b. values_of (cond b es (e ∷ remove_entry (by_text key) es))) (at_named place key e keyed.0 of.0)
+      ∙ step (is_named place key e.1) (remove-named place key es keyed.1 of.1)
+    where
+      step : (b : Bool) → values_of (remove_entry (by_text key) es) ≡ without (is_named place key) (values_of es) → values_of (cond b es (e ∷ remove_entry (by_text key) es)) ≡ (if b then values_of es else e.1 ∷ without (is_named place key) (values_of es))
+      step true next = refl
+      step false next = ap (λ l. e.1 ∷ l) next
+
+  pub keyed-remove : (test : String Z → Bool) (es : List (String Z × Record)) → IsKeyed es → IsKeyed (remove_entry test es)
+  keyed-remove test [] keyed = tt
+  keyed-remove test (e ∷ es) keyed =
+      elim (test e.0) as (λ b. IsKeyed (cond b es (e ∷ remove_entry test es))) [ true ↦ keyed.1 | false ↦ (keyed.0, keyed-remove test es keyed.1) ]
+
+  pub set-named : (place : ℕ) (key : Bytes) (f : Record → Record) (es : List (String Z × Record)) (r w : Record) → IsKeyed es → IsOf place (values_of es) → lookup (by_text key) es ≡ Some r → w ≡ f r
+      → values_of (set_value (by_text key) es w) ≡ amended (is_named place key) f (values_of es)
+  set-named place key f [] r w keyed of found is = refl
+  set-named place key f (e ∷ es) r w keyed of found is =
+      step (by_text key e.0) found (λ later. set-named place key f es r w keyed.1 of.1 later is)
+      ∙ ap (λ b. if b then f e.1 ∷ values_of es else e.1 ∷ amended (is_named place key) f (values_of es)) (at_named place key e keyed.0 of.0)
+    where
+      step : (b : Bool) → cond b (Some e.1) (lookup (by_text key) es) ≡ Some r → (lookup (by_text key) es ≡ Some r → values_of (set_value (by_text key) es w) ≡ amended (is_named place key) f (values_of es))
+          → values_of (cond b ((e.0, w) ∷ es) (e ∷ set_value (by_text key) es w)) ≡ (if b then f e.1 ∷ values_of es else e.1 ∷ amended (is_named place key) f (values_of es))
+      step true here next = ap (λ x. x ∷ values_of es) (is ∙ ap f (sym (some_same e.1 r here)))
+      step false here next = ap (λ l. e.1 ∷ l) (next here)
+
+  pub keyed-set : (test : String Z → Bool) (es : List (String Z × Record)) (r w : Record) → IsKeyed es → lookup test es ≡ Some r → w.key ≡ r.key → IsKeyed (set_value test es w)
+  keyed-set test [] r w keyed found same = tt
+  keyed-set test (e ∷ es) r w keyed found same = step (test e.0) found (λ later. keyed-set test es r w keyed.1 later same)
+    where
+      step : (b : Bool) → cond b (Some e.1) (lookup test es) ≡ Some r → (lookup test es ≡ Some r → IsKeyed (set_value test es w)) → IsKeyed (cond b ((e.0, w) ∷ es) (e ∷ set_value test es w))
+      step true here next = (keyed.0 ∙ ap (λ (x : Record). x.key) (some_same e.1 r here) ∙ sym same, keyed.1)
+      step false here next = (keyed.0, next here)
+
+  -- ---- one record more
+
+  -- records of one namespace stand as their keys do
+  stands : (k : String Z) (r : Record) (e : String Z × Record) → string_bytes k ≡ r.key → string_bytes e.0 ≡ e.1.key → e.1.namespace ≡ r.namespace → record_cmp r e.1 ≡ string_cmp k e.0
+  stands k r e own keyed of =
+      ap (λ n. ordering_then (nat_cmp r.namespace n) (slice_cmp nat_cmp r.key e.1.key)) of
+      ∙ ap (λ o. ordering_then o (slice_cmp nat_cmp r.key e.1.key)) (tied_itself nat_cmp_total r.namespace)
+      ∙ ap (λ a. slice_cmp nat_cmp a e.1.key) (sym own)
+      ∙ ap (slice_cmp nat_cmp (string_bytes k)) (sym keyed)
+
+  pub insert-named : (k : String Z) (r : Record) (es : List (String Z × Record)) → string_bytes k ≡ r.key → IsKeyed es → IsOf r.namespace (values_of es) → has_key r.namespace r.key (values_of es) ≡ false
+      → values_of (insert_entry string_cmp es k r) ≡ with_record r (values_of es)
+  insert-named k r [] own keyed of none = refl
+  insert-named k r (e ∷ es) own keyed of none =
+      step (string_cmp k e.0) (stands k r e own keyed.0 of.0) (insert-named k r es own keyed.1 of.1 rest.1)
+      ∙ ap (λ o. if is_lt o then r ∷ e.1 ∷ values_of es else e.1 ∷ with_record r (values_of es)) (sym (stands k r e own keyed.0 of.0))
+    where
+      rest : (is_named r.namespace r.key e.1 ≡ false) × (has_key r.namespace r.key (values_of es) ≡ false)
+      rest = or_parts (is_named r.namespace r.key e.1) (has_key r.namespace r.key (values_of es)) none
+
+      step : (o : Ordering) → record_cmp r e.1 ≡ o → values_of (insert_entry string_cmp es k r) ≡ with_record r (values_of es)
+          → values_of (match_ordering o ((k, r) ∷ e ∷ es) ((e.0, r) ∷ es) (e ∷ insert_entry string_cmp es k r)) ≡ (if is_lt o then r ∷ e.1 ∷ values_of es else e.1 ∷ with_record r (values_of es))
+      step Less is next = refl
+      step Equal is next = absurd (true≢false (sym (tied-is_named r e.1 is) ∙ rest.0))
+      step Greater is next = ap (λ l. e.1 ∷ l) next
+
+  pub keyed-insert : (k : String Z) (r : Record) (es : List (String Z × Record)) → string_bytes k ≡ r.key → IsKeyed es → IsKeyed (insert_entry string_cmp es k r)
+  keyed-insert k r [] own keyed = (own, tt)
+  keyed-insert k r (e ∷ es) own keyed = step (string_cmp k e.0) refl (keyed-insert k r es own keyed.1)
+    where
+      step : (o : Ordering) → string_cmp k e.0 ≡ o → IsKeyed (insert_entry string_cmp es k r) → IsKeyed (match_ordering o ((k, r) ∷ e ∷ es) ((e.0, r) ∷ es) (e ∷ insert_entry string_cmp es k r))
+      step Less is next = (own, keyed)
+      step Equal is next = (sym (exact_bytes (string_bytes k) (string_bytes e.0) is) ∙ own, keyed.1)
+      step Greater is next = (keyed.0, next)
+
+  -- after an insertion that may have failed for want of memory
+  pub keyed-inserted : {A E : Type 0} (o : Result A E) (k : String Z) (r : Record) (es fs : List (String Z × Record)) → string_bytes k ≡ r.key → IsKeyed es
+      → OnOk o (fs ≡ insert_entry string_cmp es k r) → OnErr o (fs ≡ es) → IsKeyed fs
+  keyed-inserted (Ok x) k r es fs own keyed ok err = subst IsKeyed (sym ok) (keyed-insert k r es own keyed)
+  keyed-inserted (Err x) k r es fs own keyed ok err = subst IsKeyed (sym err) keyed
+
+  -- ---- those that pass a test
+
+  pub values-filter : (p : Record → Bool) (es : List (String Z × Record)) → values_of (filter (λ (e : String Z × Record). p e.1) es) ≡ filter p (values_of es)
+  values-filter p [] = refl
+  values-filter p (e ∷ es) = step (p e.1) (values-filter p es)
+    where
+      step : (b : Bool) → values_of (filter (λ (x : String Z × Record). p x.1) es) ≡ filter p (values_of es)
+          → values_of (cond b (e ∷ filter (λ (x : String Z × Record). p x.1) es) (filter (λ (x : String Z × Record). p x.1) es)) ≡ cond b (e.1 ∷ filter p (values_of es)) (filter p (values_of es))
+      step true next = ap (λ l. e.1 ∷ l) next
+      step false next = next
+
+  pub keyed-filter : (p : String Z × Record → Bool) (es : List (String Z × Record)) → IsKeyed es → IsKeyed (filter p es)
+  keyed-filter p [] keyed = tt
+  keyed-filter p (e ∷ es) keyed =
+      elim (p e) as (λ b. IsKeyed (cond b (e ∷ filter p es) (filter p es))) [ true ↦ (keyed.0, keyed-filter p es keyed.1) | false ↦ keyed-filter p es keyed.1 ]
+
+  pub values-after : (start : String Z) (es : List (String Z × Record)) → IsKeyed es
+      → values_of (filter (λ (e : String Z × Record). is_lt (string_cmp start e.0) && not false) es) ≡ filter (is_after (string_bytes start)) (values_of es)
+  values-after start [] keyed = refl
+  values-after start (e ∷ es) keyed =
+      step (is_lt (string_cmp start e.0)) (values-after start es keyed.1)
+      ∙ ap (λ k. cond (is_lt (slice_cmp nat_cmp (string_bytes start) k)) (e.1 ∷ filter (is_after (string_bytes start)) (values_of es)) (filter (is_after (string_bytes start)) (values_of es))) keyed.0
+    where
+      step : (b : Bool) → values_of (filter (λ (x : String Z × Record). is_lt (string_cmp start x.0) && not false) es) ≡ filter (is_after (string_bytes start)) (values_of es)
+          → values_of (cond (b && not false) (e ∷ filter (λ (x : String Z × Record). is_lt (string_cmp start x.0) && not false) es) (filter (λ (x : String Z × Record). is_lt (string_cmp start x.0) && not false) es)) ≡ cond b (e.1 ∷ filter (is_after (string_bytes start)) (values_of es)) (filter (is_after (string_bytes start)) (values_of es))
+      step true next = ap (λ l. e.1 ∷ l) next
+      step false next = next
+
+-- ---- pages
+
+-- a record has every part of the filter
+abbrev pub is_asked : Filter → Record → Bool
+is_asked asked r = is_match (info_of r) asked
+
+-- the infos of the first so many that have every part of the filter
+abbrev pub infos_of : ℕ → Filter → List Record → List Info
+infos_of most asked rs = map info_of (take most (filter (is_asked asked) rs))
+
+walked-twice : (place : ℕ) (after : Bytes) (asked : Filter) (rs : List Record) → IsOf place rs → filter (is_walked place after asked) rs ≡ filter (is_asked asked) (filter (is_after after) rs)
+walked-twice place after asked [] of = refl
+walked-twice place after asked (r ∷ rs) of =
+    ap (λ b. cond (b && is_after after r && is_asked asked r) (r ∷ filter (is_walked place after asked) rs) (filter (is_walked place after asked) rs)) (eq-eqb r.namespace place of.0)
+    ∙ step (is_after after r) (is_asked asked r) refl (walked-twice place after asked rs of.1)
+  where
+    step : (a b : Bool) → is_asked asked r ≡ b → filter (is_walked place after asked) rs ≡ filter (is_asked asked) (filter (is_after after) rs)
+        → cond (true && a && b) (r ∷ filter (is_walked place after asked) rs) (filter (is_walked place after asked) rs) ≡ filter (is_asked asked) (cond a (r ∷ filter (is_after after) rs) (filter (is_after after) rs))
+    step true true is next = ap (λ l. r ∷ l) next ∙ sym (ap (λ b. cond b (r ∷ filter (is_asked asked) (filter (is_after after) rs)) (filter (is_asked asked) (filter (is_after after) rs))) is)
+    step true false is next = next ∙ sym (ap (λ b. cond b (r ∷ filter (is_asked asked) (filter (is_after after) rs)) (filter (is_asked asked) (filter (is_after after) rs))) is)
+    step false true is next = next
+    step false false is next = next
+
+pub page-infos : (place : ℕ) (after : Bytes) (most : ℕ) (asked : Filter) (rs : List Record) → IsOf place rs → page place after most asked rs ≡ infos_of most asked (filter (is_after after) rs)
+page-infos place after most asked rs of = ap (λ l. map info_of (take most l)) (walked-twice place after asked rs of)
+
+pub take-nil : {X : Type 0} (n : ℕ) → ◌≡◌ {A = List X} (take n []) []
+take-nil zero = refl
+take-nil (suc n) = refl
+
+-- a walk: the infos so far, and those of the records that are left
+pub infos-begin : (most : ℕ) (asked : Filter) (items all : List Record) (infos : List Info) → infos ≡ [] → items ≡ all → infos ++ infos_of (most - length infos) asked items ≡ infos_of most asked all
+infos-begin most asked items all infos none is =
+    ap (λ l. l ++ infos_of (most - length l) asked items) none
+    ∙ ap (λ n. infos_of n asked items) (whole most)
+    ∙ ap (infos_of most asked) is
+  where
+    whole : (n : ℕ) → n - 0 ≡ n
+    whole n = omega arith
+
+pub infos-all : (most : ℕ) (asked : Filter) (items : List Record) (infos all : List Info) → items ≡ [] → infos ++ infos_of (most - length infos) asked items ≡ all → infos ≡ all
+infos-all most asked items infos all done so_far =
+    sym (ap (λ l. infos ++ infos_of (most - length infos) asked l) done ∙ ap (λ l. infos ++ map info_of l) (take-nil (most - length infos)) ∙ append-nil infos) ∙ so_far
+
+pub infos-enough : (most : ℕ) (asked : Filter) (items : List Record) (infos all : List Info) → most ≤ length infos → infos ++ infos_of (most - length infos) asked items ≡ all → infos ≡ all
+infos-enough most asked items infos all enough so_far =
+    let none : most - length infos ≡ 0 = omega arith in
+    sym (ap (λ n. infos ++ infos_of n asked items) none ∙ append-nil infos) ∙ so_far
+
+pub infos-pushed : (most : ℕ) (asked : Filter) (r : Record) (items rest : List Record) (infos pushed all : List Info) (info : Info) → length infos < most → is_asked asked r ≡ true → items ≡ r ∷ rest → info ≡ info_of r → pushed ≡ infos ++ info ∷ []
+    → infos ++ infos_of (most - length infos) asked items ≡ all → pushed ++ infos_of (most - length pushed) asked rest ≡ all
+infos-pushed most asked r items rest infos pushed all info below passes is same put so_far =
+    let at : pushed ≡ infos ++ info_of r ∷ [] = put ∙ ap (λ x. infos ++ x ∷ []) same in
+    let left : most - length infos ≡ suc (most - length (infos ++ info_of r ∷ [])) = omega (arith, length_push infos (info_of r)) in
+    ap (λ l. l ++ infos_of (most - length l) asked rest) at
+    ∙ append_assoc infos (info_of r ∷ []) (infos_of (most - length (infos ++ info_of r ∷ [])) asked rest)
+    ∙ sym (ap (λ n. infos ++ map info_of (take n (r ∷ filter (is_asked asked) rest))) left)
+    ∙ sym (ap (λ b. infos ++ map info_of (take (most - length infos) (cond b (r ∷ filter (is_asked asked) rest) (filter (is_asked asked) rest)))) passes)
+    ∙ sym (ap (λ l. infos ++ infos_of (most - length infos) asked l) is)
+    ∙ so_far

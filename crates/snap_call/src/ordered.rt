@@ -1,0 +1,199 @@
+ghost use Rattle.std.specs.Prelude.{◌≡◌, ◌<◌, ◌^◌, [], false, map, not, filter, length, option_copied, OnOk, OnErr, IfErr, IfOk, vec_len};
+ghost use Rattle.snap_call.specs.Records.{record_at, has_key, with_record, without_key, with_content_at, relabelled, page};
+ghost use Rattle.snap_call.specs.Ids.{has_id};
+ghost use Rattle.snap_call.specs.Spaces.{AreFrom, joined};
+
+use crate::ids::Ids;
+use snap_record::{Content, Filter, Info, Labels, Record, Sequence};
+use std::alloc::{AllocError, AllocFailed, Global};
+use std::marker::Model;
+
+mod space;
+
+use space::Space;
+
+/// Records in the order of their namespaces' places and of the bytes of their keys, each key once
+/// in its namespace. Contracts see the list.
+///
+/// A namespace has a map from keys to records, so that no call moves the records of others: the cost
+/// of a call that is given a key grows with the logarithm of the number of the namespace's records.
+#[derive(Debug, Drop)]
+pub(crate) struct Ordered {
+    spaces: Vec<Space>,
+    count: usize,
+}
+
+impl Model for Ordered {
+    ghost use Rattle.std.specs.Prelude.{List};
+    ghost use Rattle.snap_record.specs.declared.record.Record.{Record};
+
+    ghost Value = { List Record };
+
+    ghost use Rattle.snap_call.specs.Spaces.{AreOrdered, joined};
+
+    ghost view = { λ o. joined o.spaces.items };
+
+    ghost invariant = { λ o. AreOrdered o.spaces.items o.count };
+}
+
+impl Ordered {
+    /// No records. Takes no memory.
+    pub(crate) fn new(alloc: Global) -> Ordered
+        ensures { result ≡ [] }
+    {
+        Ordered {
+            spaces: Vec::new(alloc),
+            count: 0,
+        }
+    }
+
+    /// How many records there are. Takes no memory. The cost is constant.
+    pub(crate) fn len(&self) -> usize
+        ensures { result ≡ length self.now }
+    {
+        self.count
+    }
+
+    /// The record of this key in the namespace at the place. Takes no memory.
+    pub(crate) fn get(&self, place: usize, key: &str) -> Option<&Record>
+        ensures { option_copied result ≡ record_at place key.now self.now }
+    {
+        match self.spaces.get(place) {
+            Some(space) => space.get(key),
+            None => None,
+        }
+    }
+
+    /// Puts a record in its place. Where memory is wanting, the records are as they were and the
+    /// error gives the record back.
+    ///
+    /// The first record of a namespace makes room for the namespaces at its place and below. The
+    /// memory is that of the room, of the record's entry and of a copy of its key.
+    pub(crate) fn insert(&mut self, added: Record) -> Result<(), AllocFailed<Record>>
+        requires { has_key added.namespace added.key self.old ≡ false }
+        ensures ok { OnOk result (self.new ≡ with_record added self.old) }
+        ensures err { OnErr result (self.new ≡ self.old) }
+        ensures value_returned { IfErr result (λ e. e.value ≡ added) }
+    {
+        let place = added.namespace;
+        let Some(count) = self.count.checked_add(1) else {
+            return Err(AllocFailed { value: added });
+        };
+        let Ok(()) = grow(&mut self.spaces, place) else {
+            return Err(AllocFailed { value: added });
+        };
+        let alloc = *self.spaces.allocator();
+        let space = &mut self.spaces[place];
+        space.insert(alloc, added)?;
+        self.count = count;
+        Ok(())
+    }
+
+    /// Takes the record of the key in the namespace at the place away. Where there is none, the
+    /// records are as they were. Takes no memory.
+    pub(crate) fn remove(&mut self, place: usize, key: &str) -> Option<Record>
+        ensures taken { self.new ≡ without_key place key.now self.old }
+        ensures record_taken { result ≡ record_at place key.now self.old }
+    {
+        if place >= self.spaces.len() {
+            return None;
+        }
+        let space = &mut self.spaces[place];
+        let removed = space.remove(key)?;
+        self.count -= 1;
+        Some(removed)
+    }
+
+    /// Gives the record of the key in the namespace at the place this content. Where there is none,
+    /// the records are as they were. Takes no memory.
+    pub(crate) fn set_content(&mut self, place: usize, key: &str, content: Content)
+        ensures { self.new ≡ with_content_at place key.now content self.old }
+    {
+        if place >= self.spaces.len() {
+            return;
+        }
+        let space = &mut self.spaces[place];
+        space.set_content(key, content);
+    }
+
+    /// Gives the record of the key in the namespace at the place these labels, as the journal entry
+    /// of this number leaves it. Where there is none, the records are as they were. Takes no memory.
+    pub(crate) fn relabel(&mut self, place: usize, key: &str, labels: Labels, number: u64)
+        ensures { self.new ≡ relabelled place key.now labels number self.old }
+    {
+        if place >= self.spaces.len() {
+            return;
+        }
+        let space = &mut self.spaces[place];
+        space.relabel(key, labels, number);
+    }
+
+    /// Takes the records away that have one of these ids, in one pass. Takes no memory.
+    pub(crate) fn remove_ids(&mut self, ids: &Ids)
+        ensures { self.new ≡ filter (λ r. not (has_id r.id ids.now)) self.old }
+    {
+        self.count = remove_ids_of(&mut self.spaces, ids);
+    }
+
+    /// The infos of the records of the namespace at the place whose keys come after the text and
+    /// that have every part of the filter: the first so many of them, in the order of their keys.
+    ///
+    /// It begins by a search for the text and ends once it has so many. Its cost grows besides with
+    /// the records that it passes, and with the texts and labels of the infos. The memory is that of
+    /// the infos and of a copy of the text.
+    pub(crate) fn page(
+        &self,
+        alloc: Global,
+        place: usize,
+        after: &str,
+        most: usize,
+        asked: &Filter,
+    ) -> Result<Sequence<Info>, AllocError>
+        ensures { IfOk result (λ infos. infos ≡ page place after.now most asked.now self.now) }
+    {
+        match self.spaces.get(place) {
+            Some(space) => space.page(alloc, after, most, asked),
+            None => Ok(Sequence::new(alloc)),
+        }
+    }
+
+    /// References to the records, in their order, by one pass. The memory is that of the list.
+    pub(crate) fn list(&self, alloc: Global) -> Result<Vec<&Record>, AllocError>
+        ensures { IfOk result (λ list. map (λ r. r.now) list.items ≡ self.now) }
+    {
+        let mut list = Vec::with_capacity(alloc, self.count)?;
+        for space in &self.spaces {
+            list = space.listed(list)?;
+        }
+        Ok(list)
+    }
+}
+
+/// Makes room for the namespaces at the place and below. Where memory is wanting, there may be room
+/// for some of them.
+fn grow(spaces: &mut Vec<Space>, place: usize) -> Result<(), AllocError>
+    requires { AreFrom 0 spaces.old.items }
+    ensures from { AreFrom 0 spaces.new.items }
+    ensures same { joined spaces.new.items ≡ joined spaces.old.items }
+    ensures room { OnOk result (place < vec_len spaces.new) }
+{
+    let alloc = *spaces.allocator();
+    while spaces.len() <= place {
+        spaces.push(Space::new(alloc))?;
+    }
+    Ok(())
+}
+
+/// Takes the records away that have one of these ids, and says how many are left.
+fn remove_ids_of(spaces: &mut Vec<Space>, ids: &Ids) -> usize
+    requires { length (joined spaces.old.items) < 2 ^ 64 }
+    ensures left { spaces.new.items ≡ map (filter (λ r. not (has_id r.id ids.now))) spaces.old.items }
+    ensures count { result ≡ length (joined spaces.new.items) }
+{
+    let mut count = 0;
+    for space in spaces.iter_mut() {
+        space.remove_ids(ids);
+        count += space.len();
+    }
+    count
+}

@@ -1,0 +1,154 @@
+ghost use Rattle.std.specs.Prelude.{◌≡◌, ℕ, [], ◌++◌, false, not, filter, map, length, option_copied, OnOk, OnErr, IfErr, IfOk};
+ghost use Rattle.snap_call.specs.Records.{record_at, has_key, with_record, without_key, with_content_at, relabelled, page};
+ghost use Rattle.snap_call.specs.Ids.{has_id};
+ghost use Rattle.snap_call.specs.Spaces.{IsOf};
+
+use crate::ids::Ids;
+use snap_record::{Content, Filter, Info, Labels, Record, Sequence};
+use std::alloc::{AllocError, AllocFailed, Global};
+use std::collections::BTreeMap;
+use std::marker::Model;
+use std::ops::Bound;
+
+/// The records of one namespace, by their keys. Contracts see the list, in the order of the keys.
+#[derive(Debug, Drop)]
+pub(super) struct Space {
+    map: BTreeMap<String, Record>,
+}
+
+impl Model for Space {
+    ghost use Rattle.std.specs.Prelude.{List};
+    ghost use Rattle.std.specs.Map.{values_of};
+    ghost use Rattle.snap_record.specs.declared.record.Record.{Record};
+
+    ghost Value = { List Record };
+
+    ghost use Rattle.snap_call.specs.Spaces.{IsKeyed};
+
+    ghost view = { λ s. values_of s.map.entries };
+
+    ghost invariant = { λ s. IsKeyed s.map.entries };
+}
+
+impl Space {
+    /// No records. Takes no memory.
+    pub(super) fn new(alloc: Global) -> Space
+        ensures { result ≡ [] }
+    {
+        Space {
+            map: BTreeMap::new(alloc),
+        }
+    }
+
+    /// How many records there are.
+    pub(super) fn len(&self) -> usize
+        ensures { result ≡ length self.now }
+    {
+        self.map.len()
+    }
+
+    /// The record of this key. Takes no memory.
+    pub(super) fn get(&self, key: &str) -> Option<&Record>
+        ensures { (place : ℕ) → IsOf place self.now → option_copied result ≡ record_at place key.now self.now }
+    {
+        self.map.get(key)
+    }
+
+    /// Puts a record in its place. Where memory is wanting, the records are as they were and the
+    /// error gives the record back.
+    pub(super) fn insert(&mut self, alloc: Global, added: Record) -> Result<(), AllocFailed<Record>>
+        requires of { IsOf added.namespace self.old }
+        requires absent { has_key added.namespace added.key self.old ≡ false }
+        ensures ok { OnOk result (self.new ≡ with_record added self.old) }
+        ensures err { OnErr result (self.new ≡ self.old) }
+        ensures value_returned { IfErr result (λ e. e.value ≡ added) }
+    {
+        let Ok(key) = String::from_str(alloc, added.key.as_str()) else {
+            return Err(AllocFailed { value: added });
+        };
+        match self.map.insert(key, added) {
+            Ok(_) => Ok(()),
+            Err(failed) => {
+                let (_, value) = failed.value;
+                Err(AllocFailed { value })
+            }
+        }
+    }
+
+    /// Takes the record of this key away. Where there is none, the records are as they were. Takes
+    /// no memory.
+    pub(super) fn remove(&mut self, key: &str) -> Option<Record>
+        ensures taken { (place : ℕ) → IsOf place self.old → self.new ≡ without_key place key.now self.old }
+        ensures record_taken { (place : ℕ) → IsOf place self.old → result ≡ record_at place key.now self.old }
+    {
+        self.map.remove(key)
+    }
+
+    /// Gives the record of this key the content. Where there is none, the records are as they were.
+    /// Takes no memory.
+    pub(super) fn set_content(&mut self, key: &str, content: Content)
+        ensures { (place : ℕ) → IsOf place self.old → self.new ≡ with_content_at place key.now content self.old }
+    {
+        let Some(record) = self.map.get_mut(key) else {
+            return;
+        };
+        record.content = content;
+    }
+
+    /// Gives the record of this key the labels, as the journal entry of this number leaves it. Where
+    /// there is none, the records are as they were. Takes no memory.
+    pub(super) fn relabel(&mut self, key: &str, labels: Labels, number: u64)
+        ensures { (place : ℕ) → IsOf place self.old → self.new ≡ relabelled place key.now labels number self.old }
+    {
+        let Some(record) = self.map.get_mut(key) else {
+            return;
+        };
+        record.labels = labels;
+        record.updated = number;
+    }
+
+    /// Takes the records away that have one of these ids, in one pass. Takes no memory.
+    pub(super) fn remove_ids(&mut self, ids: &Ids)
+        ensures { self.new ≡ filter (λ r. not (has_id r.id ids.now)) self.old }
+    {
+        self.map.retain(|_, record| !ids.has(record.id));
+    }
+
+    /// The infos of the records whose keys come after the text and that have every part of the
+    /// filter: the first so many of them. It begins by a search for the text.
+    pub(super) fn page(
+        &self,
+        alloc: Global,
+        after: &str,
+        most: usize,
+        asked: &Filter,
+    ) -> Result<Sequence<Info>, AllocError>
+        ensures { IfOk result (λ infos. (place : ℕ) → IsOf place self.now → infos ≡ page place after.now most asked.now self.now) }
+    {
+        let start = String::from_str(alloc, after)?;
+        let mut infos = Sequence::new(alloc);
+        for (_, record) in self.map.range((Bound::Excluded(start), Bound::Unbounded)) {
+            if infos.len() >= most {
+                return Ok(infos);
+            }
+            if record.matches(asked) {
+                infos.push(record.info()?)?;
+            }
+        }
+        Ok(infos)
+    }
+
+    /// The list with references to the records after its own, in their order.
+    pub(super) fn listed<'a>(
+        &'a self,
+        before: Vec<&'a Record>,
+    ) -> Result<Vec<&'a Record>, AllocError>
+        ensures { IfOk result (λ all. map (λ r. r.now) all.items ≡ map (λ r. r.now) before.entry.items ++ self.now) }
+    {
+        let mut list = before;
+        for record in self.map.values() {
+            list.push(record)?;
+        }
+        Ok(list)
+    }
+}
