@@ -1,6 +1,7 @@
 -- The entries of one namespace, by their keys, as a list of records.
-use Rattle.std.proofs.Common.{◌≡◌, ℕ, zero, suc, ◌+◌, ◌-◌, ◌<◌, ◌≤◌, Bool, true, false, true≢false, eq-eqb, cond, List, [], ◌∷◌, ◌++◌, length, take, map, Some, None, Result, Ok, Err, OnOk, OnErr, refl, sym, ap, ◌∙◌, subst, string_bytes, string_cmp, arith, append_assoc, append-nil}
-use Rattle.std.specs.Prelude.{if◌then◌else◌, ◌&&◌, not, bytes_eq, filter, find}
+use Rattle.std.proofs.Common.{◌≡◌, ℕ, zero, suc, ◌+◌, ◌-◌, ◌<◌, ◌≤◌, Bool, true, false, true≢false, eq-eqb, cond, List, [], ◌∷◌, ◌++◌, length, take, map, Some, None, refl, sym, ap, ◌∙◌, string_bytes, string_cmp, arith, count_by, append_assoc, append-nil, IsTrue, ◌↔◌, nat_lt}
+use Rattle.std.specs.Prelude.{if◌then◌else◌, ◌&&◌, ◌||◌, not, bytes_eq, filter, find}
+use Rattle.std.specs.List.{list_any}
 use Rattle.std.specs.Map.{lookup, remove_entry, set_value, values_of}
 use Rattle.std.specs.BTreeMap.{is_at, insert_entry}
 use Rattle.std.specs.declared.cmp.Ordering.{Ordering}
@@ -9,10 +10,15 @@ use Rattle.std.specs.Ordering.{is_lt, is_eq, nat_cmp, ordering_then, match_order
 use Rattle.std.specs.Cmp.Lexicographic.{slice_cmp}
 use Rattle.std.specs.declared.string.String.{String}
 use Rattle.std.proofs.lemmas.Bool.{or_parts}
+use Rattle.std.proofs.lemmas.Bool.Decides.{nat_tests}
 use Rattle.std.proofs.lemmas.List.{length_push}
+use Rattle.std.proofs.lemmas.List.Sums.{sum_by-cons}
 use Rattle.std.proofs.lemmas.Cmp.{nat_cmp_total, tied_itself}
 use Rattle.std.proofs.lemmas.Map.Lookups.{exact_bytes}
 use Rattle.std.proofs.lemmas.Map.Text.{is_eq-slice_cmp}
+use Rattle.snap_counts.specs.Counts.{count_in}
+use Rattle.snap_counts.proofs.Lists.{one_if}
+use Rattle.snap_lease.proofs.CountLemmas.{is_positive-count_by}
 use Rattle.snap_lease.proofs.ListLemmas.{bytes_eq_comm}
 use Rattle.snap_record.specs.Filters.{is_match}
 use Rattle.snap_record.specs.Labels.{Bytes, Label}
@@ -21,8 +27,8 @@ use Rattle.snap_record.specs.declared.filter.Filter.{Filter}
 use Rattle.snap_record.specs.declared.info.Info.{Info}
 use Rattle.snap_record.specs.declared.record.Content.{Content}
 use Rattle.snap_record.specs.declared.record.Record.{Record}
-use Rattle.snap_call.specs.Records.{record_cmp, is_named, record_at, has_key, with_record, without, with_labels, relabelled, with_content_at, is_walked, page}
-use Rattle.snap_call.specs.Spaces.{IsOf, IsKeyed}
+use Rattle.snap_call.specs.Records.{record_cmp, is_named, record_at, has_key, is_child, has_children, with_record, without, with_labels, relabelled, with_content_at, is_walked, page}
+use Rattle.snap_call.specs.Spaces.{IsOf, IsKeyed, AreParentCounts}
 use Rattle.snap_call.proofs.Lists.{some_same}
 use Rattle.snap_call.proofs.InOrder.{tied-is_named}
 
@@ -154,27 +160,7 @@ module _ {Z : Type 0} where
       step Equal is next = (sym (exact_bytes (string_bytes k) (string_bytes e.0) is) ∙ own, keyed.1)
       step Greater is next = (keyed.0, next)
 
-  -- after an insertion that may have failed for want of memory
-  pub keyed-inserted : {A E : Type 0} (o : Result A E) (k : String Z) (r : Record) (es fs : List (String Z × Record)) → string_bytes k ≡ r.key → IsKeyed es
-      → OnOk o (fs ≡ insert_entry string_cmp es k r) → OnErr o (fs ≡ es) → IsKeyed fs
-  keyed-inserted (Ok x) k r es fs own keyed ok err = subst IsKeyed (sym ok) (keyed-insert k r es own keyed)
-  keyed-inserted (Err x) k r es fs own keyed ok err = subst IsKeyed (sym err) keyed
-
   -- ---- those that pass a test
-
-  pub values-filter : (p : Record → Bool) (es : List (String Z × Record)) → values_of (filter (λ (e : String Z × Record). p e.1) es) ≡ filter p (values_of es)
-  values-filter p [] = refl
-  values-filter p (e ∷ es) = step (p e.1) (values-filter p es)
-    where
-      step : (b : Bool) → values_of (filter (λ (x : String Z × Record). p x.1) es) ≡ filter p (values_of es)
-          → values_of (cond b (e ∷ filter (λ (x : String Z × Record). p x.1) es) (filter (λ (x : String Z × Record). p x.1) es)) ≡ cond b (e.1 ∷ filter p (values_of es)) (filter p (values_of es))
-      step true next = ap (λ l. e.1 ∷ l) next
-      step false next = next
-
-  pub keyed-filter : (p : String Z × Record → Bool) (es : List (String Z × Record)) → IsKeyed es → IsKeyed (filter p es)
-  keyed-filter p [] keyed = tt
-  keyed-filter p (e ∷ es) keyed =
-      elim (p e) as (λ b. IsKeyed (cond b (e ∷ filter p es) (filter p es))) [ true ↦ (keyed.0, keyed-filter p es keyed.1) | false ↦ keyed-filter p es keyed.1 ]
 
   pub values-after : (start : String Z) (es : List (String Z × Record)) → IsKeyed es
       → values_of (filter (λ (e : String Z × Record). is_lt (string_cmp start e.0) && not false) es) ≡ filter (is_after (string_bytes start)) (values_of es)
@@ -187,6 +173,70 @@ module _ {Z : Type 0} where
           → values_of (cond (b && not false) (e ∷ filter (λ (x : String Z × Record). is_lt (string_cmp start x.0) && not false) es) (filter (λ (x : String Z × Record). is_lt (string_cmp start x.0) && not false) es)) ≡ cond b (e.1 ∷ filter (is_after (string_bytes start)) (values_of es)) (filter (is_after (string_bytes start)) (values_of es))
       step true next = ap (λ l. e.1 ∷ l) next
       step false next = next
+
+-- ---- how many are on a parent
+
+-- the record is on the parent
+abbrev pub has_parent : Bytes → Record → Bool
+has_parent q r = bytes_eq q r.parent
+
+-- what each adds to a count
+abbrev ones : (Record → Bool) → Record → ℕ
+ones p r = one_if (p r)
+
+count-with_record : (p : Record → Bool) (r : Record) (rs : List Record) → count_by p (with_record r rs) ≡ count_by p rs + one_if (p r)
+count-with_record p r [] = omega (arith, sum_by-cons (ones p) r [])
+count-with_record p r (t ∷ ts) =
+    elim (is_lt (record_cmp r t)) as (λ b. count_by p (if b then r ∷ t ∷ ts else t ∷ with_record r ts) ≡ count_by p (t ∷ ts) + one_if (p r)) [
+      | true ↦ omega (arith, sum_by-cons (ones p) r (t ∷ ts))
+      | false ↦ omega (arith, count-with_record p r ts, sum_by-cons (ones p) t (with_record r ts), sum_by-cons (ones p) t ts)
+    ]
+
+pub parents-added : (r : Record) (rs ts : List Record) (old new : List (Bytes × ℕ)) → AreParentCounts rs old → ((q : Bytes) → count_in q new ≡ count_in q old + one_if (bytes_eq q r.parent)) → ts ≡ with_record r rs → AreParentCounts ts new
+parents-added r rs ts old new counted more is q =
+    let e = ap (count_by (has_parent q)) is ∙ count-with_record (has_parent q) r rs in
+    omega (arith, e, counted q, more q)
+
+-- a record of the namespace is on the parent where the parent is counted
+children-any : (place : ℕ) (key : Bytes) (rs : List Record) → IsOf place rs → list_any (has_parent key) rs ≡ has_children place key rs
+children-any place key [] of = refl
+children-any place key (r ∷ rs) of =
+    ap (λ b. b || list_any (has_parent key) rs) (bytes_eq_comm key r.parent ∙ sym (ap (λ b. b && bytes_eq r.parent key) (eq-eqb r.namespace place of.0)))
+    ∙ ap (λ b. is_child place key r || b) (children-any place key rs of.1)
+
+pub children-counted : (place : ℕ) (key : Bytes) (rs : List Record) (counts : List (Bytes × ℕ)) (b : Bool) → IsOf place rs → AreParentCounts rs counts → IsTrue b ↔ (0 < count_in key counts) → b ≡ has_children place key rs
+children-counted place key rs counts b of counted is =
+    let e : nat_lt 0 (count_in key counts) ≡ list_any (has_parent key) rs = ap (nat_lt 0) (counted key) ∙ is_positive-count_by (has_parent key) rs in
+    let f : b ≡ nat_lt 0 (count_in key counts) = grind (arith, nat_tests, is) in
+    f ∙ e ∙ children-any place key rs of
+
+module _ {Z : Type 0} where
+  count-remove : (p : Record → Bool) (test : String Z → Bool) (es : List (String Z × Record)) (r : Record) → lookup test es ≡ Some r → count_by p (values_of (remove_entry test es)) + one_if (p r) ≡ count_by p (values_of es)
+  count-remove p test [] r found = absurd (cc)
+  count-remove p test (e ∷ es) r found = step (test e.0) found (count-remove p test es r)
+    where
+      step : (b : Bool) → cond b (Some e.1) (lookup test es) ≡ Some r → (lookup test es ≡ Some r → count_by p (values_of (remove_entry test es)) + one_if (p r) ≡ count_by p (values_of es))
+          → count_by p (values_of (cond b es (e ∷ remove_entry test es))) + one_if (p r) ≡ count_by p (e.1 ∷ values_of es)
+      step true here next = let is : one_if (p e.1) ≡ one_if (p r) = ap (ones p) (some_same e.1 r here) in omega (arith, is, sum_by-cons (ones p) e.1 (values_of es))
+      step false here next = let h = next here in omega (arith, h, sum_by-cons (ones p) e.1 (values_of (remove_entry test es)), sum_by-cons (ones p) e.1 (values_of es))
+
+  pub parents-removed : (test : String Z → Bool) (es : List (String Z × Record)) (r : Record) (old new : List (Bytes × ℕ)) → lookup test es ≡ Some r → AreParentCounts (values_of es) old
+      → ((q : Bytes) → count_in q new ≡ count_in q old - one_if (bytes_eq q r.parent)) → AreParentCounts (values_of (remove_entry test es)) new
+  parents-removed test es r old new found counted less q = omega (arith, count-remove (has_parent q) test es r found, counted q, less q)
+
+  count-set : (p : Record → Bool) (test : String Z → Bool) (es : List (String Z × Record)) (r w : Record) → lookup test es ≡ Some r → p w ≡ p r → count_by p (values_of (set_value test es w)) ≡ count_by p (values_of es)
+  count-set p test [] r w found same = refl
+  count-set p test (e ∷ es) r w found same = step (test e.0) found (λ later. count-set p test es r w later same)
+    where
+      step : (b : Bool) → cond b (Some e.1) (lookup test es) ≡ Some r → (lookup test es ≡ Some r → count_by p (values_of (set_value test es w)) ≡ count_by p (values_of es))
+          → count_by p (values_of (cond b ((e.0, w) ∷ es) (e ∷ set_value test es w))) ≡ count_by p (e.1 ∷ values_of es)
+      step true here next =
+          let is : one_if (p w) ≡ one_if (p e.1) = ap one_if (same ∙ sym (ap p (some_same e.1 r here))) in
+          omega (arith, is, sum_by-cons (ones p) w (values_of es), sum_by-cons (ones p) e.1 (values_of es))
+      step false here next = let h = next here in omega (arith, h, sum_by-cons (ones p) e.1 (values_of (set_value test es w)), sum_by-cons (ones p) e.1 (values_of es))
+
+  pub parents-kept : (test : String Z → Bool) (es : List (String Z × Record)) (r w : Record) (counts : List (Bytes × ℕ)) → lookup test es ≡ Some r → w.parent ≡ r.parent → AreParentCounts (values_of es) counts → AreParentCounts (values_of (set_value test es w)) counts
+  parents-kept test es r w counts found same counted q = counted q ∙ sym (count-set (has_parent q) test es r w found (ap (bytes_eq q) same))
 
 -- ---- pages
 

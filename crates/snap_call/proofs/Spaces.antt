@@ -1,6 +1,7 @@
 -- The records of all namespaces: what a change of one namespace's makes of them.
-use Rattle.std.proofs.Common.{◌≡◌, ℕ, zero, suc, ◌+◌, ◌-◌, ◌<◌, ◌≤◌, Bool, true, false, eqb-true, cond, List, [], ◌∷◌, ◌++◌, length, get_or, set, map, Some, None, refl, sym, ap, ◌∙◌, subst, arith, append_assoc, append-nil, length-append, take, drop}
+use Rattle.std.proofs.Common.{◌≡◌, ℕ, zero, suc, ◌+◌, ◌-◌, ◌<◌, ◌≤◌, Bool, true, false, eqb-true, cond, List, [], ◌∷◌, ◌++◌, length, get_or, set, map, Some, None, refl, sym, ap, ◌∙◌, subst, arith, append_assoc, append-nil, take}
 use Rattle.std.proofs.lemmas.List.{take_more}
+use Rattle.std.proofs.lemmas.List.Folds.{list_any-append}
 use Rattle.std.specs.Prelude.{if◌then◌else◌, ◌==◌, ◌&&◌, ◌||◌, bytes_eq, filter, find}
 use Rattle.std.specs.List.{AllByRecursion, list_any}
 use Rattle.std.specs.List.Sorted.{IsStrictlySortedBy}
@@ -10,17 +11,16 @@ use Rattle.std.specs.Ordering.{is_lt, nat_cmp, ordering_then, MatchOrdering}
 use Rattle.std.specs.Cmp.Lexicographic.{slice_cmp}
 use Rattle.std.proofs.lemmas.Bool.{false_from_ne_true, or_parts}
 use Rattle.std.proofs.lemmas.Cmp.{ranked}
-use Rattle.snap_lease.proofs.ListLemmas.{all-filter}
 use Rattle.snap_record.specs.Labels.{Bytes, Label}
 use Rattle.snap_record.specs.declared.record.Content.{Content}
 use Rattle.snap_record.specs.declared.record.Record.{Record}
 use Rattle.snap_record.specs.declared.filter.Filter.{Filter}
 use Rattle.snap_record.specs.Filters.{is_match}
 use Rattle.snap_record.specs.Records.{info_of}
-use Rattle.snap_call.specs.Records.{record_cmp, is_named, record_at, has_key, with_record, without, without_key, with_labels, relabelled, with_content_at, is_walked, page}
+use Rattle.snap_call.specs.Records.{record_cmp, is_named, record_at, has_key, is_child, has_children, with_record, without, without_key, with_labels, relabelled, with_content_at, is_walked, page}
 use Rattle.snap_call.specs.Spaces.{IsOf, AreFrom, AreOrdered, joined}
 use Rattle.snap_call.proofs.Lists.{all-map, all-with_record, all-without}
-use Rattle.snap_call.proofs.InOrder.{sorted-with_record, sorted-without, sorted-filter}
+use Rattle.snap_call.proofs.InOrder.{sorted-with_record, sorted-without}
 use Rattle.snap_call.proofs.Entries.{take-nil, without-none, amended, with_content, amended-relabelled, amended-with_content_at}
 
 -- ---- the namespaces' places
@@ -213,6 +213,42 @@ module _ (place : ℕ) (key : Bytes) where
       ap (record_at place key) (sym (append-nil (joined rss)))
       ∙ find-others (is_named place key) (joined rss) [] (unnamed-below place key (joined rss) (below-from 0 place rss (omega arith) from))
 
+-- ---- by parent
+
+module _ (place : ℕ) (key : Bytes) where
+  childless : (rs : List Record) → AllByRecursion (λ r. r.namespace ≡ place → ⊥) rs → has_children place key rs ≡ false
+  childless [] apart = refl
+  childless (r ∷ rs) apart =
+      ap (λ b. b && bytes_eq r.parent key || has_children place key rs) (false_from_ne_true (r.namespace == place) (λ e. apart.0 (eqb-true r.namespace place e)))
+      ∙ childless rs apart.1
+
+  childless-below : (rs : List Record) → AreBelow place rs → has_children place key rs ≡ false
+  childless-below rs below = childless rs (all-map (λ r. r.namespace < place) (λ r. r.namespace ≡ place → ⊥) (λ r lt e. omega (arith, e, lt)) rs below)
+
+  childless-above : (rs : List Record) → AreAbove place rs → has_children place key rs ≡ false
+  childless-above rs above = childless rs (all-map (λ r. place < r.namespace) (λ r. r.namespace ≡ place → ⊥) (λ r lt e. omega (arith, e, lt)) rs above)
+
+  children-from : (i k : ℕ) (rss : List (List Record)) (d : List Record) → AreFrom i rss → k < length rss → i + k ≡ place → has_children place key (joined rss) ≡ has_children place key (get_or rss k d)
+  children-from i k [] d from lt at = absurd (omega arith)
+  children-from i zero (rs ∷ rss) d from lt at =
+      list_any-append (is_child place key) rs (joined rss)
+      ∙ ap (λ b. has_children place key rs || b) (childless-above (joined rss) (above-from (suc i) place rss (omega arith) from.1))
+      ∙ alone (has_children place key rs)
+    where
+      alone : (b : Bool) → (b || false) ≡ b
+      alone true = refl
+      alone false = refl
+  children-from i (suc k) (rs ∷ rss) d from lt at =
+      list_any-append (is_child place key) rs (joined rss)
+      ∙ ap (λ b. b || has_children place key (joined rss)) (childless-below rs (below-of i place rs (omega arith) from.0))
+      ∙ children-from (suc i) k rss d from.1 (omega arith) (omega arith)
+
+  pub joined-children : (rss : List (List Record)) (d : List Record) → AreFrom 0 rss → place < length rss → has_children place key (joined rss) ≡ has_children place key (get_or rss place d)
+  joined-children rss d from lt = children-from 0 place rss d from lt (omega arith)
+
+  pub joined-children-past : (rss : List (List Record)) → AreFrom 0 rss → length rss ≤ place → has_children place key (joined rss) ≡ false
+  joined-children-past rss from le = childless-below (joined rss) (below-from 0 place rss (omega arith) from)
+
 -- ---- one record more
 
 nat-Less : (x y : ℕ) → x < y → nat_cmp x y ≡ Less
@@ -267,24 +303,6 @@ joined-absent p [] k d lt none = absurd (omega arith)
 joined-absent p (rs ∷ rss) zero d lt none = (any-append p rs (joined rss) none).0
 joined-absent p (rs ∷ rss) (suc k) d lt none = joined-absent p rss k d (omega arith) (any-append p rs (joined rss) none).1
 
--- ---- all namespaces
-
-filter-append : (p : Record → Bool) (rs ts : List Record) → filter p (rs ++ ts) ≡ filter p rs ++ filter p ts
-filter-append p [] ts = refl
-filter-append p (r ∷ rs) ts =
-    elim (p r) as (λ b. cond b (r ∷ filter p (rs ++ ts)) (filter p (rs ++ ts)) ≡ cond b (r ∷ filter p rs) (filter p rs) ++ filter p ts) [
-      | true ↦ ap (λ l. r ∷ l) (filter-append p rs ts)
-      | false ↦ filter-append p rs ts
-    ]
-
-pub joined-filter : (p : Record → Bool) (rss : List (List Record)) → joined (map (filter p) rss) ≡ filter p (joined rss)
-joined-filter p [] = refl
-joined-filter p (rs ∷ rss) = ap (λ l. filter p rs ++ l) (joined-filter p rss) ∙ sym (filter-append p rs (joined rss))
-
-pub from-filter : (p : Record → Bool) (i : ℕ) (rss : List (List Record)) → AreFrom i rss → AreFrom i (map (filter p) rss)
-from-filter p i [] from = tt
-from-filter p i (rs ∷ rss) from = (all-filter (λ r. r.namespace ≡ i) p rs from.0, from-filter p (suc i) rss from.1)
-
 -- ---- room for one namespace more
 
 pub joined-append : (rss tss : List (List Record)) → joined (rss ++ tss) ≡ joined rss ++ joined tss
@@ -318,6 +336,9 @@ module _ (rss : List (List Record)) (count : ℕ) (o : AreOrdered rss count) (pl
   module _ (key : Bytes) where
     pub lent-found : record_at place key rs ≡ record_at place key (joined rss)
     lent-found = ap (record_at place key) at ∙ sym (joined-found place key rss rs o.from lt)
+
+    pub lent-children : has_children place key rs ≡ has_children place key (joined rss)
+    lent-children = ap (has_children place key) at ∙ sym (joined-children place key rss rs o.from lt)
 
     module _ (ts : List Record) (taken : (p : ℕ) → IsOf p rs → ts ≡ without_key p key rs) where
       is-without : ts ≡ without_key place key rs
@@ -420,16 +441,19 @@ ordered-grown rss tss count o from same = record {
   counted = o.counted ∙ sym (ap length same);
 }
 
-length-joined-take : (k : ℕ) (rss : List (List Record)) → length (joined (take k rss)) ≤ length (joined rss)
-length-joined-take zero rss = omega arith
-length-joined-take (suc k) [] = omega arith
-length-joined-take (suc k) (rs ∷ rss) = omega (arith, length-joined-take k rss, length-append rs (joined (take k rss)), length-append rs (joined rss))
-
 -- the list so far, and the next namespace's
 pub joined-next : (rss : List (List Record)) (k : ℕ) (rs : List Record) → k < length rss → rs ≡ get_or rss k rs → joined (take (k + 1) rss) ≡ joined (take k rss) ++ rs
 joined-next rss k rs lt at = ap joined (take_more rss k rs lt) ∙ joined-append (take k rss) (get_or rss k rs ∷ []) ∙ ap (λ l. joined (take k rss) ++ l) (append-nil (get_or rss k rs) ∙ sym at)
 
 -- ---- the records of one namespace that pass a test
+
+filter-append : (p : Record → Bool) (rs ts : List Record) → filter p (rs ++ ts) ≡ filter p rs ++ filter p ts
+filter-append p [] ts = refl
+filter-append p (r ∷ rs) ts =
+    elim (p r) as (λ b. cond b (r ∷ filter p (rs ++ ts)) (filter p (rs ++ ts)) ≡ cond b (r ∷ filter p rs) (filter p rs) ++ filter p ts) [
+      | true ↦ ap (λ l. r ∷ l) (filter-append p rs ts)
+      | false ↦ filter-append p rs ts
+    ]
 
 filter-none : (p : Record → Bool) (rs : List Record) → AllByRecursion (λ r. p r ≡ false) rs → filter p rs ≡ []
 filter-none p [] all = refl
@@ -461,40 +485,3 @@ module _ (place : ℕ) (after : Bytes) (asked : Filter) where
 
   pub joined-page-past : (most : ℕ) (rss : List (List Record)) → AreFrom 0 rss → length rss ≤ place → [] ≡ page place after most asked (joined rss)
   joined-page-past most rss from le = sym (ap (λ l. map info_of (take most l)) (unwalked-below (joined rss) (below-from 0 place rss (omega arith) from)) ∙ ap (map info_of) (take-nil most))
-
--- ---- a test of all
-
-module _ (p : Record → Bool) where
-  length-filter-le : (rs : List Record) → length (filter p rs) ≤ length rs
-  length-filter-le [] = omega arith
-  length-filter-le (r ∷ rs) =
-      elim (p r) as (λ b. length (cond b (r ∷ filter p rs) (filter p rs)) ≤ suc (length rs)) [
-        | true ↦ (let h = length-filter-le rs in omega (arith, h))
-        | false ↦ (let h = length-filter-le rs in omega (arith, h))
-      ]
-
-  pub ordered-left : (rss tss : List (List Record)) (count left : ℕ) → AreOrdered rss count → tss ≡ map (filter p) rss → left ≡ length (joined tss) → AreOrdered tss left
-  ordered-left rss tss count left o is counted = record {
-    from = subst (AreFrom 0) (sym is) (from-filter p 0 rss o.from);
-    sorted = subst (IsStrictlySortedBy record_cmp) (sym (ap joined is ∙ joined-filter p rss)) (sorted-filter p (joined rss) o.sorted);
-    counted = counted;
-  }
-
-  -- the namespace that is next, where those before it are done
-  pub next-lent : (rss : List (List Record)) (k : ℕ) (rs : List Record) → k < length rss → get_or (map (filter p) (take k rss) ++ drop k rss) k rs ≡ get_or rss k rs
-  next-lent [] k rs lt = absurd (omega arith)
-  next-lent (ts ∷ rss) zero rs lt = refl
-  next-lent (ts ∷ rss) (suc k) rs lt = next-lent rss k rs (omega arith)
-
-  pub left-next : (rss : List (List Record)) (k : ℕ) (rs : List Record) → k < length rss → rs ≡ get_or rss k rs → joined (map (filter p) (take (k + 1) rss)) ≡ joined (map (filter p) (take k rss)) ++ filter p rs
-  left-next rss k rs lt at =
-      joined-filter p (take (k + 1) rss)
-      ∙ ap (filter p) (joined-next rss k rs lt at)
-      ∙ filter-append p (joined (take k rss)) rs
-      ∙ ap (λ l. l ++ filter p rs) (sym (joined-filter p (take k rss)))
-
-  pub left-fits : (rss : List (List Record)) (k : ℕ) (rs : List Record) → k < length rss → rs ≡ get_or rss k rs → length (joined (map (filter p) (take k rss))) + length (filter p rs) ≤ length (joined rss)
-  left-fits rss k rs lt at =
-      let e = ap length (left-next rss k rs lt at) ∙ length-append (joined (map (filter p) (take k rss))) (filter p rs) in
-      let f = ap length (joined-filter p (take (k + 1) rss)) in
-      omega (arith, e, f, length-filter-le (joined (take (k + 1) rss)), length-joined-take (k + 1) rss)

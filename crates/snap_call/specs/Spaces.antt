@@ -1,9 +1,11 @@
 -- Records by their namespaces: a list for each place, in the order of the places.
 -- Cited by invariants and private clauses alone.
-use Rattle.std.specs.Prelude.{◌≡◌, ℕ, suc, List, [], ◌∷◌, ◌++◌, length, string_bytes}
+use Rattle.std.specs.Prelude.{◌≡◌, ℕ, suc, List, [], ◌∷◌, ◌++◌, length, count_by, bytes_eq, string_bytes}
 use Rattle.std.specs.List.{AllByRecursion}
 use Rattle.std.specs.List.Sorted.{IsStrictlySortedBy}
 use Rattle.std.specs.declared.string.String.{String}
+use Rattle.snap_counts.specs.Counts.{count_in}
+use Rattle.snap_record.specs.Labels.{Bytes}
 use Rattle.snap_record.specs.declared.record.Record.{Record}
 use Rattle.snap_call.specs.Records.{record_cmp}
 
@@ -30,3 +32,7 @@ pub record AreOrdered (rss : List (List Record)) (count : ℕ) : Type 0 where
 -- each record stands at its own key
 abbrev pub IsKeyed : {Z : Type 0} → List (String Z × Record) → Type 0
 IsKeyed es = AllByRecursion (λ e. string_bytes e.0 ≡ e.1.key) es
+
+-- each text is counted as often as it is the parent of one of the records
+abbrev pub AreParentCounts : List Record → List (Bytes × ℕ) → Type 0
+AreParentCounts rs counts = (q : Bytes) → count_in q counts ≡ count_by (λ r. bytes_eq q r.parent) rs

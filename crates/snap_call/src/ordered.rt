@@ -1,9 +1,7 @@
-ghost use Rattle.std.specs.Prelude.{◌≡◌, ◌<◌, ◌^◌, [], false, map, not, filter, length, option_copied, OnOk, OnErr, IfErr, IfOk, vec_len};
-ghost use Rattle.snap_call.specs.Records.{record_at, has_key, with_record, without_key, with_content_at, relabelled, page};
-ghost use Rattle.snap_call.specs.Ids.{has_id};
+ghost use Rattle.std.specs.Prelude.{◌≡◌, ◌<◌, [], false, map, length, option_copied, OnOk, OnErr, IfErr, IfOk, vec_len};
+ghost use Rattle.snap_call.specs.Records.{record_at, has_key, has_children, with_record, without_key, with_content_at, relabelled, page};
 ghost use Rattle.snap_call.specs.Spaces.{AreFrom, joined};
 
-use crate::ids::Ids;
 use snap_record::{Content, Filter, Info, Labels, Record, Sequence};
 use std::alloc::{AllocError, AllocFailed, Global};
 use std::marker::Model;
@@ -15,9 +13,10 @@ use space::Space;
 /// Records in the order of their namespaces' places and of the bytes of their keys, each key once
 /// in its namespace. Contracts see the list.
 ///
-/// A namespace has a map from keys to records, so that no call moves the records of others: the cost
-/// of a call that is given a key grows with the logarithm of the number of the namespace's records.
-#[derive(Debug, Drop)]
+/// A namespace has a map from keys to records, so that no call moves the records of others, and the
+/// number of the records on each parent: the cost of a call that is given a key grows with the
+/// logarithm of the number of the namespace's records.
+#[derive(Drop)]
 pub(crate) struct Ordered {
     spaces: Vec<Space>,
     count: usize,
@@ -64,11 +63,22 @@ impl Ordered {
         }
     }
 
+    /// Whether a record of the namespace at the place is on this parent. Takes no memory.
+    pub(crate) fn has_children(&self, place: usize, key: &str) -> bool
+        ensures { result ≡ has_children place key.now self.now }
+    {
+        match self.spaces.get(place) {
+            Some(space) => space.has_children(key),
+            None => false,
+        }
+    }
+
     /// Puts a record in its place. Where memory is wanting, the records are as they were and the
     /// error gives the record back.
     ///
     /// The first record of a namespace makes room for the namespaces at its place and below. The
-    /// memory is that of the room, of the record's entry and of a copy of its key.
+    /// memory is that of the room, of the record's entry, of a copy of its key, and of a copy of the
+    /// name of its parent where no other record of the namespace is on it.
     pub(crate) fn insert(&mut self, added: Record) -> Result<(), AllocFailed<Record>>
         requires { has_key added.namespace added.key self.old ≡ false }
         ensures ok { OnOk result (self.new ≡ with_record added self.old) }
@@ -128,13 +138,6 @@ impl Ordered {
         space.relabel(key, labels, number);
     }
 
-    /// Takes the records away that have one of these ids, in one pass. Takes no memory.
-    pub(crate) fn remove_ids(&mut self, ids: &Ids)
-        ensures { self.new ≡ filter (λ r. not (has_id r.id ids.now)) self.old }
-    {
-        self.count = remove_ids_of(&mut self.spaces, ids);
-    }
-
     /// The infos of the records of the namespace at the place whose keys come after the text and
     /// that have every part of the filter: the first so many of them, in the order of their keys.
     ///
@@ -182,18 +185,4 @@ fn grow(spaces: &mut Vec<Space>, place: usize) -> Result<(), AllocError>
         spaces.push(Space::new(alloc))?;
     }
     Ok(())
-}
-
-/// Takes the records away that have one of these ids, and says how many are left.
-fn remove_ids_of(spaces: &mut Vec<Space>, ids: &Ids) -> usize
-    requires { length (joined spaces.old.items) < 2 ^ 64 }
-    ensures left { spaces.new.items ≡ map (filter (λ r. not (has_id r.id ids.now))) spaces.old.items }
-    ensures count { result ≡ length (joined spaces.new.items) }
-{
-    let mut count = 0;
-    for space in spaces.iter_mut() {
-        space.remove_ids(ids);
-        count += space.len();
-    }
-    count
 }

@@ -1,19 +1,20 @@
-ghost use Rattle.std.specs.Prelude.{◌≡◌, ℕ, [], ◌++◌, false, not, filter, map, length, option_copied, OnOk, OnErr, IfErr, IfOk};
-ghost use Rattle.snap_call.specs.Records.{record_at, has_key, with_record, without_key, with_content_at, relabelled, page};
-ghost use Rattle.snap_call.specs.Ids.{has_id};
+ghost use Rattle.std.specs.Prelude.{◌≡◌, ℕ, [], ◌++◌, false, map, option_copied, OnOk, OnErr, IfErr, IfOk};
+ghost use Rattle.snap_call.specs.Records.{record_at, has_key, has_children, with_record, without_key, with_content_at, relabelled, page};
 ghost use Rattle.snap_call.specs.Spaces.{IsOf};
 
-use crate::ids::Ids;
+use snap_counts::Counts;
 use snap_record::{Content, Filter, Info, Labels, Record, Sequence};
 use std::alloc::{AllocError, AllocFailed, Global};
 use std::collections::BTreeMap;
 use std::marker::Model;
 use std::ops::Bound;
 
-/// The records of one namespace, by their keys. Contracts see the list, in the order of the keys.
-#[derive(Debug, Drop)]
+/// The records of one namespace, by their keys, and how many of them are on each parent. Contracts
+/// see the list, in the order of the keys.
+#[derive(Drop)]
 pub(super) struct Space {
     map: BTreeMap<String, Record>,
+    parents: Counts,
 }
 
 impl Model for Space {
@@ -23,11 +24,11 @@ impl Model for Space {
 
     ghost Value = { List Record };
 
-    ghost use Rattle.snap_call.specs.Spaces.{IsKeyed};
+    ghost use Rattle.snap_call.specs.Spaces.{IsKeyed, AreParentCounts};
 
     ghost view = { λ s. values_of s.map.entries };
 
-    ghost invariant = { λ s. IsKeyed s.map.entries };
+    ghost invariant = { λ s. IsKeyed s.map.entries × AreParentCounts (values_of s.map.entries) s.parents };
 }
 
 impl Space {
@@ -37,14 +38,8 @@ impl Space {
     {
         Space {
             map: BTreeMap::new(alloc),
+            parents: Counts::new(alloc),
         }
-    }
-
-    /// How many records there are.
-    pub(super) fn len(&self) -> usize
-        ensures { result ≡ length self.now }
-    {
-        self.map.len()
     }
 
     /// The record of this key. Takes no memory.
@@ -52,6 +47,13 @@ impl Space {
         ensures { (place : ℕ) → IsOf place self.now → option_copied result ≡ record_at place key.now self.now }
     {
         self.map.get(key)
+    }
+
+    /// Whether a record is on this parent. Takes no memory.
+    pub(super) fn has_children(&self, key: &str) -> bool
+        ensures { (place : ℕ) → IsOf place self.now → result ≡ has_children place key.now self.now }
+    {
+        self.parents.has(key)
     }
 
     /// Puts a record in its place. Where memory is wanting, the records are as they were and the
@@ -66,10 +68,14 @@ impl Space {
         let Ok(key) = String::from_str(alloc, added.key.as_str()) else {
             return Err(AllocFailed { value: added });
         };
+        let Ok(()) = self.parents.add(added.parent.as_str()) else {
+            return Err(AllocFailed { value: added });
+        };
         match self.map.insert(key, added) {
             Ok(_) => Ok(()),
             Err(failed) => {
                 let (_, value) = failed.value;
+                self.parents.take(value.parent.as_str());
                 Err(AllocFailed { value })
             }
         }
@@ -81,7 +87,9 @@ impl Space {
         ensures taken { (place : ℕ) → IsOf place self.old → self.new ≡ without_key place key.now self.old }
         ensures record_taken { (place : ℕ) → IsOf place self.old → result ≡ record_at place key.now self.old }
     {
-        self.map.remove(key)
+        let removed = self.map.remove(key)?;
+        self.parents.take(removed.parent.as_str());
+        Some(removed)
     }
 
     /// Gives the record of this key the content. Where there is none, the records are as they were.
@@ -105,13 +113,6 @@ impl Space {
         };
         record.labels = labels;
         record.updated = number;
-    }
-
-    /// Takes the records away that have one of these ids, in one pass. Takes no memory.
-    pub(super) fn remove_ids(&mut self, ids: &Ids)
-        ensures { self.new ≡ filter (λ r. not (has_id r.id ids.now)) self.old }
-    {
-        self.map.retain(|_, record| !ids.has(record.id));
     }
 
     /// The infos of the records whose keys come after the text and that have every part of the

@@ -7,5 +7,5 @@ use Rattle.snap_call.proofs.ordered.space.Space.get.Goals as goal
 pub returns : goal.returns
 returns c = λ place of.
     c.get.ensures.value
-    ∙ lookup-named place c.args.key.now c.self.inside.map.entries c.self.invariant (subst (IsOf place) (sym c.self.view_is) of)
+    ∙ lookup-named place c.args.key.now c.self.inside.map.entries c.self.invariant.0 (subst (IsOf place) (sym c.self.view_is) of)
     ∙ ap (record_at place c.args.key.now) c.self.view_is

@@ -9,7 +9,7 @@ loop-record-init c =
     let after = c.args.after.now in
     infos-begin c.args.most c.args.asked.now (values_of c.into_iter-record-iterator.result) (filter (is_after after) c.args.self.now) c.new-infos.result c.new-infos.ensures
     (ap values_of (c.into_iter-record-iterator.ensures.into_iter_gives ∙ c.range-record-items.ensures.between tt)
-    ∙ values-after c.in_ok-start.start es c.self.invariant
+    ∙ values-after c.in_ok-start.start es c.self.invariant.0
     ∙ ap (λ t. filter (is_after t) (values_of es)) c.in_ok-start.ensures.ok
     ∙ ap (filter (is_after after)) c.self.view_is)
 
