@@ -17,8 +17,8 @@ invariant_of-self-in-Ok-insert c =
     subst (λ fs. IsKeyed fs × AreParentCounts (values_of fs) c.add.new.self) (sym c.in-Ok-insert.ensures.entries) (
       keyed-insert c.in-Ok.key r es own c.self.invariant.0,
       parents-added r (values_of es) _ counts c.add.new.self c.self.invariant.1
-      (λ q. c.in-Ok-add.ensures.ok q ∙ ap (λ t. count_in q counts + one_if (bytes_eq q t)) c.as_str-2.ensures)
-      (insert-named c.in-Ok.key r es own c.self.invariant.0 (subst (IsOf r.namespace) (sym c.self.view_is) c.requires.of) none),
+          (λ q. c.in-Ok-add.ensures.ok q ∙ ap (λ t. count_in q counts + one_if (bytes_eq q t)) c.as_str-2.ensures)
+          (insert-named c.in-Ok.key r es own c.self.invariant.0 (subst (IsOf r.namespace) (sym c.self.view_is) c.requires.of) none),
     )
 
 pub returns-in-Ok-insert-clause-ok : goal.returns-in-Ok-insert-clause-ok
