@@ -14,8 +14,8 @@ use std::marker::Model;
 /// The records of a store, in order of their namespaces' places and the bytes of their keys.
 /// Contracts see the list.
 ///
-/// A key is found by a binary search: its cost grows with the logarithm of the number of records.
-/// A table has the name of the snapshot that is active in each slot.
+/// A call that is given a key or a slot passes over no records: its cost grows with the logarithm of their
+/// number. A table has the name of the snapshot that is active in each slot.
 #[derive(Drop)]
 pub struct Records {
     rows: Ordered,
@@ -92,8 +92,7 @@ impl Records {
         self.rows.get(place, key)
     }
 
-    /// Whether the namespace at the place has a snapshot on this parent. Takes no memory. It goes over the
-    /// records.
+    /// Whether the namespace at the place has a snapshot on this parent. Takes no memory.
     pub fn has_children(&self, place: usize, key: &str) -> bool
         ensures { result ≡ has_children place key.now self.now }
     {
