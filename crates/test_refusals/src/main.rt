@@ -10,6 +10,8 @@
 //! where nothing is carried out again: while the input is read and a store is opened.
 #![tactic(auto)]
 
+ghost use Rattle.std.specs.Prelude.{◌≡◌};
+
 mod stands;
 mod stop;
 mod tried;
