@@ -10,45 +10,24 @@
 //! where nothing is carried out again: while the input is read and a store is opened.
 #![tactic(auto)]
 
-ghost use Rattle.std.specs.Prelude.{◌≡◌};
-
+mod script;
 mod stands;
 mod stop;
 mod tried;
 
+use crate::script::replay;
 use crate::stop::Stop;
-use crate::tried::carry_out;
-use snap_ledger::{NewTable, StoreName};
-use snap_session::Script;
-use std::alloc::Global;
 use std::io;
 use std::io::{BufWriter, Write};
-use std::marker::Brand;
 use std::process::ExitCode;
-
-fn run<N: StoreName, W: Write>(
-    alloc: Global,
-    table: NewTable,
-    text: &str,
-    output: &mut W,
-) -> Result<(), Stop>
-    requires { table ≡ N.table }
-{
-    let mut script: Script<N> = Script::new(alloc, table);
-    for line in text.lines() {
-        carry_out(alloc, &mut script, line.as_bytes(), output)?;
-    }
-    Ok(())
-}
 
 fn replayed(rt: &(impl Input + Print + AllocGlobal)) -> Result<(), Stop> {
     let alloc = rt.alloc();
     let text = io::read_to_string(alloc, rt.reader())?;
-    let table = NewTable::new(alloc)?;
     let Ok(mut output) = BufWriter::new(alloc, io::writer(rt)) else {
         return Err(Stop::NoMemory);
     };
-    let ended = run::<Brand, _>(alloc, table, text.as_str(), &mut output);
+    let ended = replay(alloc, text.as_str(), &mut output);
     match output.flush() {
         Ok(()) => ended,
         Err(_) => Err(Stop::OutputFailed),
