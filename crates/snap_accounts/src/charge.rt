@@ -198,7 +198,7 @@ impl<N: StoreName> Accounts<N> {
     }
 
     /// Removes the snapshot of the share's slot, and frees the slot; the answer is what it was charged.
-    /// It counts an entry. Takes no memory. The cost grows with the records behind its key, which move.
+    /// It counts an entry. Takes no memory. The cost grows with the logarithm of the number of records.
     pub fn discard(&mut self, share: Share<N>) -> Usage
         requires slot { share.slot < 64 }
         requires entries { self.old.entries < 2 ^ 63 }

@@ -185,7 +185,7 @@ impl<N: StoreName> Accounts<N> {
     /// is the share of its slot. [`Accounts::vacancy`] is the test of the condition.
     ///
     /// Takes memory for the record, its place and its slot; where that is refused, nothing changes. The cost
-    /// grows with the texts and the labels, and with the records behind the key, which move.
+    /// grows with the texts and the labels, and with the logarithm of the number of records.
     pub fn add(
         &mut self,
         alloc: Global,

@@ -250,8 +250,8 @@ impl<N: StoreName> Book<N> {
     /// `OverLimit` with what is free; `NumbersSpent` after the id 4,294,967,295. At last `OutOfMemory`
     /// where memory for the snapshot is refused. `JournalFull` and `OutOfMemory` leave the book as it
     /// was, the others all but the journal. Its cost grows with the logarithm of the number of
-    /// records, once for each ancestor, with the texts and the labels, and with the records behind the key,
-    /// which move.
+    /// records, once for each ancestor and once for the snapshot itself, and with the texts and the
+    /// labels.
     pub fn prepare(
         &mut self,
         session: u64,

@@ -116,8 +116,8 @@ impl<N: StoreName> Book<N> {
     /// Takes memory for the texts and the labels in the entry, in its copy and in the snapshot, for the
     /// ancestors' ids in the first two, and for the list of the layers in the snapshot and in the answer.
     /// The ancestors' layers are shared and not copied. Its cost grows with the logarithm of the
-    /// number of records, once for each ancestor, with the texts and the labels, and with the records behind
-    /// the key, which move.
+    /// number of records, once for each ancestor and once for the view itself, and with the texts and the
+    /// labels.
     pub fn view(
         &mut self,
         session: u64,

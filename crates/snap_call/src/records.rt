@@ -219,7 +219,7 @@ impl Records {
 
     /// The infos of the records of the namespace at the place whose keys come after the text and that
     /// have every part of the filter: the first so many of them, in the order of their keys. The cost
-    /// grows with the records and with the texts and labels of the infos.
+    /// grows with the records that are passed over, and with the texts and labels of the infos.
     pub fn page(
         &self,
         alloc: Global,
