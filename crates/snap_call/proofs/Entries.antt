@@ -27,7 +27,7 @@ use Rattle.snap_record.specs.declared.filter.Filter.{Filter}
 use Rattle.snap_record.specs.declared.info.Info.{Info}
 use Rattle.snap_record.specs.declared.record.Content.{Content}
 use Rattle.snap_record.specs.declared.record.Record.{Record}
-use Rattle.snap_call.specs.Records.{record_cmp, is_named, record_at, has_key, is_child, has_children, with_record, without, with_labels, relabelled, with_content_at, is_walked, page}
+use Rattle.snap_call.specs.Records.{record_cmp, is_named, record_at, has_key, is_child, has_children, child_count, with_record, without, with_labels, relabelled, with_content_at, is_walked, page}
 use Rattle.snap_call.specs.Spaces.{IsOf, IsKeyed, AreParentCounts}
 use Rattle.snap_call.proofs.Lists.{some_same}
 use Rattle.snap_call.proofs.InOrder.{tied-is_named}
@@ -181,7 +181,7 @@ abbrev pub has_parent : Bytes → Record → Bool
 has_parent q r = bytes_eq q r.parent
 
 -- what each adds to a count
-abbrev ones : (Record → Bool) → Record → ℕ
+abbrev pub ones : (Record → Bool) → Record → ℕ
 ones p r = one_if (p r)
 
 count-with_record : (p : Record → Bool) (r : Record) (rs : List Record) → count_by p (with_record r rs) ≡ count_by p rs + one_if (p r)
@@ -209,6 +209,16 @@ children-counted place key rs counts b of counted is =
     let e : nat_lt 0 (count_in key counts) ≡ list_any (has_parent key) rs = ap (nat_lt 0) (counted key) ∙ is_positive-count_by (has_parent key) rs in
     let f : b ≡ nat_lt 0 (count_in key counts) = grind (arith, nat_tests, is) in
     f ∙ e ∙ children-any place key rs of
+
+-- so many records of the namespace are on the parent as it is counted
+children-alike : (place : ℕ) (key : Bytes) (rs : List Record) → IsOf place rs → count_by (has_parent key) rs ≡ child_count place key rs
+children-alike place key [] of = refl
+children-alike place key (r ∷ rs) of =
+    let same : has_parent key r ≡ is_child place key r = bytes_eq_comm key r.parent ∙ sym (ap (λ b. b && bytes_eq r.parent key) (eq-eqb r.namespace place of.0)) in
+    omega (arith, ap one_if same, children-alike place key rs of.1, sum_by-cons (ones (has_parent key)) r rs, sum_by-cons (ones (is_child place key)) r rs)
+
+pub children-count : (place : ℕ) (key : Bytes) (rs : List Record) (counts : List (Bytes × ℕ)) → IsOf place rs → AreParentCounts rs counts → count_in key counts ≡ child_count place key rs
+children-count place key rs counts of counted = counted key ∙ children-alike place key rs of
 
 module _ {Z : Type 0} where
   count-remove : (p : Record → Bool) (test : String Z → Bool) (es : List (String Z × Record)) (r : Record) → lookup test es ≡ Some r → count_by p (values_of (remove_entry test es)) + one_if (p r) ≡ count_by p (values_of es)

@@ -2,6 +2,8 @@
 use Rattle.std.proofs.Common.{◌≡◌, ℕ, zero, suc, ◌+◌, ◌-◌, ◌<◌, ◌≤◌, Bool, true, false, eqb-true, cond, List, [], ◌∷◌, ◌++◌, length, get_or, set, map, Some, None, refl, sym, ap, ◌∙◌, subst, arith, append_assoc, append-nil, take}
 use Rattle.std.proofs.lemmas.List.{take_more}
 use Rattle.std.proofs.lemmas.List.Folds.{list_any-append}
+use Rattle.std.proofs.lemmas.List.Sums.{sum_by-append}
+use Rattle.std.proofs.lemmas.Bool.Decides.{nat_tests}
 use Rattle.std.specs.Prelude.{if◌then◌else◌, ◌==◌, ◌&&◌, ◌||◌, bytes_eq, filter, find}
 use Rattle.std.specs.List.{AllByRecursion, list_any}
 use Rattle.std.specs.List.Sorted.{IsStrictlySortedBy}
@@ -17,11 +19,12 @@ use Rattle.snap_record.specs.declared.record.Record.{Record}
 use Rattle.snap_record.specs.declared.filter.Filter.{Filter}
 use Rattle.snap_record.specs.Filters.{is_match}
 use Rattle.snap_record.specs.Records.{info_of}
-use Rattle.snap_call.specs.Records.{record_cmp, is_named, record_at, has_key, is_child, has_children, with_record, without, without_key, with_labels, relabelled, with_content_at, is_walked, page}
+use Rattle.snap_call.specs.Records.{record_cmp, is_named, record_at, has_key, is_child, has_children, child_count, with_record, without, without_key, with_labels, relabelled, with_content_at, is_walked, page}
 use Rattle.snap_call.specs.Spaces.{IsOf, AreFrom, AreOrdered, joined}
 use Rattle.snap_call.proofs.Lists.{all-map, all-with_record, all-without}
 use Rattle.snap_call.proofs.InOrder.{sorted-with_record, sorted-without}
-use Rattle.snap_call.proofs.Entries.{take-nil, without-none, amended, with_content, amended-relabelled, amended-with_content_at}
+use Rattle.snap_lease.proofs.CountLemmas.{is_positive-count_by}
+use Rattle.snap_call.proofs.Entries.{ones, take-nil, without-none, amended, with_content, amended-relabelled, amended-with_content_at}
 
 -- ---- the namespaces' places
 
@@ -249,6 +252,28 @@ module _ (place : ℕ) (key : Bytes) where
   pub joined-children-past : (rss : List (List Record)) → AreFrom 0 rss → length rss ≤ place → has_children place key (joined rss) ≡ false
   joined-children-past rss from le = childless-below (joined rss) (below-from 0 place rss (omega arith) from)
 
+-- ---- how many by parent
+
+module _ (place : ℕ) (key : Bytes) where
+  none-counted : (rs : List Record) → has_children place key rs ≡ false → child_count place key rs ≡ 0
+  none-counted rs none = let e = is_positive-count_by (is_child place key) rs ∙ none in grind (arith, nat_tests, e)
+
+  count-from : (i k : ℕ) (rss : List (List Record)) (d : List Record) → AreFrom i rss → k < length rss → i + k ≡ place → child_count place key (joined rss) ≡ child_count place key (get_or rss k d)
+  count-from i k [] d from lt at = absurd (omega arith)
+  count-from i zero (rs ∷ rss) d from lt at =
+      let later = none-counted (joined rss) (childless-above place key (joined rss) (above-from (suc i) place rss (omega arith) from.1)) in
+      omega (arith, later, sum_by-append (ones (is_child place key)) rs (joined rss))
+  count-from i (suc k) (rs ∷ rss) d from lt at =
+      let before = none-counted rs (childless-below place key rs (below-of i place rs (omega arith) from.0)) in
+      let rest = count-from (suc i) k rss d from.1 (omega arith) (omega arith) in
+      omega (arith, before, rest, sum_by-append (ones (is_child place key)) rs (joined rss))
+
+  pub joined-count : (rss : List (List Record)) (d : List Record) → AreFrom 0 rss → place < length rss → child_count place key (joined rss) ≡ child_count place key (get_or rss place d)
+  joined-count rss d from lt = count-from 0 place rss d from lt (omega arith)
+
+  pub joined-count-past : (rss : List (List Record)) → AreFrom 0 rss → length rss ≤ place → child_count place key (joined rss) ≡ 0
+  joined-count-past rss from le = none-counted (joined rss) (joined-children-past place key rss from le)
+
 -- ---- one record more
 
 nat-Less : (x y : ℕ) → x < y → nat_cmp x y ≡ Less
@@ -339,6 +364,9 @@ module _ (rss : List (List Record)) (count : ℕ) (o : AreOrdered rss count) (pl
 
     pub lent-children : has_children place key rs ≡ has_children place key (joined rss)
     lent-children = ap (has_children place key) at ∙ sym (joined-children place key rss rs o.from lt)
+
+    pub lent-count : child_count place key rs ≡ child_count place key (joined rss)
+    lent-count = ap (child_count place key) at ∙ sym (joined-count place key rss rs o.from lt)
 
     module _ (ts : List Record) (taken : (p : ℕ) → IsOf p rs → ts ≡ without_key p key rs) where
       is-without : ts ≡ without_key place key rs

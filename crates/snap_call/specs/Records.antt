@@ -1,6 +1,6 @@
 -- Records as a list, in order of their namespaces' places and of the bytes of their keys.
 -- Cited by `Records::committed_at`, `Records::is_present`, `Records::is_base` and others.
-use Rattle.std.specs.Prelude.{◌≡◌, ℕ, ◌<◌, zero, suc, ◌+◌, ◌==◌, Bool, true, false, ◌&&◌, if◌then◌else◌, List, [], ◌∷◌, map, filter, take, Option, None, Some, find, bytes_eq, option_and_then}
+use Rattle.std.specs.Prelude.{◌≡◌, ℕ, ◌<◌, zero, suc, ◌+◌, ◌==◌, Bool, true, false, ◌&&◌, if◌then◌else◌, List, [], ◌∷◌, map, filter, take, Option, None, Some, find, bytes_eq, option_and_then, count_by}
 use Rattle.std.specs.declared.cmp.Ordering.{Ordering}
 use Rattle.std.specs.Ordering.{nat_cmp, ordering_then, is_lt}
 use Rattle.std.specs.Cmp.Lexicographic.{slice_cmp}
@@ -57,6 +57,10 @@ is_child place key r = (r.namespace == place) && bytes_eq r.parent key
 -- whether the namespace has a snapshot on this parent
 abbrev pub has_children : ℕ → Bytes → List Record → Bool
 has_children place key rs = list_any (is_child place key) rs
+
+-- how many snapshots of the namespace at the place are on the parent
+abbrev pub child_count : ℕ → Bytes → List Record → ℕ
+child_count place key rs = count_by (is_child place key) rs
 
 -- an active record
 abbrev pub is_active : Content → Bool

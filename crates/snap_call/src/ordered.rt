@@ -1,5 +1,5 @@
 ghost use Rattle.std.specs.Prelude.{◌≡◌, ◌<◌, [], false, map, length, option_copied, OnOk, OnErr, IfErr, IfOk, vec_len};
-ghost use Rattle.snap_call.specs.Records.{record_at, has_key, has_children, with_record, without_key, with_content_at, relabelled, page};
+ghost use Rattle.snap_call.specs.Records.{record_at, has_key, has_children, child_count, with_record, without_key, with_content_at, relabelled, page};
 ghost use Rattle.snap_call.specs.Spaces.{AreFrom, joined};
 
 use snap_record::{Content, Filter, Info, Labels, Record, Sequence};
@@ -70,6 +70,16 @@ impl Ordered {
         match self.spaces.get(place) {
             Some(space) => space.has_children(key),
             None => false,
+        }
+    }
+
+    /// How many records of the namespace at the place are on this parent. Takes no memory.
+    pub(crate) fn child_count(&self, place: usize, key: &str) -> u64
+        ensures { result ≡ child_count place key.now self.now }
+    {
+        match self.spaces.get(place) {
+            Some(space) => space.child_count(key),
+            None => 0,
         }
     }
 

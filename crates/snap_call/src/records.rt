@@ -1,6 +1,6 @@
 ghost use Rattle.std.specs.Prelude.{◌≡◌, ◌<◌, [], true, false, not, filter, map, length, option_copied, None, OnOk, OnErr, IfErr, IfOk, IsTrue, ◌↔◌, ℕ};
 ghost use Rattle.std.specs.List.{list_any};
-ghost use Rattle.snap_call.specs.Records.{record_at, has_key, has_children, is_slot, active_at, with_record, without_key, without_keys, without_slot, recharged, relabelled, page, lowest_free, HasLowSlot};
+ghost use Rattle.snap_call.specs.Records.{record_at, has_key, has_children, child_count, is_slot, active_at, with_record, without_key, without_keys, without_slot, recharged, relabelled, page, lowest_free, HasLowSlot};
 ghost use Rattle.snap_call.specs.Indexes.{slot_of};
 
 use crate::open_slots::{Name, OpenSlots};
@@ -97,6 +97,13 @@ impl Records {
         ensures { result ≡ has_children place key.now self.now }
     {
         self.rows.has_children(place, key)
+    }
+
+    /// How many snapshots of the namespace at the place are on this parent. Takes no memory.
+    pub fn child_count(&self, place: usize, key: &str) -> u64
+        ensures { result ≡ child_count place key.now self.now }
+    {
+        self.rows.child_count(place, key)
     }
 
     /// The record that is active in the slot, if the slot is open. Takes no memory.

@@ -1,9 +1,10 @@
 -- What is copied up into the upper layer before it changes (overlayfs.rst, "Non-directories").
--- Cited by `below`, `is_pure`, `copy_up` and others.
+-- Cited by `below`, `is_pure`, `is_pure_over` and others.
 use Rattle.std.specs.Prelude.{Bool, false, not, ◌||◌, List, [], ◌∷◌, ◌++◌, Option, Some, None, is_some, if◌then◌else◌}
 use Rattle.snap_path.specs.Text.{Names}
 use Rattle.snap_layer.specs.declared.node.Node.{Node}
 use Rattle.snap_layer.specs.declared.node.Node.TheVariants.{Dir, File, Symlink}
+use Rattle.snap_layer.specs.declared.node.Body.{Body}
 use Rattle.snap_layer.specs.declared.node.Body.TheVariants as body_kinds
 use Rattle.snap_layer.specs.Tree.{Tree, at, hides}
 use Rattle.snap_layer.specs.Edits.{with_entry, with_new}
@@ -12,6 +13,13 @@ use Rattle.snap_merge.specs.Objects.{Object, dir, file, symlink, seen, is_shown_
 -- what the lower layers show at the path, where the upper layer doesn't hide it
 abbrev pub below : Tree → List Tree → Names → Option Object
 below u lowers p = if hides u p then None else seen lowers p
+
+-- the body of a file or a symlink
+abbrev pub object_body : Option Object → Option Body
+object_body None = None
+object_body (Some (dir mode)) = None
+object_body (Some (file mode bytes)) = Some (body_kinds.File mode bytes)
+object_body (Some (symlink target)) = Some (body_kinds.Symlink target)
 
 -- the node is a directory that is opaque, or there is no directory under it
 abbrev pub is_pure_over : Option Node → Option Object → Bool

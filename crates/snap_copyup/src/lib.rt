@@ -10,6 +10,6 @@ mod lower;
 mod parents;
 mod undo;
 
-pub use lower::{below, copy_below, copy_up, is_pure, is_pure_over};
+pub use lower::{below, body_below, copy_up, is_pure, is_pure_over};
 pub use parents::{Last, ensure_dirs, missing_dirs, missing_dirs_of_both, put};
-pub use undo::{add_dirs, cover_new, missing_paths, take_all, take_new};
+pub use undo::{add_dirs, add_dirs_of_both, take_all};

@@ -5,11 +5,11 @@ ghost use Rattle.snap_path.specs.Text.{Names};
 ghost use Rattle.snap_layer.specs.Tree.{at};
 ghost use Rattle.snap_merge.specs.Objects.{object, seen};
 ghost use Rattle.snap_merge.specs.Walk.{walk};
-ghost use Rattle.snap_copyup.specs.Copying.{below, copied_up, is_pure, is_pure_over};
+ghost use Rattle.snap_copyup.specs.Copying.{below, copied_up, is_pure, is_pure_over, object_body};
 ghost use Rattle.snap_copyup.specs.Places.{last_of, IsRefusal};
 
 use super::parents::{Last, put};
-use snap_layer::{Bytes, Layer, Node, Shared};
+use snap_layer::{Body, Bytes, Layer, Node, Shared};
 use snap_merge::{FsError, Seen, Stack, hides, is_dir, show_are_layers};
 use snap_path::Path;
 use std::alloc::AllocError;
@@ -80,9 +80,7 @@ pub fn copy_up(layer: &mut Layer, lowers: &[Shared], path: &Path) -> Result<(), 
 }
 
 /// What a copy-up puts at the path: what is below, where the layer has no node there, with a copy of its bytes.
-///
-/// It fails only where memory is refused. Cost: that of `below`, and the file's bytes.
-pub fn copy_below(layer: &Layer, lowers: &[Shared], path: &Path) -> Result<Last, AllocError>
+fn copy_below(layer: &Layer, lowers: &[Shared], path: &Path) -> Result<Last, AllocError>
     ensures { IfOk result (λ last. last ≡ last_of (at layer.now path.now) (below layer.now lowers.now path.now)) }
 {
     if layer.at(path).is_some() {
@@ -102,5 +100,25 @@ pub fn copy_below(layer: &Layer, lowers: &[Shared], path: &Path) -> Result<Last,
         Some(Seen::Symlink { target }) => Ok(Last::Symlink {
             target: Bytes::copy_of(alloc, target)?,
         }),
+    }
+}
+
+/// A copy of the file or symlink that is below at the path, or nothing where a directory or nothing is.
+///
+/// It fails only where memory is refused. Cost: that of `below`, and the file's bytes.
+pub fn body_below(layer: &Layer, lowers: &[Shared], path: &Path) -> Result<Option<Body>, AllocError>
+    ensures { IfOk result (λ body. body ≡ object_body (below layer.now lowers.now path.now)) }
+{
+    let alloc = layer.alloc();
+    match below(layer, lowers, path) {
+        None => Ok(None),
+        Some(Seen::Dir { .. }) => Ok(None),
+        Some(Seen::File { mode, bytes }) => Ok(Some(Body::File {
+            mode,
+            bytes: Bytes::copy_of(alloc, bytes)?,
+        })),
+        Some(Seen::Symlink { target }) => Ok(Some(Body::Symlink {
+            target: Bytes::copy_of(alloc, target)?,
+        })),
     }
 }

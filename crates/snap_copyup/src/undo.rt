@@ -1,11 +1,10 @@
 // What was added to a layer is taken back.
-ghost use Rattle.std.specs.Prelude.{◌≡◌, ◌∷◌, List, OnOk, OnErr, IfOk, IfErr, Some, None};
-ghost use Rattle.snap_layer.specs.declared.node.Node.TheVariants as Node;
+ghost use Rattle.std.specs.Prelude.{◌≡◌, ◌∷◌, List, OnOk, OnErr, IfOk, IfErr, None};
 ghost use Rattle.snap_layer.specs.Tree.{Tree};
 ghost use Rattle.snap_merge.specs.Walk.{walk};
 ghost use Rattle.snap_copyup.specs.Copying.{with_parents};
 ghost use Rattle.snap_copyup.specs.Places.{IsRefusal};
-ghost use Rattle.snap_copyup.specs.Undoing.{Undoes, IsNew};
+ghost use Rattle.snap_copyup.specs.Undoing.{Undoes};
 
 use super::parents::ensure_dirs;
 use snap_layer::{Layer, Shared};
@@ -14,11 +13,8 @@ use snap_path::Path;
 use std::alloc::AllocError;
 
 /// The directories above the path that the layer doesn't have, the lowest first: so `take_all` takes them back
-/// once `ensure_dirs` or `copy_up` has added them.
-///
-/// It fails only where memory is refused. Cost: for each name of the path a walk to it in the layer, and the
-/// text of each directory's path.
-pub fn missing_paths(layer: &Layer, path: &Path) -> Result<Vec<Path>, AllocError>
+/// once `ensure_dirs` has added them.
+fn missing_paths(layer: &Layer, path: &Path) -> Result<Vec<Path>, AllocError>
     ensures { IfOk result (λ dirs. (lowers : List Tree) → walk (layer.now ∷ lowers) path.now ≡ None → Undoes dirs.items (with_parents layer.now lowers path.now) layer.now) }
 {
     layer.show_is_layer();
@@ -52,6 +48,37 @@ pub fn add_dirs(layer: &mut Layer, lowers: &[Shared], path: &Path) -> Result<Vec
     Ok(dirs)
 }
 
+/// Adds to the layer the directories above the one path that it doesn't have, and then those above the other,
+/// and gives the paths of the first and those of the others: `take_all` takes the others back, and then the
+/// first.
+///
+/// The condition for each path, the errors and what stands after them are those of `ensure_dirs`. Cost: that of
+/// `add_dirs` for each path.
+pub fn add_dirs_of_both(
+    layer: &mut Layer,
+    lowers: &[Shared],
+    one: &Path,
+    other: &Path,
+) -> Result<(Vec<Path>, Vec<Path>), FsError>
+    requires one { walk (layer.old ∷ lowers.now) one.now ≡ None }
+    requires other { walk (layer.old ∷ lowers.now) other.now ≡ None }
+    ensures ok { OnOk result (layer.new ≡ with_parents (with_parents layer.old lowers.now one.now) lowers.now other.now) }
+    ensures first { IfOk result (λ dirs. Undoes dirs.0.items (with_parents layer.old lowers.now one.now) layer.old) }
+    ensures others { IfOk result (λ dirs. Undoes dirs.1.items layer.new (with_parents layer.old lowers.now one.now)) }
+    ensures error { IfErr result (λ e. IsRefusal (with_parents (with_parents layer.old lowers.now one.now) lowers.now other.now) e) }
+    ensures unchanged { OnErr result (layer.new ≡ layer.old) }
+{
+    layer.show_is_layer();
+    let first = add_dirs(layer, lowers, one)?;
+    match add_dirs(layer, lowers, other) {
+        Ok(others) => Ok((first, others)),
+        Err(error) => {
+            take_all(layer, &first);
+            Err(error)
+        }
+    }
+}
+
 /// Takes what stands at the paths, one after another.
 ///
 /// The condition is that each can be taken then, as by `take_name`. Takes no memory. Cost: for each path that
@@ -63,31 +90,4 @@ pub fn take_all(layer: &mut Layer, paths: &[Path])
     for path in paths {
         layer.take_name(path);
     }
-}
-
-/// Takes back a file or symlink that was put where nothing stood, with its number, which the next one gets.
-///
-/// The condition is that it is the last one that got a number. Takes no memory. Cost: that of `take_name`.
-pub fn take_new(layer: &mut Layer, path: &Path)
-    requires { (u : Tree) × IsNew None path.now layer.old u }
-    ensures { (u : Tree) → IsNew None path.now layer.old u → layer.new ≡ u }
-{
-    layer.show_is_layer();
-    layer.take_name(path);
-    layer.show_is_layer();
-    layer.give_back_number();
-}
-
-/// Takes back a file or symlink that was put in place of a whiteout, with its number, which the next one gets.
-///
-/// The condition is that it is the last one that got a number. Takes no memory, since something stands there.
-/// Cost: that of `add_whiteout`.
-pub fn cover_new(layer: &mut Layer, path: &Path)
-    requires { (u : Tree) × IsNew (Some Node.Whiteout) path.now layer.old u }
-    ensures { (u : Tree) → IsNew (Some Node.Whiteout) path.now layer.old u → layer.new ≡ u }
-{
-    layer.show_is_layer();
-    let _ = layer.add_whiteout(path);
-    layer.show_is_layer();
-    layer.give_back_number();
 }

@@ -6,7 +6,7 @@ use Rattle.snap_layer.specs.declared.node.Node.{Node}
 use Rattle.snap_layer.specs.declared.node.Node.TheVariants as node
 use Rattle.snap_layer.specs.declared.node.Body.{Body}
 use Rattle.snap_layer.specs.declared.node.Body.TheVariants as body_kinds
-use Rattle.snap_layer.specs.Tree.{Tree, at, body, number_of, has_number, IsDirAt}
+use Rattle.snap_layer.specs.Tree.{Tree, at, body, number_of, has_number, IsDirAt, leaf_node}
 use Rattle.snap_layer.specs.Counts.{name_count}
 use Rattle.snap_layer.specs.Layers.{IsLayer}
 use Rattle.snap_layer.specs.Edits.{with_entry, with_body, body_with_mode, IsFree}
@@ -15,7 +15,7 @@ use Rattle.snap_layer.proofs.Counting.{weight, name_count-insert_entry}
 use Rattle.snap_layer.proofs.Kept.{has_body}
 use Rattle.snap_layer.proofs.Replacing.{other_name}
 use Rattle.snap_layer.specs.declared.inode.Target.TheVariants as target
-use Rattle.snap_layer.specs.Walk.{View, walk, leaf_node, seen, stands, Gains, Renodes, Rebodies}
+use Rattle.snap_layer.specs.Walk.{View, walk, seen, stands, Gains, Renodes, Rebodies}
 use Rattle.snap_layer.specs.Holds.{Places, place, IsLeafOf}
 use Rattle.snap_layer.proofs.Frames.{split_ℕ}
 use Rattle.snap_layer.proofs.Makes.{Makes}

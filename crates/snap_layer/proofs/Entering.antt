@@ -12,7 +12,7 @@ use Rattle.snap_path.specs.Text.{Names, IsPath}
 use Rattle.snap_layer.specs.declared.node.Node.{Node}
 use Rattle.snap_layer.specs.declared.node.Node.TheVariants as node
 use Rattle.snap_layer.specs.declared.node.Body.{Body}
-use Rattle.snap_layer.specs.Tree.{Tree, at, number_of, IsDirAt}
+use Rattle.snap_layer.specs.Tree.{Tree, at, number_of, IsDirAt, leaf_node}
 use Rattle.snap_layer.specs.Counts.{inode_count}
 use Rattle.snap_layer.specs.Layers.{IsLayer}
 use Rattle.snap_layer.specs.Edits.{with_entry, with_node, with_new, without, HasPlace, IsFree}
@@ -22,7 +22,7 @@ use Rattle.snap_layer.proofs.Replacing.{clears_place, IsLayer-with_node, inode_c
 use Rattle.snap_layer.proofs.Laws.{without-with_entry}
 use Rattle.snap_layer.specs.declared.inode.Target.{Target}
 use Rattle.snap_layer.specs.declared.inode.Target.TheVariants as target
-use Rattle.snap_layer.specs.Walk.{View, walk, leaf_node, seen, Same, Frees, Releases, Covers, Adds, Enters}
+use Rattle.snap_layer.specs.Walk.{View, walk, seen, Same, Frees, Releases, Covers, Adds, Enters}
 use Rattle.snap_layer.specs.Walk as tables
 use Rattle.snap_layer.specs.Holds.{Places, place}
 use Rattle.snap_layer.proofs.Frames.{split_ℕ, walk_push}

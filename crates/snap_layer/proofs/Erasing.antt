@@ -11,7 +11,7 @@ use Rattle.std.proofs.lemmas.Bool.{cond-false}
 use Rattle.snap_path.specs.Text.{Names, begins}
 use Rattle.snap_layer.specs.declared.node.Node.TheVariants as node
 use Rattle.snap_layer.specs.declared.node.Body.{Body}
-use Rattle.snap_layer.specs.Tree.{Tree, at, body, number_of, number_at, IsDirAt}
+use Rattle.snap_layer.specs.Tree.{Tree, at, body, number_of, number_at, IsDirAt, leaf_node}
 use Rattle.snap_layer.specs.Layers.{IsLayer}
 use Rattle.snap_layer.specs.Edits.{with_entry, with_node, with_moved, moved, without, HasPlace, IsFree, IsMovable}
 use Rattle.snap_layer.proofs.Lists.{lookup-remove_entry, apart_from}
@@ -21,7 +21,7 @@ use Rattle.snap_layer.proofs.Moves.{apart_below, not_of_parent, HasParent-withou
 use Rattle.snap_layer.proofs.Replacing.{clears_place, without_nothing}
 use Rattle.snap_layer.specs.declared.inode.Target.{Target}
 use Rattle.snap_layer.specs.declared.inode.Target.TheVariants as target
-use Rattle.snap_layer.specs.Walk.{View, Table, walk, leaf_node, seen, Puts, Links, Same, Frees, Releases, Drops, Covers, Gains, Shifted, Renames, Relocates}
+use Rattle.snap_layer.specs.Walk.{View, Table, walk, seen, Puts, Links, Same, Frees, Releases, Drops, Covers, Gains, Shifted, Renames, Relocates}
 use Rattle.snap_layer.specs.Walk as tables
 use Rattle.snap_layer.specs.Holds.{Places, place}
 use Rattle.snap_layer.proofs.Frames.{split_ℕ, split_name, walk_push}

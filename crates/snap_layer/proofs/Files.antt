@@ -12,7 +12,7 @@ use Rattle.snap_layer.specs.declared.node.Node.{Node}
 use Rattle.snap_layer.specs.declared.node.Node.TheVariants as node
 use Rattle.snap_layer.specs.declared.node.Body.{Body}
 use Rattle.snap_layer.specs.declared.node.Body.TheVariants as body_kinds
-use Rattle.snap_layer.specs.Tree.{Tree, at, body, number_of, has_number, IsDirAt}
+use Rattle.snap_layer.specs.Tree.{Tree, at, body, number_of, has_number, IsDirAt, leaf_node}
 use Rattle.snap_layer.specs.Counts.{name_count}
 use Rattle.snap_layer.specs.Layers.{IsLayer}
 use Rattle.snap_layer.specs.Edits.{with_entry, with_new, with_moved, without, outside, bodies_without, IsFree, IsMovable}
@@ -25,7 +25,7 @@ use Rattle.snap_layer.proofs.Replacing.{with_node-free, other_name, at_taken}
 use Rattle.snap_layer.proofs.Laws.{SetsBody-with_new}
 use Rattle.snap_layer.proofs.Moves.{name_count-with_moved, sorted-without}
 use Rattle.snap_layer.specs.declared.inode.Target.TheVariants as target
-use Rattle.snap_layer.specs.Walk.{View, walk, leaf_node, seen, stands, Adds, Shifted}
+use Rattle.snap_layer.specs.Walk.{View, walk, seen, stands, Adds, Shifted}
 use Rattle.snap_layer.specs.Holds.{Places, place, IsLeafOf}
 use Rattle.snap_layer.proofs.Frames.{split_ℕ, walk_push}
 use Rattle.snap_layer.proofs.Makes.{Makes}

@@ -36,3 +36,4 @@ pub mod Dirs
 pub mod Ranges
 pub mod Leaves
 pub mod Numbers
+pub mod Linked

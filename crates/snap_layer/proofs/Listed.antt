@@ -18,7 +18,7 @@ use Rattle.snap_path.specs.Text.{Names, begins}
 use Rattle.snap_layer.specs.declared.node.Node.{Node}
 use Rattle.snap_layer.specs.declared.node.Body.{Body}
 use Rattle.snap_layer.specs.declared.node.Body.TheVariants as body_kinds
-use Rattle.snap_layer.specs.Tree.{Tree, Entries, path_cmp, at, name_below, names_below, is_dir, is_whiteout}
+use Rattle.snap_layer.specs.Tree.{Tree, Entries, path_cmp, at, name_below, names_below, is_dir, is_whiteout, leaf_node}
 use Rattle.snap_layer.specs.Edits.{IsFree, inside}
 use Rattle.snap_layer.specs.Layers.{IsLayer}
 use Rattle.snap_layer.proofs.Lists.{same_lists, sum_by-filter}
@@ -28,7 +28,7 @@ use Rattle.snap_layer.specs.declared.inode.Inode.{Inode}
 use Rattle.snap_layer.specs.declared.inode.Inode.TheVariants.{Dir, Leaf}
 use Rattle.snap_layer.specs.declared.inode.Target.{Target}
 use Rattle.snap_layer.specs.declared.inode.Target.TheVariants as target
-use Rattle.snap_layer.specs.Walk.{follow, walk, entry_at, node_of, node_at, seen, stands, view_of, leaf_node}
+use Rattle.snap_layer.specs.Walk.{follow, walk, entry_at, node_of, node_at, seen, stands, view_of}
 use Rattle.snap_layer.specs.Rows.{name_cmp, Items, items_from, targets_whiteout, own}
 use Rattle.snap_layer.proofs.Inside.{cmp_front, found_each}
 use Rattle.snap_layer.proofs.Walking.{items_entry, walk_on, walk_off}

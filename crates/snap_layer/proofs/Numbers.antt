@@ -7,7 +7,7 @@ use Rattle.snap_path.specs.Text.{Names}
 use Rattle.snap_layer.specs.declared.node.Body.{Body}
 use Rattle.snap_layer.specs.Tree.{Tree, at, body, number_at, number_of}
 use Rattle.snap_layer.specs.Layers.{IsLayer}
-use Rattle.snap_layer.specs.Edits.{with_next}
+use Rattle.snap_layer.specs.Undoing.{with_next}
 use Rattle.snap_layer.specs.Walk.{View}
 use Rattle.snap_layer.specs.Holds.{Places}
 use Rattle.snap_layer.proofs.Lists.{same_lists}

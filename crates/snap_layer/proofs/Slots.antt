@@ -18,7 +18,8 @@ use Rattle.std.specs.Map.{lookup}
 use Rattle.snap_layer.specs.declared.inode.Inode.TheVariants as inode
 use Rattle.snap_layer.specs.declared.inode.Inode.{Inode}
 use Rattle.snap_layer.specs.declared.inode.Target.{Target}
-use Rattle.snap_layer.specs.Walk.{entry_of, node_of, body_of, count_of, node_at, View, view_of, leaf_node, Links, Same, Lowers, Raises, Renodes, Rebodies}
+use Rattle.snap_layer.specs.Tree.{leaf_node}
+use Rattle.snap_layer.specs.Walk.{entry_of, node_of, body_of, count_of, node_at, View, view_of, Links, Same, Lowers, Raises, Renodes, Rebodies}
 use Rattle.snap_layer.proofs.Frames.{split_ℕ}
 
 pub on_ok : {A E P Q : Type 0} (r : Result A E) → (P → Q) → OnOk r P → OnOk r Q

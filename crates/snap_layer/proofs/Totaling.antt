@@ -15,12 +15,11 @@ use Rattle.snap_layer.specs.declared.node.Node.TheVariants as node
 use Rattle.snap_layer.specs.declared.node.Body.{Body}
 use Rattle.snap_layer.specs.declared.node.Body.TheVariants as body_kinds
 use Rattle.snap_layer.specs.declared.totals.Totals.{Totals}
-use Rattle.snap_layer.specs.Tree.{Tree, Entries, path_cmp, at, body, number_of, number_at, has_number, is_dir, is_whiteout, IsDirAt}
+use Rattle.snap_layer.specs.Tree.{Tree, Entries, path_cmp, at, body, number_of, number_at, has_number, is_dir, is_whiteout, IsDirAt, leaf_node}
 use Rattle.snap_layer.specs.Counts.{dir_count, whiteout_count, inode_count, block_count, name_count, body_blocks}
 use Rattle.snap_layer.specs.Layers.{IsLayer}
-use Rattle.snap_layer.specs.Edits.{with_entry, with_body, with_node, with_new, with_moved, without, outside, inside, name_of, HasPlace, IsFree}
+use Rattle.snap_layer.specs.Edits.{with_entry, with_body, with_node, with_new, with_moved, without, outside, inside, HasPlace, IsFree}
 use Rattle.snap_layer.specs.Totals.{path_count, Counts}
-use Rattle.snap_layer.specs.Walk.{leaf_node}
 use Rattle.snap_layer.proofs.Lists.{lookup-filter, sum_by-filter}
 use Rattle.snap_layer.proofs.Paths.{begins_itself, path_cmp_total, path_cmp-IsAntisymmetric}
 use Rattle.snap_layer.proofs.Counting.{dirs, whites, weight, inode_count-without, block_count-with_entry, block_count-with_body, weight_of_body, inode_count-with_body, block_count-without, length-bodies_without, blocks-bodies_without, dropped_blocks}
@@ -43,7 +42,7 @@ if_none o = if is_none o then 1 else 0
 path_count-with_entry : (t : Tree) (p : Names) (n : Node) → IsStrictlySortedBy path_cmp (keys_of t.entries) → path_count (with_entry t p n) + weight ones (at t p) ≡ path_count t + 1
 path_count-with_entry t p n sorted = sum_by-insert_entry ones path_cmp_total t.entries p n sorted
 
-path_count-without : (t : Tree) (p : Names) → path_count (without t p) ≤ path_count t
+pub path_count-without : (t : Tree) (p : Names) → path_count (without t p) ≤ path_count t
 path_count-without t p = omega (arith, sum_by-filter ones (λ e. begins p e.0) t.entries)
 
 -- where something stands there is a path
@@ -61,7 +60,7 @@ path_put t p = by (at t p) refl
         let there : lookup (is_at (path_cmp p)) (inside p t.entries) ≡ Some v = lookup-filter path_cmp_total path_cmp-IsAntisymmetric (begins p) p t.entries ∙ cond-true (begins p p) (at t p) None (begins_itself p) ∙ is in
         omega (arith, sum_by-filter ones (λ e. begins p e.0) t.entries, some_path p (inside p t.entries) (ap is_some there))
 
-path_count-with_node : (t : Tree) (p : Names) (n : Node) → IsStrictlySortedBy path_cmp (keys_of t.entries) → path_count (with_node t p n) ≡ path_count (without t p) + 1
+pub path_count-with_node : (t : Tree) (p : Names) (n : Node) → IsStrictlySortedBy path_cmp (keys_of t.entries) → path_count (with_node t p n) ≡ path_count (without t p) + 1
 path_count-with_node t p n sorted = omega (arith, path_count-with_entry (without t p) p n (sorted-without t p sorted), ap (weight ones) (at_taken t p))
 
 path_count-with_moved : (t : Tree) (from to : Names) (leaves : Bool) → IsStrictlySortedBy path_cmp (keys_of t.entries) → path_count (with_moved t from to leaves) ≤ path_count (without t to) + 1
@@ -209,10 +208,6 @@ name_becomes t ok p path place k (body_kinds.Symlink target) apart is = symlink_
 pub name_no_dir : (k : ℕ) (b : Body) → dirs (leaf_node k b) ≡ 0
 name_no_dir k (body_kinds.File m bytes) = refl
 name_no_dir k (body_kinds.Symlink target) = refl
-
-pub name_is : (k : ℕ) (b : Body) → name_of k (Some b) ≡ Some (leaf_node k b)
-name_is k (body_kinds.File m bytes) = refl
-name_is k (body_kinds.Symlink target) = refl
 
 -- where the test fails nothing stands there
 pub not_some : {A : Type 0} (b : Bool) (o : Option A) → b ≡ is_some o → b ≡ false → o ≡ None

@@ -1,5 +1,5 @@
 -- A directory of a layer, and what it has at a name.
--- Cited by `Layer::root_dir`, `Dir::node`, `Dir::entry` and others.
+-- Cited by `Dir::entry`.
 use Rattle.std.specs.Prelude.{ℕ, List, ◌∷◌, ◌++◌, [], Option, Some, None}
 use Rattle.std.specs.Option.{option_map}
 use Rattle.snap_path.specs.Text.{Names}

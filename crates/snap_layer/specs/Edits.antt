@@ -7,10 +7,10 @@ use Rattle.std.specs.Map.{remove_entry}
 use Rattle.std.specs.BTreeMap.{is_at, insert_entry}
 use Rattle.snap_path.specs.Text.{Names, IsPath, begins}
 use Rattle.snap_layer.specs.declared.node.Node.{Node}
-use Rattle.snap_layer.specs.declared.node.Node.TheVariants.{Dir, File, Symlink, Whiteout}
+use Rattle.snap_layer.specs.declared.node.Node.TheVariants.{Dir, File, Whiteout}
 use Rattle.snap_layer.specs.declared.node.Body.{Body}
 use Rattle.snap_layer.specs.declared.node.Body.TheVariants as body_kinds
-use Rattle.snap_layer.specs.Tree.{Tree, Entries, Bodies, path_cmp, at, body, number_at, is_whiteout, IsDirAt}
+use Rattle.snap_layer.specs.Tree.{Tree, Entries, Bodies, path_cmp, at, body, number_at, leaf_node, is_whiteout, IsDirAt}
 use Rattle.snap_layer.specs.Counts.{name_count}
 
 -- the layer of the root alone, whose first file gets the number
@@ -49,15 +49,20 @@ with_new t p n b =
     let u = with_node t p n in
     record { entries = u.entries; bodies = insert_entry nat_cmp u.bodies t.next b; next = t.next + 1 }
 
--- the node that names a file number, by its body
+-- the node that names a file number, if it has a body
 abbrev pub name_of : ℕ → Option Body → Option Node
 name_of k None = None
-name_of k (Some (body_kinds.File mode bytes)) = Some (File k)
-name_of k (Some (body_kinds.Symlink target)) = Some (Symlink k)
+name_of k (Some b) = Some (leaf_node k b)
 
 -- the layer with the name, if there is one, in place of what stands at the path
 abbrev pub with_name : Tree → Names → Option Node → Tree
 with_name t p o = option_map_or (λ n. with_node t p n) o t
+
+-- the layer with a new file or symlink, which has the next number, at the path, and one more name of it at the link
+abbrev pub with_linked : Tree → Names → Names → Body → Tree
+with_linked t p link b =
+    let n = leaf_node t.next b in
+    with_node (with_new t p n b) link n
 
 -- the layer with other bytes of a file
 abbrev pub with_bytes : Tree → ℕ → Option Body → List ℕ → Tree
@@ -111,10 +116,6 @@ with_moved t from to leaves =
     let u = moved (without t to) from to in
     if leaves then with_entry u from Whiteout else u
 
--- the layer with another next number
-abbrev pub with_next : Tree → ℕ → Tree
-with_next t k = record { entries = t.entries; bodies = t.bodies; next = k }
-
 -- nothing or a whiteout stands there
 abbrev pub IsFree : Option Node → Type 0
 IsFree None = Unit {0}
@@ -129,6 +130,13 @@ pub record HasParent (t : Tree) (p : Names) : Type 0 where
 pub record HasRoom (t : Tree) (p : Names) : Type 0 where
   pub free : IsFree (at t p)
   pub above : HasParent t p
+
+-- a new file may be made at the path, where nothing stands, and one more name of it at the link
+pub record HasRooms (t : Tree) (path link : Names) : Type 0 where
+  pub bare : at t path ≡ None
+  pub above : HasParent t path
+  pub room : HasRoom t link
+  pub apart : path ≡ link → ⊥
 
 -- what stands there may be replaced: nothing, a name, a whiteout, or a directory that has whiteouts alone
 pub record HasPlace (t : Tree) (p : Names) : Type 0 where

@@ -16,12 +16,12 @@ use Rattle.slab.specs.Slab.{Slab as Slots}
 use Rattle.snap_path.specs.Text.{Names}
 use Rattle.snap_layer.specs.declared.node.Node.{Node}
 use Rattle.snap_layer.specs.declared.node.Body.{Body}
-use Rattle.snap_layer.specs.Tree.{path_cmp, Tree, Bodies, number_of}
+use Rattle.snap_layer.specs.Tree.{path_cmp, Tree, Bodies, number_of, leaf_node}
 use Rattle.snap_layer.specs.Counts.{name_count}
 use Rattle.snap_layer.specs.Layers.{IsLayer}
 use Rattle.snap_layer.specs.declared.inode.Inode.{Inode}
 use Rattle.snap_layer.specs.declared.inode.Target.TheVariants as target
-use Rattle.snap_layer.specs.Walk.{walk, stands, body_at, leaf_node, View, view_of, IsTable}
+use Rattle.snap_layer.specs.Walk.{walk, stands, body_at, View, view_of, IsTable}
 
 -- the finite map of what stands at the paths
 abbrev pub Holds : Slots Inode → ℕ → Type 0

@@ -1,5 +1,5 @@
 -- What is true of each layer.
--- Cited by `Layer::add_symlink`, `Layer::next_number`, `Layer::show_is_layer` and others.
+-- Cited by `Layer::add_symlink`, `Layer::add_linked`, `Layer::next_number` and others.
 use Rattle.std.specs.Prelude.{◌≡◌, ℕ, ◌<◌, ◌≤◌, Bool, true, not, ◌==◌, ◌&&◌, nat_lt, nat_le, List, [], ◌∷◌, ◌++◌, length, Option, Some, None, IsSome}
 use Rattle.std.specs.Ordering.{nat_cmp}
 use Rattle.std.specs.List.{list_any}
@@ -28,6 +28,11 @@ abbrev pub IsSymlink : Option Body → Type 0
 IsSymlink None = ⊥
 IsSymlink (Some (body_kinds.File mode bytes)) = ⊥
 IsSymlink (Some (body_kinds.Symlink target)) = is_target target ≡ true
+
+-- a body that may stand in a layer: a file within its limits, or a symlink with a target
+abbrev pub IsBody : Body → Type 0
+IsBody (body_kinds.File mode bytes) = (mode ≤ 4095) × (length bytes ≤ 1048576)
+IsBody (body_kinds.Symlink target) = is_target target ≡ true
 
 -- a node that may stand in the layer: a directory's mode is at most octal 7777, and a name has its body
 abbrev pub IsWhole : Tree → Node → Type 0

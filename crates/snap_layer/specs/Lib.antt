@@ -9,3 +9,4 @@ pub mod Rows
 pub mod Totals
 pub mod Directory
 pub mod Reached
+pub mod Undoing

@@ -1,5 +1,5 @@
 -- What a layer holds: its paths, the bodies of its files, and the number of its next file.
--- Cited by `Layer::add_dir`, `Layer::add_file`, `Layer::add_symlink` and others.
+-- Cited by `Dir::node`, `Dir::entry`, `Dir::body` and others.
 use Rattle.std.specs.Prelude.{◌≡◌, ℕ, Bool, true, false, ◌==◌, ◌||◌, if◌then◌else◌, List, [], ◌∷◌, ◌++◌, Option, Some, None, option_and_then}
 use Rattle.std.specs.declared.cmp.Ordering.{Ordering}
 use Rattle.std.specs.Ordering.{nat_cmp}
@@ -12,6 +12,7 @@ use Rattle.snap_path.specs.Text.{Names}
 use Rattle.snap_layer.specs.declared.node.Node.{Node}
 use Rattle.snap_layer.specs.declared.node.Node.TheVariants.{Dir, File, Symlink, Whiteout}
 use Rattle.snap_layer.specs.declared.node.Body.{Body}
+use Rattle.snap_layer.specs.declared.node.Body.TheVariants as body_kinds
 
 -- paths are ordered name by name, and names by their bytes
 abbrev pub path_cmp : Names → Names → Ordering
@@ -54,6 +55,11 @@ abbrev pub number_of : Node → Option ℕ
 number_of (File number) = Some number
 number_of (Symlink number) = Some number
 number_of other = None
+
+-- the node that names the file or symlink with the number
+abbrev pub leaf_node : ℕ → Body → Node
+leaf_node k (body_kinds.File mode bytes) = File k
+leaf_node k (body_kinds.Symlink target) = Symlink k
 
 -- a node that names the file number
 abbrev pub has_number : ℕ → Node → Bool

@@ -10,8 +10,7 @@ use Rattle.snap_path.specs.Text.{Names}
 use Rattle.snap_layer.specs.declared.node.Node.{Node}
 use Rattle.snap_layer.specs.declared.node.Node.TheVariants as node
 use Rattle.snap_layer.specs.declared.node.Body.{Body}
-use Rattle.snap_layer.specs.declared.node.Body.TheVariants as body_kinds
-use Rattle.snap_layer.specs.Tree.{IsDirAt, number_of}
+use Rattle.snap_layer.specs.Tree.{IsDirAt, leaf_node, number_of}
 use Rattle.snap_layer.specs.declared.inode.Inode.{Inode}
 use Rattle.snap_layer.specs.declared.inode.Inode.TheVariants.{Dir, Leaf}
 use Rattle.snap_layer.specs.declared.inode.Target.{Target}
@@ -38,11 +37,6 @@ abbrev pub entry_of : Option Inode → List ℕ → Option Target
 entry_of None n = None
 entry_of (Some (Dir mode opaque entries)) n = lookup (is_at (slice_cmp nat_cmp n)) entries.entries
 entry_of (Some (Leaf number links body)) n = None
-
--- the node that names a body
-abbrev pub leaf_node : ℕ → Body → Node
-leaf_node k (body_kinds.File mode bytes) = node.File k
-leaf_node k (body_kinds.Symlink target) = node.Symlink k
 
 -- the node that an inode shows
 abbrev pub node_of : Option Inode → Option Node

@@ -1,11 +1,10 @@
 // The edits of a layer.
 ghost use Rattle.std.specs.Prelude.{◌≡◌, ◌↔◌, ◌<◌, ◌≤◌, ◌+◌, ◌-◌, ℕ, List, Some, None, is_none, if◌then◌else◌, IfOk, OnOk, OnErr, IsErrOf, IsSome, length, true, false};
-ghost use Rattle.snap_layer.specs.Tree.{at, body, number_at, IsDirAt};
+ghost use Rattle.snap_layer.specs.Tree.{at, body, number_at, IsDirAt, leaf_node};
 ghost use Rattle.snap_layer.specs.Counts.{inode_count, block_count, body_blocks, is_within};
 ghost use Rattle.snap_layer.specs.Totals.{path_count};
-ghost use Rattle.snap_layer.specs.Walk.{leaf_node};
-ghost use Rattle.snap_layer.specs.Layers.{IsLayer, IsFile, is_target};
-ghost use Rattle.snap_layer.specs.Edits.{with_body, with_entry, with_node, with_new, with_name, name_of, with_bytes, with_mode, with_file_mode, with_opaque, with_moved, with_next, without, HasRoom, HasPlace, IsTakeable, IsMovable, IsRegular, HasMode};
+ghost use Rattle.snap_layer.specs.Layers.{IsLayer, IsFile, IsBody, is_target};
+ghost use Rattle.snap_layer.specs.Edits.{with_body, with_entry, with_node, with_new, with_name, name_of, with_bytes, with_mode, with_file_mode, with_opaque, with_moved, with_linked, without, HasRoom, HasRooms, HasPlace, IsTakeable, IsMovable, IsRegular, HasMode};
 
 use super::error::LayerError;
 use super::layer::Layer;
@@ -108,6 +107,32 @@ impl Layer {
         self.put_name(path, number, inodes, blocks)
     }
 
+    /// Adds a new file or symlink with the next number at `path`, where nothing stands, and one more name of
+    /// it at `link`, where nothing or a whiteout stands.
+    ///
+    /// The conditions are those of `has_rooms`, and the limits of `add_file` and `add_symlink`. The errors are
+    /// those of `add_file`: there are both names afterwards, or neither, and then the number isn't used. Cost:
+    /// as `at` for both paths.
+    pub fn add_linked(&mut self, path: &Path, link: &Path, body: Body) -> Result<(), LayerError>
+        requires rooms { HasRooms self.old path.now link.now }
+        requires fits { IsBody body }
+        ensures ok { OnOk result (self.new ≡ with_linked self.old path.now link.now body) }
+        ensures full { IsErrOf result LayerError.LayerFull ↔ (is_within (with_linked self.old path.now link.now body) ≡ false) }
+        ensures err { OnErr result (self.new ≡ self.old) }
+    {
+        let _ = path.names();
+        let number = self.next_number();
+        let (rest, blocks) = self.left(link);
+        let inodes = rest + 1;
+        if number == u32::MAX {
+            return Err(LayerError::LayerFull);
+        }
+        if inodes > MAX_INODES {
+            return Err(LayerError::LayerFull);
+        }
+        Ok(self.insert_linked(path, link, body, inodes, blocks)?)
+    }
+
     /// Adds a whiteout, in place of what stands at the path: nothing, a name, a whiteout, or a directory
     /// with its whiteouts.
     ///
@@ -131,7 +156,7 @@ impl Layer {
     }
 
     /// Takes a name, a whiteout, or a directory with its whiteouts. A file or symlink goes with its last
-    /// name (unlink(2)), and its number isn't given again, unless `give_back_number` takes it back.
+    /// name (unlink(2)), and its number is never given again.
     ///
     /// The conditions are those of `is_takeable`. Takes no memory. Cost: as `add_file`.
     pub fn take_name(&mut self, path: &Path)
@@ -141,19 +166,6 @@ impl Layer {
         self.show_is_layer();
         let (inodes, blocks) = self.left(path);
         self.uncover(path, inodes, blocks);
-    }
-
-    /// Gives back the number before the next one, so that the next file or symlink gets it: the last step of
-    /// what undoes `add_file` or `add_symlink`.
-    ///
-    /// The conditions are that a number was given, and that no file or symlink has it any more. Takes no
-    /// memory. The cost is constant.
-    pub fn give_back_number(&mut self)
-        requires given { 1 < self.old.next }
-        requires gone { body self.old (self.old.next - 1) ≡ None }
-        ensures { self.new ≡ with_next self.old (self.old.next - 1) }
-    {
-        self.table.give_back_number();
     }
 
     /// Moves what stands at `from`, and all below it, to `to`, in place of what stands there, and leaves a
@@ -345,6 +357,35 @@ impl Layer {
         let totals = self.totals_at(path, inodes, blocks + body.blocks())?;
         self.table.put_leaf(path, body)?;
         self.totals = totals;
+        Ok(())
+    }
+
+    /// Puts a new file or symlink, which has the next number, and one more name of it at the link.
+    fn insert_linked(
+        &mut self,
+        path: &Path,
+        link: &Path,
+        body: Body,
+        inodes: usize,
+        blocks: u64,
+    ) -> Result<(), AllocError>
+        requires blocks { blocks ≡ block_count (without self.old link.now) }
+        requires rooms { HasRooms self.old path.now link.now }
+        requires last { self.old.next < 4294967295 }
+        requires layer { IsLayer (with_linked self.old path.now link.now body) }
+        requires count { inodes ≡ inode_count (with_linked self.old path.now link.now body) }
+        ensures ok { OnOk result (self.new ≡ with_linked self.old path.now link.now body) }
+        ensures err { OnErr result (self.new ≡ self.old) }
+    {
+        self.show_is_layer();
+        let blocks = blocks + body.blocks();
+        let paths = self.totals.paths.checked_add(2).ok_or(AllocError)?;
+        self.table.put_linked(path, link, body)?;
+        self.totals = Totals {
+            inodes,
+            blocks,
+            paths,
+        };
         Ok(())
     }
 

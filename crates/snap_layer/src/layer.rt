@@ -8,7 +8,7 @@ ghost use Rattle.snap_layer.specs.Tree.{at, body, names_below, number_of};
 ghost use Rattle.snap_layer.specs.Counts.{dir_count, whiteout_count, name_count, inode_count, block_count, body_blocks};
 ghost use Rattle.snap_layer.specs.Layers.{IsLayer};
 ghost use Rattle.snap_layer.specs.Equal.{tree_eq};
-ghost use Rattle.snap_layer.specs.Edits.{root_only, without, HasParent, HasRoom, HasPlace, IsTakeable, IsMovable};
+ghost use Rattle.snap_layer.specs.Edits.{root_only, without, HasParent, HasRoom, HasRooms, HasPlace, IsTakeable, IsMovable};
 
 use super::dir::Dir;
 use super::node::{Body, Node};
@@ -66,8 +66,7 @@ impl Layer {
     /// The same, with the number of the first file.
     ///
     /// The conditions are a mode of at most octal 7777, and a number from 1. File numbers are given in
-    /// rising order, and none is given again but one that `give_back_number` took back; 4,294,967,294 is
-    /// the last one.
+    /// rising order, and none is ever given again; 4,294,967,294 is the last one.
     pub fn empty_from(alloc: Global, mode: u32, first: u32) -> Result<Layer, AllocError>
         requires mode { mode ≤ 4095 }
         requires first { 1 ≤ first }
@@ -293,6 +292,22 @@ impl Layer {
             Some(node) => node.is_whiteout(),
             None => true,
         }
+    }
+
+    /// Whether a new file may be added at `path` with one more name at `link`: nothing stands at `path`,
+    /// nothing or a whiteout at `link`, both lie in a directory, and they differ.
+    ///
+    /// Takes no memory. Cost: as `at` for both paths.
+    pub fn has_rooms(&self, path: &Path, link: &Path) -> bool
+        ensures { IsTrue result ↔ HasRooms self.now path.now link.now }
+    {
+        if self.at(path).is_some() || !self.has_parent(path) {
+            return false;
+        }
+        if path == link {
+            return false;
+        }
+        self.has_room(link)
     }
 
     /// Whether what stands at the path may be replaced: nothing, a name, a whiteout, or a directory in

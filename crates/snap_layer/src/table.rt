@@ -2,15 +2,15 @@
 ghost use Rattle.std.specs.Prelude.{[], ◌≡◌, ◌<◌, ◌≤◌, ◌+◌, ◌-◌, ◌^◌, ℕ, Option, Some, None, OnOk, OnErr, IfOk, IsSome, length, take, find, nat_lt, option_and_then};
 ghost use Rattle.std.specs.Option.{option_copied};
 ghost use Rattle.std.specs.Map.{keys_of};
-ghost use Rattle.snap_layer.specs.Tree.{at, body, number_of, number_at, IsDirAt};
+ghost use Rattle.snap_layer.specs.Tree.{Tree, at, body, number_of, number_at, IsDirAt, leaf_node};
 ghost use Rattle.snap_layer.specs.Counts.{name_count};
 ghost use Rattle.snap_layer.specs.Layers.{IsLayer, IsFile};
-ghost use Rattle.snap_layer.specs.Edits.{root_only, with_body, with_entry, with_node, with_new, without, with_moved, with_file_mode, with_next, HasPlace, IsTakeable, IsFree, HasParent, IsMovable};
+ghost use Rattle.snap_layer.specs.Edits.{root_only, with_body, with_entry, with_node, with_new, without, with_moved, with_file_mode, with_linked, HasPlace, HasRooms, IsTakeable, IsFree, HasParent, IsMovable};
 ghost use Rattle.snap_layer.specs.declared.node.Body.{Body as BodyValue};
 ghost use Rattle.snap_layer.specs.declared.node.Node.{Node as NodeValue};
-ghost use Rattle.snap_layer.specs.Walk.{leaf_node};
 ghost use Rattle.snap_layer.specs.contracts.node.Node as node_contracts;
 ghost use Rattle.snap_layer.specs.Holds.{Holds, Holds-prop};
+ghost use Rattle.snap_layer.specs.Undoing.{with_next, IsNew};
 
 mod reads;
 mod same;
@@ -144,15 +144,6 @@ impl Table {
         self.next
     }
 
-    /// Gives back the number before the next one, which no file or symlink has.
-    pub fn give_back_number(&mut self)
-        requires given { 1 < self.old.next }
-        requires gone { body self.old (self.old.next - 1) ≡ None }
-        ensures { self.new ≡ with_next self.old (self.old.next - 1) }
-    {
-        self.next -= 1;
-    }
-
     /// The least number above `after` that a file or symlink has, or nothing.
     pub fn next_body(&self, after: u32) -> Option<u32>
         ensures { result ≡ find (λ k. nat_lt after k) (keys_of self.now.bodies) }
@@ -224,6 +215,50 @@ impl Table {
             unreachable!()
         };
         replace_name(&mut self.slots, &mut self.places, dir, name, key)
+    }
+
+    /// Puts a new file or symlink, which has the next number, and one more name of it at the link.
+    pub fn put_linked(&mut self, path: &Path, link: &Path, body: Body) -> Result<(), AllocError>
+        requires rooms { HasRooms self.old path.now link.now }
+        requires last { self.old.next < 4294967295 }
+        requires layer { IsLayer (with_linked self.old path.now link.now body) }
+        ensures ok { OnOk result (self.new ≡ with_linked self.old path.now link.now body) }
+        ensures err { OnErr result (self.new ≡ self.old) }
+    {
+        // a new name takes the place of a whiteout first: so no table on the way has more inodes than the last
+        let number = self.next_number();
+        let covers = self.at(link).is_some();
+        self.put_leaf(link, body)?;
+        if let Err(refused) = self.put_name(path, number) {
+            self.take_back(link, covers);
+            return Err(refused);
+        }
+        Ok(())
+    }
+
+    /// Takes back the new file or symlink at the path with its number, and puts the whiteout back that stood
+    /// there, if one did.
+    fn take_back(&mut self, path: &Path, covers: bool)
+        requires new { (u : Tree) × IsNew covers path.now self.old u }
+        ensures { (u : Tree) → IsNew covers path.now self.old u → self.new ≡ u }
+    {
+        let _ = self.next_number();
+        if covers {
+            self.cover(path);
+        } else {
+            self.take(path);
+        }
+        let _ = self.next_number();
+        self.give_back_number();
+    }
+
+    /// Gives back the number before the next one, which no file or symlink has.
+    fn give_back_number(&mut self)
+        requires given { 1 < self.old.next }
+        requires gone { body self.old (self.old.next - 1) ≡ None }
+        ensures { self.new ≡ with_next self.old (self.old.next - 1) }
+    {
+        self.next -= 1;
     }
 
     /// Puts a whiteout where nothing or a whiteout stands.

@@ -1,5 +1,5 @@
 -- The walk to a path: each directory above it has to be seen (path_resolution(7)). No symlink is followed.
--- Cited by `Stack::walk`, `Stack::read`, `Stack::list` and others.
+-- Cited by `Stack::walk`, `Stack::walk_to`, `Stack::read` and others.
 use Rattle.std.specs.Prelude.{◌≡◌, ◌⊎◌, List, [], ◌∷◌, ◌++◌, Option, Some, None, Result, Ok, Err}
 use Rattle.snap_path.specs.Text.{Names}
 use Rattle.snap_layer.specs.Tree.{Tree}

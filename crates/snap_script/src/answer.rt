@@ -43,7 +43,7 @@ pub struct TreeNode {
 }
 
 /// What a line of a script is answered, and the lines of a script of jobs together.
-#[derive(Debug, Drop)]
+#[derive(Debug)]
 pub enum Answer {
     /// A store was opened, its next round was begun, a limit was set, or a lease was made, added to or
     /// released: `{"ok":true}`.
@@ -139,6 +139,57 @@ pub enum Answer {
     NoHand,
     /// A snapshot is open, so no round can be begun: `{"error":"StillOut","from":"world"}`.
     StillOut,
+}
+
+impl Drop for Answer {
+    fn drop(self) {
+        match self {
+            Answer::Done => {}
+            Answer::Session(_) => {}
+            Answer::Prepared {
+                id: _,
+                slot: _,
+                chain: _,
+            } => {}
+            Answer::Viewed { id: _, chain: _ } => {}
+            Answer::Share(_) => {}
+            Answer::Committed { id: _, usage: _ } => {}
+            Answer::Freed(_) => {}
+            Answer::Info(_) => {}
+            Answer::Usage(_) => {}
+            Answer::Mounts(_) => {}
+            Answer::Infos(_) => {}
+            Answer::Swept {
+                removed: _,
+                leases: _,
+                freed: _,
+            } => {}
+            Answer::Changed { count: _, share: _ } => {}
+            Answer::Seen(_) => {}
+            Answer::Names(_) => {}
+            Answer::Head { head: _, size: _ } => {}
+            Answer::Path(_) => {}
+            Answer::Tree(_) => {}
+            Answer::Journal(_) => {}
+            Answer::Report {
+                entries: _,
+                actives: _,
+                records: _,
+                totals: _,
+            } => {}
+            Answer::Jobs {
+                committed: _,
+                discarded: _,
+                refused: _,
+                totals: _,
+            } => {}
+            Answer::Refused(_) => {}
+            Answer::Failed(_) => {}
+            Answer::NoSession => {}
+            Answer::NoHand => {}
+            Answer::StillOut => {}
+        }
+    }
 }
 
 impl Answer {

@@ -1,10 +1,10 @@
 -- The snapshots of a namespace as a forest by parent.
 -- Cited by `Script as TakeLine`, `replay_within`, `replay` and others.
-use Rattle.std.specs.Prelude.{ℕ, ◌==◌, Bool, List, Option, None, Some, bytes_eq, count_by, filter, map, position}
+use Rattle.std.specs.Prelude.{ℕ, ◌==◌, Bool, List, Option, None, Some, bytes_eq, filter, map, position}
 use Rattle.snap_record.specs.Labels.{Bytes}
 use Rattle.snap_record.specs.Records.{kind_of, usage_of}
 use Rattle.snap_record.specs.declared.record.Record.{Record}
-use Rattle.snap_call.specs.Records.{is_child}
+use Rattle.snap_call.specs.Records.{child_count}
 use Rattle.snap_call.specs.declared.refusal.Refusal.TheVariants.{NoNamespace}
 use Rattle.snap_script.specs.declared.answer.TreeNode.{TreeNode}
 use Rattle.snap_script.specs.declared.answer.Answer.{Answer}
@@ -13,7 +13,7 @@ use Rattle.snap_session.specs.Opened.{OpenedValue}
 
 -- the snapshot, with its own usage and the number of the namespace's snapshots on it
 unfoldable pub tree_node : List Record → Record → TreeNode
-tree_node rs r = record { key = r.key; kind = kind_of r.content; id = r.id; usage = usage_of r.content; parent = r.parent; children = count_by (is_child r.namespace r.key) rs }
+tree_node rs r = record { key = r.key; kind = kind_of r.content; id = r.id; usage = usage_of r.content; parent = r.parent; children = child_count r.namespace r.key rs }
 
 -- the record is one of the namespace at the place
 abbrev pub is_in : ℕ → Record → Bool

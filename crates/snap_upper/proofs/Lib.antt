@@ -25,3 +25,8 @@ pub mod Examples
 pub mod Uncharged
 pub mod KindErrors
 pub mod Linking
+pub mod EitherOrder
+pub mod LowerCopy
+pub mod ShiftedCopy
+pub mod LowerRename
+pub mod LowerLink

@@ -1,11 +1,10 @@
 -- One more name of what is seen.
-use Rattle.std.proofs.Common.{◌≡◌, ◌⊎◌, inl, inr, ℕ, ◌≤◌, Bool, true, false, List, [], ◌∷◌, ◌++◌, length, Option, Some, None, IsSome, is_some, Err, refl, sym, ap, subst, ◌∙◌, arith, append_assoc, append-nil, length-append}
+use Rattle.std.proofs.Common.{◌≡◌, inl, inr, ℕ, ◌≤◌, true, false, List, [], ◌∷◌, ◌++◌, length, Option, Some, None, IsSome, is_some, refl, sym, ap, subst, ◌∙◌, arith, append-nil, length-append}
 use Rattle.std.specs.Prelude.{option_and_then, nat_le, ◌&&◌}
 use Rattle.std.specs.Ordering.{nat_cmp}
 use Rattle.std.specs.Cmp.{nat_cmp_total}
 use Rattle.std.specs.List.Sorted.{IsStrictlySortedBy}
 use Rattle.std.specs.Map.{keys_of}
-use Rattle.std.proofs.lemmas.Bool.Decides.{nat_tests}
 use Rattle.snap_path.specs.Text.{Names, IsPath, begins}
 use Rattle.snap_layer.specs.declared.node.Node.{Node}
 use Rattle.snap_layer.specs.declared.node.Node.TheVariants.{Dir, File, Symlink, Whiteout}
@@ -14,37 +13,34 @@ use Rattle.snap_layer.specs.declared.node.Body.TheVariants as body_kinds
 use Rattle.snap_layer.specs.Tree.{Tree, Bodies, IsDirAt, path_cmp, at, body, number_at, number_of, node_hides}
 use Rattle.snap_layer.specs.Counts.{inode_count, block_count, is_within}
 use Rattle.snap_layer.specs.Layers.{IsLayer, IsWhole, IsFile, IsSymlink}
-use Rattle.snap_layer.specs.Edits.{HasParent, HasPlace, IsFree, IsTakeable, name_of, with_entry, with_name, with_new, with_node, without, outside}
+use Rattle.snap_layer.specs.Edits.{HasPlace, IsFree, IsTakeable, name_of, with_entry, with_name, with_new, with_node, without, outside}
 use Rattle.snap_layer.proofs.Lists.{sorted-insert_entry}
 use Rattle.snap_layer.proofs.Paths.{begins-append, begins_itself, split_front}
-use Rattle.snap_layer.proofs.Looks.{split_path, at-without_inside, at-without_outside, sorted-bodies_without}
+use Rattle.snap_layer.proofs.Looks.{at-without_inside, at-without_outside, sorted-bodies_without}
 use Rattle.snap_layer.proofs.Counting.{inodes_of, dirs, weight, inode_count-with_entry, block_count-with_entry}
 use Rattle.snap_layer.proofs.Kept.{dir_above, free_is_no_dir, node_with_number, nothing_below}
-use Rattle.snap_layer.proofs.Laws.{Replaces, Replaces-with_node, Replaces-with_new, sorted-with_node, without-with_entry}
+use Rattle.snap_layer.proofs.Laws.{Replaces, Replaces-with_node, Replaces-with_new, sorted-with_node}
 use Rattle.snap_layer.proofs.Replacing.{IsLayer-with_node}
 use Rattle.snap_layer.proofs.Moves.{not_longer, not_root, sorted-without}
-use Rattle.snap_merge.specs.declared.error.FsError.{FsError}
-use Rattle.snap_merge.specs.declared.error.FsError.TheVariants.{Exists, OutOfMemory}
+use Rattle.snap_merge.specs.declared.error.FsError.TheVariants.{Exists}
 use Rattle.snap_merge.specs.Objects.{Object, dir, file, symlink, seen, is_shown_dir, AreLayers}
 use Rattle.snap_merge.specs.Walk.{walk}
 use Rattle.snap_merge.proofs.Views.{seen_node, seen_through, seen_alike, walk_same}
 use Rattle.snap_merge.proofs.Hiding.{hides_from_above}
 use Rattle.snap_merge.proofs.Above.{nothing_seen}
 use Rattle.snap_copyup.specs.Copying.{copied, with_object, with_parents, copied_up}
-use Rattle.snap_copyup.specs.Places.{IsRefusal}
 use Rattle.snap_copyup.proofs.Alone.{below_seen, copied_there, copied_missing, free_unseen, some_dir}
 use Rattle.snap_copyup.proofs.Elsewhere.{shown_same}
 use Rattle.snap_copyup.proofs.ParentDirs.{AddsParents, adds_parents, parents_stand}
 use Rattle.snap_copyup.proofs.Growing.{grows_from}
 use Rattle.snap_copyup.proofs.Layers.{no_missing}
 use Rattle.snap_copyup.proofs.Copies.{Puts-with_new, copied_view}
-use Rattle.snap_copyup.proofs.Wholes.{refused_later}
 use Rattle.snap_upper.specs.declared.op.Op.TheVariants as op
-use Rattle.snap_upper.specs.After.{tests, first_error, error_if, limited, next_layer}
+use Rattle.snap_upper.specs.After.{tests, first_error, error_if, next_layer}
 use Rattle.snap_upper.proofs.KindErrors.{link_error}
 use Rattle.snap_upper.specs.Changed.{ShowsAt}
-use Rattle.snap_upper.proofs.Outcomes.{test_passes, error_if_passes, refused}
-use Rattle.snap_upper.proofs.Erased.{above_out, body_stays, whiteout_changes}
+use Rattle.snap_upper.proofs.Outcomes.{test_passes, error_if_passes}
+use Rattle.snap_upper.proofs.Erased.{above_out, body_stays}
 use Rattle.snap_upper.proofs.Growth.{without_bare}
 use Rattle.snap_upper.proofs.Taken.{IsKept, kept_from, none_added, walk_out, parents_out, copied_out, copied_out_there}
 
@@ -123,16 +119,6 @@ name_is t (Dir m b) k e whole = absurd (cc)
 name_is t (File j) k e whole = let same : j ≡ k = cc in subst (λ (i : ℕ). name_of i (body t i) ≡ Some (File j)) same (file_name (body t j) j whole)
 name_is t (Symlink j) k e whole = let same : j ≡ k = cc in subst (λ (i : ℕ). name_of i (body t i) ≡ Some (Symlink j)) same (symlink_name (body t j) j whole)
 name_is t Whiteout k e whole = absurd (cc)
-
--- a layer with no fewer inodes and the same next number
-less_within : (v t : Tree) → inode_count v ≤ inode_count t → t.next ≡ v.next → is_within v ≡ false → is_within t ≡ false
-less_within v t less next full = by (nat_le (inode_count t) 65536) refl
-  where
-    by : (b : Bool) → nat_le (inode_count t) 65536 ≡ b → (b && nat_le t.next 4294967295) ≡ false
-    by false e = refl
-    by true e =
-        let few : nat_le (inode_count v) 65536 ≡ true = grind (arith, nat_tests) in
-        ap (λ k. nat_le k 4294967295) next ∙ sym (ap (λ b. b && nat_le v.next 4294967295) few) ∙ full
 
 -- ---- what is copied up
 
@@ -267,14 +253,7 @@ module _ (u : Tree) (ls : List Tree) (from to : Names) (ok : IsLayer u) (layers 
   pub same_within : is_within (next_layer (op.Link from to) u ls) ≡ is_within room
   same_within = ap is_within linked_is ∙ (λ i. nat_le (same_inodes i) 65536 && nat_le room.next 4294967295)
 
-  -- why there is no room for it is why it isn't made
-  pub link_refused : (e : FsError) → IsRefusal room e → (e ≡ OutOfMemory) ⊎ (limited (next_layer (op.Link from to) u ls) ≡ Err e)
-  link_refused e refusal = refused (next_layer (op.Link from to) u ls) e (refused_later e room (next_layer (op.Link from to) u ls) (λ full. same_within ∙ full) refusal)
-
   -- ---- the name is put
-
-  room_at_to : number_at room to ≡ None
-  room_at_to = ap (option_and_then number_of) (at-without_inside t to to (begins_itself to))
 
   pub place : HasPlace room to
   place = record {
@@ -285,26 +264,8 @@ module _ (u : Tree) (ls : List Tree) (from to : Names) (ok : IsLayer u) (layers 
     };
   }
 
-  pub apart : (k : ℕ) → number_at room to ≡ Some k → ⊥
-  apart k e = no_some (sym e ∙ room_at_to)
-    where
-      no_some : {j : ℕ} → Some j ≡ None → ⊥
-      no_some e = cc
-
   node_left : at room from ≡ Some named.0
   node_left = at-without_outside t to from out ∙ named.1
-
-  pub number_left : (k : ℕ) × (number_at room from ≡ Some k)
-  number_left = (copies.number.0, ap (option_and_then number_of) node_left ∙ named.2)
-
-  pub name_put : (k : ℕ) → number_at room from ≡ Some k → IsLayer room → with_name room to (name_of k (body room k)) ≡ next_layer (op.Link from to) u ls
-  name_put k is okr =
-      ap (with_name room to) (name_is room named.0 k (sym (ap (option_and_then number_of) node_left) ∙ is) (okr.nodes from named.0 node_left))
-      ∙ ap (λ (v : Tree). with_entry v to named.0) (without_bare room to (sorted-without t to grows) bare)
-      ∙ sym linked_is
-
-  pub from_room : with_name room to (at room from) ≡ next_layer (op.Link from to) u ls
-  from_room = ap (with_name room to) node_left ∙ ap (λ (v : Tree). with_entry v to named.0) (without_bare room to (sorted-without t to grows) bare) ∙ sym linked_is
 
   -- ---- what the name takes
 
@@ -329,38 +290,6 @@ module _ (u : Tree) (ls : List Tree) (from to : Names) (ok : IsLayer u) (layers 
   pub own_copy : (k : ℕ) → number_at u from ≡ Some k → copied_up u ls from ≡ u
   own_copy k number = copied_own u ls from ok ready.way_from ready.name (ap is_some (node_with_number (at u from) k number).1)
 
-  -- ---- the layer has the directory
-
-  module _ (parent : HasParent u to) where
-    pub own_place : HasPlace u to
-    own_place = record { clear = λ n. subst IsFree (sym (nothing_below u ok to (free_is_no_dir (at u to) free) n [])) tt; above = parent }
-
-    -- the last name of a path
-    last_of : (m : List ℕ) (r : Names) → (q : Names) × (n : List ℕ) × (m ∷ r ≡ q ++ n ∷ [])
-    last_of m [] = ([], m, refl)
-    last_of m (x ∷ r) = let later = last_of x r in (m ∷ later.0, later.1, ap (λ (y : Names). m ∷ y) later.2)
-
-    stand : (q : Names) (n : List ℕ) (r : Names) → to ≡ q ++ n ∷ r → is_some (at u q) ≡ true
-    stand q n [] is = some_dir (at u q) (parent.parent q n is)
-    stand q n (m ∷ r) is =
-        let last = last_of m r in
-        let all = is ∙ ap (λ (y : Names). q ++ n ∷ y) last.2 ∙ sym (append_assoc q (n ∷ last.0) (last.1 ∷ [])) in
-        some_dir (at u q) (dir_above u ok last.0 q n (some_dir (at u (q ++ n ∷ last.0)) (parent.parent (q ++ n ∷ last.0) last.1 all)))
-
-    -- no directory is added above the new name
-    pub none_above : with_parents (copied_up u ls from) ls to ≡ copied_up u ls from
-    none_above = none_added copy ls [] to (λ q n r is. let some = stand q n r is in ap is_some (copies.kept q (kept_up q some)) ∙ some)
-
-    module _ (k : ℕ) (number : number_at u from ≡ Some k) where
-      own_same : with_parents (copied_up u ls from) ls to ≡ u
-      own_same = none_above ∙ own_copy k number
-
-      pub own_put : with_name u to (name_of k (body u k)) ≡ next_layer (op.Link from to) u ls
-      own_put =
-          let node = node_with_number (at u from) k number in
-          ap (with_name u to) (name_is u node.0 k node.2 (ok.nodes from node.0 node.1) ∙ sym node.1)
-          ∙ sym (ap (λ (v : Tree). with_name v to (at v from)) own_same)
-
   -- ---- room, where nothing stands at the new name
 
   module _ (none : at u to ≡ None) where
@@ -370,11 +299,6 @@ module _ (u : Tree) (ls : List Tree) (from to : Names) (ok : IsLayer u) (layers 
         by : (r : Names) → at (with_parents (copied_up u ls from) ls to) (to ++ r) ≡ None
         by [] = ap (at t) (append-nil to) ∙ kept_to to (λ e. unseen) ∙ none
         by (m ∷ r) = below_to m r
-
-    pub copy_full : is_within (copied_up u ls from) ≡ false → is_within room ≡ false
-    copy_full full =
-        let more = (grows_from copy ls [] to copies.paths way_to).inodes in
-        ap is_within (sym room_is) ∙ less_within copy t (omega (arith, more)) adds_to.next full
 
   -- ---- room, where a whiteout stands there
 
@@ -400,24 +324,6 @@ module _ (u : Tree) (ls : List Tree) (from to : Names) (ok : IsLayer u) (layers 
     -- no directory is added above the new name
     pub held_above : with_parents (copied_up u ls from) ls to ≡ copied_up u ls from
     held_above = none_added copy ls [] to stands
-
-    pub held_at : at (copied_up u ls from) to ≡ Some Whiteout
-    held_at = copies.kept to (λ e. unseen) ∙ white
-
-    pub held_place : HasPlace (copied_up u ls from) to
-    held_place = record {
-      clear = λ n. subst IsFree (sym (copies.kept (to ++ n ∷ []) (λ e. nothing n []) ∙ nothing_below u ok to (free_is_no_dir (at u to) free) n [])) tt;
-      above = record { below_root = not_root to from out; parent = λ q n is. subst (λ (v : Tree). IsDirAt (at v q)) held_above (parents_stand copy ls to way_to q n is) };
-    }
-
-    pub held_number : (k : ℕ) × (number_at (copied_up u ls from) from ≡ Some k)
-    held_number = copies.number
-
-    pub held_put : (k : ℕ) → number_at (copied_up u ls from) from ≡ Some k → IsLayer (copied_up u ls from) → with_name (copied_up u ls from) to (name_of k (body (copied_up u ls from) k)) ≡ next_layer (op.Link from to) u ls
-    held_put k is okc =
-        let node = node_with_number (at copy from) k is in
-        ap (with_name copy to) (name_is copy node.0 k node.2 (okc.nodes from node.0 node.1) ∙ sym node.1)
-        ∙ sym (ap (λ (v : Tree). with_name v to (at v from)) held_above)
 
     copied_first : copied_up (without u to) ls from ≡ without (copied_up u ls from) to
     copied_first =
@@ -486,56 +392,3 @@ module _ (u : Tree) (ls : List Tree) (from to : Names) (ok : IsLayer u) (layers 
           ap (seen (v ∷ ls)) is
           ∙ seen_through v ls (to ++ n ∷ r) true (replaces.below n r) (hides_from_above v (to ++ n ∷ r) (to, n, r, refl, ap node_hides replaces.here ∙ hides_all named.0 copies.number.0 named.2))
           ∙ sym (ap (seen (u ∷ ls)) is ∙ nothing n r)
-
--- ---- a whiteout that holds the place
-
-module _ (u v : Tree) (ls : List Tree) (from to : Names) (ok : IsLayer u) (layers : AreLayers ls) (passes : first_error (tests (op.Link from to) (u ∷ ls)) ≡ None) (none : at u to ≡ None) (put : v ≡ with_node u to Whiteout) where
-  unseen_here : seen (u ∷ ls) to ≡ None
-  unseen_here = none_from (seen (u ∷ ls) to) (IsLinkable-passed (u ∷ ls) from to passes).unseen
-
-  -- it hides nothing that is seen
-  held_shows : (q : Names) → seen (with_node u to Whiteout ∷ ls) q ≡ seen (u ∷ ls) q
-  held_shows q = elim (split_path q to) [
-    | inl same ↦ ap (seen (with_node u to Whiteout ∷ ls)) same.0 ∙ shows.here ∙ sym unseen_here ∙ ap (seen (u ∷ ls)) (sym same.0)
-    | inr apart ↦ shows.others q (λ e. apart.0 (sym e))
-  ]
-    where
-      alone : AddsParents u u ls (length to)
-      alone = record { bodies = refl; next = refl; numbers = λ q. refl; leaves = λ q far. refl; view = λ q. refl }
-
-      shows : ShowsAt (seen (u ∷ ls)) (seen (with_node u to Whiteout ∷ ls)) to None
-      shows = whiteout_changes u u ls to alone ok.sorted_numbers (λ n r. nothing_seen (u ∷ ls) (ok, layers) r to n (ap is_shown_dir unseen_here))
-
-  pub held_passes : first_error (tests (op.Link from to) (v ∷ ls)) ≡ None
-  held_passes =
-      let way_from = walk_same (u ∷ ls) (with_node u to Whiteout ∷ ls) held_shows [] from in
-      let way_to = walk_same (u ∷ ls) (with_node u to Whiteout ∷ ls) held_shows [] to in
-      ap (λ (x : Tree). first_error (tests (op.Link from to) (x ∷ ls))) put
-      ∙ (λ i. first_error (way_from i ∷ way_to i ∷ link_error (held_shows from i) ∷ error_if (is_some (held_shows to i)) Exists ∷ []))
-      ∙ passes
-
-  pub held_white : at v to ≡ Some Whiteout
-  held_white = ap (λ (x : Tree). at x to) put ∙ (Replaces-with_node u to Whiteout).here
-
-  pub held_back : without v to ≡ u
-  held_back =
-      ap (λ (x : Tree). without x to) (put ∙ ap (λ (x : Tree). with_entry x to Whiteout) (without_bare u to ok.sorted_paths bare))
-      ∙ without-with_entry u ok to Whiteout none refl
-    where
-      bare : (r : Names) → at u (to ++ r) ≡ None
-      bare [] = ap (at u) (append-nil to) ∙ none
-      bare (n ∷ r) = nothing_below u ok to (λ is. subst IsDirAt none is) n r
-
-  module _ (parent : HasParent u to) where
-    pub held_takeable : IsTakeable v to
-    held_takeable = record {
-      there = subst IsSome (sym held_white) refl;
-      clear = λ n. subst IsFree (sym (ap (λ (x : Tree). at x (to ++ n ∷ [])) put ∙ (Replaces-with_node u to Whiteout).below n [])) tt;
-      below_root = parent.below_root;
-    }
-
-    -- the same is made with it and without it
-    pub held_same : IsLayer v → next_layer (op.Link from to) v ls ≡ next_layer (op.Link from to) u ls
-    held_same okv =
-        let room = sym (room_first v ls from to okv layers held_passes held_white) ∙ ap (λ (x : Tree). copied_up x ls from) held_back ∙ sym (none_above u ls from to ok layers passes parent) ∙ room_is u ls from to ok layers passes none in
-        sym (from_room v ls from to okv layers held_passes) ∙ ap (λ (x : Tree). with_name x to (at x from)) room ∙ from_room u ls from to ok layers passes

@@ -12,7 +12,7 @@ use Rattle.snap_layer.specs.declared.node.Body.{Body}
 use Rattle.snap_layer.specs.declared.node.Body.TheVariants as body_kinds
 use Rattle.snap_layer.specs.Tree.{Tree, Bodies, path_cmp, at, body, number_at, number_of}
 use Rattle.snap_layer.specs.Layers.{IsLayer}
-use Rattle.snap_layer.specs.Edits.{HasParent, IsFree, IsMovable, with_new, bodies_without, outside}
+use Rattle.snap_layer.specs.Edits.{IsFree, IsMovable, with_new, bodies_without, outside}
 use Rattle.snap_layer.proofs.Paths.{begins_from, begins_itself, split_front}
 use Rattle.snap_layer.proofs.Kept.{has_body}
 use Rattle.snap_layer.proofs.Laws.{Replaces, Replaces-with_new, SetsBody-with_new, sorted-with_node}
@@ -26,7 +26,6 @@ use Rattle.snap_copyup.proofs.Alone.{below_seen, copied_there, free_unseen}
 use Rattle.snap_copyup.proofs.ParentDirs.{AddsParents, Extends, adds_parents, parents_extend, parents_stand}
 use Rattle.snap_copyup.proofs.Growing.{grows_from}
 use Rattle.snap_copyup.proofs.Layers.{no_missing}
-use Rattle.snap_copyup.proofs.Undoing.{parents_there}
 use Rattle.snap_copyup.proofs.Copies.{Puts-with_new, not_next, last_copied, copied_view}
 use Rattle.snap_upper.specs.After.{before_move}
 use Rattle.snap_upper.proofs.Movable.{IsRenamable, short_paths}
@@ -174,7 +173,3 @@ module _ (u : Tree) (ls : List Tree) (from to : Names) (ok : IsLayer u) (layers 
     not_around = is.not_around;
     fits = fits path;
   }
-
-  -- nothing has to be added
-  pub prepared_there : is_some (at u from) ≡ true → HasParent u to → before_move u ls from to ≡ u
-  prepared_there some parent = ap (λ (t : Tree). with_parents t ls to) (own_copy u ls from ok some) ∙ parents_there u ls to ok parent

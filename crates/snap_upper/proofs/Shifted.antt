@@ -304,10 +304,6 @@ module _ (u : Tree) (ls : List Tree) (from to : Names) (ok : IsLayer u) (layers 
       by (Some n) e = own_full (ap is_some e) full
       by None e = lower_full e full
 
-  -- and so where the layer with the copy alone does
-  pub copied_full : is_within (copied_up u ls from) ≡ false → is_within (renamed u ls from to) ≡ false
-  copied_full full = prepared_full (full_more v t (omega (arith, grows.inodes)) adds.next full)
-
 -- ---- outcomes
 
 -- a rename without a fault that has nothing to do leaves the layer

@@ -2,11 +2,12 @@
 -- Cited by invariants and private clauses alone.
 use Rattle.std.specs.Prelude.{◌≡◌, ◌==◌, ◌+◌, [], ◌∷◌, ◌++◌, if◌then◌else◌, ℕ, List, Bool, true, false, length, Option, Some, None, is_some}
 use Rattle.snap_path.specs.Text.{Names, begins}
+use Rattle.snap_layer.specs.declared.node.Node.TheVariants as node
 use Rattle.snap_layer.specs.declared.node.Body.{Body}
 use Rattle.snap_layer.specs.Counts.{blocks_of, body_blocks, name_count, inode_count, block_count, is_within}
-use Rattle.snap_layer.specs.Tree.{Tree, at, body}
+use Rattle.snap_layer.specs.Tree.{Tree, at, body, leaf_node}
 use Rattle.snap_layer.specs.Layers.{IsLayer}
-use Rattle.snap_layer.specs.Edits.{IsFree}
+use Rattle.snap_layer.specs.Edits.{with_new, with_node, IsFree}
 use Rattle.snap_usage.specs.declared.usage.Usage.{Usage}
 use Rattle.snap_merge.specs.Objects.{Object, dir, file, symlink, seen, is_shown_dir}
 use Rattle.snap_merge.specs.Walk.{walk}
@@ -53,3 +54,7 @@ pub record IsNext (u t : Tree) (usage : Usage) (numbered : Bool) : Type 0 where
   pub blocks : usage.blocks ≡ block_count t
   pub number : t.next ≡ u.next + (if numbered then 1 else 0)
   pub layer : is_within t ≡ true → IsLayer t
+
+-- the layer with a whiteout at `from`, and with a new file or symlink in place of what stands at `to`
+abbrev pub with_shifted : Tree → Names → Names → Body → Tree
+with_shifted t from to b = with_new (with_node t from node.Whiteout) to (leaf_node t.next b) b

@@ -1,22 +1,22 @@
 // Names in the upper layer: one more for a file or a symlink, and a rename.
 ghost use Rattle.std.specs.Prelude.{◌≡◌, ◌⊎◌, ◌∷◌, OnOk, OnErr, IfErr, Ok, Err, Some, None, IsSome, ◌↔◌, IsTrue, is_some, false};
 ghost use Rattle.snap_path.specs.Text.{begins};
-ghost use Rattle.snap_layer.specs.Tree.{at, body, number_at, IsDirAt};
-ghost use Rattle.snap_layer.specs.Layers.{IsLayer};
-ghost use Rattle.snap_layer.specs.Edits.{with_name, name_of, HasParent, HasPlace, IsMovable};
+ghost use Rattle.snap_layer.specs.Tree.{at, body, leaf_node, number_at, IsDirAt};
+ghost use Rattle.snap_layer.specs.Layers.{IsBody, IsLayer};
+ghost use Rattle.snap_layer.specs.Edits.{with_linked, with_name, with_new, with_node, name_of, HasParent, HasPlace, HasRooms, IsMovable};
+ghost use Rattle.snap_layer.specs.declared.node.Body.{Body};
 ghost use Rattle.snap_layer.specs.declared.node.Node.TheVariants as Node;
 ghost use Rattle.snap_merge.specs.declared.error.FsError.{FsError};
 ghost use Rattle.snap_merge.specs.Walk.{walk};
-ghost use Rattle.snap_copyup.specs.Copying.{below, copied, with_parents};
+ghost use Rattle.snap_copyup.specs.Copying.{below, object_body, with_parents};
 ghost use Rattle.snap_copyup.specs.Places.{IsRefusal};
-ghost use Rattle.snap_upper.specs.After.{tests, first_error, limited, next_layer, is_same_name, renamed, shifted, error_by_kind};
+ghost use Rattle.snap_upper.specs.After.{tests, first_error, limited, next_layer, is_same_name, renamed, shifted};
+ghost use Rattle.snap_upper.specs.Adding.{with_shifted};
 ghost use Rattle.snap_upper.specs.declared.op.Op.TheVariants as op;
 
 use super::change::own_number;
-use snap_copyup::{
-    add_dirs, copy_below, copy_up, cover_new, missing_paths, put, take_all, take_new,
-};
-use snap_layer::{Layer, Shared};
+use snap_copyup::{add_dirs, add_dirs_of_both, body_below, take_all};
+use snap_layer::{Body, Layer, Shared};
 use snap_merge::{FsError, show_are_layers};
 use snap_path::Path;
 
@@ -52,93 +52,45 @@ fn add_link(layer: &mut Layer, lowers: &[Shared], from: &Path, to: &Path) -> Res
     if let Some(number) = own_number(layer, from) {
         return add_dirs_and_name(layer, lowers, to, number);
     }
-    if layer.at(to).is_some() {
-        return link_over_whiteout(layer, lowers, from, to);
-    }
     link_lower(layer, lowers, from, to)
 }
 
-/// Links a lower file or symlink, where nothing stands at `to`: it is copied up to `from`, and gets its second
-/// name.
+/// Links a lower file or symlink: a copy of it gets both names, once the directories above them are added.
 fn link_lower(layer: &mut Layer, lowers: &[Shared], from: &Path, to: &Path) -> Result<(), FsError>
     requires passes { first_error (tests (op.Link from.now to.now) (layer.old ∷ lowers.now)) ≡ None }
     requires lower { number_at layer.old from.now ≡ None }
-    requires bare { at layer.old to.now ≡ None }
     ensures ok { OnOk result (layer.new ≡ next_layer (op.Link from.now to.now) layer.old lowers.now) }
     ensures error { IfErr result (λ e. IsRefusal (next_layer (op.Link from.now to.now) layer.old lowers.now) e) }
     ensures unchanged { OnErr result (layer.new ≡ layer.old) }
 {
     show_are_layers(lowers);
     layer.show_is_layer();
-    let dirs = missing_paths(layer, from)?;
-    copy_up(layer, lowers, from)?;
-    layer.show_is_layer();
-    let Some(number) = own_number(layer, from) else {
-        return Ok(());
-    };
-    if let Err(error) = add_dirs_and_name(layer, lowers, to, number) {
-        take_new(layer, from);
-        take_all(layer, &dirs);
+    let (above_from, above_to) = add_dirs_of_both(layer, lowers, from, to)?;
+    if let Err(error) = put_linked_copy(layer, lowers, from, to) {
+        take_all(layer, &above_to);
+        take_all(layer, &above_from);
         return Err(error);
     }
     Ok(())
 }
 
-/// Links a lower file or symlink, where a whiteout stands at `to`.
-fn link_over_whiteout(
+/// Adds a copy of the file or symlink that is below at `from`, under that name and the name `to`.
+fn put_linked_copy(
     layer: &mut Layer,
     lowers: &[Shared],
     from: &Path,
     to: &Path,
 ) -> Result<(), FsError>
-    requires passes { first_error (tests (op.Link from.now to.now) (layer.old ∷ lowers.now)) ≡ None }
-    requires lower { number_at layer.old from.now ≡ None }
-    requires held { at layer.old to.now ≡ Some Node.Whiteout }
-    ensures ok { OnOk result (layer.new ≡ next_layer (op.Link from.now to.now) layer.old lowers.now) }
-    ensures error { IfErr result (λ e. IsRefusal (next_layer (op.Link from.now to.now) layer.old lowers.now) e) }
+    requires { HasRooms layer.old from.now to.now }
+    ensures ok { OnOk result ((b : Body) → object_body (below layer.old lowers.now from.now) ≡ Some b → layer.new ≡ with_linked layer.old from.now to.now b) }
+    ensures error { IfErr result (λ e. (b : Body) → object_body (below layer.old lowers.now from.now) ≡ Some b → IsRefusal (with_linked layer.old from.now to.now b) e) }
     ensures unchanged { OnErr result (layer.new ≡ layer.old) }
 {
     show_are_layers(lowers);
-    layer.show_is_layer();
-    let dirs = add_dirs(layer, lowers, from)?;
-    layer.show_is_layer();
-    if let Err(error) = copy_over_whiteout(layer, lowers, from, to) {
-        take_all(layer, &dirs);
-        return Err(error);
-    }
-    Ok(())
-}
-
-/// Puts a copy of the lower file or symlink at `from` in the place of a whiteout at `to`, and then its name at
-/// `from`, whose directory stands. In the other order the layer would have an inode more in between.
-fn copy_over_whiteout(
-    layer: &mut Layer,
-    lowers: &[Shared],
-    from: &Path,
-    to: &Path,
-) -> Result<(), FsError>
-    requires way { walk (layer.old ∷ lowers.now) to.now ≡ None }
-    requires name { error_by_kind (Some FsError.NotPermitted) None None (below layer.old lowers.now from.now) ≡ None }
-    requires lower { at layer.old from.now ≡ None }
-    requires parent { HasParent layer.old from.now }
-    requires held { at layer.old to.now ≡ Some Node.Whiteout }
-    requires apart { begins to.now from.now ≡ false }
-    ensures ok { OnOk result (layer.new ≡ with_name (copied layer.old lowers.now from.now) to.now (at (copied layer.old lowers.now from.now) from.now)) }
-    ensures error { IfErr result (λ e. IsRefusal (with_name (copied layer.old lowers.now from.now) to.now (at (copied layer.old lowers.now from.now) from.now)) e) }
-    ensures unchanged { OnErr result (layer.new ≡ layer.old) }
-{
-    show_are_layers(lowers);
-    layer.show_is_layer();
-    let last = copy_below(layer, lowers, from)?;
-    put(layer, lowers, to, last)?;
-    layer.show_is_layer();
-    let Some(number) = own_number(layer, to) else {
+    let Some(body) = body_below(layer, lowers, from)? else {
         return Ok(());
     };
-    if let Err(error) = layer.add_name(from, number) {
-        cover_new(layer, to);
-        return Err(FsError::from(error));
-    }
+    layer.add_linked(from, to, body)?;
     Ok(())
 }
 
@@ -187,7 +139,7 @@ pub(crate) fn shift(
     let _ = to.names();
     layer.show_is_layer();
     if layer.at(from).is_none() {
-        shift_lower(layer, lowers, from, to, leaves, covers)?;
+        shift_lower(layer, lowers, from, to)?;
         layer.show_is_layer();
         return Ok(());
     }
@@ -196,38 +148,75 @@ pub(crate) fn shift(
     Ok(())
 }
 
-/// Copies up the lower file that is seen at `from`, and moves the copy.
+/// Moves the lower file or symlink that is seen at `from`: a copy of it is put at `to`, and a whiteout at `from`,
+/// once the directories above both are added.
 ///
-/// Where the layer with the copy would pass the limits of a layer, so would the rename's own result, which
-/// takes no fewer inodes, though what stands at `to` goes: the copy leaves a whiteout, and takes the place of
-/// no directory, so that one inode at most goes.
-fn shift_lower(
-    layer: &mut Layer,
-    lowers: &[Shared],
-    from: &Path,
-    to: &Path,
-    leaves: bool,
-    covers: bool,
-) -> Result<(), FsError>
+/// Where the layer with the whiteout would pass the limits of a layer, so would the rename's own result, which
+/// takes no fewer inodes, though what stands at `to` goes: that is no directory, so that one inode at most goes.
+fn shift_lower(layer: &mut Layer, lowers: &[Shared], from: &Path, to: &Path) -> Result<(), FsError>
     requires passes { first_error (tests (op.Rename from.now to.now) (layer.old ∷ lowers.now)) ≡ None }
     requires moves { is_same_name layer.old from.now to.now ≡ false }
-    requires leaves { leaves ≡ is_some (below layer.old lowers.now from.now) }
-    requires covers { covers ≡ is_some (below layer.old lowers.now to.now) }
     requires lower { at layer.old from.now ≡ None }
     ensures ok { OnOk result (layer.new ≡ renamed layer.old lowers.now from.now to.now) }
     ensures error { IfErr result (λ e. IsRefusal (renamed layer.old lowers.now from.now to.now) e) }
     ensures unchanged { OnErr result (layer.new ≡ layer.old) }
 {
     show_are_layers(lowers);
-    let _ = to.names();
     layer.show_is_layer();
-    let dirs = missing_paths(layer, from)?;
-    copy_up(layer, lowers, from)?;
+    let (above_from, above_to) = add_dirs_of_both(layer, lowers, from, to)?;
     layer.show_is_layer();
-    if let Err(error) = add_dirs_and_move(layer, lowers, from, to, leaves, covers) {
-        take_new(layer, from);
-        take_all(layer, &dirs);
+    if let Err(error) = put_shifted_copy(layer, lowers, from, to) {
+        take_all(layer, &above_to);
+        take_all(layer, &above_from);
         return Err(error);
+    }
+    Ok(())
+}
+
+/// Puts a whiteout at `from`, where nothing stands, and a copy of the file or symlink that is below there at `to`.
+fn put_shifted_copy(
+    layer: &mut Layer,
+    lowers: &[Shared],
+    from: &Path,
+    to: &Path,
+) -> Result<(), FsError>
+    requires bare { at layer.old from.now ≡ None }
+    requires parent { HasParent layer.old from.now }
+    requires place { HasPlace layer.old to.now }
+    requires not_inside { begins from.now to.now ≡ false }
+    requires not_around { begins to.now from.now ≡ false }
+    ensures ok { OnOk result ((b : Body) → object_body (below layer.old lowers.now from.now) ≡ Some b → layer.new ≡ with_shifted layer.old from.now to.now b) }
+    ensures error { IfErr result (λ e. (b : Body) → object_body (below layer.old lowers.now from.now) ≡ Some b → IsRefusal (with_node layer.old from.now Node.Whiteout) e ⊎ IsRefusal (with_shifted layer.old from.now to.now b) e) }
+    ensures unchanged { OnErr result (layer.new ≡ layer.old) }
+{
+    show_are_layers(lowers);
+    layer.show_is_layer();
+    let Some(body) = body_below(layer, lowers, from)? else {
+        return Ok(());
+    };
+    layer.add_whiteout(from)?;
+    if let Err(error) = put_body(layer, to, body) {
+        layer.take_name(from);
+        return Err(error);
+    }
+    Ok(())
+}
+
+/// Puts a new file or symlink, which gets the next number, in place of what stands at the path.
+fn put_body(layer: &mut Layer, path: &Path, body: Body) -> Result<(), FsError>
+    requires place { HasPlace layer.old path.now }
+    requires fits { IsBody body }
+    ensures ok { OnOk result (layer.new ≡ with_new layer.old path.now (leaf_node layer.old.next body) body) }
+    ensures error { IfErr result (λ e. IsRefusal (with_new layer.old path.now (leaf_node layer.old.next body) body) e) }
+    ensures unchanged { OnErr result (layer.new ≡ layer.old) }
+{
+    match body {
+        Body::File { mode, bytes } => {
+            layer.add_file(path, mode, bytes)?;
+        }
+        Body::Symlink { target } => {
+            layer.add_symlink(path, target)?;
+        }
     }
     Ok(())
 }

@@ -1,5 +1,5 @@
 // Edits of a layer, and what they make of its nodes and of its usage.
-use snap_layer::{Bytes, Layer, LayerError, Node};
+use snap_layer::{Body, Bytes, Layer, LayerError, Node};
 use snap_path::Path;
 use snap_path::limits::DEFAULT_MODE;
 use snap_usage::{count, recount};
@@ -43,6 +43,24 @@ fn a_file(rt: HostRuntime) -> Result<(), Fail> {
     let usage = count(&layer);
     prove!(usage.blocks == 2);
     prove!(usage.inodes == 2);
+    Ok(())
+}
+
+#[test]
+fn a_file_with_two_names(rt: HostRuntime) -> Result<(), Fail> {
+    let mut layer = Layer::empty(rt.alloc(), DEFAULT_MODE)?;
+    let path = Path::parse(rt.alloc(), "/f")?;
+    let link = Path::parse(rt.alloc(), "/g")?;
+    let bytes = Bytes::copy_of(rt.alloc(), b"hi")?;
+    assert!(rt; layer.has_rooms(&path, &link));
+    layer.add_linked(&path, &link, Body::File { mode: 420, bytes })?;
+    let usage = count(&layer);
+    prove!(usage.blocks == 2);
+    prove!(usage.inodes == 2);
+    let names = layer.link_count(1);
+    prove!(names == 2);
+    let next = layer.next_number();
+    prove!(next == 2);
     Ok(())
 }
 

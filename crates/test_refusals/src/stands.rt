@@ -34,25 +34,14 @@ pub(crate) fn write_state<N: StoreName, W: Write>(
     script: &mut Script<N>,
     output: &mut W,
 ) -> Result<(), Stop> {
-    let Answer::Report {
-        entries,
-        actives,
-        records,
-        totals,
-    } = report(script)?
-    else {
+    let answer = report(script)?;
+    let Answer::Report { totals, .. } = &answer else {
         return Ok(());
     };
     write_line(output, "stands\n")?;
     for (name, _) in totals.as_slice() {
-        let answer = tree(script, name)?;
-        write_answer(alloc, output, &answer)?;
+        let nodes = tree(script, name)?;
+        write_answer(alloc, output, &nodes)?;
     }
-    let answer = Answer::Report {
-        entries,
-        actives,
-        records,
-        totals,
-    };
     write_answer(alloc, output, &answer)
 }

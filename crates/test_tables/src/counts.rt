@@ -3,11 +3,12 @@ use super::edit::{Answer, Kind};
 use std::io;
 
 /// All kinds, in the order of their counts.
-const KINDS: [Kind; 10] = [
+const KINDS: [Kind; 11] = [
     Kind::AddDir,
     Kind::AddFile,
     Kind::AddSymlink,
     Kind::AddName,
+    Kind::AddLinked,
     Kind::AddWhiteout,
     Kind::TakeName,
     Kind::MoveTree,
@@ -27,7 +28,7 @@ struct Count {
 /// The counts of all kinds, and of all edits.
 #[derive(Clone, Copy)]
 pub(crate) struct Counts {
-    of_kinds: [Count; 10],
+    of_kinds: [Count; 11],
     pub(crate) all: u32,
 }
 
@@ -39,7 +40,7 @@ impl Counts {
             full: 0,
         };
         Counts {
-            of_kinds: [none; 10],
+            of_kinds: [none; 11],
             all: 0,
         }
     }

@@ -9,13 +9,14 @@ use snap_layer::LayerError;
 use snap_path::Path;
 use std::fmt;
 
-/// The ten edits of a layer.
+/// The eleven edits of a layer.
 #[derive(Clone, Copy)]
 pub(crate) enum Kind {
     AddDir,
     AddFile,
     AddSymlink,
     AddName,
+    AddLinked,
     AddWhiteout,
     TakeName,
     MoveTree,
@@ -31,6 +32,7 @@ impl fmt::Display for Kind {
             Kind::AddFile => "add_file",
             Kind::AddSymlink => "add_symlink",
             Kind::AddName => "add_name",
+            Kind::AddLinked => "add_linked",
             Kind::AddWhiteout => "add_whiteout",
             Kind::TakeName => "take_name",
             Kind::MoveTree => "move_tree",
@@ -46,7 +48,7 @@ impl fmt::Display for Kind {
 pub(crate) struct Edit<'a> {
     pub(crate) kind: Kind,
     pub(crate) path: &'a Path,
-    /// Where a tree moves to.
+    /// Where a tree moves to, or a new file has its other name.
     pub(crate) to: &'a Path,
     pub(crate) number: u32,
     pub(crate) mode: u32,
@@ -106,7 +108,7 @@ impl Answer {
 }
 
 /// How often each kind is chosen.
-const KINDS: [Kind; 20] = [
+const KINDS: [Kind; 22] = [
     Kind::AddDir,
     Kind::AddDir,
     Kind::AddDir,
@@ -118,6 +120,8 @@ const KINDS: [Kind; 20] = [
     Kind::AddSymlink,
     Kind::AddName,
     Kind::AddName,
+    Kind::AddLinked,
+    Kind::AddLinked,
     Kind::AddWhiteout,
     Kind::AddWhiteout,
     Kind::TakeName,
@@ -147,7 +151,7 @@ pub(crate) fn choose<'a>(
     bytes: &'a [u8],
     plain: &Plain,
 ) -> Edit<'a> {
-    let kind = KINDS[below(random, 20) as usize];
+    let kind = KINDS[below(random, 22) as usize];
     let path = paths.choose(random, plain);
     let to = paths.choose(random, plain);
     let number = choose_number(random, paths, plain);

@@ -17,6 +17,7 @@ pub(crate) fn edit_layer(layer: &mut Layer, edit: &Edit) -> Answer {
         Kind::AddFile => add_file(layer, edit.path, edit.mode, edit.bytes),
         Kind::AddSymlink => add_symlink(layer, edit.path, edit.bytes),
         Kind::AddName => add_name(layer, edit.path, edit.number),
+        Kind::AddLinked => add_linked(layer, edit.path, edit.to, edit.mode, edit.bytes),
         Kind::AddWhiteout => add_whiteout(layer, edit.path),
         Kind::TakeName => take_name(layer, edit.path),
         Kind::MoveTree => move_tree(layer, edit.path, edit.to, edit.mark),
@@ -59,6 +60,16 @@ fn add_name(layer: &mut Layer, path: &Path, number: u32) -> Answer {
     }
     match layer.add_name(path, number) {
         Ok(()) => Answer::Made,
+        Err(_) => Answer::NoMemory,
+    }
+}
+
+fn add_linked(layer: &mut Layer, path: &Path, link: &Path, mode: u32, bytes: &[u8]) -> Answer {
+    if mode > MAX_MODE || !is_short(bytes) || !layer.has_rooms(path, link) {
+        return Answer::Refused;
+    }
+    match Bytes::copy_of(layer.alloc(), bytes) {
+        Ok(bytes) => Answer::of(layer.add_linked(path, link, Body::File { mode, bytes })),
         Err(_) => Answer::NoMemory,
     }
 }

@@ -13,6 +13,7 @@ pub(crate) fn edit_plain(plain: &mut Plain, edit: &Edit) -> Answer {
         Kind::AddFile => add_file(plain, edit.path, edit.mode, edit.bytes),
         Kind::AddSymlink => add_symlink(plain, edit.path, edit.bytes),
         Kind::AddName => add_name(plain, edit.path, edit.number),
+        Kind::AddLinked => add_linked(plain, edit.path, edit.to, edit.mode, edit.bytes),
         Kind::AddWhiteout => add_whiteout(plain, edit.path),
         Kind::TakeName => take_name(plain, edit.path),
         Kind::MoveTree => move_tree(plain, edit.path, edit.to, edit.mark),
@@ -56,6 +57,16 @@ fn add_name(plain: &mut Plain, path: &Path, number: u32) -> Answer {
     }
     match plain.add_name(path, number) {
         Ok(()) => Answer::Made,
+        Err(_) => Answer::NoMemory,
+    }
+}
+
+fn add_linked(plain: &mut Plain, path: &Path, link: &Path, mode: u32, bytes: &[u8]) -> Answer {
+    if mode > MAX_MODE || !is_short(bytes) || !plain.has_rooms(path, link) {
+        return Answer::Refused;
+    }
+    match Bytes::copy_of(plain.alloc, bytes) {
+        Ok(bytes) => Answer::of(plain.add_linked(path, link, mode, bytes)),
         Err(_) => Answer::NoMemory,
     }
 }

@@ -27,6 +27,7 @@ pub(crate) enum Call {
     NextBody,
     HasParent,
     HasRoom,
+    HasRooms,
     HasPlace,
     IsTakeable,
     CanMove,
@@ -125,9 +126,12 @@ impl Pair {
         check(left == plain.inodes_without(path), Call::InodesWithout)
     }
 
+    /// Compares what may be done at both paths.
     fn compare_move(&self, from: &Path, to: &Path) -> Result<(), Fault> {
         let can = self.layer.can_move(from, to);
         check(can == self.plain.can_move(from, to), Call::CanMove)?;
+        let rooms = self.layer.has_rooms(from, to);
+        check(rooms == self.plain.has_rooms(from, to), Call::HasRooms)?;
         if from.names().is_empty() || to.names().is_empty() {
             return Ok(());
         }

@@ -158,6 +158,11 @@ impl Plain {
         free && self.has_parent(path)
     }
 
+    /// Whether a new file may be added at the path with one more name at the link.
+    pub(crate) fn has_rooms(&self, path: &Path, link: &Path) -> bool {
+        self.at(path).is_none() && self.has_parent(path) && self.has_room(link) && path != link
+    }
+
     /// Whether what stands at the path may be replaced.
     pub(crate) fn has_place(&self, path: &Path) -> bool {
         self.has_parent(path) && self.has_whiteouts_alone(path)

@@ -46,6 +46,20 @@ impl Plain {
         self.replace(path, node)
     }
 
+    /// Adds a regular file where nothing stands, and one more name of it at the link.
+    pub(crate) fn add_linked(
+        &mut self,
+        path: &Path,
+        link: &Path,
+        mode: u32,
+        bytes: Bytes,
+    ) -> Result<(), LayerError> {
+        let number = self.next;
+        let node = Node::File { number };
+        self.insert(link, node, Body::File { mode, bytes })?;
+        Ok(self.replace(path, node)?)
+    }
+
     /// Adds a whiteout in place of what stands at the path.
     pub(crate) fn add_whiteout(&mut self, path: &Path) -> Result<(), LayerError> {
         self.check_inodes(path, true)?;

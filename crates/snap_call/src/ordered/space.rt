@@ -1,5 +1,5 @@
 ghost use Rattle.std.specs.Prelude.{◌≡◌, ℕ, [], ◌++◌, false, map, option_copied, OnOk, OnErr, IfErr, IfOk};
-ghost use Rattle.snap_call.specs.Records.{record_at, has_key, has_children, with_record, without_key, with_content_at, relabelled, page};
+ghost use Rattle.snap_call.specs.Records.{record_at, has_key, has_children, child_count, with_record, without_key, with_content_at, relabelled, page};
 ghost use Rattle.snap_call.specs.Spaces.{IsOf};
 
 use snap_counts::Counts;
@@ -54,6 +54,13 @@ impl Space {
         ensures { (place : ℕ) → IsOf place self.now → result ≡ has_children place key.now self.now }
     {
         self.parents.has(key)
+    }
+
+    /// How many records are on this parent. Takes no memory.
+    pub(super) fn child_count(&self, key: &str) -> u64
+        ensures { (place : ℕ) → IsOf place self.now → result ≡ child_count place key.now self.now }
+    {
+        self.parents.count(key)
     }
 
     /// Puts a record in its place. Where memory is wanting, the records are as they were and the

@@ -1,10 +1,9 @@
-use Rattle.std.proofs.Common.{◌≡◌, OnOk, is_some, sym, ap, subst, ◌∙◌}
-use Rattle.snap_layer.specs.Tree.{Tree, at}
+use Rattle.std.proofs.Common.{◌≡◌, OnOk, sym, subst, ◌∙◌}
+use Rattle.snap_layer.specs.Tree.{Tree}
 use Rattle.snap_layer.proofs.Kept.{has_body}
 use Rattle.snap_copyup.specs.Copying.{with_parents}
 use Rattle.snap_upper.specs.declared.op.Op.TheVariants as op
 use Rattle.snap_upper.specs.After.{next_layer}
-use Rattle.snap_upper.proofs.Linked.{whiteout_from, none_from, free}
 use Rattle.snap_upper.proofs.Linking.{way_last, other_number, own_name_place, own_made, own_full, later_refused}
 use Rattle.snap_upper.proofs.names.add_link.Goals as goal
 
@@ -30,10 +29,3 @@ returns-in-Some-clause-error c =
     later_refused c.add_dirs_and_name.result (with_parents u ls c.args.to.now) (next_layer (op.Link c.args.from.now c.args.to.now) u ls)
     (own_full u ls c.args.from.now c.args.to.now c.show_is_layer.ensures.layer c.show_are_layers.ensures c.requires c.in-Some.number (sym c.own_number.ensures ∙ c.in-Some.is))
     c.add_dirs_and_name.ensures.error
-
-pub link_over_whiteout-requires-clause-held : goal.link_over_whiteout-requires-clause-held
-link_over_whiteout-requires-clause-held c =
-    whiteout_from (at c.args.layer.now c.args.to.now) (free c.args.layer.now c.args.lowers.now c.args.from.now c.args.to.now c.show_is_layer.ensures.layer c.show_are_layers.ensures c.requires) (ap is_some (sym c.at.ensures) ∙ sym c.is_some.ensures ∙ c.if-is_some.true)
-
-pub link_lower-requires-clause-bare : goal.link_lower-requires-clause-bare
-link_lower-requires-clause-bare c = none_from (at c.args.layer.now c.args.to.now) (ap is_some (sym c.at.ensures) ∙ sym c.is_some.ensures ∙ c.if-is_some.false)

@@ -1,9 +1,8 @@
 use Rattle.std.proofs.Common.{◌≡◌, sym, ap, subst, ◌∙◌, arith}
-use Rattle.snap_layer.specs.Tree.{Tree}
+use Rattle.snap_layer.specs.Tree.{Tree, leaf_node}
 use Rattle.snap_layer.specs.Layers.{IsLayer}
 use Rattle.snap_layer.specs.Edits.{with_new}
 use Rattle.snap_layer.specs.Totals.{Counts}
-use Rattle.snap_layer.specs.Walk.{leaf_node}
 use Rattle.snap_layer.proofs.Totaling.{counts_new, few_blocks, fewer_blocks}
 use Rattle.snap_layer.proofs.Totaling.{new_few}
 use Rattle.snap_layer.proofs.Files.{leaf_number}

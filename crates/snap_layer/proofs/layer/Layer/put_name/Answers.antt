@@ -1,12 +1,11 @@
 use Rattle.std.proofs.Common.{◌≡◌, sym, ap, subst, ◌∙◌, arith}
-use Rattle.snap_layer.specs.Tree.{body}
+use Rattle.snap_layer.specs.Tree.{body, leaf_node}
 use Rattle.snap_layer.specs.Layers.{IsLayer}
 use Rattle.snap_layer.specs.Edits.{with_node, with_name, name_of}
 use Rattle.snap_layer.specs.Totals.{Counts}
-use Rattle.snap_layer.specs.Walk.{leaf_node}
 use Rattle.snap_layer.proofs.Totaling.{names_few, counts_node}
 use Rattle.snap_layer.proofs.Changing.{body_some}
-use Rattle.snap_layer.proofs.Totaling.{name_becomes, name_no_dir, name_is, fewer_inodes}
+use Rattle.snap_layer.proofs.Totaling.{name_becomes, name_no_dir, fewer_inodes}
 use Rattle.snap_layer.proofs.layer.Layer.put_name.Goals as goal
 
 pub put_name-requires-clause-few : goal.put_name-requires-clause-few
@@ -32,4 +31,4 @@ returns-clause-ok c =
     let there = body_some c.args.self.now c.args.number c.requires.there in
     let b = name_becomes c.args.self.now ok c.args.path.now c.names.ensures.valid c.requires.place c.args.number there.0 c.requires.apart there.1 in
     let is : c.put_name.new.self ≡ with_node c.args.self.now c.args.path.now (leaf_node c.args.number there.0) = c.in_ok-put_name.ensures.ok there.0 (ap (λ u. body u c.args.number) c.self.view_is ∙ there.1) ∙ ap (λ u. with_node u c.args.path.now (leaf_node c.args.number there.0)) c.self.view_is in
-    is ∙ sym (ap (with_name c.args.self.now c.args.path.now) (ap (name_of c.args.number) there.1 ∙ name_is c.args.number there.0))
+    is ∙ sym (ap (with_name c.args.self.now c.args.path.now) (ap (name_of c.args.number) there.1))

@@ -1,8 +1,9 @@
 use Rattle.std.proofs.Common.{◌≡◌, ◌++◌, ◌∷◌, [], Some, None, refl, sym, ap, ◌∙◌, subst, arith}
 use Rattle.snap_layer.specs.contracts.node.Node as node_contracts
+use Rattle.snap_layer.specs.Tree.{leaf_node}
 use Rattle.snap_layer.specs.Layers.{IsLayer}
 use Rattle.snap_layer.specs.Edits.{with_node, without}
-use Rattle.snap_layer.specs.Walk.{view_of, leaf_node}
+use Rattle.snap_layer.specs.Walk.{view_of}
 use Rattle.snap_layer.specs.Holds.{place}
 use Rattle.snap_layer.proofs.Slots.{on_ok, on_err, plain}
 use Rattle.snap_layer.proofs.Makes.{opens, makes_holds, makes_view, makes_kept, either, parent_stands}
