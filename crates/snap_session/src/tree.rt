@@ -30,11 +30,7 @@ fn is_in(snapshot: &Record, place: usize) -> bool
     snapshot.namespace == place
 }
 
-fn forest(
-    alloc: Global,
-    records: &Records,
-    place: usize,
-) -> Result<Sequence<TreeNode>, AllocError>
+fn forest(alloc: Global, records: &Records, place: usize) -> Result<Sequence<TreeNode>, AllocError>
     ensures { IfOk result (λ nodes. nodes ≡ forest place records.now) }
 {
     let list = records.list(alloc)?;
