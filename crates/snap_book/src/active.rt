@@ -4,6 +4,7 @@ ghost use Rattle.snap_usage.specs.Counted.{Covers, count_of};
 ghost use Rattle.snap_ledger.specs.States.{CoversOne, minus};
 ghost use Rattle.snap_book.specs.Held.{share_of};
 
+use snap_call::EntryRoom;
 use snap_layer::{Layer, Shared};
 use snap_ledger::{Share, StoreName};
 use snap_record::{Sequence, Text};
@@ -24,6 +25,7 @@ pub struct Active<N: StoreName> {
     pub(crate) lowers: Sequence<Shared>,
     pub(crate) layer: Layer,
     pub(crate) share: Share<N>,
+    pub(crate) discard_room: EntryRoom,
 }
 
 impl<N: StoreName> Model for Active<N> {
@@ -45,6 +47,7 @@ pub struct Sealed<N: StoreName> {
     pub(crate) lowers: Sequence<Shared>,
     pub(crate) layer: Shared,
     pub(crate) share: Share<N>,
+    pub(crate) discard_room: EntryRoom,
 }
 
 impl<N: StoreName> Model for Sealed<N> {
@@ -134,6 +137,7 @@ impl<N: StoreName> Active<N> {
             lowers,
             layer,
             share,
+            discard_room,
         } = self;
         match Shared::new(alloc, layer) {
             Ok(layer) => Ok(Sealed {
@@ -142,6 +146,7 @@ impl<N: StoreName> Active<N> {
                 lowers,
                 layer,
                 share,
+                discard_room,
             }),
             Err(layer) => Err(Active {
                 alloc,
@@ -150,6 +155,7 @@ impl<N: StoreName> Active<N> {
                 lowers,
                 layer,
                 share,
+                discard_room,
             }),
         }
     }
@@ -181,10 +187,10 @@ impl<N: StoreName> Sealed<N> {
 }
 
 impl<N: StoreName> Held<N> {
-    // Its share. The layer goes.
-    pub(crate) fn into_share(self) -> Share<N>
-        ensures share { result ≡ share_of self }
-        ensures slot { result.slot < 64 }
+    // Its share, and the room for the entry of its discard. The layer goes.
+    pub(crate) fn into_parts(self) -> (Share<N>, EntryRoom)
+        ensures share { result.0 ≡ share_of self }
+        ensures slot { result.0.slot < 64 }
     {
         match self {
             Held::Active(
@@ -195,8 +201,9 @@ impl<N: StoreName> Held<N> {
                     lowers: _,
                     layer: _,
                     share,
+                    discard_room,
                 },
-            ) => share,
+            ) => (share, discard_room),
             Held::Sealed(
                 Sealed {
                     namespace: _,
@@ -204,8 +211,9 @@ impl<N: StoreName> Held<N> {
                     lowers: _,
                     layer: _,
                     share,
+                    discard_room,
                 },
-            ) => share,
+            ) => (share, discard_room),
         }
     }
 }

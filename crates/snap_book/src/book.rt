@@ -20,11 +20,11 @@ ghost use Rattle.snap_book.specs.Slot.{found_of, slot_of};
 use crate::journal::{Journal, Opening, session_entry};
 use snap_accounts::{Accounts, Change};
 use snap_call::limits::MAX_SESSIONS;
-use snap_call::{Call, Config, Entry, Given, Records, Refusal, Reply};
+use snap_call::{Call, Config, Entry, Given, Records, Refusal, Reply, SharedEntry};
 use snap_ledger::{NewTable, StoreName};
 use snap_record::{Content, Record};
 use snap_usage::Usage;
-use std::alloc::Global;
+use std::alloc::{AllocError, Global};
 use std::marker::Model;
 
 /// The book of a store: its state and the journal of the calls that made it.
@@ -81,7 +81,8 @@ impl<N: StoreName> Book<N> {
     /// Opens a session and gives its number, counted from 0.
     ///
     /// `JournalFull` and `OutOfMemory` as for [`Book::charge`]; `NumbersSpent` after 65,536 sessions.
-    /// None of them is recorded, and the book is as it was.
+    /// None of them is recorded, and the book is as it was. Takes no memory after
+    /// [`Book::reserve_session`].
     pub fn open_session(&mut self) -> Result<u64, Refusal>
         ensures number { IfOk result (λ n. n ≡ self.old.state.sessions) }
         ensures granted { IfOk result (λ n. Recorded self.old self.new n calls.Session Nothing Opened) }
@@ -94,14 +95,25 @@ impl<N: StoreName> Book<N> {
         if number >= MAX_SESSIONS {
             return Err(Refusal::NumbersSpent);
         }
+        let room = self.journal.take_session_room(self.alloc)?;
         self.accounts.open_session();
         self.journal
-            .push(session_entry(number), session_entry(number));
+            .push_into(room, session_entry(number), session_entry(number));
         Ok(number)
     }
 
-    /// Gives once a copy of the entry of the last recorded call.
-    pub fn take_entry(&mut self) -> Option<Entry>
+    /// Takes the memory for the entry of a session, so that the next [`Book::open_session`] needs none, also
+    /// in the next round. Where that memory is kept already it takes none; where memory is refused the
+    /// book is as it was. The cost is constant, but where the journal's list of entries has to grow.
+    pub fn reserve_session(&mut self) -> Result<(), AllocError>
+        ensures { self.new ≡ self.old }
+    {
+        self.journal.reserve_session(self.alloc)
+    }
+
+    /// Gives once the entry of the last recorded call, which the journal holds too. Takes no memory. The
+    /// cost is constant.
+    pub fn take_entry(&mut self) -> Option<SharedEntry>
         ensures entry { result ≡ self.old.copy }
         ensures last { IsLast result self.old.journal }
         ensures same { self.new ≡ record self.old { copy = None } }
@@ -110,7 +122,7 @@ impl<N: StoreName> Book<N> {
     }
 
     /// The entries of the round. Takes no memory. The cost is constant.
-    pub fn journal(&self) -> &[Entry]
+    pub fn journal(&self) -> &[SharedEntry]
         ensures { result.now ≡ self.now.journal }
     {
         self.journal.entries()
@@ -222,7 +234,7 @@ impl<N: StoreName> Book<N> {
         ensures full { IsErrOf result JournalFull ↔ (self.old.limit ≤ length self.old.journal + open_count self.old.state.records) }
     {
         self.journal.admit(self.accounts.open_slots(), 1)?;
-        let copy = entry.clone()?;
+        let (entry, copy) = SharedEntry::pair(self.alloc, entry)?;
         self.accounts.carry_out(change)?;
         self.journal.push(entry, copy);
         Ok(())

@@ -15,7 +15,7 @@ use crate::active::{Active, Held};
 use crate::book::Book;
 use crate::journal::{charge_entry, discard_entry, trim_entry};
 use snap_call::limits::MAX_LIMIT;
-use snap_call::{Refusal, Reply};
+use snap_call::{EntryRoom, Refusal, Reply};
 use snap_ledger::StoreName;
 use snap_merge::FsError;
 use snap_usage::Usage;
@@ -76,13 +76,14 @@ impl<N: StoreName> Book<N> {
     {
         self.accounts.meet(&mut active.share);
         self.journal.admit(self.accounts.open_slots(), 1)?;
+        let room = EntryRoom::new(self.alloc)?;
         let slot = active.share.slot();
         let id = active.share.id();
         match self.accounts.charge(&mut active.share, need, want) {
             Ok(now) => {
                 let copy = charge_entry(session, slot, id, need, want, Reply::Charged { now });
                 let entry = charge_entry(session, slot, id, need, want, Reply::Charged { now });
-                self.journal.push(entry, copy);
+                self.journal.push_into(room, entry, copy);
                 Ok(())
             }
             Err(free) => {
@@ -92,7 +93,7 @@ impl<N: StoreName> Book<N> {
                 };
                 let copy = charge_entry(session, slot, id, need, want, Reply::Refused(why));
                 let entry = charge_entry(session, slot, id, need, want, Reply::Refused(why));
-                self.journal.push(entry, copy);
+                self.journal.push_into(room, entry, copy);
                 Err(why)
             }
         }
@@ -111,13 +112,14 @@ impl<N: StoreName> Book<N> {
     {
         self.accounts.meet(&mut active.share);
         self.journal.admit(self.accounts.open_slots(), 1)?;
+        let room = EntryRoom::new(self.alloc)?;
         let slot = active.share.slot();
         let id = active.share.id();
         let count = active.count();
         self.accounts.trim(&mut active.share, count);
         let copy = trim_entry(session, slot, id, count);
         self.journal
-            .push(trim_entry(session, slot, id, count), copy);
+            .push_into(room, trim_entry(session, slot, id, count), copy);
         Ok(())
     }
 
@@ -128,13 +130,13 @@ impl<N: StoreName> Book<N> {
         ensures granted { Recorded self.old self.new session (calls.Discard (share_of held).slot (share_of held).id) Nothing (Discarded result) }
         ensures held { result ≡ (share_of held).usage }
     {
-        let share = held.into_share();
+        let (share, room) = held.into_parts();
         let slot = share.slot();
         let id = share.id();
         let held = self.accounts.discard(share);
         let copy = discard_entry(session, slot, id, held);
         self.journal
-            .push(discard_entry(session, slot, id, held), copy);
+            .push_into(room, discard_entry(session, slot, id, held), copy);
         held
     }
 }

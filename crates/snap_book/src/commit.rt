@@ -18,9 +18,9 @@ ghost use Rattle.snap_book.specs.Book.{IsRefusedWith, Recorded, RefusedBy};
 
 use crate::active::Sealed;
 use crate::book::Book;
-use crate::journal::twice;
+use crate::journal::shared;
 use snap_accounts::Accounts;
-use snap_call::{Call, Entry, Given, Refusal, Reply};
+use snap_call::{Call, Given, Refusal, Reply, SharedEntry};
 use snap_layer::Shared;
 use snap_ledger::StoreName;
 use snap_record::Text;
@@ -45,12 +45,12 @@ fn commit_call(
     })
 }
 
-// What the book keeps of a commit: the snapshot's name, and its entry with the entry's copy.
+// What the book keeps of a commit: the snapshot's name, and its entry for the two holders.
 #[derive(Drop)]
 struct Settlement {
     name: Text,
-    entry: Entry,
-    copy: Entry,
+    entry: SharedEntry,
+    copy: SharedEntry,
 }
 
 // All that a commit of the layer takes memory for.
@@ -71,7 +71,7 @@ fn settlement_of(
         id,
         usage: count(layer.layer()),
     };
-    let (entry, copy) = twice(session, call, Given::Layer(layer), reply)?;
+    let (entry, copy) = shared(alloc, session, call, Given::Layer(layer), reply)?;
     Ok(Settlement { name, entry, copy })
 }
 
@@ -117,6 +117,7 @@ impl<N: StoreName> Book<N> {
             lowers,
             layer,
             share,
+            discard_room,
         } = sealed;
         match self.accounts.commit(share, name, lease, layer) {
             Ok(usage) => {
@@ -130,6 +131,7 @@ impl<N: StoreName> Book<N> {
                     lowers,
                     layer,
                     share,
+                    discard_room,
                 };
                 Err((Refusal::OutOfMemory, sealed))
             }

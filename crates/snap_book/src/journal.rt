@@ -8,7 +8,7 @@ ghost use Rattle.snap_call.specs.declared.call.Given.TheVariants.{Nothing, Count
 ghost use Rattle.snap_call.specs.declared.reply.Reply.TheVariants.{Opened, Trimmed, Discarded};
 
 use atomic_table::{Play, Seat, Table, TableRule};
-use snap_call::{Call, Entry, Given, Refusal, Reply, State};
+use snap_call::{Call, Entry, EntryRoom, Given, Refusal, Reply, SharedEntry, State};
 use snap_usage::Usage;
 use std::alloc::{AllocError, Global};
 use std::marker::Model;
@@ -69,14 +69,15 @@ impl Opening {
     }
 }
 
-// The entries of a round, the state that it began at, the most entries, and a copy of the last entry
-// until it is taken.
+// The entries of a round, the state that it began at, the most entries, the second holder of the last entry
+// until it is taken, and room for the entry of a session, where it was made beforehand.
 #[derive(Drop)]
 pub(crate) struct Journal {
-    entries: Vec<Entry>,
+    entries: Vec<SharedEntry>,
     opening: Opening,
     limit: u64,
-    copy: Option<Entry>,
+    copy: Option<SharedEntry>,
+    session_room: Option<EntryRoom>,
 }
 
 impl Model for Journal {
@@ -102,6 +103,7 @@ impl Journal {
             opening,
             limit,
             copy: None,
+            session_room: None,
         }
     }
 
@@ -155,8 +157,30 @@ impl Journal {
         }
     }
 
-    // One entry more, and its copy. It takes no memory.
-    pub(crate) fn push(&mut self, entry: Entry, copy: Entry)
+    // Makes room for the entry of a session, where there is none.
+    pub(crate) fn reserve_session(&mut self, alloc: Global) -> Result<(), AllocError>
+        ensures more { self.old.room ≤ self.new.room }
+        ensures same { self.new ≡ record self.old { room = self.new.room } }
+    {
+        self.entries.reserve(1)?;
+        if self.session_room.is_none() {
+            self.session_room = Some(EntryRoom::new(alloc)?);
+        }
+        Ok(())
+    }
+
+    // The room for the entry of a session: what was made beforehand, or else a new one.
+    pub(crate) fn take_session_room(&mut self, alloc: Global) -> Result<EntryRoom, AllocError>
+        ensures { self.new ≡ self.old }
+    {
+        match self.session_room.take() {
+            Some(room) => Ok(room),
+            None => EntryRoom::new(alloc),
+        }
+    }
+
+    // One entry more, and its second holder. It takes no memory.
+    pub(crate) fn push(&mut self, entry: SharedEntry, copy: SharedEntry)
         requires room { 0 < self.old.room }
         requires copy { copy ≡ entry }
         ensures room { self.new.room + 1 ≡ self.old.room }
@@ -166,28 +190,40 @@ impl Journal {
         self.copy = Some(copy);
     }
 
-    // The copy of the last entry, once.
-    pub(crate) fn take_copy(&mut self) -> Option<Entry>
+    // One entry more, and its copy, in the room that was made for them. It takes no memory.
+    pub(crate) fn push_into(&mut self, room: EntryRoom, entry: Entry, copy: Entry)
+        requires room { 0 < self.old.room }
+        requires copy { copy ≡ entry }
+        ensures room { self.new.room + 1 ≡ self.old.room }
+        ensures entry { self.new ≡ record self.old { entries = self.old.entries ++ entry ∷ []; copy = Some entry; room = self.new.room } }
+    {
+        let (entry, copy) = room.fill(entry, copy);
+        self.push(entry, copy);
+    }
+
+    // The second holder of the last entry, once.
+    pub(crate) fn take_copy(&mut self) -> Option<SharedEntry>
         ensures copy { result ≡ self.old.copy }
         ensures same { self.new ≡ record self.old { copy = None } }
     {
         self.copy.take()
     }
 
-    pub(crate) fn entries(&self) -> &[Entry]
+    pub(crate) fn entries(&self) -> &[SharedEntry]
         ensures { result.now ≡ self.now.entries }
     {
         self.entries.as_slice()
     }
 }
 
-// An entry, and its copy.
-pub(crate) fn twice(
+// An entry for its two holders.
+pub(crate) fn shared(
+    alloc: Global,
     session: u64,
     call: Call,
     given: Given,
     reply: Reply,
-) -> Result<(Entry, Entry), AllocError>
+) -> Result<(SharedEntry, SharedEntry), AllocError>
     ensures { IfOk result (λ p. (p.0 ≡ entry session call given reply) × (p.1 ≡ entry session call given reply)) }
 {
     let entry = Entry {
@@ -196,8 +232,7 @@ pub(crate) fn twice(
         given,
         reply,
     };
-    let copy = entry.clone()?;
-    Ok((entry, copy))
+    SharedEntry::pair(alloc, entry)
 }
 
 pub(crate) fn session_entry(session: u64) -> Entry

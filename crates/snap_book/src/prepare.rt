@@ -17,9 +17,9 @@ ghost use Rattle.snap_book.specs.Book.{Recorded, RefusedBy};
 
 use crate::active::Active;
 use crate::book::Book;
-use crate::journal::twice;
+use crate::journal::shared;
 use snap_accounts::Vacancy;
-use snap_call::{Call, Chain, Entry, Given, Refusal, Reply, State};
+use snap_call::{Call, Chain, EntryRoom, Given, Refusal, Reply, SharedEntry, State};
 use snap_layer::{Layer, Node, Shared};
 use snap_ledger::{Share, StoreName};
 use snap_path::Path;
@@ -51,13 +51,15 @@ struct Upper {
     key: Text,
     lowers: Sequence<Shared>,
     layer: Layer,
+    discard_room: EntryRoom,
 }
 
-// What a new snapshot takes memory for: its entry with the entry's copy, and what its writer gets.
+// What a new snapshot takes memory for: its entry for the two holders, the reply, and what its writer gets.
 #[derive(Drop)]
 struct Addition {
-    entry: Entry,
-    copy: Entry,
+    entry: SharedEntry,
+    copy: SharedEntry,
+    reply: Reply,
     upper: Upper,
 }
 
@@ -103,7 +105,13 @@ fn upper_over(alloc: Global, key: &str, lowers: Sequence<Shared>) -> Result<Uppe
 {
     let key = Text::copy_of(alloc, key)?;
     let layer = Layer::empty(alloc, root_mode(alloc, lowers.as_slice()))?;
-    Ok(Upper { key, lowers, layer })
+    let discard_room = EntryRoom::new(alloc)?;
+    Ok(Upper {
+        key,
+        lowers,
+        layer,
+        discard_room,
+    })
 }
 
 // All that a new snapshot takes memory for beside its record.
@@ -119,6 +127,7 @@ fn addition_of(
     requires { IsVacant state.now vacancy key.now parent.now }
     ensures entry { IfOk result (λ k. k.entry ≡ entry session call Nothing (Prepared state.now.next_id vacancy.slot (ids_of (ancestors vacancy.place parent.now state.now.records)))) }
     ensures copy { IfOk result (λ k. k.copy ≡ entry session call Nothing (Prepared state.now.next_id vacancy.slot (ids_of (ancestors vacancy.place parent.now state.now.records)))) }
+    ensures reply { IfOk result (λ k. k.reply ≡ Prepared state.now.next_id vacancy.slot (ids_of (ancestors vacancy.place parent.now state.now.records))) }
     ensures key { IfOk result (λ k. k.upper.key ≡ key.now) }
     ensures lowers { IfOk result (λ k. k.upper.lowers ≡ layers_of (ancestors vacancy.place parent.now state.now.records)) }
     ensures layer { IfOk result (λ k. k.upper.layer ≡ root_only (root_mode (layers_of (ancestors vacancy.place parent.now state.now.records))) 1) }
@@ -129,9 +138,15 @@ fn addition_of(
         slot: vacancy.slot,
         chain: ids,
     };
-    let (entry, copy) = twice(session, call, Given::Nothing, reply)?;
+    let recorded = reply.clone()?;
+    let (entry, copy) = shared(alloc, session, call, Given::Nothing, recorded)?;
     let upper = upper_over(alloc, key, layers)?;
-    Ok(Addition { entry, copy, upper })
+    Ok(Addition {
+        entry,
+        copy,
+        reply,
+        upper,
+    })
 }
 
 impl<N: StoreName> Active<N> {
@@ -142,7 +157,12 @@ impl<N: StoreName> Active<N> {
         requires layer { (mode : ℕ) × (upper.layer ≡ root_only mode 1) }
         ensures { result ≡ record { namespace = namespace; key = upper.key; lowers = upper.lowers; layer = upper.layer; share = share } }
     {
-        let Upper { key, lowers, layer } = upper;
+        let Upper {
+            key,
+            lowers,
+            layer,
+            discard_room,
+        } = upper;
         Active {
             alloc,
             namespace,
@@ -150,6 +170,7 @@ impl<N: StoreName> Active<N> {
             lowers,
             layer,
             share,
+            discard_room,
         }
     }
 }
@@ -163,8 +184,8 @@ impl<N: StoreName> Book<N> {
         key: &str,
         parent: &str,
         labels: &Labels,
-        entry: Entry,
-        copy: Entry,
+        entry: SharedEntry,
+        copy: SharedEntry,
     ) -> Result<Share<N>, Refusal>
         requires vacant { IsVacant self.old.state vacancy key.now parent.now }
         requires copy { copy ≡ entry }
@@ -193,21 +214,28 @@ impl<N: StoreName> Book<N> {
         key: &str,
         parent: &str,
         labels: &Labels,
-    ) -> Result<Active<N>, Refusal>
+    ) -> Result<(Active<N>, Reply), Refusal>
         requires vacant { IsVacant self.old.state vacancy key.now parent.now }
         requires allowed { IsAllowed self.old.state call Nothing }
         requires granted { step self.old.state call Nothing ≡ prepared self.old.state vacancy.place key.now parent.now labels.now vacancy.slot }
-        ensures granted { IfOk result (λ a. Recorded self.old self.new session call Nothing (Prepared a.share.id a.share.slot (ids_of (ancestors vacancy.place parent.now self.old.state.records)))) }
-        ensures active { IfOk result (λ a. a ≡ record { namespace = vacancy.place; key = key.now; lowers = layers_of (ancestors vacancy.place parent.now self.old.state.records); layer = root_only (root_mode (layers_of (ancestors vacancy.place parent.now self.old.state.records))) 1; share = record { slot = vacancy.slot; id = self.old.state.next_id; usage = one } }) }
+        ensures granted { IfOk result (λ p. Recorded self.old self.new session call Nothing (Prepared p.0.share.id p.0.share.slot (ids_of (ancestors vacancy.place parent.now self.old.state.records)))) }
+        ensures reply { IfOk result (λ p. p.1 ≡ Prepared p.0.share.id p.0.share.slot (ids_of (ancestors vacancy.place parent.now self.old.state.records))) }
+        ensures active { IfOk result (λ p. p.0 ≡ record { namespace = vacancy.place; key = key.now; lowers = layers_of (ancestors vacancy.place parent.now self.old.state.records); layer = root_only (root_mode (layers_of (ancestors vacancy.place parent.now self.old.state.records))) 1; share = record { slot = vacancy.slot; id = self.old.state.next_id; usage = one } }) }
         ensures unchanged { OnErr result (self.new ≡ self.old) }
         ensures err { IfErr result IsUnrecorded }
         ensures full { IsErrOf result JournalFull → self.old.limit < length self.old.journal + open_count self.old.state.records + 2 }
     {
         let state = self.accounts.state();
         let addition = addition_of(state, self.alloc, session, call, vacancy, key, parent)?;
-        let Addition { entry, copy, upper } = addition;
+        let Addition {
+            entry,
+            copy,
+            reply,
+            upper,
+        } = addition;
         let share = self.add(vacancy, key, parent, labels, entry, copy)?;
-        Ok(Active::fresh(self.alloc, vacancy.place, upper, share))
+        let active = Active::fresh(self.alloc, vacancy.place, upper, share);
+        Ok((active, reply))
     }
 
     // Makes the snapshot that the call asks for, or notes why not.
@@ -219,14 +247,15 @@ impl<N: StoreName> Book<N> {
         key: &str,
         parent: &str,
         labels: &Labels,
-    ) -> Result<Active<N>, Refusal>
+    ) -> Result<(Active<N>, Reply), Refusal>
         requires { call ≡ calls.Prepare namespace.now key.now parent.now labels.now }
-        ensures granted { IfOk result (λ a. Recorded self.old self.new session call Nothing (Prepared a.share.id a.share.slot (ids_of (ancestors a.namespace parent.now self.old.state.records)))) }
-        ensures namespace { IfOk result (λ a. place_of namespace.now self.old.state.namespaces ≡ Some a.namespace) }
-        ensures key { IfOk result (λ a. a.key ≡ key.now) }
-        ensures lowers { IfOk result (λ a. a.lowers ≡ layers_of (ancestors a.namespace parent.now self.old.state.records)) }
-        ensures layer { IfOk result (λ a. a.layer ≡ root_only (root_mode a.lowers) 1) }
-        ensures usage { IfOk result (λ a. a.share.usage ≡ one) }
+        ensures granted { IfOk result (λ p. Recorded self.old self.new session call Nothing (Prepared p.0.share.id p.0.share.slot (ids_of (ancestors p.0.namespace parent.now self.old.state.records)))) }
+        ensures reply { IfOk result (λ p. p.1 ≡ Prepared p.0.share.id p.0.share.slot (ids_of (ancestors p.0.namespace parent.now self.old.state.records))) }
+        ensures namespace { IfOk result (λ p. place_of namespace.now self.old.state.namespaces ≡ Some p.0.namespace) }
+        ensures key { IfOk result (λ p. p.0.key ≡ key.now) }
+        ensures lowers { IfOk result (λ p. p.0.lowers ≡ layers_of (ancestors p.0.namespace parent.now self.old.state.records)) }
+        ensures layer { IfOk result (λ p. p.0.layer ≡ root_only (root_mode p.0.lowers) 1) }
+        ensures usage { IfOk result (λ p. p.0.share.usage ≡ one) }
         ensures refused { IfErr result (λ why. RefusedBy self.old self.new session call Nothing why) }
         ensures full { IsErrOf result JournalFull → self.old.limit < length self.old.journal + open_count self.old.state.records + 2 }
     {
@@ -267,6 +296,32 @@ impl<N: StoreName> Book<N> {
         ensures lowers { IfOk result (λ a. a.lowers ≡ layers_of (ancestors a.namespace parent.now self.old.state.records)) }
         ensures layer { IfOk result (λ a. a.layer ≡ root_only (root_mode a.lowers) 1) }
         ensures usage { IfOk result (λ a. a.share.usage ≡ one) }
+        ensures refused { IfErr result (λ why. RefusedBy self.old self.new session (calls.Prepare namespace.now key.now parent.now labels.now) Nothing why) }
+        ensures full { IsErrOf result JournalFull ↔ (self.old.limit < length self.old.journal + open_count self.old.state.records + 2) }
+    {
+        match self.prepare_with_reply(session, namespace, key, parent, labels) {
+            Ok((active, _)) => Ok(active),
+            Err(why) => Err(why),
+        }
+    }
+
+    /// Makes an active snapshot as [`Book::prepare`] does, and gives the call's reply beside it.
+    pub fn prepare_with_reply(
+        &mut self,
+        session: u64,
+        namespace: &str,
+        key: &str,
+        parent: &str,
+        labels: &Labels,
+    ) -> Result<(Active<N>, Reply), Refusal>
+        ensures granted { IfOk result (λ p. Recorded self.old self.new session (calls.Prepare namespace.now key.now parent.now labels.now) Nothing (Prepared p.0.share.id p.0.share.slot (ids_of (ancestors p.0.namespace parent.now self.old.state.records)))) }
+        // The reply is that of the entry.
+        ensures reply { IfOk result (λ p. p.1 ≡ Prepared p.0.share.id p.0.share.slot (ids_of (ancestors p.0.namespace parent.now self.old.state.records))) }
+        ensures namespace { IfOk result (λ p. place_of namespace.now self.old.state.namespaces ≡ Some p.0.namespace) }
+        ensures key { IfOk result (λ p. p.0.key ≡ key.now) }
+        ensures lowers { IfOk result (λ p. p.0.lowers ≡ layers_of (ancestors p.0.namespace parent.now self.old.state.records)) }
+        ensures layer { IfOk result (λ p. p.0.layer ≡ root_only (root_mode p.0.lowers) 1) }
+        ensures usage { IfOk result (λ p. p.0.share.usage ≡ one) }
         ensures refused { IfErr result (λ why. RefusedBy self.old self.new session (calls.Prepare namespace.now key.now parent.now labels.now) Nothing why) }
         ensures full { IsErrOf result JournalFull ↔ (self.old.limit < length self.old.journal + open_count self.old.state.records + 2) }
     {

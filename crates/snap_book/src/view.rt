@@ -62,7 +62,7 @@ struct Plan {
     answer: Result<Viewed, Refusal>,
 }
 
-// All that a call View takes memory for beside the entry's copy and the snapshot's place.
+// All that a call View takes memory for beside the shared entry and the snapshot's place.
 fn planned<N: StoreName>(
     alloc: Global,
     accounts: &Accounts<N>,
@@ -110,11 +110,11 @@ impl<N: StoreName> Book<N> {
     /// `NotFound` where the namespace has no snapshot of the parent's name; `AlreadyExists` where it has
     /// one of the key; `NotCommitted` where the parent is not committed; `TooDeep` where the snapshot
     /// would have more than 64 committed ancestors; `NumbersSpent` after the id 4,294,967,295. At last
-    /// `OutOfMemory` where memory for the snapshot, for the answer or for the entry's copy is refused.
+    /// `OutOfMemory` where memory for the snapshot, for the answer or for the entry is refused.
     /// `JournalFull` and `OutOfMemory` leave the book as it was, the others all but the journal.
     ///
-    /// Takes memory for the texts and the labels in the entry, in its copy and in the snapshot, for the
-    /// ancestors' ids in the first two, and for the list of the layers in the snapshot and in the answer.
+    /// Takes memory for the texts and the labels in the entry and in the snapshot, for the ancestors' ids in
+    /// the entry, and for the list of the layers in the snapshot and in the answer.
     /// The ancestors' layers are shared and not copied. Its cost grows with the logarithm of the
     /// number of records, once for each ancestor and once for the view itself, and with the texts and the
     /// labels.

@@ -8,4 +8,5 @@ pub mod Marked
 pub mod Good
 pub mod Step
 pub mod Journal
+pub mod Holder
 pub mod Totals

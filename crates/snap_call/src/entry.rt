@@ -26,19 +26,6 @@ impl Drop for Entry {
 }
 
 impl Entry {
-    /// Its reply. The rest goes.
-    pub fn into_reply(self) -> Reply
-        ensures { result ≡ self.reply }
-    {
-        let Entry {
-            session: _,
-            call: _,
-            given: _,
-            reply,
-        } = self;
-        reply
-    }
-
     /// Whether the entries are equal in all parts. Its cost grows with what is compared.
     pub fn is_same(&self, other: &Entry) -> bool
         ensures { IsTrue result ↔ (self.now ≡ other.now) }

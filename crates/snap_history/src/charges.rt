@@ -10,18 +10,19 @@ ghost use Rattle.snap_history.specs.History.{history, history_page};
 use crate::change::{Change, turned};
 use crate::info::{EntryInfo, entry_info};
 use crate::shares::Shares;
-use snap_call::Entry;
+use snap_call::SharedEntry;
 use snap_record::Sequence;
 use snap_usage::Usage;
 use std::alloc::{AllocError, Global};
 
 // The changes of the entries.
-fn changes(alloc: Global, entries: &[Entry], name: &str) -> Result<Vec<Change>, AllocError>
+fn changes(alloc: Global, entries: &[SharedEntry], name: &str) -> Result<Vec<Change>, AllocError>
     ensures { IfOk result (λ changes. changes.items ≡ changes_of name.now no_shares entries.now) }
 {
     let mut shares = Shares::none(alloc)?;
     let mut changes = Vec::new(alloc);
     for entry in entries {
+        let entry = entry.entry();
         changes.push(shares.change_of(name, entry))?;
         shares.follow(name, entry);
     }
@@ -46,7 +47,7 @@ fn charge_before(now: Usage, changes: &[Change]) -> Usage
 // after `before`.
 fn infos(
     alloc: Global,
-    entries: &[Entry],
+    entries: &[SharedEntry],
     before: u64,
     name: &str,
     opening: Usage,
@@ -61,6 +62,7 @@ fn infos(
     let mut charge = opening;
     let mut number = before;
     for entry in entries {
+        let entry = entry.entry();
         number += 1;
         let change = shares.change_of(name, entry);
         charge = turned(charge, change.found, change.left);
@@ -79,7 +81,7 @@ fn infos(
 /// The cost grows with the entries, and the memory too: a change for each, and what is answered.
 pub fn history(
     alloc: Global,
-    entries: &[Entry],
+    entries: &[SharedEntry],
     last: u64,
     name: &str,
     now: Usage,

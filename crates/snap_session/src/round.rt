@@ -41,10 +41,11 @@ fn open_round<N: StoreName>(world: &mut World<N>) -> Result<Answer, NoMemory>
     Ok(told(0, 0, world, answer))
 }
 
-// The next round, and its session 0.
+// The next round, and its session 0, for whose entry memory is taken first.
 pub(crate) fn reopen<N: StoreName>(world: &mut World<N>, journal: u64) -> Result<Answer, NoMemory>
     ensures { IfOk result (λ answer. reopen world.old journal ≡ (world.new, answer)) }
 {
+    world.reserve_session()?;
     match world.reopen(journal) {
         Ok(()) => open_round(world),
         Err(ReopenFault::StillOut) => Ok(Answer::StillOut),

@@ -9,7 +9,7 @@ ghost use Rattle.snap_store.specs.Closing.{IsClosed, IsKept};
 
 use crate::cause::{Cause, close_cause};
 use crate::store::Store;
-use snap_book::{Book, Entry, Refusal};
+use snap_book::{Book, Refusal, SharedEntry};
 use snap_call::Records;
 use snap_ledger::StoreName;
 use snap_tape::Session;
@@ -133,7 +133,7 @@ impl<N: StoreName> Closed<N> {
     }
 
     /// The entries of the round. Takes no memory. The cost is constant.
-    pub fn journal(&self) -> &[Entry]
+    pub fn journal(&self) -> &[SharedEntry]
         ensures { result.now ≡ self.now.journal }
     {
         self.book.journal()

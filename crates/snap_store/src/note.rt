@@ -2,7 +2,7 @@
 ghost use Rattle.std.specs.Prelude.{◌≡◌, None, if◌then◌else◌};
 ghost use Rattle.snap_tape.specs.Tapes.{is_recorded, is_noted};
 
-use snap_book::{Book, Entry, Refusal, Reply};
+use snap_book::{Book, Refusal, Reply, SharedEntry};
 use snap_ledger::StoreName;
 
 // A refused call left an entry, but where the journal is full or memory is refused.
@@ -25,8 +25,8 @@ pub(crate) fn is_noted(reply: &Reply) -> bool
     }
 }
 
-// The copy of the last entry, where the last call left one.
-pub(crate) fn entry_of<N: StoreName>(book: &mut Book<N>, is_there: bool) -> Option<Entry>
+// The last entry, for the tape, where the last call left one.
+pub(crate) fn entry_of<N: StoreName>(book: &mut Book<N>, is_there: bool) -> Option<SharedEntry>
     ensures { result ≡ (if is_there then book.old.copy else None) }
 {
     if is_there { book.take_entry() } else { None }

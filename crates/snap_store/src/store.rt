@@ -24,7 +24,7 @@ use std::sync::{Mutex, Wait};
 /// [`Session`] of its own.
 ///
 /// Each call makes room for one entry on its session's tape, waits for the lock, makes the book's call under
-/// it, and puts a copy of the call's entry on the tape. No call lends the lock or the book, so nothing else
+/// it, and puts the call's entry on the tape, which shares it with the journal. No call lends the lock or the book, so nothing else
 /// waits for it: the calls of an [`Active`], a [`Sealed`] and a [`Viewed`] take no runtime.
 ///
 /// `OutOfMemory` where room on the tape is refused, before the lock is taken, and where the book's call

@@ -10,7 +10,7 @@ use Rattle.snap_call.specs.declared.reply.Reply.{Reply}
 use Rattle.snap_call.specs.declared.reply.Reply.TheVariants.{Refused}
 use Rattle.snap_call.specs.Journal.{entry}
 
--- a session: its number, its tape, which is a copy of each entry that its calls left in the journal, in order, and for how many entries more it has memory
+-- a session: its number, its tape, which has each entry that its calls left in the journal, in order, and for how many entries more it has memory
 pub record SessionValue : Type 0 where
   pub number : ℕ
   pub tape : List Entry

@@ -7,7 +7,7 @@ ghost use Rattle.snap_tape.specs.Tapes.{SessionValue};
 use crate::indexes::{all_indexes, are_known, are_once};
 use crate::mismatch::{Mismatch, first_indexed, first_mismatch};
 use crate::session::Session;
-use snap_call::Entry;
+use snap_call::SharedEntry;
 use std::alloc::{AllocError, Global};
 
 /// What is wrong with the sessions of a round.
@@ -33,7 +33,7 @@ fn checked(first: Option<Mismatch>) -> Result<(), SessionsFault>
 // In one pass over the journal and the tapes.
 fn check_indexed(
     alloc: Global,
-    journal: &[Entry],
+    journal: &[SharedEntry],
     sessions: &[Session],
 ) -> Result<Result<(), SessionsFault>, AllocError>
     ensures { IfOk result (λ check. IsCheck journal.now sessions.now check) }
@@ -49,7 +49,7 @@ fn check_indexed(
 }
 
 // Without memory.
-fn check_counted(journal: &[Entry], sessions: &[Session]) -> Result<(), SessionsFault>
+fn check_counted(journal: &[SharedEntry], sessions: &[Session]) -> Result<(), SessionsFault>
     ensures { IsCheck journal.now sessions.now result }
 {
     if !are_once(sessions) || !are_known(journal, sessions.len()) {
@@ -66,7 +66,7 @@ fn check_counted(journal: &[Entry], sessions: &[Session]) -> Result<(), Sessions
 /// entries, and with the square of the sessions.
 pub fn check_sessions(
     alloc: Global,
-    journal: &[Entry],
+    journal: &[SharedEntry],
     sessions: &[Session],
 ) -> Result<(), SessionsFault>
     ensures { IsCheck journal.now sessions.now result }

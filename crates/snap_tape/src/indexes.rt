@@ -4,14 +4,16 @@ ghost use Rattle.snap_tape.specs.Sessions.{AreOnce, has_number};
 ghost use Rattle.snap_tape.specs.Following.{AreIndexes, index_in};
 
 use crate::session::Session;
-use snap_call::Entry;
+use snap_call::SharedEntry;
 use std::alloc::{AllocError, Global};
 
 // Every entry is of one of so many sessions.
-pub(crate) fn are_known(journal: &[Entry], sessions: usize) -> bool
+pub(crate) fn are_known(journal: &[SharedEntry], sessions: usize) -> bool
     ensures { IsTrue result ↔ All (λ e. e.session < sessions) journal.now }
 {
-    journal.iter().all(|entry| entry.session < sessions as u64)
+    journal
+        .iter()
+        .all(|entry| entry.entry().session < sessions as u64)
 }
 
 // How many sessions have this number.

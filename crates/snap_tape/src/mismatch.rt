@@ -8,7 +8,7 @@ ghost use Rattle.snap_tape.specs.Tapes.{SessionValue};
 
 use crate::indexes::index_in;
 use crate::session::Session;
-use snap_call::Entry;
+use snap_call::SharedEntry;
 use std::alloc::{AllocError, Global};
 
 /// Where the tape of a session and its own entries of the journal differ first: the session's number, and
@@ -38,7 +38,7 @@ impl Progress {
     }
 
     // The session has one entry more.
-    fn next(self, tape: &[Entry], entry: &Entry) -> Progress
+    fn next(self, tape: &[SharedEntry], entry: &SharedEntry) -> Progress
         ensures { (seen : List EntryValue) → IsProgress tape.now seen self → IsProgress tape.now (seen ++ entry.now ∷ []) result }
     {
         if self.differs {
@@ -57,7 +57,7 @@ impl Progress {
     }
 
     // The session has no more entries.
-    fn end(self, tape: &[Entry]) -> Option<usize>
+    fn end(self, tape: &[SharedEntry]) -> Option<usize>
         ensures { (seen : List EntryValue) → IsProgress tape.now seen self → IsDifference tape.now seen result }
     {
         if self.differs || self.place < tape.len() {
@@ -69,14 +69,14 @@ impl Progress {
 }
 
 // The first place at which the session's tape and its own entries differ.
-fn difference_of(journal: &[Entry], session: &Session) -> Option<usize>
+fn difference_of(journal: &[SharedEntry], session: &Session) -> Option<usize>
     ensures { IsDifference session.now.tape (own journal.now session.now.number) result }
 {
     let number = session.number();
     let tape = session.tape();
     let mut progress = Progress::start();
     for entry in journal {
-        if entry.session == number {
+        if entry.entry().session == number {
             progress = progress.next(tape, entry);
         }
     }
@@ -126,7 +126,7 @@ fn earlier(a: Option<Mismatch>, b: Option<Mismatch>) -> Option<Mismatch>
 ///
 /// Takes no memory. The cost grows with the number of sessions times that of the entries; a close takes one
 /// pass where it has memory.
-pub fn first_mismatch(journal: &[Entry], sessions: &[Session]) -> Option<Mismatch>
+pub fn first_mismatch(journal: &[SharedEntry], sessions: &[Session]) -> Option<Mismatch>
     ensures { IsFirstMismatch journal.now sessions.now result }
 {
     let mut first = None;
@@ -141,14 +141,14 @@ fn follow_entry(
     sessions: &[Session],
     indexes: &[Option<usize>],
     progress: &mut [Progress],
-    entry: &Entry,
+    entry: &SharedEntry,
 )
     requires indexes { AreIndexes sessions.now indexes.now }
     requires size { length progress.old ≡ length sessions.now }
     ensures size { length progress.new ≡ length progress.old }
     ensures followed { (seen : List EntryValue) → AreFollowed seen sessions.now progress.old → AreFollowed (seen ++ entry.now ∷ []) sessions.now progress.new }
 {
-    if let Some(index) = index_in(indexes, entry.session) {
+    if let Some(index) = index_in(indexes, entry.entry().session) {
         progress[index] = progress[index].next(sessions[index].tape(), entry);
     }
 }
@@ -156,7 +156,7 @@ fn follow_entry(
 // Compares each tape as far as its session's entries go, in one pass over the journal.
 fn follow(
     alloc: Global,
-    journal: &[Entry],
+    journal: &[SharedEntry],
     sessions: &[Session],
     indexes: &[Option<usize>],
 ) -> Result<Vec<Progress>, AllocError>
@@ -187,7 +187,7 @@ fn first_followed(sessions: &[Session], progress: &[Progress]) -> Option<Mismatc
 // As `first_mismatch`, in one pass over the journal and the tapes.
 pub(crate) fn first_indexed(
     alloc: Global,
-    journal: &[Entry],
+    journal: &[SharedEntry],
     sessions: &[Session],
     indexes: &[Option<usize>],
 ) -> Result<Option<Mismatch>, AllocError>

@@ -2,18 +2,18 @@
 ghost use Rattle.std.specs.Prelude.{◌≡◌, ◌≤◌, ◌<◌, ◌+◌, OnOk, OnErr};
 ghost use Rattle.snap_tape.specs.Tapes.{Untaped, with_entry};
 
-use snap_call::Entry;
+use snap_call::SharedEntry;
 use std::alloc::AllocError;
 use std::marker::Model;
 
-/// A session of a store, on one thread at a time: its number, and its tape, which is a copy of each entry
-/// that its calls left in the store's journal, in order.
+/// A session of a store, on one thread at a time: its number, and its tape, which has each entry that its
+/// calls left in the store's journal, in order. The journal and the tape share the entries.
 ///
 /// The store's close asks for all sessions of the round. One that is dropped is missing there.
 #[derive(Drop)]
 pub struct Session {
     number: u64,
-    tape: Vec<Entry>,
+    tape: Vec<SharedEntry>,
 }
 
 impl Model for Session {
@@ -28,7 +28,7 @@ impl Model for Session {
 
 impl Session {
     /// A session of this number, with this tape. Takes no memory.
-    pub fn of(number: u64, tape: Vec<Entry>) -> Session
+    pub fn of(number: u64, tape: Vec<SharedEntry>) -> Session
         ensures number { result.number ≡ number }
         ensures tape { result.tape ≡ tape.items }
     {
@@ -44,7 +44,7 @@ impl Session {
 
     /// The entries that its calls left, in order; the first is that of its own opening. Takes no memory.
     /// The cost is constant.
-    pub fn tape(&self) -> &[Entry]
+    pub fn tape(&self) -> &[SharedEntry]
         ensures { result.now ≡ self.now.tape }
     {
         self.tape.as_slice()
@@ -68,7 +68,7 @@ impl Session {
     }
 
     /// Puts the entry on the tape, where there is one. Takes no memory. The cost is constant.
-    pub fn note(&mut self, entry: Option<Entry>)
+    pub fn note(&mut self, entry: Option<SharedEntry>)
         requires { 0 < self.old.spare }
         ensures entry { self.new ≡ with_entry self.old entry }
         ensures room { self.old.spare ≤ self.new.spare + 1 }

@@ -16,9 +16,7 @@ use Rattle.snap_call.specs.declared.reply.Reply.TheVariants.{Refused}
 use Rattle.snap_call.specs.Records.{open_count}
 use Rattle.snap_call.specs.State.{place_of, ancestors, ids_of, layers_of}
 use Rattle.snap_call.specs.Step.{one}
-use Rattle.snap_call.specs.Journal.{entry}
 use Rattle.snap_call.specs.declared.config.Namespace.{Namespace}
-use Rattle.snap_call.specs.declared.entry.Entry.{Entry}
 use Rattle.snap_call.specs.declared.call.Given.{Given}
 use Rattle.snap_call.specs.declared.reply.Reply.TheVariants as replies
 use Rattle.snap_record.specs.declared.record.Record.{Record}
@@ -277,20 +275,10 @@ prepare_left namespace key parent ns rs hands after a slot reply answer place na
     ∙ ap (λ (o : Option ℕ). with_hand a.share.slot (option_map (new_hand key parent rs a.share.id a.share.slot) o) hands) (sym place)
     ∙ ap (λ (r : Reply). with_prepared (place_of namespace ns) key parent rs hands r) (sym answer)
 
--- the reply of the entry that was recorded
-pub reply_of_copy : (copy : Option Entry) (n : ℕ) (call : Call) (given : Given) (reply result : Reply) → copy ≡ Some (entry n call given reply) → option_map (λ (e : Entry). e.reply) copy ≡ Some result → result ≡ reply
-reply_of_copy copy n call given reply result is taken = same (sym taken ∙ ap (option_map (λ (e : Entry). e.reply)) is)
-  where
-    same : ◌≡◌ {A = Option Reply} (Some result) (Some reply) → result ≡ reply
-    same e = cc
-
--- a granted prepare, once the copy of its entry is taken
-pub answered_taken : (old mid new : BookValue) (n : ℕ) (call : Call) (given : Given) (id slot : ℕ) (chain : List ℕ) (result : Reply) → Recorded old mid n call given (replies.Prepared id slot chain)
-    → new ≡ record mid { copy = None } → option_map (λ (e : Entry). e.reply) mid.copy ≡ Some result → (copy : Option Entry) × AnsweredBy old (record new { copy = copy }) n call given result
-answered_taken old mid new n call given id slot chain result recorded same taken =
-    let answer : result ≡ replies.Prepared id slot chain = reply_of_copy mid.copy n call given (replies.Prepared id slot chain) result recorded.copy taken in
-    let whole : record new { copy = mid.copy } ≡ mid = ap (λ (b : BookValue). record b { copy = mid.copy }) same in
-    (mid.copy, subst (λ (b : BookValue). AnsweredBy old b n call given result) (sym whole) (subst (λ (r : Reply). AnsweredBy old mid n call given r) (sym answer) recorded))
+-- a granted prepare, by its reply
+pub answered_granted : (old new : BookValue) (n : ℕ) (call : Call) (given : Given) (id slot : ℕ) (chain : List ℕ) (result : Reply) → Recorded old new n call given (replies.Prepared id slot chain)
+    → result ≡ replies.Prepared id slot chain → AnsweredBy old new n call given result
+answered_granted old new n call given id slot chain result recorded answer = subst (λ (r : Reply). AnsweredBy old new n call given r) (sym answer) recorded
 
 -- a reply that was prepared is no full journal
 pub full_granted : {A : Type 0} (a : A) (id slot : ℕ) (chain : List ℕ) (result : Reply) (P : Type 0) → result ≡ replies.Prepared id slot chain → ((◌≡◌ {A = Result A Refusal} (Ok a) (Err JournalFull)) ↔ P) → (result ≡ Refused JournalFull) ↔ P

@@ -10,7 +10,7 @@ mod step;
 mod world;
 
 pub use round::ReopenFault;
-pub use snap_call::{Call, Config, Entry, Given, Namespace, Refusal, Reply};
+pub use snap_call::{Call, Config, Entry, Given, Namespace, Refusal, Reply, SharedEntry};
 pub use snap_merge::FsError;
 pub use snap_record::{Info, Kind, Labels, Record};
 pub use snap_upper::Op;

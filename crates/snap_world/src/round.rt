@@ -5,6 +5,7 @@ ghost use Rattle.snap_world.specs.Round.{reopen_answer, reopened};
 use crate::world::World;
 use snap_call::Refusal;
 use snap_ledger::StoreName;
+use std::alloc::AllocError;
 use thiserror::Error;
 
 /// Why no round was begun.
@@ -19,6 +20,16 @@ pub enum ReopenFault {
 }
 
 impl<N: StoreName> World<N> {
+    /// Takes the memory for the entry of a session, so that the next one is opened without memory, also in the
+    /// next round ([`Book::reserve_session`](snap_book::Book::reserve_session)). Where that memory is kept
+    /// already it takes none; where memory is refused the world is as it was. The cost is constant, but where
+    /// the journal's list of entries has to grow.
+    pub fn reserve_session(&mut self) -> Result<(), AllocError>
+        ensures { self.new ≡ self.old }
+    {
+        self.book.reserve_session()
+    }
+
     /// Begins the next round, whose journal has at most so many entries: it is empty, and sessions are
     /// counted from 0 again. All snapshots stay, and what they show.
     ///

@@ -1,5 +1,5 @@
 // The steps of a world, and how each is taken.
-ghost use Rattle.std.specs.Prelude.{◌≡◌, ◌≤◌, ◌+◌, ◌↔◌, length, ◌<◌, None, Some, Option, IsSome, true};
+ghost use Rattle.std.specs.Prelude.{◌≡◌, ◌≤◌, ◌+◌, ◌↔◌, length, ◌<◌, None, true};
 ghost use Rattle.snap_usage.specs.Counted.{count_of};
 ghost use Rattle.snap_call.specs.Records.{open_count};
 ghost use Rattle.snap_call.specs.declared.call.Call.TheVariants as calls;
@@ -8,8 +8,6 @@ ghost use Rattle.snap_call.specs.declared.refusal.Refusal.TheVariants.{JournalFu
 ghost use Rattle.snap_call.specs.declared.reply.Reply.TheVariants as replies;
 ghost use Rattle.snap_book.specs.Book.{AnsweredBy, BookValue};
 ghost use Rattle.snap_world.specs.Move.{charged, committed_hand, is_its_session, with_prepared};
-ghost use Rattle.std.specs.Option.{option_map};
-ghost use Rattle.snap_call.specs.declared.entry.Entry.{Entry};
 ghost use Rattle.snap_call.specs.State.{place_of};
 ghost use Rattle.snap_accounts.specs.Entries.{IsPlain};
 ghost use Rattle.snap_world.specs.declared.step.Step.TheVariants.{Locked};
@@ -97,17 +95,6 @@ fn is_its_session(sessions: u64, session: u64, call: &Call) -> bool
     }
 }
 
-// The reply of the last entry. Its copy, of which nothing else is kept, is taken.
-fn take_reply<N: StoreName>(book: &mut Book<N>) -> Reply
-    requires { IsSome book.old.copy }
-    ensures reply { option_map (λ e. e.reply) book.old.copy ≡ Some result }
-    ensures same { book.new ≡ record book.old { copy = None } }
-{
-    let taken = book.take_entry();
-    let Some(entry) = taken else { unreachable!() };
-    entry.into_reply()
-}
-
 impl<N: StoreName> Hands<N> {
     fn open_session(&mut self, book: &mut Book<N>) -> Answer
         ensures { DoesCall (world_of book.old self.old) book.old.state.sessions calls.Session result (world_of book.new self.new) }
@@ -143,15 +130,15 @@ impl<N: StoreName> Hands<N> {
         labels: &Labels,
     ) -> Reply
         requires { Fits (world_of book.old self.old) }
-        ensures answered { (copy : Option Entry) × AnsweredBy book.old (record book.new { copy = copy }) session (calls.Prepare namespace.now key.now parent.now labels.now) Nothing result }
+        ensures answered { AnsweredBy book.old book.new session (calls.Prepare namespace.now key.now parent.now labels.now) Nothing result }
         ensures hands { self.new ≡ with_prepared (place_of namespace.now book.old.state.namespaces) key.now parent.now book.old.state.records self.old result }
         ensures full { (result ≡ replies.Refused JournalFull) ↔ (book.old.limit < length book.old.journal + open_count book.old.state.records + 2) }
     {
-        match book.prepare(session, namespace, key, parent, labels) {
-            Ok(active) => {
+        match book.prepare_with_reply(session, namespace, key, parent, labels) {
+            Ok((active, reply)) => {
                 let slot = active.slot();
                 self.put(slot, Hand::of(active));
-                take_reply(book)
+                reply
             }
             Err(why) => Reply::Refused(why),
         }

@@ -16,7 +16,7 @@ ghost use Rattle.snap_world.specs.Stacks.{IsOver, stack_of};
 use crate::hands::Hands;
 use crate::step::{Answer, Step};
 use snap_book::Book;
-use snap_call::{Config, Entry, Records, Refusal};
+use snap_call::{Config, Records, Refusal, SharedEntry};
 use snap_ledger::{NewTable, StoreName};
 use snap_merge::Stack;
 use snap_record::Content;
@@ -203,7 +203,7 @@ impl<N: StoreName> World<N> {
     }
 
     /// The entries of the round. Takes no memory. The cost is constant.
-    pub fn journal(&self) -> &[Entry]
+    pub fn journal(&self) -> &[SharedEntry]
         ensures entries { result.now ≡ self.now.journal }
         // They lead from the state that the round began at to this one.
         ensures began { IsOpening self.now.opening }

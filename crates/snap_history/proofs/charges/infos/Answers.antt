@@ -26,7 +26,8 @@ is_full own after number len most full = grind (arith, nat_tests)
 pub loop-entry-preserved : goal.loop-entry-preserved
 loop-entry-preserved c =
     let number : ℕ = c.loop-entry.number + 1 in
-    let e : Entry = c.entry-item.result in
+    let item : Entry = c.entry-item.result in
+    let e : Entry = c.entry-entry.result.now in
     let es : List Entry = c.args.entries.now in
     let i : ℕ = c.loop-entry.entry-index in
     let infos : List EntryInfo = c.loop-entry.infos in
@@ -44,7 +45,7 @@ loop-entry-preserved c =
       ]
     ] in
     let low : i < length es = omega arith in
-    let here : drop i es ≡ e ∷ drop (i + 1) es = drop_more es i e low ∙ ap (λ (y : Entry). y ∷ drop (i + 1) es) (sym c.entry-item.is) in
+    let here : drop i es ≡ e ∷ drop (i + 1) es = drop_more es i item low ∙ ap (λ (y : Entry). y ∷ drop (i + 1) es) (sym c.entry-item.is ∙ sym c.entry-entry.ensures) in
     record {
       number = omega arith;
       page =

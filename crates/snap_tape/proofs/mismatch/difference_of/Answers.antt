@@ -1,4 +1,4 @@
-use Rattle.std.proofs.Common.{◌+◌, List, take, sym, subst, ap}
+use Rattle.std.proofs.Common.{◌+◌, List, take, sym, subst, ap, ◌∙◌}
 use Rattle.std.proofs.lemmas.List.{take_all}
 use Rattle.snap_call.specs.declared.entry.Entry.{Entry}
 use Rattle.snap_call.specs.Journal.{own}
@@ -21,10 +21,10 @@ loop-entry-preserved c =
     elim c.if-entry-number.branch as (λ w. IsProgress tape (own (take (i + 1) journal) n) c.if-entry-number.progress) [
       | then-entry-number w ↦
           subst (λ (p : Progress). IsProgress tape (own (take (i + 1) journal) n) p) (sym w.progress-is)
-          (subst (λ (l : List Entry). IsProgress tape l w.next-progress.result) (sym (own_yes journal i e n c.loop-entry-test.true c.entry-item.is w.if-entry-number.true)) (w.next-progress.ensures (own (take i journal) n) c.loop-entry.invariant))
+          (subst (λ (l : List Entry). IsProgress tape l w.next-progress.result) (sym (own_yes journal i e n c.loop-entry-test.true c.entry-item.is (ap (λ (x : Entry). x.session) (sym c.entry.ensures) ∙ w.if-entry-number.true))) (w.next-progress.ensures (own (take i journal) n) c.loop-entry.invariant))
       | else-entry-number w ↦
           subst (λ (p : Progress). IsProgress tape (own (take (i + 1) journal) n) p) (sym w.progress-is)
-          (subst (λ (l : List Entry). IsProgress tape l c.loop-entry.progress) (sym (own_no journal i e n c.loop-entry-test.true c.entry-item.is w.if-entry-number.false)) c.loop-entry.invariant)
+          (subst (λ (l : List Entry). IsProgress tape l c.loop-entry.progress) (sym (own_no journal i e n c.loop-entry-test.true c.entry-item.is (λ h. w.if-entry-number.false (ap (λ (x : Entry). x.session) c.entry.ensures ∙ h)))) c.loop-entry.invariant)
     ]
 
 pub returns : goal.returns

@@ -35,4 +35,4 @@ returns-clause-active g c =
     let made = c.in_ok-addition.ensures in
     let lowers = made.lowers ∙ below in
     let layer = made.layer ∙ ap (λ (l : List Tree). root_only (root_mode l) 1) below in
-    c.fresh.ensures ∙ (λ i. record { namespace = c.args.vacancy.place; key = made.key i; lowers = lowers i; layer = layer i; share = c.in_ok-share.ensures.share i })
+    c.fresh-active.ensures ∙ (λ i. record { namespace = c.args.vacancy.place; key = made.key i; lowers = lowers i; layer = layer i; share = c.in_ok-share.ensures.share i })

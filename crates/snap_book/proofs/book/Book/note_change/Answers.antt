@@ -1,4 +1,4 @@
-use Rattle.std.proofs.Common.{◌≡◌, refl, sym, ◌∙◌, subst, arith}
+use Rattle.std.proofs.Common.{◌≡◌, sym, ◌∙◌, subst, arith}
 use Rattle.snap_call.specs.declared.entry.Entry.{Entry}
 use Rattle.snap_call.specs.Step.{step, IsAllowed}
 use Rattle.snap_accounts.specs.Changes.{CanChange, changed}
@@ -16,7 +16,7 @@ invariant_of-self-2 g c =
     let allowed : IsAllowed s e.call e.given = subst (λ (b : BookValue). IsAllowed b.state e.call e.given) (sym c.self.view_is) c.requires.allowed in
     let made : step s e.call e.given ≡ (changed s c.args.change, e.reply) = subst (λ (b : BookValue). step b.state e.call e.given ≡ (changed b.state c.args.change, e.reply)) (sym c.self.view_is) c.requires.changed in
     let moved : step s e.call e.given ≡ (c.carry_out.new.self, e.reply) = made ∙ (λ i. (sym c.in_ok-carry_out.ensures.done i, e.reply)) in
-    kept_push _ _ _ _ _ e _ c.self.invariant c.in_ok-admit.ensures.same c.push.ensures.entry refl allowed moved
+    kept_push _ _ _ _ _ e _ c.self.invariant c.in_ok-admit.ensures.same c.push.ensures.entry c.in_ok-entry.ensures.first allowed moved
     (omega (arith, c.in_ok-carry_out.ensures.open, c.open_slots.ensures, c.in_ok-admit.ensures.below))
     (omega (arith, c.in_ok-carry_out.ensures.open, c.open_slots.ensures, c.in_ok-admit.ensures.room, c.push.ensures.room))
 
@@ -27,4 +27,4 @@ returns-clause-noted g c =
     let allowed : IsAllowed s e.call e.given = subst (λ (b : BookValue). IsAllowed b.state e.call e.given) (sym c.self.view_is) c.requires.allowed in
     let made : step s e.call e.given ≡ (changed s c.args.change, e.reply) = subst (λ (b : BookValue). step b.state e.call e.given ≡ (changed b.state c.args.change, e.reply)) (sym c.self.view_is) c.requires.changed in
     let moved : step s e.call e.given ≡ (c.carry_out.new.self, e.reply) = made ∙ (λ i. (sym c.in_ok-carry_out.ensures.done i, e.reply)) in
-    recorded_push _ _ _ c.self.inside.journal _ _ e _ c.self.view_is c.in_ok-admit.ensures.same c.push.ensures.entry refl allowed moved
+    recorded_push _ _ _ c.self.inside.journal _ _ e _ c.self.view_is c.in_ok-admit.ensures.same c.push.ensures.entry c.in_ok-entry.ensures.first allowed moved

@@ -4,7 +4,7 @@ use Rattle.snap_call.specs.declared.call.Given.TheVariants.{Nothing}
 use Rattle.snap_call.specs.Step.{prepare, prepared, step}
 use Rattle.snap_accounts.specs.Vacant.{IsVacant}
 use Rattle.snap_book.specs.Book.{BookValue}
-use Rattle.snap_book.proofs.Preparing.{granted_as, lowers_as}
+use Rattle.snap_book.proofs.Preparing.{granted_as, reply_as, lowers_as}
 use Rattle.snap_book.proofs.book.Book.prepare_or_refuse.Goals as goal
 
 pub grant-requires-clause-vacant : goal.grant-requires-clause-vacant
@@ -30,3 +30,7 @@ pub returns-in-Ok-clause-lowers : goal.returns-in-Ok-clause-lowers
 returns-in-Ok-clause-lowers g c =
     let old = c.args.self.now in
     lowers_as c.grant.result old old c.in-Ok.vacancy.place c.args.parent.now c.args.key.now _ _ refl c.grant.ensures.active
+
+pub returns-in-Ok-clause-reply : goal.returns-in-Ok-clause-reply
+returns-in-Ok-clause-reply g c =
+    reply_as c.grant.result c.args.self.now c.in-Ok.vacancy.place c.args.parent.now c.args.key.now _ _ _ c.grant.ensures.reply c.grant.ensures.active

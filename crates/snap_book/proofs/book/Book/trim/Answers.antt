@@ -15,6 +15,6 @@ invariant_of-self-2 g c =
     let kept : Kept c.meet.new.self c.self.inside.journal = subst (λ (s : State). Kept s c.self.inside.journal) (sym c.meet.ensures.same) c.self.invariant in
     let e : Entry = entry c.args.session (calls.Trim share.slot share.id) (Count c.count-count.result) Trimmed in
     let is : c.trim_entry.result ≡ e = c.trim_entry.ensures ∙ (λ i. entry c.args.session (calls.Trim (c.slot-slot.ensures i) (c.id-id.ensures i)) (Count c.count-count.result) Trimmed) in
-    kept_push _ _ _ _ _ e _ kept c.in_ok-admit.ensures.same c.push.ensures.entry is c.trim.ensures.allowed c.trim.ensures.step
+    kept_push _ _ _ _ _ e _ kept c.in_ok-admit.ensures.same c.push_into.ensures.entry is c.trim.ensures.allowed c.trim.ensures.step
     (omega (arith, c.trim.ensures.open, c.open_slots.ensures, c.in_ok-admit.ensures.below))
-    (omega (arith, c.trim.ensures.open, c.open_slots.ensures, c.in_ok-admit.ensures.room, c.push.ensures.room))
+    (omega (arith, c.trim.ensures.open, c.open_slots.ensures, c.in_ok-admit.ensures.room, c.push_into.ensures.room))

@@ -1,7 +1,6 @@
 use Rattle.std.proofs.Common.{ℕ, Some, ap, ◌∙◌}
-use Rattle.std.specs.Option.{is_some}
 use Rattle.snap_world.specs.World.{HandValue, hand_at, with_hand, world_of}
-use Rattle.snap_world.proofs.Does.{answered_taken, full_granted, prepare_left, reply_of_copy}
+use Rattle.snap_world.proofs.Does.{answered_granted, full_granted, prepare_left}
 use Rattle.snap_world.proofs.Hold.{prepared_free}
 use Rattle.snap_world.proofs.hands.Hands.prepare.Goals as goal
 
@@ -10,23 +9,16 @@ put-requires-clause-free g c =
     ap (λ (k : ℕ). hand_at k c.args.self.now) c.slot-slot.ensures.slot
     ∙ prepared_free (world_of c.args.book.now c.args.self.now) c.args.namespace.now c.args.key.now c.args.parent.now c.args.labels.now _ _ _ c.requires c.in-Ok.ensures.granted.answer
 
-pub take_reply-requires : goal.take_reply-requires
-take_reply-requires g c = ap is_some c.in-Ok.ensures.granted.copy
-
 pub returns-in-Ok-clause-answered : goal.returns-in-Ok-clause-answered
-returns-in-Ok-clause-answered g c = answered_taken c.args.book.now _ _ _ _ _ _ _ _ c.take_reply.result c.in-Ok.ensures.granted c.take_reply.ensures.same c.take_reply.ensures.reply
+returns-in-Ok-clause-answered g c = answered_granted c.args.book.now _ _ _ _ _ _ _ c.in-Ok.reply c.in-Ok.ensures.granted c.in-Ok.ensures.reply
 
 pub returns-in-Ok-clause-hands : goal.returns-in-Ok-clause-hands
 returns-in-Ok-clause-hands g c =
     let given = c.in-Ok.ensures in
-    prepare_left c.args.namespace.now c.args.key.now c.args.parent.now c.args.book.now.state.namespaces c.args.book.now.state.records c.args.self.now _ c.in-Ok.active c.slot-slot.result c.take_reply.result
-    (reply_of_copy _ _ _ _ _ c.take_reply.result given.granted.copy c.take_reply.ensures.reply)
-    given.namespace given.key given.lowers given.layer given.usage c.slot-slot.ensures.slot
+    prepare_left c.args.namespace.now c.args.key.now c.args.parent.now c.args.book.now.state.namespaces c.args.book.now.state.records c.args.self.now _ c.in-Ok.active c.slot-slot.result c.in-Ok.reply
+    given.reply given.namespace given.key given.lowers given.layer given.usage c.slot-slot.ensures.slot
     (c.put.ensures ∙ ap (λ (h : HandValue). with_hand c.slot-slot.result (Some h) c.args.self.now) c.of.ensures)
 
 pub returns-in-Ok-clause-full : goal.returns-in-Ok-clause-full
 returns-in-Ok-clause-full g c =
-    full_granted c.in-Ok.active _ _ _ c.take_reply.result _ (reply_of_copy _ _ _ _ _ c.take_reply.result c.in-Ok.ensures.granted.copy c.take_reply.ensures.reply) c.in-Ok.ensures.full
-
-pub returns-in-Err-clause-answered : goal.returns-in-Err-clause-answered
-returns-in-Err-clause-answered g c = (c.prepare.new.self.copy, c.in-Err.ensures.refused)
+    full_granted (c.in-Ok.active, c.in-Ok.reply) _ _ _ c.in-Ok.reply _ c.in-Ok.ensures.reply c.in-Ok.ensures.full
