@@ -1,7 +1,7 @@
 // A round of two namespaces. Before it `a` is charged 10 blocks and 10 inodes, and its first entry is the 101st.
 ghost use Rattle.std.specs.Prelude.{◌≡◌};
 
-use snap_call::{Call, Entry, Given, Refusal, Reply};
+use snap_call::{Call, Entry, Given, Refusal, Reply, SharedEntry};
 use snap_history::{CallKind, EntryInfo, history};
 use snap_record::{Labels, Sequence, Text};
 use snap_usage::Usage;
@@ -65,29 +65,35 @@ fn removed(alloc: Global, namespace: &str, key: &str, freed: Usage) -> Result<En
 }
 
 // Entries 101 to 109. That of the session and those on `b` are none of `a`.
-fn round(alloc: Global) -> Result<Vec<Entry>, AllocError> {
+fn round(alloc: Global) -> Result<Vec<SharedEntry>, AllocError> {
     let full = Refusal::OverLimit {
         free_blocks: 1,
         free_inodes: 1,
     };
     let mut entries = Vec::new(alloc);
-    entries.push(entry(Call::Session, Given::Nothing, Reply::Opened))?;
-    entries.push(prepared(alloc, "a", "k", 7, 0)?)?;
-    entries.push(prepared(alloc, "b", "k", 8, 1)?)?;
-    entries.push(charged(0, 7, usage(4, 2), Reply::Charged { now: usage(5, 3) }))?;
-    entries.push(charged(1, 8, usage(8, 8), Reply::Charged { now: usage(9, 9) }))?;
-    entries.push(charged(0, 7, usage(4, 2), Reply::Refused(full)))?;
-    entries.push(entry(
-        Call::Trim { slot: 0, id: 7 },
-        Given::Count(usage(3, 2)),
-        Reply::Trimmed,
-    ))?;
-    entries.push(entry(
-        Call::Discard { slot: 0, id: 7 },
-        Given::Nothing,
-        Reply::Discarded(usage(3, 2)),
-    ))?;
-    entries.push(removed(alloc, "a", "old", usage(4, 4))?)?;
+    let own = [
+        entry(Call::Session, Given::Nothing, Reply::Opened),
+        prepared(alloc, "a", "k", 7, 0)?,
+        prepared(alloc, "b", "k", 8, 1)?,
+        charged(0, 7, usage(4, 2), Reply::Charged { now: usage(5, 3) }),
+        charged(1, 8, usage(8, 8), Reply::Charged { now: usage(9, 9) }),
+        charged(0, 7, usage(4, 2), Reply::Refused(full)),
+        entry(
+            Call::Trim { slot: 0, id: 7 },
+            Given::Count(usage(3, 2)),
+            Reply::Trimmed,
+        ),
+        entry(
+            Call::Discard { slot: 0, id: 7 },
+            Given::Nothing,
+            Reply::Discarded(usage(3, 2)),
+        ),
+        removed(alloc, "a", "old", usage(4, 4))?,
+    ];
+    for entry in own {
+        let (shared, _) = SharedEntry::pair(alloc, entry)?;
+        entries.push(shared)?;
+    }
     Ok(entries)
 }
 

@@ -3,7 +3,7 @@ ghost use Rattle.std.specs.Prelude.{◌≡◌, ◌∷◌, [], IfOk, map};
 ghost use Rattle.snap_call.specs.declared.call.Given.TheVariants.{Nothing};
 ghost use Rattle.test_history.specs.Worked.{small_round, usage};
 
-use snap_call::{Call, Entry, Given, Reply};
+use snap_call::{Call, Entry, Given, Reply, SharedEntry};
 use snap_history::{EntryInfo, history};
 use snap_record::{Labels, Sequence, Text};
 use snap_usage::Usage;
@@ -27,7 +27,14 @@ fn entry(call: Call, reply: Reply) -> Entry
     }
 }
 
-fn small_round(alloc: Global) -> Result<Vec<Entry>, AllocError>
+fn shared(alloc: Global, call: Call, reply: Reply) -> Result<SharedEntry, AllocError>
+    ensures { IfOk result (λ e. e ≡ record { session = 0; call = call; given = Nothing; reply = reply }) }
+{
+    let (shared, _) = SharedEntry::pair(alloc, entry(call, reply))?;
+    Ok(shared)
+}
+
+fn small_round(alloc: Global) -> Result<Vec<SharedEntry>, AllocError>
     ensures { IfOk result (λ entries. entries.items ≡ small_round) }
 {
     let prepare = Call::Prepare {
@@ -49,9 +56,9 @@ fn small_round(alloc: Global) -> Result<Vec<Entry>, AllocError>
         want: now,
     };
     let mut entries = Vec::new(alloc);
-    entries.push(entry(Call::Session, Reply::Opened))?;
-    entries.push(entry(prepare, prepared))?;
-    entries.push(entry(charge, Reply::Charged { now }))?;
+    entries.push(shared(alloc, Call::Session, Reply::Opened)?)?;
+    entries.push(shared(alloc, prepare, prepared)?)?;
+    entries.push(shared(alloc, charge, Reply::Charged { now })?)?;
     Ok(entries)
 }
 

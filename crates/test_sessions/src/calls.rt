@@ -22,7 +22,7 @@ fn copied_chain(alloc: Global, session: &Session) -> Result<Sequence<u32>, Alloc
     let Some(entry) = session.tape().last() else {
         return Ok(Sequence::new(alloc));
     };
-    match &entry.reply {
+    match &entry.entry().reply {
         Reply::Prepared {
             id: _,
             slot: _,

@@ -2,7 +2,7 @@ ghost use Rattle.std.specs.Prelude.{◌≡◌, [], ◌∷◌, IfOk, codes};
 ghost use Rattle.snap_record.specs.declared.record.Content.TheVariants.{Active};
 
 use snap_call::{
-    Call, Config, Entry, Namespace, Records, Refusal, State, is_key, is_limit, is_parent,
+    Call, Config, Namespace, Records, Refusal, SharedEntry, State, is_key, is_limit, is_parent,
 };
 use snap_record::{Content, Labels, Record, Sequence, Text};
 use snap_usage::Usage;
@@ -153,7 +153,7 @@ fn refusals_are_printed(rt: HostRuntime) -> Result<(), Fail> {
 fn sends<T: Send>(_value: &T) {}
 
 // The plain data can be handed to another thread.
-fn are_sent(config: &Config, state: &State, call: &Call, entry: &Entry) {
+fn are_sent(config: &Config, state: &State, call: &Call, entry: &SharedEntry) {
     sends(config);
     sends(state);
     sends(call);

@@ -5,7 +5,7 @@ use crate::setup::{
     closed, config, end_of, equal, holds, new_session, new_table, not_closed, only, opened, stat,
     text, usage,
 };
-use snap_book::{Book, Call, Entry, Given, Held, Refusal, Reply};
+use snap_book::{Book, Call, Entry, Given, Held, Refusal, Reply, SharedEntry};
 use snap_ledger::{NewTable, StoreName};
 use snap_record::Labels;
 use snap_store::{Cause, Mismatch, NotClosed, Session, first_mismatch};
@@ -71,8 +71,14 @@ fn stat_entry<R: Abort>(rt: &R, alloc: Global, why: Refusal) -> Entry {
     }
 }
 
+// As the journal holds it.
+fn shared<R: Abort>(rt: &R, alloc: Global, entry: Entry) -> SharedEntry {
+    let (shared, _) = SharedEntry::pair(alloc, entry).expect(rt, "memory for an entry");
+    shared
+}
+
 // A journal of session 0, which is opened and makes that stat.
-fn journal_with<R: Abort>(rt: &R, alloc: Global, why: Refusal) -> Vec<Entry> {
+fn journal_with<R: Abort>(rt: &R, alloc: Global, why: Refusal) -> Vec<SharedEntry> {
     let opening = Entry {
         session: 0,
         call: Call::Session,
@@ -81,8 +87,8 @@ fn journal_with<R: Abort>(rt: &R, alloc: Global, why: Refusal) -> Vec<Entry> {
     };
     let mut journal = Vec::new(alloc);
     journal.reserve(2).expect(rt, "memory for two entries");
-    journal.push_reserved(opening);
-    journal.push_reserved(stat_entry(rt, alloc, why));
+    journal.push_reserved(shared(rt, alloc, opening));
+    journal.push_reserved(shared(rt, alloc, stat_entry(rt, alloc, why)));
     journal
 }
 
