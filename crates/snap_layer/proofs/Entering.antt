@@ -24,6 +24,7 @@ use Rattle.snap_layer.specs.declared.inode.Target.{Target}
 use Rattle.snap_layer.specs.declared.inode.Target.TheVariants as target
 use Rattle.snap_layer.specs.Walk.{View, walk, seen, Same, Frees, Releases, Covers, Adds, Enters}
 use Rattle.snap_layer.specs.Walk as tables
+use Rattle.snap_layer.proofs.Slots.{puts_other}
 use Rattle.snap_layer.specs.Holds.{Places, place}
 use Rattle.snap_layer.proofs.Frames.{split_ℕ, walk_push}
 use Rattle.snap_layer.proofs.Makes.{Makes}
@@ -145,6 +146,31 @@ module _ (s t : View) (ps qs : Places) (d : ℕ) (n : List ℕ) (apart : s.entri
       by None is r = r
       by (Some target.Whiteout) is r = absurd (no_some target.Whiteout (sym none ∙ (subst (Releases r.between t ps qs) is r.releases).0.entries d n ∙ r.links.entries.here))
       by (Some (target.Inode c)) is r = absurd (no_some target.Whiteout (sym none ∙ (subst (Releases r.between t ps qs) is r.releases).entries d n (λ e. apart (is ∙ ap (λ (y : ℕ). Some (target.Inode y)) (sym e))) ∙ r.links.entries.here))
+
+-- what it isn't about is as it was
+pub clears_other : (s t : View) (ps qs : Places) (d : ℕ) (n : List ℕ) (k : ℕ) → (s.entries d n ≡ Some (target.Inode k) → ⊥) → tables.Clears s t ps qs d n (s.entries d n) → (t.nodes k ≡ s.nodes k) × (t.bodies k ≡ s.bodies k) × (t.counts k ≡ s.counts k)
+clears_other s t ps qs d n k apart clears = by (s.entries d n) refl clears
+  where
+    by : (o : Option Target) → s.entries d n ≡ o → tables.Clears s t ps qs d n o → (t.nodes k ≡ s.nodes k) × (t.bodies k ≡ s.bodies k) × (t.counts k ≡ s.counts k)
+    by None is r = (r.0.nodes k, r.0.bodies k, r.0.counts k)
+    by (Some target.Whiteout) is r =
+        let same = (subst (Releases r.between t ps qs) is r.releases).0 in
+        (same.nodes k ∙ r.links.nodes k, same.bodies k ∙ r.links.bodies k, same.counts k ∙ r.links.counts k)
+    by (Some (target.Inode c)) is r =
+        let freed = subst (Releases r.between t ps qs) is r.releases in
+        let other : k ≡ c → ⊥ = λ e. apart (is ∙ ap (λ (y : ℕ). Some (target.Inode y)) (sym e)) in
+        (freed.nodes k other ∙ r.links.nodes k, freed.bodies k other ∙ r.links.bodies k, freed.counts k other ∙ r.links.counts k)
+
+-- and so is each other entry of another inode
+pub clears_entry : (s t : View) (ps qs : Places) (d : ℕ) (n : List ℕ) (k : ℕ) (m : List ℕ) → (s.entries d n ≡ Some (target.Inode k) → ⊥) → (k ≡ d → m ≡ n → ⊥) → tables.Clears s t ps qs d n (s.entries d n) → t.entries k m ≡ s.entries k m
+clears_entry s t ps qs d n k m apart beside clears = by (s.entries d n) refl clears
+  where
+    by : (o : Option Target) → s.entries d n ≡ o → tables.Clears s t ps qs d n o → t.entries k m ≡ s.entries k m
+    by None is r = r.0.entries k m
+    by (Some target.Whiteout) is r = (subst (Releases r.between t ps qs) is r.releases).0.entries k m ∙ puts_other s.entries r.between.entries d n _ k m beside r.links.entries
+    by (Some (target.Inode c)) is r =
+        (subst (Releases r.between t ps qs) is r.releases).entries k m (λ e. apart (is ∙ ap (λ (y : ℕ). Some (target.Inode y)) (sym e)))
+        ∙ puts_other s.entries r.between.entries d n _ k m beside r.links.entries
 
 -- a number put anew
 pub put_anew : (qs : Places) (x k : ℕ) → IsStrictlySortedBy nat_cmp (keys_of qs) → insert_entry nat_cmp qs x k ≡ insert_entry nat_cmp (remove_entry (is_at (nat_cmp x)) qs) x k

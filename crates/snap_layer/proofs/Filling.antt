@@ -11,9 +11,9 @@ use Rattle.snap_layer.specs.declared.node.Node.{Node}
 use Rattle.snap_layer.specs.declared.node.Node.TheVariants.{Dir, File, Symlink, Whiteout}
 use Rattle.snap_layer.specs.declared.node.Body.{Body}
 use Rattle.snap_layer.specs.declared.node.Body.TheVariants as body_kinds
-use Rattle.snap_layer.specs.Tree.{Tree, Entries, at, body, number_of, number_at}
+use Rattle.snap_layer.specs.Tree.{Tree, Entries, at, body, number_of, number_at, leaf_node}
 use Rattle.snap_layer.specs.Counts.{inode_count, name_count, is_within}
-use Rattle.snap_layer.specs.Layers.{IsLayer, IsFile, IsSymlink, IsWhole, is_target}
+use Rattle.snap_layer.specs.Layers.{IsLayer, IsFile, IsSymlink, IsWhole, IsBody, is_target}
 use Rattle.snap_layer.specs.Edits.{with_node, with_new, without, HasRoom, HasPlace}
 use Rattle.snap_layer.proofs.Counting.{dropped}
 use Rattle.snap_layer.proofs.Looks.{SetsBody-insert_entry, is_dropped, split_number}
@@ -126,6 +126,10 @@ module _ (t : Tree) (ok : IsLayer t) (p : Names) (path : IsPath p) (r : ℕ) (le
         let u = with_new t p (Symlink t.next) (body_kinds.Symlink target) in
         becomes u (r + 1) (omega (arith, inode_count-with_new t p (Symlink t.next) (body_kinds.Symlink target) ok refl))
         (IsLayer-with_new t p (Symlink t.next) (body_kinds.Symlink target) ok place path refl (subst IsSymlink (sym (new_body (Symlink t.next) (body_kinds.Symlink target))) fine) last) (omega arith)
+
+    pub body_becomes : (b : Body) → IsBody b → Becomes (with_new t p (leaf_node t.next b) b) (r + 1)
+    body_becomes (body_kinds.File mode bytes) fits = file_becomes mode bytes fits.0 fits.1
+    body_becomes (body_kinds.Symlink target) fits = symlink_becomes target fits
 
 -- the file numbers are used up
 pub new_full : (t : Tree) (p : Names) (n : Node) (b : Body) → t.next ≡ 4294967295 → is_within (with_new t p n b) ≡ false

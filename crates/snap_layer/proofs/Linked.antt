@@ -1,7 +1,6 @@
 -- A new file with two names, and how it is taken back.
-use Rattle.std.proofs.Common.{◌≡◌, inl, inr, ℕ, ◌+◌, ◌-◌, ◌<◌, ◌≤◌, ◌^◌, Bool, true, false, cond, not, List, [], ◌∷◌, ◌++◌, length, drop, Option, Some, None, IsSome, is_some, Ok, refl, sym, ap, subst, ◌∙◌, arith, append_assoc, append-nil}
+use Rattle.std.proofs.Common.{◌≡◌, inl, inr, ℕ, ◌+◌, ◌-◌, ◌<◌, ◌≤◌, ◌^◌, Bool, true, false, cond, not, List, [], ◌∷◌, ◌++◌, length, drop, Option, Some, None, IsSome, is_some, refl, sym, ap, subst, ◌∙◌, arith, append_assoc, append-nil}
 use Rattle.std.specs.Prelude.{option_and_then, ◌==◌, ◌&&◌}
-use Rattle.std.specs.Option.{SomeIff, ok_or}
 use Rattle.std.specs.Ordering.{nat_cmp}
 use Rattle.std.specs.List.Sorted.{IsStrictlySortedBy}
 use Rattle.std.specs.Map.{lookup, keys_of}
@@ -247,11 +246,6 @@ module _ (t : Tree) (ok : IsLayer t) (path link : Names) (rooms : HasRooms t pat
       where
         same : (d e : Body) → Some d ≡ Some e → d ≡ e
         same d e f = cc
-
--- a sum that fits its type
-pub sum_is : {E : Type 0} (o : Option ℕ) (P : Type 0) (n m : ℕ) (e : E) → SomeIff o P n → Ok m ≡ ok_or o e → m ≡ n
-sum_is None P n m e some is = absurd (cc)
-sum_is (Some x) P n m e some is = let same : m ≡ x = cc in same ∙ some.1
 
 -- ---- what is new is taken back
 

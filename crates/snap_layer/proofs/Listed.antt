@@ -13,6 +13,7 @@ use Rattle.std.specs.Str.{bytes_eq}
 use Rattle.std.specs.BTreeMap.{is_at}
 use mir.Val.{bool_byte}
 use Rattle.std.proofs.lemmas.Map.Text.{is_eq-slice_cmp}
+use Rattle.std.proofs.lemmas.List.Sums.{sum_by-cons}
 use Rattle.slab.specs.Slab.{Slab as Slots, get}
 use Rattle.snap_path.specs.Text.{Names, begins}
 use Rattle.snap_layer.specs.declared.node.Node.{Node}
@@ -166,6 +167,11 @@ inside_few u ok p = omega (arith, ok.few, sum_by-filter (λ n. cond (is_dir n) 1
 pub one_at_most : (b : Bool) → bool_byte b ≤ 1
 one_at_most true = omega arith
 one_at_most false = omega arith
+
+-- one more entry counted
+pub counted_more : (f : Node → Bool) (p : Names) (n : Node) (rest : Entries) (b : Bool) → b ≡ f n → bool_byte b + count_by f (values_of rest) ≡ count_by f (values_of ((p, n) ∷ rest))
+counted_more f p n rest true is = ap (λ (x : Bool). cond x 1 0 + count_by f (values_of rest)) is ∙ sym (sum_by-cons (λ (x : Node). cond (f x) 1 0) n (values_of rest))
+counted_more f p n rest false is = ap (λ (x : Bool). cond x 1 0 + count_by f (values_of rest)) is ∙ sym (sum_by-cons (λ (x : Node). cond (f x) 1 0) n (values_of rest))
 
 -- below the root is everything
 pub inside_root : (es : Entries) → inside [] es ≡ es

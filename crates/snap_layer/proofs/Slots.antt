@@ -19,7 +19,7 @@ use Rattle.snap_layer.specs.declared.inode.Inode.TheVariants as inode
 use Rattle.snap_layer.specs.declared.inode.Inode.{Inode}
 use Rattle.snap_layer.specs.declared.inode.Target.{Target}
 use Rattle.snap_layer.specs.Tree.{leaf_node}
-use Rattle.snap_layer.specs.Walk.{entry_of, node_of, body_of, count_of, node_at, View, view_of, Links, Same, Lowers, Raises, Renodes, Rebodies}
+use Rattle.snap_layer.specs.Walk.{entry_of, node_of, body_of, count_of, node_at, View, Table, view_of, left_at, Puts, Links, Shifted, Same, Lowers, Raises, Renodes, Rebodies}
 use Rattle.snap_layer.proofs.Frames.{split_ℕ}
 
 pub on_ok : {A E P Q : Type 0} (r : Result A E) → (P → Q) → OnOk r P → OnOk r Q
@@ -29,6 +29,10 @@ on_ok (Err x) f p = p
 pub on_err : {A E P Q : Type 0} (r : Result A E) → (P → Q) → OnErr r P → OnErr r Q
 on_err (Ok x) f p = p
 on_err (Err x) f p = f p
+
+pub on_err_both : {A E P Q R : Type 0} (r : Result A E) → (P → Q → R) → OnErr r P → OnErr r Q → OnErr r R
+on_err_both (Ok x) f p q = p
+on_err_both (Err x) f p q = f p q
 
 pub on_err_by : {A E P : Type 0} (r : Result A E) → P → OnErr r P
 on_err_by (Ok x) p = tt
@@ -170,3 +174,28 @@ plain s c is = by (get s c) is
     by None e = cc
     by (Some (inode.Dir mode o es)) e = cc
     by (Some (inode.Leaf number links_ body_)) e = no_leaf number body_ (cc)
+
+-- ---- two entries put
+
+-- what a put isn't about is as it was
+pub puts_other : (e f : Table) (d : ℕ) (n : List ℕ) (w : Option Target) (c : ℕ) (m : List ℕ) → (c ≡ d → m ≡ n → ⊥) → Puts e f d n w → f c m ≡ e c m
+puts_other e f d n w c m apart puts = elim (split_ℕ c d) [
+  | inr other ↦ puts.dirs c m other
+  | inl at ↦ subst (λ (k : ℕ). f k m ≡ e k m) (sym at) (puts.names m (apart at))
+]
+
+-- an entry put at one place, and at the other what is left
+pub shifted : (s m t : View) (from : ℕ) (old : List ℕ) (to : ℕ) (new : List ℕ) (w : Option Target) (leaves : Bool) → s.entries from old ≡ w → (from ≡ to → old ≡ new → ⊥) → Links s m to new w → Links m t from old (left_at leaves) → Shifted s t from old to new leaves
+shifted s m t from old to new w leaves there apart one two = record {
+  to = puts_other m.entries t.entries from old (left_at leaves) to new (λ e f. apart (sym e) (sym f)) two.entries ∙ one.entries.here ∙ sym there;
+  from = two.entries.here;
+  others = λ c x not_from not_to. puts_other m.entries t.entries from old (left_at leaves) c x not_from two.entries ∙ puts_other s.entries m.entries to new w c x not_to one.entries;
+  nodes = λ c. two.nodes c ∙ one.nodes c;
+  bodies = λ c. two.bodies c ∙ one.bodies c;
+  counts = λ c. two.counts c ∙ one.counts c;
+}
+
+-- a call that can't have failed
+pub sure_ok : {A E P Q : Type 0} (r : Result A E) → OnOk r P → OnErr r Q → (Q → ⊥) → P
+sure_ok (Ok x) p q never = p
+sure_ok (Err x) p q never = absurd (never q)

@@ -81,9 +81,10 @@ impl<'a> Dir<'a> {
     pub fn entry(&self, name: &Name) -> Option<(Node, Option<Dir<'a>>)>
         ensures { result ≡ entry self.now name.now }
     {
-        match entry_at(self.slots, self.key, name)? {
-            Target::Whiteout => Some((Node::Whiteout, None)),
-            Target::Inode(key) => {
+        match entry_at(self.slots, self.key, name) {
+            None => None,
+            Some(Target::Whiteout) => Some((Node::Whiteout, None)),
+            Some(Target::Inode(key)) => {
                 let Some(node) = node_of(self.slots, key) else {
                     unreachable!()
                 };

@@ -529,8 +529,11 @@ pub(crate) fn place_of(places: &BTreeMap<u32, usize>, number: u32) -> Option<usi
 pub(crate) fn next_place(places: &BTreeMap<u32, usize>, after: u32) -> Option<u32>
     ensures { result ≡ find (λ k. nat_lt after k) (keys_of places.now.entries) }
 {
-    let (number, _) = places
+    match places
         .range((Bound::Excluded(after), Bound::Unbounded))
-        .next()?;
-    Some(*number)
+        .next()
+    {
+        Some((number, _)) => Some(*number),
+        None => None,
+    }
 }

@@ -1,5 +1,5 @@
 // The edits of a layer.
-ghost use Rattle.std.specs.Prelude.{◌≡◌, ◌↔◌, ◌<◌, ◌≤◌, ◌+◌, ◌-◌, ℕ, List, Some, None, is_none, if◌then◌else◌, IfOk, OnOk, OnErr, IsErrOf, IsSome, length, true, false};
+ghost use Rattle.std.specs.Prelude.{◌≡◌, ◌↔◌, ◌<◌, ◌≤◌, ◌+◌, ◌-◌, ℕ, List, Some, None, is_none, if◌then◌else◌, IfOk, IfSome, IfNone, OnOk, OnErr, IsErrOf, IsSome, length, true, false};
 ghost use Rattle.snap_layer.specs.Tree.{at, body, number_at, IsDirAt, leaf_node};
 ghost use Rattle.snap_layer.specs.Counts.{inode_count, block_count, body_blocks, is_within};
 ghost use Rattle.snap_layer.specs.Totals.{path_count};
@@ -27,7 +27,6 @@ impl Layer {
         ensures full { IsErrOf result LayerError.LayerFull ↔ (is_within (with_entry self.old path.now (Node.Dir mode opaque)) ≡ false) }
         ensures err { OnErr result (self.new ≡ self.old) }
     {
-        self.show_is_layer();
         let (rest, blocks) = self.left(path);
         let inodes = rest + 1;
         if inodes > MAX_INODES {
@@ -51,17 +50,7 @@ impl Layer {
         ensures full { IsErrOf result LayerError.LayerFull ↔ (is_within (with_new self.old path.now (Node.File self.old.next) (Body.File mode bytes)) ≡ false) }
         ensures err { OnErr result (self.new ≡ self.old) }
     {
-        let number = self.next_number();
-        let (rest, blocks) = self.left(path);
-        let inodes = rest + 1;
-        if number == u32::MAX {
-            return Err(LayerError::LayerFull);
-        }
-        if inodes > MAX_INODES {
-            return Err(LayerError::LayerFull);
-        }
-        self.insert(path, Body::File { mode, bytes }, inodes, blocks)?;
-        Ok(number)
+        self.add_body(path, Body::File { mode, bytes })
     }
 
     /// Adds a symlink with the next number, in place of what stands at the path, and gives the number.
@@ -76,6 +65,18 @@ impl Layer {
         ensures full { IsErrOf result LayerError.LayerFull ↔ (is_within (with_new self.old path.now (Node.Symlink self.old.next) (Body.Symlink target)) ≡ false) }
         ensures err { OnErr result (self.new ≡ self.old) }
     {
+        self.add_body(path, Body::Symlink { target })
+    }
+
+    /// Adds a file or symlink with the next number, in place of what stands at the path, and gives the number.
+    fn add_body(&mut self, path: &Path, body: Body) -> Result<u32, LayerError>
+        requires place { HasPlace self.old path.now }
+        requires fits { IsBody body }
+        ensures ok { OnOk result (self.new ≡ with_new self.old path.now (leaf_node self.old.next body) body) }
+        ensures number { IfOk result (λ k. k ≡ self.old.next) }
+        ensures full { IsErrOf result LayerError.LayerFull ↔ (is_within (with_new self.old path.now (leaf_node self.old.next body) body) ≡ false) }
+        ensures err { OnErr result (self.new ≡ self.old) }
+    {
         let number = self.next_number();
         let (rest, blocks) = self.left(path);
         let inodes = rest + 1;
@@ -85,7 +86,7 @@ impl Layer {
         if inodes > MAX_INODES {
             return Err(LayerError::LayerFull);
         }
-        self.insert(path, Body::Symlink { target }, inodes, blocks)?;
+        self.insert(path, body, inodes, blocks)?;
         Ok(number)
     }
 
@@ -102,7 +103,6 @@ impl Layer {
         ensures sure { OnErr result (at self.old path.now ≡ None) }
         ensures err { OnErr result (self.new ≡ self.old) }
     {
-        self.show_is_layer();
         let (inodes, blocks) = self.left(path);
         self.put_name(path, number, inodes, blocks)
     }
@@ -146,7 +146,6 @@ impl Layer {
         ensures sure { IsErrOf result LayerError.OutOfMemory → at self.old path.now ≡ None }
         ensures err { OnErr result (self.new ≡ self.old) }
     {
-        self.show_is_layer();
         let (rest, blocks) = self.left(path);
         let inodes = rest + 1;
         if inodes > MAX_INODES {
@@ -163,7 +162,6 @@ impl Layer {
         requires { IsTakeable self.old path.now }
         ensures { self.new ≡ without self.old path.now }
     {
-        self.show_is_layer();
         let (inodes, blocks) = self.left(path);
         self.uncover(path, inodes, blocks);
     }
@@ -183,7 +181,6 @@ impl Layer {
         ensures full { IsErrOf result LayerError.LayerFull ↔ (is_within (with_moved self.old from.now to.now leaves) ≡ false) }
         ensures err { OnErr result (self.new ≡ self.old) }
     {
-        self.show_is_layer();
         let (rest, blocks) = self.left(to);
         let inodes = rest + usize::from(leaves);
         if inodes > MAX_INODES {
@@ -254,22 +251,17 @@ impl Layer {
         self.table.set_file_mode(number, mode);
     }
 
-    /// The totals with so many inodes and blocks, once something stands at the path.
-    fn totals_at(&self, path: &Path, inodes: usize, blocks: u64) -> Result<Totals, AllocError>
-        ensures inodes { IfOk result (λ v. v.inodes ≡ inodes) }
-        ensures blocks { IfOk result (λ v. v.blocks ≡ blocks) }
-        ensures paths { IfOk result (λ v. path_count self.now + (if is_none (at self.now path.now) then 1 else 0) < v.paths) }
-        ensures sure { OnErr result (at self.now path.now ≡ None) }
+    /// A bound on the number of paths once something stands at the path: nothing where there is no such number.
+    fn paths_at(&self, path: &Path) -> Option<usize>
+        ensures paths { IfSome result (λ n. path_count self.now + (if is_none (at self.now path.now) then 1 else 0) < n) }
+        ensures sure { IfNone result (at self.now path.now ≡ None) }
+        ensures layer { IsLayer self.now }
     {
-        let paths = match self.at(path) {
-            Some(_) => self.totals.paths,
-            None => self.totals.paths.checked_add(1).ok_or(AllocError)?,
-        };
-        Ok(Totals {
-            inodes,
-            blocks,
-            paths,
-        })
+        self.show_is_layer();
+        match self.at(path) {
+            Some(_) => Some(self.totals.paths),
+            None => self.totals.paths.checked_add(1),
+        }
     }
 
     /// Puts a directory where nothing or a whiteout stands.
@@ -288,10 +280,16 @@ impl Layer {
         ensures ok { OnOk result (self.new ≡ with_node self.old path.now (Node.Dir mode opaque)) }
         ensures err { OnErr result (self.new ≡ self.old) }
     {
-        self.show_is_layer();
-        let totals = self.totals_at(path, inodes, blocks + 1)?;
+        let Some(paths) = self.paths_at(path) else {
+            return Err(AllocError);
+        };
+        let blocks = blocks + 1;
         self.table.put_dir(path, mode, opaque)?;
-        self.totals = totals;
+        self.totals = Totals {
+            inodes,
+            blocks,
+            paths,
+        };
         Ok(())
     }
 
@@ -305,10 +303,15 @@ impl Layer {
         ensures sure { OnErr result (at self.old path.now ≡ None) }
         ensures err { OnErr result (self.new ≡ self.old) }
     {
-        self.show_is_layer();
-        let totals = self.totals_at(path, inodes, blocks)?;
+        let Some(paths) = self.paths_at(path) else {
+            return Err(AllocError);
+        };
         self.table.whiteout(path)?;
-        self.totals = totals;
+        self.totals = Totals {
+            inodes,
+            blocks,
+            paths,
+        };
         Ok(())
     }
 
@@ -330,10 +333,15 @@ impl Layer {
         ensures err { OnErr result (self.new ≡ self.old) }
     {
         let _ = path.names();
-        self.show_is_layer();
-        let totals = self.totals_at(path, inodes, blocks)?;
+        let Some(paths) = self.paths_at(path) else {
+            return Err(AllocError);
+        };
         self.table.put_name(path, number)?;
-        self.totals = totals;
+        self.totals = Totals {
+            inodes,
+            blocks,
+            paths,
+        };
         Ok(())
     }
 
@@ -353,10 +361,16 @@ impl Layer {
         ensures ok { OnOk result (self.new ≡ with_new self.old path.now (leaf_node self.old.next body) body) }
         ensures err { OnErr result (self.new ≡ self.old) }
     {
-        self.show_is_layer();
-        let totals = self.totals_at(path, inodes, blocks + body.blocks())?;
+        let Some(paths) = self.paths_at(path) else {
+            return Err(AllocError);
+        };
+        let blocks = blocks + body.blocks();
         self.table.put_leaf(path, body)?;
-        self.totals = totals;
+        self.totals = Totals {
+            inodes,
+            blocks,
+            paths,
+        };
         Ok(())
     }
 
@@ -379,7 +393,9 @@ impl Layer {
     {
         self.show_is_layer();
         let blocks = blocks + body.blocks();
-        let paths = self.totals.paths.checked_add(2).ok_or(AllocError)?;
+        let Some(paths) = self.totals.paths.checked_add(2) else {
+            return Err(AllocError);
+        };
         self.table.put_linked(path, link, body)?;
         self.totals = Totals {
             inodes,
@@ -423,10 +439,15 @@ impl Layer {
         ensures ok { OnOk result (self.new ≡ with_moved self.old from.now to.now leaves) }
         ensures err { OnErr result (self.new ≡ self.old) }
     {
-        self.show_is_layer();
-        let totals = self.totals_at(to, inodes, blocks)?;
+        let Some(paths) = self.paths_at(to) else {
+            return Err(AllocError);
+        };
         self.table.relocate(from, to, leaves)?;
-        self.totals = totals;
+        self.totals = Totals {
+            inodes,
+            blocks,
+            paths,
+        };
         Ok(())
     }
 

@@ -4,13 +4,12 @@ use std::alloc::AllocError;
 use std::collections::BTreeMap;
 
 /// What a directory has at a name.
-#[derive(Clone, Copy, Debug)]
+#[derive(Clone, Copy)]
 pub enum Target {
     Whiteout,
     Inode(usize),
 }
 
-#[derive(Drop)]
 pub enum Inode {
     Dir {
         mode: u32,
@@ -22,6 +21,23 @@ pub enum Inode {
         links: usize,
         body: Body,
     },
+}
+
+impl Drop for Inode {
+    fn drop(self) {
+        match self {
+            Inode::Dir {
+                mode: _,
+                opaque: _,
+                entries: _,
+            } => {}
+            Inode::Leaf {
+                number: _,
+                links: _,
+                body: _,
+            } => {}
+        }
+    }
 }
 
 impl Clone for Inode {

@@ -7,7 +7,6 @@ ghost use Rattle.snap_path.specs.Text.{Names, IsPath, text_below};
 ghost use Rattle.snap_layer.specs.Tree.{at, body, names_below, number_of};
 ghost use Rattle.snap_layer.specs.Counts.{dir_count, whiteout_count, name_count, inode_count, block_count, body_blocks};
 ghost use Rattle.snap_layer.specs.Layers.{IsLayer};
-ghost use Rattle.snap_layer.specs.Equal.{tree_eq};
 ghost use Rattle.snap_layer.specs.Edits.{root_only, without, HasParent, HasRoom, HasRooms, HasPlace, IsTakeable, IsMovable};
 
 use super::dir::Dir;
@@ -182,6 +181,7 @@ impl Layer {
         ensures blocks { result.1 ≡ block_count (without self.now path.now) }
         ensures few { result.0 ≤ 65536 }
         ensures path { IsPath path.now }
+        ensures layer { IsLayer self.now }
     {
         self.show_is_layer();
         let node = self.at(path);
@@ -368,20 +368,16 @@ impl Layer {
     {
         self.table.has_short_paths(from, to)
     }
-
-    /// Whether the entries, the bodies and the next numbers are the same.
-    fn is_same(&self, other: &Layer) -> bool
-        ensures { result ≡ tree_eq self.now other.now }
-    {
-        self.table.is_same(&other.table)
-    }
 }
 
 /// The file number that the node names, if it is a name.
 fn number_in(node: Option<Node>) -> Option<u32>
     ensures { result ≡ option_and_then number_of node }
 {
-    node?.number()
+    match node {
+        Some(node) => node.number(),
+        None => None,
+    }
 }
 
 /// Layers are equal where their entries, their bodies and their next numbers are. Takes no memory. Cost: the
@@ -400,7 +396,7 @@ impl PartialEq for Layer {
         ensures value { result ≡ tree_eq self.now other.now }
         ensures equal { IsTrue result ↔ (self.now ≡ other.now) }
     {
-        self.is_same(other)
+        self.table.is_same(&other.table)
     }
 }
 

@@ -249,7 +249,9 @@ impl<'a> Rows<'a> {
         ensures text { IfSome result (λ r. length (text_below self.new.path) ≡ length (text_below self.old.front) + r.text) }
         ensures front { self.new.front ≡ self.old.front }
     {
-        let (name, target) = advance(self.slots, &mut self.frames, &mut self.text)?;
+        let Some((name, target)) = advance(self.slots, &mut self.frames, &mut self.text) else {
+            return None;
+        };
         let above = self.front.len() + (self.frames.len() - 1);
         show_items(self.slots, target);
         let Some(node) = node_of_target(self.slots, target) else {

@@ -22,7 +22,7 @@ use super::edit::{
 };
 use super::inode::{Inode, Target};
 use super::node::{Body, Node};
-use super::walk::{dir_at, entry_at, stands};
+use super::walk::{dir_at, entry_at, parent_at, stands};
 use slab::Slab;
 use snap_path::Path;
 use std::alloc::{AllocError, Global};
@@ -160,10 +160,7 @@ impl Table {
         ensures err { OnErr result (self.new ≡ self.old) }
     {
         let _ = &self.slots;
-        let Some((name, front)) = path.names().split_last() else {
-            unreachable!()
-        };
-        let dir = dir_at(&self.slots, self.root, front);
+        let (dir, name) = parent_at(&self.slots, self.root, path);
         let inode = Inode::Dir {
             mode,
             opaque,
@@ -180,10 +177,7 @@ impl Table {
         ensures ok { OnOk result (self.new ≡ with_new self.old path.now (leaf_node self.old.next body) body) }
         ensures err { OnErr result (self.new ≡ self.old) }
     {
-        let Some((name, front)) = path.names().split_last() else {
-            unreachable!()
-        };
-        let dir = dir_at(&self.slots, self.root, front);
+        let (dir, name) = parent_at(&self.slots, self.root, path);
         let number = self.next;
         let inode = Inode::Leaf {
             number,
@@ -207,10 +201,7 @@ impl Table {
         ensures err { OnErr result (self.new ≡ self.old) }
     {
         let _ = &self.slots;
-        let Some((name, front)) = path.names().split_last() else {
-            unreachable!()
-        };
-        let dir = dir_at(&self.slots, self.root, front);
+        let (dir, name) = parent_at(&self.slots, self.root, path);
         let Some(key) = place_of(&self.places, number) else {
             unreachable!()
         };
@@ -271,10 +262,7 @@ impl Table {
         ensures err { OnErr result (self.new ≡ self.old) }
     {
         let _ = &self.slots;
-        let Some((name, front)) = path.names().split_last() else {
-            unreachable!()
-        };
-        let dir = dir_at(&self.slots, self.root, front);
+        let (dir, name) = parent_at(&self.slots, self.root, path);
         link(&mut self.slots, dir, name, Target::Whiteout)
     }
 
@@ -286,10 +274,7 @@ impl Table {
         ensures { self.new ≡ with_node self.old path.now Node.Whiteout }
     {
         let _ = &self.slots;
-        let Some((name, front)) = path.names().split_last() else {
-            unreachable!()
-        };
-        let dir = dir_at(&self.slots, self.root, front);
+        let (dir, name) = parent_at(&self.slots, self.root, path);
         cover_entry(&mut self.slots, &mut self.places, dir, name);
     }
 
@@ -317,10 +302,7 @@ impl Table {
         ensures { self.new ≡ without self.old path.now }
     {
         let _ = &self.slots;
-        let Some((name, front)) = path.names().split_last() else {
-            unreachable!()
-        };
-        let dir = dir_at(&self.slots, self.root, front);
+        let (dir, name) = parent_at(&self.slots, self.root, path);
         take_target(&mut self.slots, &mut self.places, dir, name);
     }
 
@@ -333,14 +315,8 @@ impl Table {
         ensures err { OnErr result (self.new ≡ self.old) }
     {
         let _ = &self.slots;
-        let Some((old, source)) = from.names().split_last() else {
-            unreachable!()
-        };
-        let Some((new, goal)) = to.names().split_last() else {
-            unreachable!()
-        };
-        let left = dir_at(&self.slots, self.root, source);
-        let gained = dir_at(&self.slots, self.root, goal);
+        let (left, old) = parent_at(&self.slots, self.root, from);
+        let (gained, new) = parent_at(&self.slots, self.root, to);
         let Some(target) = entry_at(&self.slots, left, old) else {
             unreachable!()
         };

@@ -1,5 +1,5 @@
 /// What a layer takes, and a bound on the number of its paths, which only rises.
-#[derive(Clone, Copy, Debug)]
+#[derive(Clone, Copy)]
 pub(crate) struct Totals {
     /// Its inodes.
     pub(crate) inodes: usize,

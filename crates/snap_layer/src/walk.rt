@@ -1,4 +1,5 @@
-ghost use Rattle.std.specs.Prelude.{◌≡◌, Option, Some, None, option_and_then};
+ghost use Rattle.std.specs.Prelude.{◌≡◌, ◌++◌, ◌∷◌, [], ℕ, List, Option, Some, None, option_and_then};
+ghost use Rattle.snap_path.specs.Text.{Names, IsPath};
 ghost use Rattle.slab.specs.Slab.{get};
 ghost use Rattle.snap_layer.specs.Tree.{IsDirAt, number_of};
 ghost use Rattle.snap_layer.specs.Walk.{walk, entry_at, node_of, node_at, stands, view_of};
@@ -6,7 +7,7 @@ ghost use Rattle.snap_layer.specs.Walk.{walk, entry_at, node_of, node_at, stands
 use super::inode::{Inode, Target};
 use super::node::{Body, Node};
 use slab::Slab;
-use snap_path::Name;
+use snap_path::{Name, Path};
 
 /// What stands where the names lead from the root.
 pub(crate) fn walk(slots: &Slab<Inode>, root: usize, names: &[Name]) -> Option<Target>
@@ -75,9 +76,26 @@ pub(crate) fn dir_at(slots: &Slab<Inode>, root: usize, names: &[Name]) -> usize
     }
 }
 
+/// The key of the directory in which the path lies, and the path's last name.
+pub(crate) fn parent_at<'a>(slots: &Slab<Inode>, root: usize, path: &'a Path) -> (usize, &'a Name)
+    requires below_root { path.now ≡ [] → ⊥ }
+    requires parent { (q : Names) (n : List ℕ) → path.now ≡ q ++ n ∷ [] → IsDirAt (stands (view_of slots.now) root q) }
+    ensures leads { (q : Names) × (path.now ≡ q ++ result.1.now ∷ []) × (walk (entry_at slots.now) root q ≡ Some (Target.Inode result.0)) }
+    ensures dir { IsDirAt (node_at slots.now result.0) }
+    ensures path { IsPath path.now }
+{
+    let Some((name, front)) = path.names().split_last() else {
+        unreachable!()
+    };
+    (dir_at(slots, root, front), name)
+}
+
 /// The file number of the inode with the key.
 pub(crate) fn number_at(slots: &Slab<Inode>, key: usize) -> Option<u32>
     ensures { result ≡ option_and_then number_of (node_at slots.now key) }
 {
-    node_of(slots, key)?.number()
+    match node_of(slots, key) {
+        Some(node) => node.number(),
+        None => None,
+    }
 }

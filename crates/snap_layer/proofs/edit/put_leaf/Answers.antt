@@ -8,7 +8,7 @@ use Rattle.snap_layer.specs.Tree.{IsDirAt}
 use Rattle.snap_layer.proofs.Lists.{remove-insert_entry}
 use Rattle.snap_layer.specs.Walk.{Clears, view_of, entry_at}
 use Rattle.snap_layer.specs.Holds.{Places}
-use Rattle.snap_layer.proofs.Slots.{same_trans}
+use Rattle.snap_layer.proofs.Slots.{same_trans, reserved, on_err_by}
 use Rattle.snap_layer.proofs.Entering.{clears_dir, clears_none, clears_without, stays_placed, put_anew}
 use Rattle.snap_layer.proofs.edit.put_leaf.Goals as goal
 
@@ -44,3 +44,12 @@ returns-in-Err-clause-err c =
     let none = c.in-Err.ensures.sure (c.clear_entry.ensures.room c.in_ok-reserve.ensures.room) in
     let same = clears_none (view_of c.args.slots.now) (view_of c.clear_entry.new.slots) (insert_entry nat_cmp c.args.places.now.entries c.args.number c.args.dir) c.clear_entry.new.places.entries c.args.dir c.args.name.now c.requires.apart clears none in
     (same_trans (view_of c.args.slots.now) (view_of c.clear_entry.new.slots) (view_of c.put_inode.new.slots) same.0 c.in-Err.ensures.err, c.remove.ensures.entries ∙ ap (remove_entry (is_at (nat_cmp c.args.number))) same.1 ∙ remove-insert_entry nat_cmp_total nat_cmp-IsAntisymmetric c.args.places.now.entries c.args.number c.args.dir c.requires.fresh)
+
+pub clear_entry-requires : goal.clear_entry-requires
+clear_entry-requires c = subst IsDirAt (sym ((reserved c.args.slots.now c.reserve.new.self c.reserve.ensures.rest_kept).nodes c.args.dir)) c.requires.dir
+
+pub put_inode-requires-clause-bare : goal.put_inode-requires-clause-bare
+put_inode-requires-clause-bare c = c.requires.bare
+
+pub returns-in_err-reserve-clause-err : goal.returns-in_err-reserve-clause-err
+returns-in_err-reserve-clause-err c = on_err_by c.from_residual.result ((reserved c.args.slots.now c.reserve.new.self c.reserve.ensures.rest_kept), refl)

@@ -38,3 +38,21 @@ returns-in-Some-first_after-clause-text c =
       ap frames_text c.push.ensures.items,
       frames_text_snoc c.pop.new.self.items (c.frame.inside.key, Some c.in-Some-first_after.name.now),
     )
+
+pub returns-in-Some-first_after-clause-passes : goal.returns-in-Some-first_after-clause-passes
+returns-in-Some-first_after-clause-passes c =
+    let was : c.loop-frame.frames.items ≡ c.pop.new.self.items ++ (c.frame.inside.key, option_copied c.frame.inside.last) ∷ [] = c.in-Some.ensures.items ∙ ap (λ f. c.pop.new.self.items ++ f ∷ []) (sym c.frame.view_is) in
+    record {
+      front = c.pop.new.self.items;
+      key = c.frame.inside.key;
+      last = option_copied c.frame.inside.last;
+      past = c.loop-frame.invariant.gone.0;
+      was = c.loop-frame.invariant.gone.1 ∙ ap (λ l. l ++ c.loop-frame.invariant.gone.0) was ∙ append_assoc c.pop.new.self.items ((c.frame.inside.key, option_copied c.frame.inside.last) ∷ []) c.loop-frame.invariant.gone.0;
+      is = c.push.ensures.items;
+    }
+
+pub returns-in-Some-first_after-clause-gone : goal.returns-in-Some-first_after-clause-gone
+returns-in-Some-first_after-clause-gone c = tt
+
+pub returns-clause-passes : goal.returns-clause-passes
+returns-clause-passes c = tt

@@ -12,7 +12,6 @@ use Rattle.snap_layer.proofs.layer.Layer.fill.Goals as goal
 pub overflow_sub-blocks : goal.overflow_sub-blocks
 overflow_sub-blocks c =
     let ok : IsLayer c.args.self.now = c.show_is_layer.ensures.layer in
-    let okt : IsLayer c.self.inside.table = subst IsLayer (sym c.self.view_is) ok in
     let had : Counts c.self.inside.totals c.args.self.now = subst (Counts c.self.inside.totals) c.self.view_is c.self.invariant in
     let old = c.requires.there.0 in
     let blocks = c.requires.there.1 in
@@ -23,7 +22,6 @@ overflow_sub-blocks c =
 pub overflow_add-blocks : goal.overflow_add-blocks
 overflow_add-blocks c =
     let ok : IsLayer c.args.self.now = c.show_is_layer.ensures.layer in
-    let okt : IsLayer c.self.inside.table = subst IsLayer (sym c.self.view_is) ok in
     let had : Counts c.self.inside.totals c.args.self.now = subst (Counts c.self.inside.totals) c.self.view_is c.self.invariant in
     let old = c.requires.there.0 in
     let blocks = c.requires.there.1 in
@@ -34,11 +32,8 @@ overflow_add-blocks c =
 pub set_body-requires-clause-layer : goal.set_body-requires-clause-layer
 set_body-requires-clause-layer c =
     let ok : IsLayer c.args.self.now = c.show_is_layer.ensures.layer in
-    let okt : IsLayer c.self.inside.table = subst IsLayer (sym c.self.view_is) ok in
     let old = c.requires.there.0 in
-    let blocks = c.requires.there.1 in
     let is : body c.args.self.now c.args.number ≡ Some (body_kinds.File c.args.mode old) = c.requires.there.2 in
-    let few = body_few c.args.self.now ok c.args.number (body_kinds.File c.args.mode old) is in
     let file : IsFile (body c.args.self.now c.args.number) = file_there c.args.self.now ok c.args.number c.args.mode old is in
     let low : IsFile (Some (body_kinds.File c.args.mode old)) = subst IsFile is file in
     subst (λ u. IsLayer (with_body u c.args.number (body_kinds.File c.args.mode c.args.bytes))) (sym c.self.view_is) (IsLayer-with_body c.args.self.now c.args.number (body_kinds.File c.args.mode c.args.bytes) ok file (low.0, c.requires.size))
@@ -46,7 +41,6 @@ set_body-requires-clause-layer c =
 pub invariant_of-self : goal.invariant_of-self
 invariant_of-self c =
     let ok : IsLayer c.args.self.now = c.show_is_layer.ensures.layer in
-    let okt : IsLayer c.self.inside.table = subst IsLayer (sym c.self.view_is) ok in
     let had : Counts c.self.inside.totals c.args.self.now = subst (Counts c.self.inside.totals) c.self.view_is c.self.invariant in
     let old = c.requires.there.0 in
     let blocks = c.requires.there.1 in

@@ -1,11 +1,12 @@
-use Rattle.std.proofs.Common.{◌≡◌, sym, ap, subst, ◌∙◌, arith}
-use Rattle.snap_layer.specs.Tree.{body, leaf_node}
+use Rattle.std.proofs.Common.{◌≡◌, sym, ap, subst, ◌∙◌, arith, Some, IsSome}
+use Rattle.snap_layer.specs.Tree.{body, leaf_node, at, number_at}
 use Rattle.snap_layer.specs.Layers.{IsLayer}
-use Rattle.snap_layer.specs.Edits.{with_node, with_name, name_of}
+use Rattle.snap_layer.specs.Edits.{with_node, with_name, name_of, HasPlace}
 use Rattle.snap_layer.specs.Totals.{Counts}
 use Rattle.snap_layer.proofs.Totaling.{names_few, counts_node}
 use Rattle.snap_layer.proofs.Changing.{body_some}
 use Rattle.snap_layer.proofs.Totaling.{name_becomes, name_no_dir, fewer_inodes}
+use Rattle.snap_layer.proofs.Slots.{on_err_by}
 use Rattle.snap_layer.proofs.layer.Layer.put_name.Goals as goal
 
 pub put_name-requires-clause-few : goal.put_name-requires-clause-few
@@ -14,21 +15,43 @@ put_name-requires-clause-few c =
 
 pub put_name-requires-clause-layer : goal.put_name-requires-clause-layer
 put_name-requires-clause-layer c =
-    let ok : IsLayer c.args.self.now = c.show_is_layer.ensures.layer in
+    let ok : IsLayer c.args.self.now = c.paths_at.ensures.layer in
     λ b is. subst (λ u. IsLayer (with_node u c.args.path.now (leaf_node c.args.number b))) (sym c.self.view_is) ((name_becomes c.args.self.now ok c.args.path.now c.names.ensures.valid c.requires.place c.args.number b c.requires.apart (ap (λ u. body u c.args.number) (sym c.self.view_is) ∙ is)).layer (fewer_inodes c.args.self.now ok c.args.path.now))
 
 pub invariant_of-self-2 : goal.invariant_of-self-2
 invariant_of-self-2 c =
-    let ok : IsLayer c.args.self.now = c.show_is_layer.ensures.layer in
+    let ok : IsLayer c.args.self.now = c.paths_at.ensures.layer in
     let there = body_some c.args.self.now c.args.number c.requires.there in
     let b = name_becomes c.args.self.now ok c.args.path.now c.names.ensures.valid c.requires.place c.args.number there.0 c.requires.apart there.1 in
     let is : c.put_name.new.self ≡ with_node c.args.self.now c.args.path.now (leaf_node c.args.number there.0) = c.in_ok-put_name.ensures.ok there.0 (ap (λ u. body u c.args.number) c.self.view_is ∙ there.1) ∙ ap (λ u. with_node u c.args.path.now (leaf_node c.args.number there.0)) c.self.view_is in
-    subst (Counts c.in_ok-totals.totals) (sym is) (counts_node c.args.self.now ok c.args.path.now c.in_ok-totals.totals c.in_ok-totals.ensures.paths (leaf_node c.args.number there.0) (c.in_ok-totals.ensures.inodes ∙ c.requires.count ∙ b.count) (omega (arith, c.in_ok-totals.ensures.blocks, c.requires.blocks, name_no_dir c.args.number there.0)))
+    subst (Counts _) (sym is) (counts_node c.args.self.now ok c.args.path.now _ c.in-Some.ensures.paths (leaf_node c.args.number there.0) (c.requires.count ∙ b.count) (omega (arith, c.requires.blocks, name_no_dir c.args.number there.0)))
 
 pub returns-clause-ok : goal.returns-clause-ok
 returns-clause-ok c =
-    let ok : IsLayer c.args.self.now = c.show_is_layer.ensures.layer in
     let there = body_some c.args.self.now c.args.number c.requires.there in
-    let b = name_becomes c.args.self.now ok c.args.path.now c.names.ensures.valid c.requires.place c.args.number there.0 c.requires.apart there.1 in
     let is : c.put_name.new.self ≡ with_node c.args.self.now c.args.path.now (leaf_node c.args.number there.0) = c.in_ok-put_name.ensures.ok there.0 (ap (λ u. body u c.args.number) c.self.view_is ∙ there.1) ∙ ap (λ u. with_node u c.args.path.now (leaf_node c.args.number there.0)) c.self.view_is in
     is ∙ sym (ap (with_name c.args.self.now c.args.path.now) (ap (name_of c.args.number) there.1))
+
+pub put_name-requires-clause-place : goal.put_name-requires-clause-place
+put_name-requires-clause-place c = subst (λ u. HasPlace u c.args.path.now) (sym c.self.view_is) c.requires.place
+
+pub put_name-requires-clause-there : goal.put_name-requires-clause-there
+put_name-requires-clause-there c = subst (λ u. IsSome (body u c.args.number)) (sym c.self.view_is) c.requires.there
+
+pub put_name-requires-clause-apart : goal.put_name-requires-clause-apart
+put_name-requires-clause-apart c = subst (λ u. number_at u c.args.path.now ≡ Some c.args.number → ⊥) (sym c.self.view_is) c.requires.apart
+
+pub invariant_of-self : goal.invariant_of-self
+invariant_of-self c = subst (Counts c.self.inside.totals) (sym c.in_err-put_name.ensures.err) c.self.invariant
+
+pub returns-in_err-put_name-clause-sure : goal.returns-in_err-put_name-clause-sure
+returns-in_err-put_name-clause-sure c = on_err_by c.from_residual.result (ap (λ u. at u c.args.path.now) (sym c.self.view_is) ∙ c.in_err-put_name.ensures.sure)
+
+pub returns-in_err-put_name-clause-err : goal.returns-in_err-put_name-clause-err
+returns-in_err-put_name-clause-err c = on_err_by c.from_residual.result (c.in_err-put_name.ensures.err ∙ c.self.view_is)
+
+pub returns-clause-sure : goal.returns-clause-sure
+returns-clause-sure c = tt
+
+pub returns-clause-err : goal.returns-clause-err
+returns-clause-err c = tt

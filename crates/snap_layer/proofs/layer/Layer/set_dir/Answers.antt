@@ -11,14 +11,12 @@ use Rattle.snap_layer.proofs.layer.Layer.set_dir.Goals as goal
 pub set_dir-requires-clause-layer : goal.set_dir-requires-clause-layer
 set_dir-requires-clause-layer c =
     let ok : IsLayer c.args.self.now = c.show_is_layer.ensures.layer in
-    let okt : IsLayer c.self.inside.table = subst IsLayer (sym c.self.view_is) ok in
     let d = dir_there c.args.self.now c.args.path.now c.requires.dir in
     subst (λ u. IsLayer (with_entry u c.args.path.now (node.Dir c.args.mode c.args.opaque))) (sym c.self.view_is) (dir_stays c.args.self.now ok c.args.path.now d.0 c.args.mode d.1 c.args.opaque d.2 c.requires.mode).layer
 
 pub invariant_of-self : goal.invariant_of-self
 invariant_of-self c =
     let ok : IsLayer c.args.self.now = c.show_is_layer.ensures.layer in
-    let okt : IsLayer c.self.inside.table = subst IsLayer (sym c.self.view_is) ok in
     let had : Counts c.self.inside.totals c.args.self.now = subst (Counts c.self.inside.totals) c.self.view_is c.self.invariant in
     let d = dir_there c.args.self.now c.args.path.now c.requires.dir in
     subst (Counts c.self.inside.totals) (ap (λ u. with_entry u c.args.path.now (node.Dir c.args.mode c.args.opaque)) (sym c.self.view_is) ∙ sym c.set_dir.ensures) (counts_dir c.args.self.now ok c.args.path.now d.0 c.args.mode d.1 c.args.opaque c.self.inside.totals d.2 c.requires.mode had)

@@ -11,7 +11,6 @@ use Rattle.snap_layer.proofs.layer.Layer.set_file_mode.Goals as goal
 pub invariant_of-self : goal.invariant_of-self
 invariant_of-self c =
     let ok : IsLayer c.args.self.now = c.show_is_layer.ensures.layer in
-    let okt : IsLayer c.self.inside.table = subst IsLayer (sym c.self.view_is) ok in
     let had : Counts c.self.inside.totals c.args.self.now = subst (Counts c.self.inside.totals) c.self.view_is c.self.invariant in
     let b = file_body (body c.args.self.now c.args.number) c.requires.file in
     let old = body_kinds.File b.0 b.1 in

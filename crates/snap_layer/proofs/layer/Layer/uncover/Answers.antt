@@ -9,12 +9,9 @@ use Rattle.snap_layer.proofs.layer.Layer.uncover.Goals as goal
 pub take-requires-clause-layer : goal.take-requires-clause-layer
 take-requires-clause-layer c =
     let ok : IsLayer c.args.self.now = c.show_is_layer.ensures.layer in
-    let okt : IsLayer c.self.inside.table = subst IsLayer (sym c.self.view_is) ok in
     subst (λ u. IsLayer (without u c.args.path.now)) (sym c.self.view_is) (IsLayer-without c.args.self.now c.args.path.now ok c.requires.takeable.clear c.requires.takeable.below_root)
 
 pub invariant_of-self : goal.invariant_of-self
 invariant_of-self c =
-    let ok : IsLayer c.args.self.now = c.show_is_layer.ensures.layer in
-    let okt : IsLayer c.self.inside.table = subst IsLayer (sym c.self.view_is) ok in
     let had : Counts c.self.inside.totals c.args.self.now = subst (Counts c.self.inside.totals) c.self.view_is c.self.invariant in
     subst (Counts _) (ap (λ u. without u c.args.path.now) (sym c.self.view_is) ∙ sym c.take.ensures) (counts_without c.args.self.now c.args.path.now _ had.paths c.requires.inodes c.requires.blocks)

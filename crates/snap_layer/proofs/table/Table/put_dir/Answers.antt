@@ -1,4 +1,4 @@
-use Rattle.std.proofs.Common.{◌≡◌, ◌++◌, ◌∷◌, [], refl, sym, ◌∙◌, subst}
+use Rattle.std.proofs.Common.{◌≡◌, ◌++◌, ◌∷◌, [], refl, subst}
 use Rattle.snap_layer.specs.declared.node.Node.TheVariants as node
 use Rattle.snap_layer.specs.contracts.node.Node as node_contracts
 use Rattle.snap_layer.specs.Layers.{IsLayer}
@@ -9,40 +9,43 @@ use Rattle.snap_layer.proofs.Makes.{opens, makes_holds, makes_view, makes_kept, 
 use Rattle.snap_layer.proofs.Putting.{Spot, makes_same, dir_made}
 use Rattle.snap_layer.proofs.table.Table.put_dir.Goals as goal
 
-pub dir_at-dir-requires : goal.dir_at-dir-requires
-dir_at-dir-requires c =
-    let path_splits : c.args.path.now ≡ c.in-Some.front.now ++ c.in-Some.name.now ∷ [] = sym c.names.ensures.names ∙ c.in-Some.ensures.cases.0 in
+pub parent_at-dir-requires : goal.parent_at-dir-requires
+parent_at-dir-requires c =
     let m = opens c.self.inside.slots c.self.inside.root c.self.inside.places.entries c.self.inside.next c.args.self.now c.self.inside.tree c.self.invariant c.self.view_is in
-    parent_stands (view_of c.self.inside.slots) c.self.inside.root c.self.inside.places.entries c.self.inside.next c.args.self.now c.args.path.now c.in-Some.front.now c.in-Some.name.now m path_splits c.requires.above
+    record {
+      below_root = c.requires.above.below_root;
+      parent = λ q n splits. parent_stands (view_of c.self.inside.slots) c.self.inside.root c.self.inside.places.entries c.self.inside.next c.args.self.now c.args.path.now q n m splits c.requires.above;
+    }
 
 pub invariant_of-self-inside : goal.invariant_of-self-inside
 invariant_of-self-inside c =
-    let path_splits : c.args.path.now ≡ c.in-Some.front.now ++ c.in-Some.name.now ∷ [] = sym c.names.ensures.names ∙ c.in-Some.ensures.cases.0 in
+    let path_splits : c.args.path.now ≡ c.parent_at-dir.ensures.leads.0 ++ c.parent_at-dir.result.1.now ∷ [] = c.parent_at-dir.ensures.leads.1 in
     let m = opens c.self.inside.slots c.self.inside.root c.self.inside.places.entries c.self.inside.next c.args.self.now c.self.inside.tree c.self.invariant c.self.view_is in
     let layer : IsLayer c.args.self.now = subst IsLayer c.self.view_is c.self.invariant.layer in
-    let spot : Spot (view_of c.self.inside.slots) c.self.inside.root c.self.inside.places.entries c.self.inside.next c.args.self.now c.args.path.now c.in-Some.front.now c.in-Some.name.now c.dir_at-dir.result = record { makes = m; layer = layer; splits = path_splits; leads = c.dir_at-dir.ensures.leads; dir = c.dir_at-dir.ensures.dir } in
-    (either c.put_inode.result c.put_inode.ensures.ok c.put_inode.ensures.err (λ done. makes_holds c.put_inode.new.slots c.self.inside.root c.self.inside.places.entries c.self.inside.next (with_entry c.args.self.now c.args.path.now (node.Dir c.args.mode c.args.opaque)) (dir_made (view_of c.self.inside.slots) (view_of c.put_inode.new.slots) c.self.inside.root c.self.inside.places.entries c.self.inside.next c.args.self.now c.args.path.now c.in-Some.front.now c.in-Some.name.now c.dir_at-dir.result spot c.requires.free c.self.inside.slots.vacant_key (node.Dir c.args.mode c.args.opaque) _ _ (done (node.Dir c.args.mode c.args.opaque) refl) refl) (c.requires.layer)) (λ alike. makes_holds c.put_inode.new.slots c.self.inside.root c.self.inside.places.entries c.self.inside.next c.args.self.now (makes_same (view_of c.self.inside.slots) (view_of c.put_inode.new.slots) c.self.inside.root alike c.self.inside.places.entries c.self.inside.places.entries c.self.inside.next c.args.self.now refl m) layer), tt)
+    let spot : Spot (view_of c.self.inside.slots) c.self.inside.root c.self.inside.places.entries c.self.inside.next c.args.self.now c.args.path.now c.parent_at-dir.ensures.leads.0 c.parent_at-dir.result.1.now c.parent_at-dir.result.0 = record { makes = m; layer = layer; splits = path_splits; leads = c.parent_at-dir.ensures.leads.2; dir = c.parent_at-dir.ensures.dir } in
+    (either c.put_inode.result c.put_inode.ensures.ok c.put_inode.ensures.err (λ done. makes_holds c.put_inode.new.slots c.self.inside.root c.self.inside.places.entries c.self.inside.next (with_entry c.args.self.now c.args.path.now (node.Dir c.args.mode c.args.opaque)) (dir_made (view_of c.self.inside.slots) (view_of c.put_inode.new.slots) c.self.inside.root c.self.inside.places.entries c.self.inside.next c.args.self.now c.args.path.now c.parent_at-dir.ensures.leads.0 c.parent_at-dir.result.1.now c.parent_at-dir.result.0 spot c.requires.free c.self.inside.slots.vacant_key (node.Dir c.args.mode c.args.opaque) _ _ (done (node.Dir c.args.mode c.args.opaque) refl) refl) (c.requires.layer)) (λ alike. makes_holds c.put_inode.new.slots c.self.inside.root c.self.inside.places.entries c.self.inside.next c.args.self.now (makes_same (view_of c.self.inside.slots) (view_of c.put_inode.new.slots) c.self.inside.root alike c.self.inside.places.entries c.self.inside.places.entries c.self.inside.next c.args.self.now refl m) layer), tt)
 
 pub invariant_of-self : goal.invariant_of-self
 invariant_of-self c =
-    let path_splits : c.args.path.now ≡ c.in-Some.front.now ++ c.in-Some.name.now ∷ [] = sym c.names.ensures.names ∙ c.in-Some.ensures.cases.0 in
+    let path_splits : c.args.path.now ≡ c.parent_at-dir.ensures.leads.0 ++ c.parent_at-dir.result.1.now ∷ [] = c.parent_at-dir.ensures.leads.1 in
     let m = opens c.self.inside.slots c.self.inside.root c.self.inside.places.entries c.self.inside.next c.args.self.now c.self.inside.tree c.self.invariant c.self.view_is in
     let layer : IsLayer c.args.self.now = subst IsLayer c.self.view_is c.self.invariant.layer in
-    let spot : Spot (view_of c.self.inside.slots) c.self.inside.root c.self.inside.places.entries c.self.inside.next c.args.self.now c.args.path.now c.in-Some.front.now c.in-Some.name.now c.dir_at-dir.result = record { makes = m; layer = layer; splits = path_splits; leads = c.dir_at-dir.ensures.leads; dir = c.dir_at-dir.ensures.dir } in
-    either c.put_inode.result c.put_inode.ensures.ok c.put_inode.ensures.err (λ done. makes_kept c.put_inode.new.slots c.self.inside.root c.self.inside.places.entries c.self.inside.next (with_entry c.args.self.now c.args.path.now (node.Dir c.args.mode c.args.opaque)) (dir_made (view_of c.self.inside.slots) (view_of c.put_inode.new.slots) c.self.inside.root c.self.inside.places.entries c.self.inside.next c.args.self.now c.args.path.now c.in-Some.front.now c.in-Some.name.now c.dir_at-dir.result spot c.requires.free c.self.inside.slots.vacant_key (node.Dir c.args.mode c.args.opaque) _ _ (done (node.Dir c.args.mode c.args.opaque) refl) refl) (c.requires.layer) (node_contracts.the_row).coded c.self-1.given.0) (λ alike. makes_kept c.put_inode.new.slots c.self.inside.root c.self.inside.places.entries c.self.inside.next c.args.self.now (makes_same (view_of c.self.inside.slots) (view_of c.put_inode.new.slots) c.self.inside.root alike c.self.inside.places.entries c.self.inside.places.entries c.self.inside.next c.args.self.now refl m) layer (node_contracts.the_row).coded c.self-1.given.0)
+    let spot : Spot (view_of c.self.inside.slots) c.self.inside.root c.self.inside.places.entries c.self.inside.next c.args.self.now c.args.path.now c.parent_at-dir.ensures.leads.0 c.parent_at-dir.result.1.now c.parent_at-dir.result.0 = record { makes = m; layer = layer; splits = path_splits; leads = c.parent_at-dir.ensures.leads.2; dir = c.parent_at-dir.ensures.dir } in
+    either c.put_inode.result c.put_inode.ensures.ok c.put_inode.ensures.err (λ done. makes_kept c.put_inode.new.slots c.self.inside.root c.self.inside.places.entries c.self.inside.next (with_entry c.args.self.now c.args.path.now (node.Dir c.args.mode c.args.opaque)) (dir_made (view_of c.self.inside.slots) (view_of c.put_inode.new.slots) c.self.inside.root c.self.inside.places.entries c.self.inside.next c.args.self.now c.args.path.now c.parent_at-dir.ensures.leads.0 c.parent_at-dir.result.1.now c.parent_at-dir.result.0 spot c.requires.free c.self.inside.slots.vacant_key (node.Dir c.args.mode c.args.opaque) _ _ (done (node.Dir c.args.mode c.args.opaque) refl) refl) (c.requires.layer) (node_contracts.the_row).coded c.self-1.given.0) (λ alike. makes_kept c.put_inode.new.slots c.self.inside.root c.self.inside.places.entries c.self.inside.next c.args.self.now (makes_same (view_of c.self.inside.slots) (view_of c.put_inode.new.slots) c.self.inside.root alike c.self.inside.places.entries c.self.inside.places.entries c.self.inside.next c.args.self.now refl m) layer (node_contracts.the_row).coded c.self-1.given.0)
 
 pub returns-clause-ok : goal.returns-clause-ok
 returns-clause-ok c =
-    let path_splits : c.args.path.now ≡ c.in-Some.front.now ++ c.in-Some.name.now ∷ [] = sym c.names.ensures.names ∙ c.in-Some.ensures.cases.0 in
+    let path_splits : c.args.path.now ≡ c.parent_at-dir.ensures.leads.0 ++ c.parent_at-dir.result.1.now ∷ [] = c.parent_at-dir.ensures.leads.1 in
     let m = opens c.self.inside.slots c.self.inside.root c.self.inside.places.entries c.self.inside.next c.args.self.now c.self.inside.tree c.self.invariant c.self.view_is in
     let layer : IsLayer c.args.self.now = subst IsLayer c.self.view_is c.self.invariant.layer in
-    let spot : Spot (view_of c.self.inside.slots) c.self.inside.root c.self.inside.places.entries c.self.inside.next c.args.self.now c.args.path.now c.in-Some.front.now c.in-Some.name.now c.dir_at-dir.result = record { makes = m; layer = layer; splits = path_splits; leads = c.dir_at-dir.ensures.leads; dir = c.dir_at-dir.ensures.dir } in
-    on_ok c.put_inode.result (λ done. makes_view c.put_inode.new.slots c.self.inside.root c.self.inside.places.entries c.self.inside.next (with_entry c.args.self.now c.args.path.now (node.Dir c.args.mode c.args.opaque)) (dir_made (view_of c.self.inside.slots) (view_of c.put_inode.new.slots) c.self.inside.root c.self.inside.places.entries c.self.inside.next c.args.self.now c.args.path.now c.in-Some.front.now c.in-Some.name.now c.dir_at-dir.result spot c.requires.free c.self.inside.slots.vacant_key (node.Dir c.args.mode c.args.opaque) _ _ (done (node.Dir c.args.mode c.args.opaque) refl) refl) (c.requires.layer) (node_contracts.the_row).coded c.self-1.given.0) c.put_inode.ensures.ok
+    let spot : Spot (view_of c.self.inside.slots) c.self.inside.root c.self.inside.places.entries c.self.inside.next c.args.self.now c.args.path.now c.parent_at-dir.ensures.leads.0 c.parent_at-dir.result.1.now c.parent_at-dir.result.0 = record { makes = m; layer = layer; splits = path_splits; leads = c.parent_at-dir.ensures.leads.2; dir = c.parent_at-dir.ensures.dir } in
+    on_ok c.put_inode.result (λ done. makes_view c.put_inode.new.slots c.self.inside.root c.self.inside.places.entries c.self.inside.next (with_entry c.args.self.now c.args.path.now (node.Dir c.args.mode c.args.opaque)) (dir_made (view_of c.self.inside.slots) (view_of c.put_inode.new.slots) c.self.inside.root c.self.inside.places.entries c.self.inside.next c.args.self.now c.args.path.now c.parent_at-dir.ensures.leads.0 c.parent_at-dir.result.1.now c.parent_at-dir.result.0 spot c.requires.free c.self.inside.slots.vacant_key (node.Dir c.args.mode c.args.opaque) _ _ (done (node.Dir c.args.mode c.args.opaque) refl) refl) (c.requires.layer) (node_contracts.the_row).coded c.self-1.given.0) c.put_inode.ensures.ok
 
 pub returns-clause-err : goal.returns-clause-err
 returns-clause-err c =
-    let path_splits : c.args.path.now ≡ c.in-Some.front.now ++ c.in-Some.name.now ∷ [] = sym c.names.ensures.names ∙ c.in-Some.ensures.cases.0 in
     let m = opens c.self.inside.slots c.self.inside.root c.self.inside.places.entries c.self.inside.next c.args.self.now c.self.inside.tree c.self.invariant c.self.view_is in
     let layer : IsLayer c.args.self.now = subst IsLayer c.self.view_is c.self.invariant.layer in
-    let spot : Spot (view_of c.self.inside.slots) c.self.inside.root c.self.inside.places.entries c.self.inside.next c.args.self.now c.args.path.now c.in-Some.front.now c.in-Some.name.now c.dir_at-dir.result = record { makes = m; layer = layer; splits = path_splits; leads = c.dir_at-dir.ensures.leads; dir = c.dir_at-dir.ensures.dir } in
     on_err c.put_inode.result (λ alike. makes_view c.put_inode.new.slots c.self.inside.root c.self.inside.places.entries c.self.inside.next c.args.self.now (makes_same (view_of c.self.inside.slots) (view_of c.put_inode.new.slots) c.self.inside.root alike c.self.inside.places.entries c.self.inside.places.entries c.self.inside.next c.args.self.now refl m) layer (node_contracts.the_row).coded c.self-1.given.0) c.put_inode.ensures.err
+
+pub put_inode-requires-clause-dir : goal.put_inode-requires-clause-dir
+put_inode-requires-clause-dir c = c.parent_at-dir.ensures.dir

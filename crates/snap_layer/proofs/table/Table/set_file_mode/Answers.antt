@@ -20,20 +20,15 @@ unreachable-requires c =
     let m = opens c.self.inside.slots c.self.inside.root c.self.inside.places.entries c.self.inside.next c.args.self.now c.self.inside.tree c.self.invariant c.self.view_is in
     let had = file_body (body c.args.self.now c.args.number) c.requires.file in
     let is = had.2 in
-    let b = node_body.File had.0 had.1 in
-    let was : IsFile (Some b) = subst IsFile is c.requires.file in
     let none : place c.self.inside.places.entries c.args.number ≡ None = sym c.place_of.ensures ∙ c.in_default.is in
     place_there (view_of c.self.inside.slots) c.self.inside.root c.self.inside.places.entries c.self.inside.next c.args.self.now m c.args.number (ap is_some is) none
 
 pub set_mode-requires : goal.set_mode-requires
 set_mode-requires c =
     let m = opens c.self.inside.slots c.self.inside.root c.self.inside.places.entries c.self.inside.next c.args.self.now c.self.inside.tree c.self.invariant c.self.view_is in
-    let layer : IsLayer c.args.self.now = subst IsLayer c.self.view_is c.self.invariant.layer in
     let found : place c.self.inside.places.entries c.args.number ≡ Some c.in-Some.key = sym c.place_of.ensures ∙ c.in-Some.is in
     let had = file_body (body c.args.self.now c.args.number) c.requires.file in
     let is = had.2 in
-    let b = node_body.File had.0 had.1 in
-    let was : IsFile (Some b) = subst IsFile is c.requires.file in
     ap is_some (body_found (view_of c.self.inside.slots) c.self.inside.root c.self.inside.places.entries c.self.inside.next c.args.self.now m c.args.number c.in-Some.key found ∙ is)
 
 pub invariant_of-self-inside : goal.invariant_of-self-inside

@@ -1,4 +1,4 @@
-use Rattle.std.proofs.Common.{◌≡◌, ◌++◌, ◌∷◌, [], sym, ◌∙◌, subst}
+use Rattle.std.proofs.Common.{◌≡◌, ◌++◌, ◌∷◌, [], subst}
 use Rattle.snap_layer.specs.contracts.node.Node as node_contracts
 use Rattle.snap_layer.specs.Layers.{IsLayer}
 use Rattle.snap_layer.specs.Edits.{without}
@@ -10,36 +10,41 @@ use Rattle.snap_layer.proofs.Files.{source_stands}
 use Rattle.snap_layer.proofs.Covering.{taken_made}
 use Rattle.snap_layer.proofs.table.Table.take.Goals as goal
 
-pub dir_at-dir-requires : goal.dir_at-dir-requires
-dir_at-dir-requires c =
-    let path_splits : c.args.path.now ≡ c.in-Some.front.now ++ c.in-Some.name.now ∷ [] = sym c.names.ensures.names ∙ c.in-Some.ensures.cases.0 in
+pub parent_at-dir-requires : goal.parent_at-dir-requires
+parent_at-dir-requires c =
     let m = opens c.self.inside.slots c.self.inside.root c.self.inside.places.entries c.self.inside.next c.args.self.now c.self.inside.tree c.self.invariant c.self.view_is in
     let layer : IsLayer c.args.self.now = subst IsLayer c.self.view_is c.self.invariant.layer in
-    source_stands (view_of c.self.inside.slots) c.self.inside.root c.self.inside.places.entries c.self.inside.next c.args.self.now c.args.path.now c.in-Some.front.now c.in-Some.name.now m layer path_splits c.requires.takeable.there
+    record {
+      below_root = c.requires.takeable.below_root;
+      parent = λ q n splits. source_stands (view_of c.self.inside.slots) c.self.inside.root c.self.inside.places.entries c.self.inside.next c.args.self.now c.args.path.now q n m layer splits c.requires.takeable.there;
+    }
 
 pub invariant_of-self-inside : goal.invariant_of-self-inside
 invariant_of-self-inside c =
-    let path_splits : c.args.path.now ≡ c.in-Some.front.now ++ c.in-Some.name.now ∷ [] = sym c.names.ensures.names ∙ c.in-Some.ensures.cases.0 in
+    let path_splits : c.args.path.now ≡ c.parent_at-dir.ensures.leads.0 ++ c.parent_at-dir.result.1.now ∷ [] = c.parent_at-dir.ensures.leads.1 in
     let m = opens c.self.inside.slots c.self.inside.root c.self.inside.places.entries c.self.inside.next c.args.self.now c.self.inside.tree c.self.invariant c.self.view_is in
     let layer : IsLayer c.args.self.now = subst IsLayer c.self.view_is c.self.invariant.layer in
-    let spot : Spot (view_of c.self.inside.slots) c.self.inside.root c.self.inside.places.entries c.self.inside.next c.args.self.now c.args.path.now c.in-Some.front.now c.in-Some.name.now c.dir_at-dir.result = record { makes = m; layer = layer; splits = path_splits; leads = c.dir_at-dir.ensures.leads; dir = c.dir_at-dir.ensures.dir } in
-    let made : Makes (view_of c.take_target.new.slots) c.self.inside.root c.take_target.new.places.entries c.self.inside.next (without c.args.self.now c.args.path.now) = taken_made (view_of c.self.inside.slots) (view_of c.take_target.new.slots) c.self.inside.root c.self.inside.places.entries c.take_target.new.places.entries c.self.inside.next c.args.self.now c.args.path.now c.in-Some.front.now c.in-Some.name.now c.dir_at-dir.result spot c.requires.takeable (plain c.self.inside.slots) c.take_target.ensures in
+    let spot : Spot (view_of c.self.inside.slots) c.self.inside.root c.self.inside.places.entries c.self.inside.next c.args.self.now c.args.path.now c.parent_at-dir.ensures.leads.0 c.parent_at-dir.result.1.now c.parent_at-dir.result.0 = record { makes = m; layer = layer; splits = path_splits; leads = c.parent_at-dir.ensures.leads.2; dir = c.parent_at-dir.ensures.dir } in
+    let made : Makes (view_of c.take_target.new.slots) c.self.inside.root c.take_target.new.places.entries c.self.inside.next (without c.args.self.now c.args.path.now) = taken_made (view_of c.self.inside.slots) (view_of c.take_target.new.slots) c.self.inside.root c.self.inside.places.entries c.take_target.new.places.entries c.self.inside.next c.args.self.now c.args.path.now c.parent_at-dir.ensures.leads.0 c.parent_at-dir.result.1.now c.parent_at-dir.result.0 spot c.requires.takeable (plain c.self.inside.slots) c.take_target.ensures in
     (makes_holds c.take_target.new.slots c.self.inside.root c.take_target.new.places.entries c.self.inside.next (without c.args.self.now c.args.path.now) made c.requires.layer, tt)
 
 pub invariant_of-self : goal.invariant_of-self
 invariant_of-self c =
-    let path_splits : c.args.path.now ≡ c.in-Some.front.now ++ c.in-Some.name.now ∷ [] = sym c.names.ensures.names ∙ c.in-Some.ensures.cases.0 in
+    let path_splits : c.args.path.now ≡ c.parent_at-dir.ensures.leads.0 ++ c.parent_at-dir.result.1.now ∷ [] = c.parent_at-dir.ensures.leads.1 in
     let m = opens c.self.inside.slots c.self.inside.root c.self.inside.places.entries c.self.inside.next c.args.self.now c.self.inside.tree c.self.invariant c.self.view_is in
     let layer : IsLayer c.args.self.now = subst IsLayer c.self.view_is c.self.invariant.layer in
-    let spot : Spot (view_of c.self.inside.slots) c.self.inside.root c.self.inside.places.entries c.self.inside.next c.args.self.now c.args.path.now c.in-Some.front.now c.in-Some.name.now c.dir_at-dir.result = record { makes = m; layer = layer; splits = path_splits; leads = c.dir_at-dir.ensures.leads; dir = c.dir_at-dir.ensures.dir } in
-    let made : Makes (view_of c.take_target.new.slots) c.self.inside.root c.take_target.new.places.entries c.self.inside.next (without c.args.self.now c.args.path.now) = taken_made (view_of c.self.inside.slots) (view_of c.take_target.new.slots) c.self.inside.root c.self.inside.places.entries c.take_target.new.places.entries c.self.inside.next c.args.self.now c.args.path.now c.in-Some.front.now c.in-Some.name.now c.dir_at-dir.result spot c.requires.takeable (plain c.self.inside.slots) c.take_target.ensures in
+    let spot : Spot (view_of c.self.inside.slots) c.self.inside.root c.self.inside.places.entries c.self.inside.next c.args.self.now c.args.path.now c.parent_at-dir.ensures.leads.0 c.parent_at-dir.result.1.now c.parent_at-dir.result.0 = record { makes = m; layer = layer; splits = path_splits; leads = c.parent_at-dir.ensures.leads.2; dir = c.parent_at-dir.ensures.dir } in
+    let made : Makes (view_of c.take_target.new.slots) c.self.inside.root c.take_target.new.places.entries c.self.inside.next (without c.args.self.now c.args.path.now) = taken_made (view_of c.self.inside.slots) (view_of c.take_target.new.slots) c.self.inside.root c.self.inside.places.entries c.take_target.new.places.entries c.self.inside.next c.args.self.now c.args.path.now c.parent_at-dir.ensures.leads.0 c.parent_at-dir.result.1.now c.parent_at-dir.result.0 spot c.requires.takeable (plain c.self.inside.slots) c.take_target.ensures in
     makes_kept c.take_target.new.slots c.self.inside.root c.take_target.new.places.entries c.self.inside.next (without c.args.self.now c.args.path.now) made c.requires.layer (node_contracts.the_row).coded c.self-1.given.0
 
 pub returns : goal.returns
 returns c =
-    let path_splits : c.args.path.now ≡ c.in-Some.front.now ++ c.in-Some.name.now ∷ [] = sym c.names.ensures.names ∙ c.in-Some.ensures.cases.0 in
+    let path_splits : c.args.path.now ≡ c.parent_at-dir.ensures.leads.0 ++ c.parent_at-dir.result.1.now ∷ [] = c.parent_at-dir.ensures.leads.1 in
     let m = opens c.self.inside.slots c.self.inside.root c.self.inside.places.entries c.self.inside.next c.args.self.now c.self.inside.tree c.self.invariant c.self.view_is in
     let layer : IsLayer c.args.self.now = subst IsLayer c.self.view_is c.self.invariant.layer in
-    let spot : Spot (view_of c.self.inside.slots) c.self.inside.root c.self.inside.places.entries c.self.inside.next c.args.self.now c.args.path.now c.in-Some.front.now c.in-Some.name.now c.dir_at-dir.result = record { makes = m; layer = layer; splits = path_splits; leads = c.dir_at-dir.ensures.leads; dir = c.dir_at-dir.ensures.dir } in
-    let made : Makes (view_of c.take_target.new.slots) c.self.inside.root c.take_target.new.places.entries c.self.inside.next (without c.args.self.now c.args.path.now) = taken_made (view_of c.self.inside.slots) (view_of c.take_target.new.slots) c.self.inside.root c.self.inside.places.entries c.take_target.new.places.entries c.self.inside.next c.args.self.now c.args.path.now c.in-Some.front.now c.in-Some.name.now c.dir_at-dir.result spot c.requires.takeable (plain c.self.inside.slots) c.take_target.ensures in
+    let spot : Spot (view_of c.self.inside.slots) c.self.inside.root c.self.inside.places.entries c.self.inside.next c.args.self.now c.args.path.now c.parent_at-dir.ensures.leads.0 c.parent_at-dir.result.1.now c.parent_at-dir.result.0 = record { makes = m; layer = layer; splits = path_splits; leads = c.parent_at-dir.ensures.leads.2; dir = c.parent_at-dir.ensures.dir } in
+    let made : Makes (view_of c.take_target.new.slots) c.self.inside.root c.take_target.new.places.entries c.self.inside.next (without c.args.self.now c.args.path.now) = taken_made (view_of c.self.inside.slots) (view_of c.take_target.new.slots) c.self.inside.root c.self.inside.places.entries c.take_target.new.places.entries c.self.inside.next c.args.self.now c.args.path.now c.parent_at-dir.ensures.leads.0 c.parent_at-dir.result.1.now c.parent_at-dir.result.0 spot c.requires.takeable (plain c.self.inside.slots) c.take_target.ensures in
     makes_view c.take_target.new.slots c.self.inside.root c.take_target.new.places.entries c.self.inside.next (without c.args.self.now c.args.path.now) made c.requires.layer (node_contracts.the_row).coded c.self-1.given.0
+
+pub take_target-requires : goal.take_target-requires
+take_target-requires c = c.parent_at-dir.ensures.dir

@@ -22,3 +22,21 @@ returns-clause-ok c =
     let free : IsFree (at c.args.self.now c.args.path.now) = none_free (at c.args.self.now c.args.path.now) (not_some c.is_some.result (at c.args.self.now c.args.path.now) (c.is_some.ensures ∙ ap is_some c.at.ensures) c.if-is_some.false) in
     let same = with_node-free c.args.self.now ok c.args.path.now node.Whiteout free in
     on_ok c.put_whiteout.result (λ e. e ∙ sym same) c.put_whiteout.ensures.ok
+
+pub cover-requires-clause-place : goal.cover-requires-clause-place
+cover-requires-clause-place c = c.requires.place
+
+pub cover-requires-clause-layer : goal.cover-requires-clause-layer
+cover-requires-clause-layer c = c.requires.layer
+
+pub returns-then-is_some-clause-ok : goal.returns-then-is_some-clause-ok
+returns-then-is_some-clause-ok c = c.cover.ensures
+
+pub put_whiteout-requires-clause-above : goal.put_whiteout-requires-clause-above
+put_whiteout-requires-clause-above c = c.requires.place.above
+
+pub returns-clause-sure : goal.returns-clause-sure
+returns-clause-sure c = c.put_whiteout.ensures.sure
+
+pub returns-clause-err : goal.returns-clause-err
+returns-clause-err c = c.put_whiteout.ensures.err
