@@ -1,5 +1,5 @@
 -- The round's entries of a world.
-use Rattle.std.proofs.Common.{◌≡◌, ◌≤◌, length, arith}
+use Rattle.std.proofs.Common.{◌≤◌, length, arith}
 use Rattle.snap_call.specs.Journal.{Replays}
 use Rattle.snap_call.proofs.Replaying.{Replays-entries}
 use Rattle.snap_world.specs.World.{WorldValue}

@@ -1,5 +1,4 @@
 use Rattle.std.proofs.Common.{◌≡◌, take, map, filter}
-use Rattle.snap_record.specs.declared.record.Record.{Record}
 use Rattle.snap_session.specs.Tree.{tree_node, is_in}
 use Rattle.snap_session.proofs.tree.forest.Given as goal
 
