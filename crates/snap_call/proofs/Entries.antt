@@ -20,7 +20,6 @@ use Rattle.snap_counts.specs.Counts.{count_in}
 use Rattle.snap_counts.proofs.Lists.{one_if}
 use Rattle.snap_lease.proofs.CountLemmas.{is_positive-count_by}
 use Rattle.snap_lease.proofs.ListLemmas.{bytes_eq_comm}
-use Rattle.snap_record.specs.Filters.{is_match}
 use Rattle.snap_record.specs.Labels.{Bytes, Label}
 use Rattle.snap_record.specs.Records.{info_of}
 use Rattle.snap_record.specs.declared.filter.Filter.{Filter}
@@ -28,7 +27,7 @@ use Rattle.snap_record.specs.declared.info.Info.{Info}
 use Rattle.snap_record.specs.declared.record.Content.{Content}
 use Rattle.snap_record.specs.declared.record.Record.{Record}
 use Rattle.snap_call.specs.Records.{record_cmp, is_named, record_at, has_key, is_child, has_children, child_count, with_record, without, with_labels, relabelled, with_content_at, is_walked, page}
-use Rattle.snap_call.specs.Spaces.{IsOf, IsKeyed, AreParentCounts}
+use Rattle.snap_call.specs.Spaces.{IsOf, IsKeyed, AreParentCounts, with_content, is_after, is_asked, infos_of}
 use Rattle.snap_call.proofs.Lists.{some_same}
 use Rattle.snap_call.proofs.InOrder.{tied-is_named}
 
@@ -54,9 +53,6 @@ without-none p (r ∷ rs) none = step (p r) none (without-none p rs)
     step true none next = absurd (cc)
     step false none next = ap (λ l. r ∷ l) (next none)
 
-abbrev pub with_content : Content → Record → Record
-with_content content r = record r { content = content }
-
 pub amended-relabelled : (place : ℕ) (key : Bytes) (labels : List Label) (number : ℕ) (rs : List Record) → relabelled place key labels number rs ≡ amended (is_named place key) (with_labels labels number) rs
 amended-relabelled place key labels number [] = refl
 amended-relabelled place key labels number (r ∷ rs) = ap (λ l. if is_named place key r then with_labels labels number r ∷ rs else r ∷ l) (amended-relabelled place key labels number rs)
@@ -64,10 +60,6 @@ amended-relabelled place key labels number (r ∷ rs) = ap (λ l. if is_named pl
 pub amended-with_content_at : (place : ℕ) (key : Bytes) (content : Content) (rs : List Record) → with_content_at place key content rs ≡ amended (is_named place key) (with_content content) rs
 amended-with_content_at place key content [] = refl
 amended-with_content_at place key content (r ∷ rs) = ap (λ l. if is_named place key r then with_content content r ∷ rs else r ∷ l) (amended-with_content_at place key content rs)
-
--- a record's key comes after the text
-abbrev pub is_after : Bytes → Record → Bool
-is_after after r = is_lt (slice_cmp nat_cmp after r.key)
 
 -- ---- by key
 
@@ -220,43 +212,33 @@ children-alike place key (r ∷ rs) of =
 pub children-count : (place : ℕ) (key : Bytes) (rs : List Record) (counts : List (Bytes × ℕ)) → IsOf place rs → AreParentCounts rs counts → count_in key counts ≡ child_count place key rs
 children-count place key rs counts of counted = counted key ∙ children-alike place key rs of
 
-module _ {Z : Type 0} where
-  count-remove : (p : Record → Bool) (test : String Z → Bool) (es : List (String Z × Record)) (r : Record) → lookup test es ≡ Some r → count_by p (values_of (remove_entry test es)) + one_if (p r) ≡ count_by p (values_of es)
-  count-remove p test [] r found = absurd (cc)
-  count-remove p test (e ∷ es) r found = step (test e.0) found (count-remove p test es r)
-    where
-      step : (b : Bool) → cond b (Some e.1) (lookup test es) ≡ Some r → (lookup test es ≡ Some r → count_by p (values_of (remove_entry test es)) + one_if (p r) ≡ count_by p (values_of es))
-          → count_by p (values_of (cond b es (e ∷ remove_entry test es))) + one_if (p r) ≡ count_by p (e.1 ∷ values_of es)
-      step true here next = let is : one_if (p e.1) ≡ one_if (p r) = ap (ones p) (some_same e.1 r here) in omega (arith, is, sum_by-cons (ones p) e.1 (values_of es))
-      step false here next = let h = next here in omega (arith, h, sum_by-cons (ones p) e.1 (values_of (remove_entry test es)), sum_by-cons (ones p) e.1 (values_of es))
+count-without : (p test : Record → Bool) (rs : List Record) (r : Record) → find test rs ≡ Some r → count_by p (without test rs) + one_if (p r) ≡ count_by p rs
+count-without p test [] r found = absurd (cc)
+count-without p test (t ∷ ts) r found = step (test t) found (count-without p test ts r)
+  where
+    step : (b : Bool) → cond b (Some t) (find test ts) ≡ Some r → (find test ts ≡ Some r → count_by p (without test ts) + one_if (p r) ≡ count_by p ts) → count_by p (if b then ts else t ∷ without test ts) + one_if (p r) ≡ count_by p (t ∷ ts)
+    step true here next = let is : one_if (p t) ≡ one_if (p r) = ap (ones p) (some_same t r here) in omega (arith, is, sum_by-cons (ones p) t ts)
+    step false here next = let h = next here in omega (arith, h, sum_by-cons (ones p) t (without test ts), sum_by-cons (ones p) t ts)
 
-  pub parents-removed : (test : String Z → Bool) (es : List (String Z × Record)) (r : Record) (old new : List (Bytes × ℕ)) → lookup test es ≡ Some r → AreParentCounts (values_of es) old
-      → ((q : Bytes) → count_in q new ≡ count_in q old - one_if (bytes_eq q r.parent)) → AreParentCounts (values_of (remove_entry test es)) new
-  parents-removed test es r old new found counted less q = omega (arith, count-remove (has_parent q) test es r found, counted q, less q)
+pub parents-removed : (test : Record → Bool) (rs ts : List Record) (r : Record) (old new : List (Bytes × ℕ)) → find test rs ≡ Some r → AreParentCounts rs old
+    → ((q : Bytes) → count_in q new ≡ count_in q old - one_if (bytes_eq q r.parent)) → ts ≡ without test rs → AreParentCounts ts new
+parents-removed test rs ts r old new found counted less is q =
+    let e = ap (count_by (has_parent q)) is in
+    omega (arith, e, count-without (has_parent q) test rs r found, counted q, less q)
 
-  count-set : (p : Record → Bool) (test : String Z → Bool) (es : List (String Z × Record)) (r w : Record) → lookup test es ≡ Some r → p w ≡ p r → count_by p (values_of (set_value test es w)) ≡ count_by p (values_of es)
-  count-set p test [] r w found same = refl
-  count-set p test (e ∷ es) r w found same = step (test e.0) found (λ later. count-set p test es r w later same)
-    where
-      step : (b : Bool) → cond b (Some e.1) (lookup test es) ≡ Some r → (lookup test es ≡ Some r → count_by p (values_of (set_value test es w)) ≡ count_by p (values_of es))
-          → count_by p (values_of (cond b ((e.0, w) ∷ es) (e ∷ set_value test es w))) ≡ count_by p (e.1 ∷ values_of es)
-      step true here next =
-          let is : one_if (p w) ≡ one_if (p e.1) = ap one_if (same ∙ sym (ap p (some_same e.1 r here))) in
-          omega (arith, is, sum_by-cons (ones p) w (values_of es), sum_by-cons (ones p) e.1 (values_of es))
-      step false here next = let h = next here in omega (arith, h, sum_by-cons (ones p) e.1 (values_of (set_value test es w)), sum_by-cons (ones p) e.1 (values_of es))
+count-amended : (p test : Record → Bool) (f : Record → Record) (rs : List Record) → ((r : Record) → p (f r) ≡ p r) → count_by p (amended test f rs) ≡ count_by p rs
+count-amended p test f [] same = refl
+count-amended p test f (r ∷ rs) same =
+    let is : one_if (p (f r)) ≡ one_if (p r) = ap one_if (same r) in
+    elim (test r) as (λ b. count_by p (if b then f r ∷ rs else r ∷ amended test f rs) ≡ count_by p (r ∷ rs)) [
+      | true ↦ omega (arith, is, sum_by-cons (ones p) (f r) rs, sum_by-cons (ones p) r rs)
+      | false ↦ omega (arith, count-amended p test f rs same, sum_by-cons (ones p) r (amended test f rs), sum_by-cons (ones p) r rs)
+    ]
 
-  pub parents-kept : (test : String Z → Bool) (es : List (String Z × Record)) (r w : Record) (counts : List (Bytes × ℕ)) → lookup test es ≡ Some r → w.parent ≡ r.parent → AreParentCounts (values_of es) counts → AreParentCounts (values_of (set_value test es w)) counts
-  parents-kept test es r w counts found same counted q = counted q ∙ sym (count-set (has_parent q) test es r w found (ap (bytes_eq q) same))
+pub parents-kept : (test : Record → Bool) (f : Record → Record) (rs ts : List Record) (counts : List (Bytes × ℕ)) → ((r : Record) → (f r).parent ≡ r.parent) → AreParentCounts rs counts → ts ≡ amended test f rs → AreParentCounts ts counts
+parents-kept test f rs ts counts same counted is q = counted q ∙ sym (ap (count_by (has_parent q)) is ∙ count-amended (has_parent q) test f rs (λ r. ap (bytes_eq q) (same r)))
 
 -- ---- pages
-
--- a record has every part of the filter
-abbrev pub is_asked : Filter → Record → Bool
-is_asked asked r = is_match (info_of r) asked
-
--- the infos of the first so many that have every part of the filter
-abbrev pub infos_of : ℕ → Filter → List Record → List Info
-infos_of most asked rs = map info_of (take most (filter (is_asked asked) rs))
 
 walked-twice : (place : ℕ) (after : Bytes) (asked : Filter) (rs : List Record) → IsOf place rs → filter (is_walked place after asked) rs ≡ filter (is_asked asked) (filter (is_after after) rs)
 walked-twice place after asked [] of = refl

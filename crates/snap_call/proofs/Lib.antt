@@ -2,6 +2,7 @@ pub mod Lists
 pub mod InOrder
 pub mod Entries
 pub mod Spaces
+pub mod Groups
 pub mod Chains
 pub mod Sums
 pub mod Alike

@@ -20,11 +20,11 @@ use Rattle.snap_record.specs.declared.filter.Filter.{Filter}
 use Rattle.snap_record.specs.Filters.{is_match}
 use Rattle.snap_record.specs.Records.{info_of}
 use Rattle.snap_call.specs.Records.{record_cmp, is_named, record_at, has_key, is_child, has_children, child_count, with_record, without, without_key, with_labels, relabelled, with_content_at, is_walked, page}
-use Rattle.snap_call.specs.Spaces.{IsOf, AreFrom, AreOrdered, joined}
+use Rattle.snap_call.specs.Spaces.{IsOf, AreFrom, AreOrdered, joined, with_content}
 use Rattle.snap_call.proofs.Lists.{all-map, all-with_record, all-without}
 use Rattle.snap_call.proofs.InOrder.{sorted-with_record, sorted-without}
 use Rattle.snap_lease.proofs.CountLemmas.{is_positive-count_by}
-use Rattle.snap_call.proofs.Entries.{ones, take-nil, without-none, amended, with_content, amended-relabelled, amended-with_content_at}
+use Rattle.snap_call.proofs.Entries.{ones, take-nil, without-none, amended, amended-relabelled, amended-with_content_at}
 
 -- ---- the namespaces' places
 
@@ -38,7 +38,7 @@ AreAbove place rs = AllByRecursion (λ r. place < r.namespace) rs
 below-of : (i place : ℕ) (rs : List Record) → i < place → IsOf i rs → AreBelow place rs
 below-of i place rs lt of = all-map (λ r. r.namespace ≡ i) (λ r. r.namespace < place) (λ r e. omega (arith, e)) rs of
 
-all-append : (P : Record → Type 0) (rs ts : List Record) → AllByRecursion P rs → AllByRecursion P ts → AllByRecursion P (rs ++ ts)
+pub all-append : (P : Record → Type 0) (rs ts : List Record) → AllByRecursion P rs → AllByRecursion P ts → AllByRecursion P (rs ++ ts)
 all-append P [] ts p q = q
 all-append P (r ∷ rs) ts p q = (p.0, all-append P rs ts p.1 q)
 
@@ -94,11 +94,11 @@ module _ (p : Record → Bool) (f : Record → Record) where
   amended-skips : (r : Record) (rs : List Record) → p r ≡ false → amended p f (r ∷ rs) ≡ r ∷ amended p f rs
   amended-skips r rs other = ap (λ b. if b then f r ∷ rs else r ∷ amended p f rs) other
 
-  amended-others : (rs : List Record) → AllByRecursion (λ r. p r ≡ false) rs → amended p f rs ≡ rs
+  pub amended-others : (rs : List Record) → AllByRecursion (λ r. p r ≡ false) rs → amended p f rs ≡ rs
   amended-others [] all = refl
   amended-others (r ∷ rs) all = amended-skips r rs all.0 ∙ ap (λ l. r ∷ l) (amended-others rs all.1)
 
-  amended-stops : (rs ts : List Record) → AllByRecursion (λ r. p r ≡ false) ts → amended p f (rs ++ ts) ≡ amended p f rs ++ ts
+  pub amended-stops : (rs ts : List Record) → AllByRecursion (λ r. p r ≡ false) ts → amended p f (rs ++ ts) ≡ amended p f rs ++ ts
   amended-stops [] ts all = amended-others ts all
   amended-stops (r ∷ rs) ts all =
       elim (p r) as (λ b. (if b then f r ∷ (rs ++ ts) else r ∷ amended p f (rs ++ ts)) ≡ (if b then f r ∷ rs else r ∷ amended p f rs) ++ ts) [
@@ -127,11 +127,11 @@ module _ (p : Record → Bool) where
   without-skips : (r : Record) (rs : List Record) → p r ≡ false → without p (r ∷ rs) ≡ r ∷ without p rs
   without-skips r rs other = ap (λ b. if b then rs else r ∷ without p rs) other
 
-  without-others : (rs : List Record) → AllByRecursion (λ r. p r ≡ false) rs → without p rs ≡ rs
+  pub without-others : (rs : List Record) → AllByRecursion (λ r. p r ≡ false) rs → without p rs ≡ rs
   without-others [] all = refl
   without-others (r ∷ rs) all = without-skips r rs all.0 ∙ ap (λ l. r ∷ l) (without-others rs all.1)
 
-  without-stops : (rs ts : List Record) → AllByRecursion (λ r. p r ≡ false) ts → without p (rs ++ ts) ≡ without p rs ++ ts
+  pub without-stops : (rs ts : List Record) → AllByRecursion (λ r. p r ≡ false) ts → without p (rs ++ ts) ≡ without p rs ++ ts
   without-stops [] ts all = without-others ts all
   without-stops (r ∷ rs) ts all =
       elim (p r) as (λ b. (if b then rs ++ ts else r ∷ without p (rs ++ ts)) ≡ (if b then rs else r ∷ without p rs) ++ ts) [
@@ -147,11 +147,11 @@ module _ (p : Record → Bool) where
       step true here next = omega arith
       step false here next = let e = next here in omega (arith, e)
 
-  find-others : (rs ts : List Record) → AllByRecursion (λ r. p r ≡ false) rs → find p (rs ++ ts) ≡ find p ts
+  pub find-others : (rs ts : List Record) → AllByRecursion (λ r. p r ≡ false) rs → find p (rs ++ ts) ≡ find p ts
   find-others [] ts all = refl
   find-others (r ∷ rs) ts all = ap (λ b. cond b (Some r) (find p (rs ++ ts))) all.0 ∙ find-others rs ts all.1
 
-  find-stops : (rs ts : List Record) → AllByRecursion (λ r. p r ≡ false) ts → find p (rs ++ ts) ≡ find p rs
+  pub find-stops : (rs ts : List Record) → AllByRecursion (λ r. p r ≡ false) ts → find p (rs ++ ts) ≡ find p rs
   find-stops [] ts all = ap (find p) (sym (append-nil ts)) ∙ find-others ts [] all
   find-stops (r ∷ rs) ts all = ap (λ o. cond (p r) (Some r) o) (find-stops rs ts all)
 
@@ -475,7 +475,7 @@ joined-next rss k rs lt at = ap joined (take_more rss k rs lt) ∙ joined-append
 
 -- ---- the records of one namespace that pass a test
 
-filter-append : (p : Record → Bool) (rs ts : List Record) → filter p (rs ++ ts) ≡ filter p rs ++ filter p ts
+pub filter-append : (p : Record → Bool) (rs ts : List Record) → filter p (rs ++ ts) ≡ filter p rs ++ filter p ts
 filter-append p [] ts = refl
 filter-append p (r ∷ rs) ts =
     elim (p r) as (λ b. cond b (r ∷ filter p (rs ++ ts)) (filter p (rs ++ ts)) ≡ cond b (r ∷ filter p rs) (filter p rs) ++ filter p ts) [
@@ -483,7 +483,7 @@ filter-append p (r ∷ rs) ts =
       | false ↦ filter-append p rs ts
     ]
 
-filter-none : (p : Record → Bool) (rs : List Record) → AllByRecursion (λ r. p r ≡ false) rs → filter p rs ≡ []
+pub filter-none : (p : Record → Bool) (rs : List Record) → AllByRecursion (λ r. p r ≡ false) rs → filter p rs ≡ []
 filter-none p [] all = refl
 filter-none p (r ∷ rs) all = ap (λ b. cond b (r ∷ filter p rs) (filter p rs)) all.0 ∙ filter-none p rs all.1
 

@@ -1,17 +1,36 @@
 -- Records by their namespaces: a list for each place, in the order of the places.
 -- Cited by invariants and private clauses alone.
-use Rattle.std.specs.Prelude.{◌≡◌, ℕ, suc, List, [], ◌∷◌, ◌++◌, length, count_by, bytes_eq, string_bytes}
+use Rattle.std.specs.Prelude.{◌≡◌, ℕ, suc, ◌-◌, Bool, List, [], ◌∷◌, ◌++◌, length, map, filter, take, count_by, bytes_eq, string_bytes}
+use Rattle.std.specs.Cmp.Lexicographic.{slice_cmp}
 use Rattle.std.specs.List.{AllByRecursion}
 use Rattle.std.specs.List.Sorted.{IsStrictlySortedBy}
+use Rattle.std.specs.Map.{keys_of, values_of}
+use Rattle.std.specs.Ordering.{is_lt, nat_cmp}
+use Rattle.std.specs.declared.cmp.Ordering.{Ordering}
 use Rattle.std.specs.declared.string.String.{String}
+use Rattle.arrayvec.specs.ArrayVec.{ArrayVec}
 use Rattle.snap_counts.specs.Counts.{count_in}
+use Rattle.snap_record.specs.Filters.{is_match}
 use Rattle.snap_record.specs.Labels.{Bytes}
+use Rattle.snap_record.specs.Records.{info_of}
+use Rattle.snap_record.specs.declared.filter.Filter.{Filter}
+use Rattle.snap_record.specs.declared.info.Info.{Info}
+use Rattle.snap_record.specs.declared.record.Content.{Content}
 use Rattle.snap_record.specs.declared.record.Record.{Record}
 use Rattle.snap_call.specs.Records.{record_cmp}
 
 -- the records are of the namespace at the place
 abbrev pub IsOf : ℕ → List Record → Type 0
 IsOf place rs = AllByRecursion (λ r. r.namespace ≡ place) rs
+
+-- the place of the first record's namespace
+abbrev pub place_of : List Record → ℕ
+place_of [] = 0
+place_of (r ∷ rs) = r.namespace
+
+-- the records are of one namespace
+abbrev pub AreOfOne : List Record → Type 0
+AreOfOne rs = IsOf (place_of rs) rs
 
 -- the lists are those of the namespaces from a place on
 abbrev pub AreFrom : ℕ → List (List Record) → Type 0
@@ -29,6 +48,20 @@ pub record AreOrdered (rss : List (List Record)) (count : ℕ) : Type 0 where
   pub sorted : IsStrictlySortedBy record_cmp (joined rss)
   pub counted : count ≡ length (joined rss)
 
+-- the bytes that a key begins with
+abbrev pub beginning : Bytes → Bytes
+beginning key = take 16 key
+
+-- the order of such bytes
+abbrev pub beginning_cmp : ArrayVec ℕ → ArrayVec ℕ → Ordering
+beginning_cmp b c = slice_cmp nat_cmp b.items c.items
+
+-- each group has records whose keys begin with its bytes, the groups are in their order, and all records are of one namespace
+pub record AreGroups (es : List (ArrayVec ℕ × List Record)) : Type 0 where
+  pub begun : AllByRecursion (λ e. AllByRecursion (λ r. beginning r.key ≡ e.0.items) e.1) es
+  pub ordered : IsStrictlySortedBy beginning_cmp (keys_of es)
+  pub alike : AreOfOne (joined (values_of es))
+
 -- each record stands at its own key
 abbrev pub IsKeyed : {Z : Type 0} → List (String Z × Record) → Type 0
 IsKeyed es = AllByRecursion (λ e. string_bytes e.0 ≡ e.1.key) es
@@ -36,3 +69,23 @@ IsKeyed es = AllByRecursion (λ e. string_bytes e.0 ≡ e.1.key) es
 -- each text is counted as often as it is the parent of one of the records
 abbrev pub AreParentCounts : List Record → List (Bytes × ℕ) → Type 0
 AreParentCounts rs counts = (q : Bytes) → count_in q counts ≡ count_by (λ r. bytes_eq q r.parent) rs
+
+-- the record with this content
+abbrev pub with_content : Content → Record → Record
+with_content content r = record r { content = content }
+
+-- the record's key comes after the text
+abbrev pub is_after : Bytes → Record → Bool
+is_after after r = is_lt (slice_cmp nat_cmp after r.key)
+
+-- the record has every part of the filter
+abbrev pub is_asked : Filter → Record → Bool
+is_asked asked r = is_match (info_of r) asked
+
+-- the infos of the first so many records that have every part of the filter
+abbrev pub infos_of : ℕ → Filter → List Record → List Info
+infos_of most asked rs = map info_of (take most (filter (is_asked asked) rs))
+
+-- the infos, and up to so many with those of the records whose keys come after the text and that have every part of the filter
+abbrev pub page_after : Bytes → ℕ → Filter → List Info → List Record → List Info
+page_after after most asked infos rs = infos ++ infos_of (most - length infos) asked (filter (is_after after) rs)

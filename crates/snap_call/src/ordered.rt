@@ -6,6 +6,10 @@ use snap_record::{Content, Filter, Info, Labels, Record, Sequence};
 use std::alloc::{AllocError, AllocFailed, Global};
 use std::marker::Model;
 
+mod boxed_record;
+mod group;
+mod groups;
+mod keyed;
 mod space;
 
 use space::Space;
@@ -13,8 +17,8 @@ use space::Space;
 /// Records in the order of their namespaces' places and of the bytes of their keys, each key once
 /// in its namespace. Contracts see the list.
 ///
-/// A namespace has a map from keys to records, so that no call moves the records of others, and the
-/// number of the records on each parent: the cost of a call that is given a key grows with the
+/// A namespace has a map of its records by their keys, so that no call moves the records of others, and
+/// the number of the records on each parent: the cost of a call that is given a key grows with the
 /// logarithm of the number of the namespace's records.
 #[derive(Drop)]
 pub(crate) struct Ordered {
@@ -87,8 +91,9 @@ impl Ordered {
     /// error gives the record back.
     ///
     /// The first record of a namespace makes room for the namespaces at its place and below. The
-    /// memory is that of the room, of the record's entry, of a copy of its key, and of a copy of the
-    /// name of its parent where no other record of the namespace is on it.
+    /// memory is that of the room, of the record and of its entry, of a copy of the name of its parent
+    /// where no other record of the namespace is on it, and of copies of the keys that begin as its
+    /// own where there are such.
     pub(crate) fn insert(&mut self, added: Record) -> Result<(), AllocFailed<Record>>
         requires { has_key added.namespace added.key self.old ≡ false }
         ensures ok { OnOk result (self.new ≡ with_record added self.old) }
@@ -102,9 +107,8 @@ impl Ordered {
         let Ok(()) = grow(&mut self.spaces, place) else {
             return Err(AllocFailed { value: added });
         };
-        let alloc = *self.spaces.allocator();
         let space = &mut self.spaces[place];
-        space.insert(alloc, added)?;
+        space.insert(added)?;
         self.count = count;
         Ok(())
     }

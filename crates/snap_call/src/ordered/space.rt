@@ -2,33 +2,31 @@ ghost use Rattle.std.specs.Prelude.{◌≡◌, ℕ, [], ◌++◌, false, map, op
 ghost use Rattle.snap_call.specs.Records.{record_at, has_key, has_children, child_count, with_record, without_key, with_content_at, relabelled, page};
 ghost use Rattle.snap_call.specs.Spaces.{IsOf};
 
+use super::groups::Groups;
 use snap_counts::Counts;
 use snap_record::{Content, Filter, Info, Labels, Record, Sequence};
 use std::alloc::{AllocError, AllocFailed, Global};
-use std::collections::BTreeMap;
 use std::marker::Model;
-use std::ops::Bound;
 
 /// The records of one namespace, by their keys, and how many of them are on each parent. Contracts
 /// see the list, in the order of the keys.
 #[derive(Drop)]
 pub(super) struct Space {
-    map: BTreeMap<String, Record>,
+    groups: Groups,
     parents: Counts,
 }
 
 impl Model for Space {
     ghost use Rattle.std.specs.Prelude.{List};
-    ghost use Rattle.std.specs.Map.{values_of};
     ghost use Rattle.snap_record.specs.declared.record.Record.{Record};
 
     ghost Value = { List Record };
 
-    ghost use Rattle.snap_call.specs.Spaces.{IsKeyed, AreParentCounts};
+    ghost use Rattle.snap_call.specs.Spaces.{AreOfOne, AreParentCounts};
 
-    ghost view = { λ s. values_of s.map.entries };
+    ghost view = { λ s. s.groups };
 
-    ghost invariant = { λ s. IsKeyed s.map.entries × AreParentCounts (values_of s.map.entries) s.parents };
+    ghost invariant = { λ s. AreOfOne s.groups × AreParentCounts s.groups s.parents };
 }
 
 impl Space {
@@ -37,7 +35,7 @@ impl Space {
         ensures { result ≡ [] }
     {
         Space {
-            map: BTreeMap::new(alloc),
+            groups: Groups::new(alloc),
             parents: Counts::new(alloc),
         }
     }
@@ -46,7 +44,7 @@ impl Space {
     pub(super) fn get(&self, key: &str) -> Option<&Record>
         ensures { (place : ℕ) → IsOf place self.now → option_copied result ≡ record_at place key.now self.now }
     {
-        self.map.get(key)
+        self.groups.get(key)
     }
 
     /// Whether a record is on this parent. Takes no memory.
@@ -65,25 +63,21 @@ impl Space {
 
     /// Puts a record in its place. Where memory is wanting, the records are as they were and the
     /// error gives the record back.
-    pub(super) fn insert(&mut self, alloc: Global, added: Record) -> Result<(), AllocFailed<Record>>
+    pub(super) fn insert(&mut self, added: Record) -> Result<(), AllocFailed<Record>>
         requires of { IsOf added.namespace self.old }
         requires absent { has_key added.namespace added.key self.old ≡ false }
         ensures ok { OnOk result (self.new ≡ with_record added self.old) }
         ensures err { OnErr result (self.new ≡ self.old) }
         ensures value_returned { IfErr result (λ e. e.value ≡ added) }
     {
-        let Ok(key) = String::from_str(alloc, added.key.as_str()) else {
-            return Err(AllocFailed { value: added });
-        };
         let Ok(()) = self.parents.add(added.parent.as_str()) else {
             return Err(AllocFailed { value: added });
         };
-        match self.map.insert(key, added) {
-            Ok(_) => Ok(()),
+        match self.groups.insert(added) {
+            Ok(()) => Ok(()),
             Err(failed) => {
-                let (_, value) = failed.value;
-                self.parents.take(value.parent.as_str());
-                Err(AllocFailed { value })
+                self.parents.take(failed.value.parent.as_str());
+                Err(failed)
             }
         }
     }
@@ -94,7 +88,7 @@ impl Space {
         ensures taken { (place : ℕ) → IsOf place self.old → self.new ≡ without_key place key.now self.old }
         ensures record_taken { (place : ℕ) → IsOf place self.old → result ≡ record_at place key.now self.old }
     {
-        let removed = self.map.remove(key)?;
+        let removed = self.groups.remove(key)?;
         self.parents.take(removed.parent.as_str());
         Some(removed)
     }
@@ -104,10 +98,7 @@ impl Space {
     pub(super) fn set_content(&mut self, key: &str, content: Content)
         ensures { (place : ℕ) → IsOf place self.old → self.new ≡ with_content_at place key.now content self.old }
     {
-        let Some(record) = self.map.get_mut(key) else {
-            return;
-        };
-        record.content = content;
+        self.groups.set_content(key, content);
     }
 
     /// Gives the record of this key the labels, as the journal entry of this number leaves it. Where
@@ -115,15 +106,11 @@ impl Space {
     pub(super) fn relabel(&mut self, key: &str, labels: Labels, number: u64)
         ensures { (place : ℕ) → IsOf place self.old → self.new ≡ relabelled place key.now labels number self.old }
     {
-        let Some(record) = self.map.get_mut(key) else {
-            return;
-        };
-        record.labels = labels;
-        record.updated = number;
+        self.groups.relabel(key, labels, number);
     }
 
     /// The infos of the records whose keys come after the text and that have every part of the
-    /// filter: the first so many of them. It begins by a search for the text.
+    /// filter: the first so many of them.
     pub(super) fn page(
         &self,
         alloc: Global,
@@ -133,17 +120,7 @@ impl Space {
     ) -> Result<Sequence<Info>, AllocError>
         ensures { IfOk result (λ infos. (place : ℕ) → IsOf place self.now → infos ≡ page place after.now most asked.now self.now) }
     {
-        let start = String::from_str(alloc, after)?;
-        let mut infos = Sequence::new(alloc);
-        for (_, record) in self.map.range((Bound::Excluded(start), Bound::Unbounded)) {
-            if infos.len() >= most {
-                return Ok(infos);
-            }
-            if record.matches(asked) {
-                infos.push(record.info()?)?;
-            }
-        }
-        Ok(infos)
+        self.groups.page(alloc, after, most, asked)
     }
 
     /// The list with references to the records after its own, in their order.
@@ -153,10 +130,6 @@ impl Space {
     ) -> Result<Vec<&'a Record>, AllocError>
         ensures { IfOk result (λ all. map (λ r. r.now) all.items ≡ map (λ r. r.now) before.entry.items ++ self.now) }
     {
-        let mut list = before;
-        for record in self.map.values() {
-            list.push(record)?;
-        }
-        Ok(list)
+        self.groups.listed(before)
     }
 }

@@ -1,39 +1,16 @@
-use Rattle.std.proofs.Common.{◌≡◌, None, Some, subst, sym, refl, ap, ◌∙◌}
-use Rattle.std.specs.Map.{lookup, values_of}
-use Rattle.std.specs.BTreeMap.{values}
-use Rattle.std.specs.Option.{option_copied_mut}
-use Rattle.snap_call.specs.Records.{is_named, record_at, with_content_at}
-use Rattle.snap_call.specs.Spaces.{IsOf, IsKeyed, AreParentCounts}
-use Rattle.snap_call.proofs.Entries.{by_text, with_content, amended-none, amended-with_content_at, lookup-named, set-named, keyed-set, parents-kept}
+use Rattle.std.proofs.Common.{◌≡◌, subst, sym, refl, ◌∙◌}
+use Rattle.snap_call.specs.Records.{is_named}
+use Rattle.snap_call.specs.Spaces.{IsOf, place_of, with_content}
+use Rattle.snap_call.proofs.Entries.{parents-kept, amended-with_content_at}
+use Rattle.snap_call.proofs.Spaces.{all-amended}
+use Rattle.snap_call.proofs.Groups.{one-of}
 use Rattle.snap_call.proofs.ordered.space.Space.set_content.Goals as goal
 
-pub returns-in_default : goal.returns-in_default
-returns-in_default c = λ place of.
-    let es = c.self.inside.map.entries in
-    let absent : lookup (by_text c.args.key.now) es ≡ None = sym c.get_mut.ensures.value ∙ ap option_copied_mut c.in_default.is in
-    let none : record_at place c.args.key.now (values_of es) ≡ None = sym (lookup-named place c.args.key.now es c.self.invariant.0 (subst (IsOf place) (sym c.self.view_is) of)) ∙ absent in
-    ap values c.get_mut.follows.holds-at-none
-    ∙ sym (amended-none (is_named place c.args.key.now) (with_content c.args.content) (values_of es) none)
-    ∙ sym (amended-with_content_at place c.args.key.now c.args.content (values_of es))
-    ∙ ap (with_content_at place c.args.key.now c.args.content) c.self.view_is
-
-pub invariant_of-self-2 : goal.invariant_of-self-2
-invariant_of-self-2 c =
-    let r = c.in-Some.record.now in
-    let w = with_content c.args.content r in
-    let found : lookup (by_text c.args.key.now) c.self.inside.map.entries ≡ Some r = sym c.get_mut.ensures.value ∙ ap option_copied_mut c.in-Some.is in
-    subst (λ es. IsKeyed es × AreParentCounts (values_of es) c.self.inside.parents) (sym (c.get_mut.follows.holds w).0) (
-      keyed-set (by_text c.args.key.now) c.self.inside.map.entries r w c.self.invariant.0 found refl,
-      parents-kept (by_text c.args.key.now) c.self.inside.map.entries r w c.self.inside.parents found refl c.self.invariant.1,
+pub invariant_of-self : goal.invariant_of-self
+invariant_of-self c =
+    let rs = c.self.inside.groups in
+    let n = place_of rs in
+    let is = c.set_content.ensures n c.self.invariant.0 ∙ amended-with_content_at n c.args.key.now c.args.content rs in (
+      one-of n _ (subst (IsOf n) (sym is) (all-amended (is_named n c.args.key.now) (with_content c.args.content) (λ r. r.namespace ≡ n) rs (λ r e. e) c.self.invariant.0)),
+      parents-kept (is_named n c.args.key.now) (with_content c.args.content) rs _ c.self.inside.parents (λ r. refl) c.self.invariant.1 is,
     )
-
-pub returns : goal.returns
-returns c = λ place of.
-    let r = c.in-Some.record.now in
-    let w = with_content c.args.content r in
-    let rs = values_of c.self.inside.map.entries in
-    let found : lookup (by_text c.args.key.now) c.self.inside.map.entries ≡ Some r = sym c.get_mut.ensures.value ∙ ap option_copied_mut c.in-Some.is in
-    ap values_of (c.get_mut.follows.holds w).0
-    ∙ set-named place c.args.key.now (with_content c.args.content) c.self.inside.map.entries r w c.self.invariant.0 (subst (IsOf place) (sym c.self.view_is) of) found refl
-    ∙ sym (amended-with_content_at place c.args.key.now c.args.content rs)
-    ∙ ap (with_content_at place c.args.key.now c.args.content) c.self.view_is

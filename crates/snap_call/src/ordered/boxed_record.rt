@@ -1,0 +1,80 @@
+// A record in memory of its own.
+ghost use Rattle.std.specs.Prelude.{◌≡◌, IfOk, IfErr, bytes_eq};
+ghost use Rattle.snap_call.specs.Records.{with_labels};
+ghost use Rattle.snap_call.specs.Spaces.{with_content, is_after};
+
+use snap_record::{Content, Labels, Record};
+use std::alloc::{AllocFailed, Global};
+use std::marker::Model;
+
+/// A record in memory of its own, which no map moves. Contracts see the record.
+pub(super) struct BoxedRecord {
+    boxed: Box<Record>,
+}
+
+impl Drop for BoxedRecord {
+    fn drop(self) {
+        let BoxedRecord { boxed: _ } = self;
+    }
+}
+
+impl Model for BoxedRecord {
+    ghost use Rattle.snap_record.specs.declared.record.Record.{Record};
+
+    ghost Value = { Record };
+
+    ghost view = { λ b. b.boxed.value };
+}
+
+impl BoxedRecord {
+    /// Takes memory for the record without its texts. Where it is wanting, the error gives the record
+    /// back.
+    pub(super) fn new(alloc: Global, value: Record) -> Result<BoxedRecord, AllocFailed<Record>>
+        ensures ok { IfOk result (λ b. b ≡ value) }
+        ensures value_returned { IfErr result (λ e. e.value ≡ value) }
+    {
+        let boxed = Box::new(alloc, value)?;
+        Ok(BoxedRecord { boxed })
+    }
+
+    pub(super) fn record(&self) -> &Record
+        ensures { result.now ≡ self.now }
+    {
+        &self.boxed
+    }
+
+    pub(super) fn has_key(&self, key: &str) -> bool
+        ensures { result ≡ bytes_eq self.now.key key.now }
+    {
+        self.boxed.key.as_str() == key
+    }
+
+    /// Whether its key comes after the text.
+    pub(super) fn is_after(&self, text: &str) -> bool
+        ensures { result ≡ is_after text.now self.now }
+    {
+        text < self.boxed.key.as_str()
+    }
+
+    /// The record, without the memory.
+    pub(super) fn into_record(self) -> Record
+        ensures { result ≡ self }
+    {
+        let BoxedRecord { boxed } = self;
+        Box::into_inner(boxed)
+    }
+
+    pub(super) fn set_content(&mut self, content: Content)
+        ensures { self.new ≡ with_content content self.old }
+    {
+        self.boxed.content = content;
+    }
+
+    /// Gives it the labels, as the journal entry of this number leaves it.
+    pub(super) fn relabel(&mut self, labels: Labels, number: u64)
+        ensures { self.new ≡ with_labels labels number self.old }
+    {
+        self.boxed.labels = labels;
+        self.boxed.updated = number;
+    }
+}

@@ -1,0 +1,179 @@
+// Records of one namespace whose keys begin alike.
+ghost use Rattle.std.specs.Prelude.{◌≡◌, ℕ, [], ◌∷◌, ◌++◌, length, false, map, option_copied, OnOk, OnErr, IfErr, IfOk, IsTrue, ◌↔◌};
+ghost use Rattle.snap_call.specs.Records.{record_at, has_key, with_record, without_key, with_content_at, relabelled};
+ghost use Rattle.snap_call.specs.Spaces.{IsOf, page_after};
+
+use super::boxed_record::BoxedRecord;
+use super::keyed::Keyed;
+use snap_record::{Content, Filter, Info, Labels, Record, Sequence};
+use std::alloc::{AllocError, AllocFailed, Global};
+use std::marker::Model;
+
+/// Records of one namespace whose keys begin alike, most often one. Contracts see the list, in the
+/// order of the keys.
+///
+/// A record that is alone stands beside the map, which then takes no memory.
+#[derive(Drop)]
+pub(super) struct Group {
+    alone: Option<BoxedRecord>,
+    others: Keyed,
+}
+
+impl Model for Group {
+    ghost use Rattle.std.specs.Prelude.{List, ◌++◌, ◌≡◌, [], IsSome};
+    ghost use Rattle.std.specs.Option.{option_to_list};
+    ghost use Rattle.snap_record.specs.declared.record.Record.{Record};
+
+    ghost Value = { List Record };
+
+    ghost view = { λ g. option_to_list g.alone ++ g.others };
+
+    ghost invariant = { λ g. IsSome g.alone → g.others ≡ [] };
+}
+
+impl Group {
+    /// The record alone. Takes no memory.
+    pub(super) fn of(alloc: Global, alone: BoxedRecord) -> Group
+        ensures { result ≡ alone ∷ [] }
+    {
+        Group {
+            alone: Some(alone),
+            others: Keyed::new(alloc),
+        }
+    }
+
+    /// The record of a group that has no other. Takes no memory.
+    pub(super) fn into_only(self) -> BoxedRecord
+        requires { length self ≡ 1 }
+        ensures { self ≡ result ∷ [] }
+    {
+        let Group { alone, others } = self;
+        match alone {
+            Some(alone) => alone,
+            None => others.into_only(),
+        }
+    }
+
+    /// Takes no memory.
+    pub(super) fn is_empty(&self) -> bool
+        ensures { IsTrue result ↔ (self.now ≡ []) }
+    {
+        self.alone.is_none() && self.others.is_empty()
+    }
+
+    /// The record of this key. Takes no memory.
+    pub(super) fn get(&self, key: &str) -> Option<&Record>
+        ensures { (place : ℕ) → IsOf place self.now → option_copied result ≡ record_at place key.now self.now }
+    {
+        let Some(alone) = &self.alone else {
+            return self.others.get(key);
+        };
+        if alone.has_key(key) {
+            Some(alone.record())
+        } else {
+            None
+        }
+    }
+
+    /// Puts a record in its place. Where memory is wanting, the records are as they were and the
+    /// error gives the record back.
+    pub(super) fn insert(
+        &mut self,
+        alloc: Global,
+        added: BoxedRecord,
+    ) -> Result<(), AllocFailed<BoxedRecord>>
+        requires of { IsOf added.namespace self.old }
+        requires absent { has_key added.namespace added.key self.old ≡ false }
+        ensures ok { OnOk result (self.new ≡ with_record added self.old) }
+        ensures err { OnErr result (self.new ≡ self.old) }
+        ensures value_returned { IfErr result (λ e. e.value ≡ added) }
+    {
+        if let Some(alone) = self.alone.take() {
+            if let Err(failed) = self.others.insert(alloc, alone) {
+                self.alone = Some(failed.value);
+                return Err(AllocFailed { value: added });
+            }
+        }
+        self.others.insert(alloc, added)
+    }
+
+    /// Takes the record of this key away. Where there is none, the records are as they were. Takes
+    /// no memory.
+    pub(super) fn remove(&mut self, key: &str) -> Option<BoxedRecord>
+        ensures taken { (place : ℕ) → IsOf place self.old → self.new ≡ without_key place key.now self.old }
+        ensures record_taken { (place : ℕ) → IsOf place self.old → result ≡ record_at place key.now self.old }
+    {
+        let Some(alone) = &self.alone else {
+            return self.others.remove(key);
+        };
+        if alone.has_key(key) {
+            self.alone.take()
+        } else {
+            None
+        }
+    }
+
+    /// Gives the record of this key the content. Where there is none, the records are as they were.
+    /// Takes no memory.
+    pub(super) fn set_content(&mut self, key: &str, content: Content)
+        ensures { (place : ℕ) → IsOf place self.old → self.new ≡ with_content_at place key.now content self.old }
+    {
+        let Some(alone) = &mut self.alone else {
+            self.others.set_content(key, content);
+            return;
+        };
+        if alone.has_key(key) {
+            alone.set_content(content);
+        }
+    }
+
+    /// Gives the record of this key the labels, as the journal entry of this number leaves it. Where
+    /// there is none, the records are as they were. Takes no memory.
+    pub(super) fn relabel(&mut self, key: &str, labels: Labels, number: u64)
+        ensures { (place : ℕ) → IsOf place self.old → self.new ≡ relabelled place key.now labels number self.old }
+    {
+        let Some(alone) = &mut self.alone else {
+            self.others.relabel(key, labels, number);
+            return;
+        };
+        if alone.has_key(key) {
+            alone.relabel(labels, number);
+        }
+    }
+
+    /// The infos with those of the records whose keys come after the text and that have every part of
+    /// the filter, until there are so many.
+    pub(super) fn page(
+        &self,
+        alloc: Global,
+        before: Sequence<Info>,
+        after: &str,
+        most: usize,
+        asked: &Filter,
+    ) -> Result<Sequence<Info>, AllocError>
+        ensures { IfOk result (λ infos. infos ≡ page_after after.now most asked.now before self.now) }
+    {
+        let Some(alone) = &self.alone else {
+            return self.others.page(alloc, before, after, most, asked);
+        };
+        let mut infos = before;
+        if infos.len() < most && alone.is_after(after) && alone.record().matches(asked) {
+            infos.push(alone.record().info()?)?;
+        }
+        Ok(infos)
+    }
+
+    /// The list with references to the records after its own, in their order.
+    pub(super) fn listed<'a>(
+        &'a self,
+        before: Vec<&'a Record>,
+    ) -> Result<Vec<&'a Record>, AllocError>
+        ensures { IfOk result (λ all. map (λ r. r.now) all.items ≡ map (λ r. r.now) before.entry.items ++ self.now) }
+    {
+        let mut list = before;
+        if let Some(alone) = &self.alone {
+            list.push(alone.record())?;
+        }
+        self.others.listed(list)
+    }
+}

@@ -1,0 +1,176 @@
+// The records of one namespace, by how their keys begin.
+ghost use Rattle.std.specs.Prelude.{◌≡◌, ℕ, [], ◌++◌, false, map, option_copied, OnOk, OnErr, IfErr, IfOk};
+ghost use Rattle.snap_call.specs.Records.{record_at, has_key, with_record, without_key, with_content_at, relabelled, page};
+ghost use Rattle.snap_call.specs.Spaces.{IsOf, beginning};
+
+use super::boxed_record::BoxedRecord;
+use super::group::Group;
+use arrayvec::ArrayVec;
+use snap_record::{Content, Filter, Info, Labels, Record, Sequence};
+use std::alloc::{AllocError, AllocFailed, Global};
+use std::collections::BTreeMap;
+use std::marker::Model;
+use std::ops::Bound;
+
+/// How many bytes of a key stand in the map itself.
+const BEGINNING_BYTES: usize = 16;
+
+/// The first bytes of a key.
+type Beginning = ArrayVec<u8, BEGINNING_BYTES>;
+
+/// The records of one namespace, in groups by the first bytes of their keys. Contracts see the list,
+/// in the order of the keys.
+///
+/// A search compares these bytes, which stand in the map's nodes, and reads the texts of but one group.
+#[derive(Drop)]
+pub(super) struct Groups {
+    alloc: Global,
+    map: BTreeMap<Beginning, Group>,
+}
+
+impl Model for Groups {
+    ghost use Rattle.std.specs.Prelude.{List};
+    ghost use Rattle.std.specs.Map.{values_of};
+    ghost use Rattle.snap_record.specs.declared.record.Record.{Record};
+    ghost use Rattle.snap_call.specs.Spaces.{joined, AreGroups};
+
+    ghost Value = { List Record };
+
+    ghost view = { λ g. joined (values_of g.map.entries) };
+
+    ghost invariant = { λ g. AreGroups g.map.entries };
+}
+
+fn beginning_of(key: &str) -> Beginning
+    ensures { result.items ≡ beginning key.now }
+{
+    let bytes = key.as_bytes();
+    let most = bytes.len().min(BEGINNING_BYTES);
+    let mut beginning = Beginning::new();
+    let _ = beginning.try_extend_from_slice(&bytes[..most]);
+    beginning
+}
+
+impl Groups {
+    /// No records. Takes no memory.
+    pub(super) fn new(alloc: Global) -> Groups
+        ensures { result ≡ [] }
+    {
+        Groups {
+            alloc,
+            map: BTreeMap::new(alloc),
+        }
+    }
+
+    /// The record of this key. Takes no memory.
+    pub(super) fn get(&self, key: &str) -> Option<&Record>
+        ensures { (place : ℕ) → IsOf place self.now → option_copied result ≡ record_at place key.now self.now }
+    {
+        match self.map.get(&beginning_of(key)) {
+            Some(group) => group.get(key),
+            None => None,
+        }
+    }
+
+    /// Puts a record in its place. Where memory is wanting, the records are as they were and the
+    /// error gives the record back.
+    pub(super) fn insert(&mut self, added: Record) -> Result<(), AllocFailed<Record>>
+        requires of { IsOf added.namespace self.old }
+        requires absent { has_key added.namespace added.key self.old ≡ false }
+        ensures ok { OnOk result (self.new ≡ with_record added self.old) }
+        ensures err { OnErr result (self.new ≡ self.old) }
+        ensures value_returned { IfErr result (λ e. e.value ≡ added) }
+    {
+        let beginning = beginning_of(added.key.as_str());
+        let boxed = BoxedRecord::new(self.alloc, added)?;
+        let Some(group) = self.map.get_mut(&beginning) else {
+            let alone = Group::of(self.alloc, boxed);
+            let Err(failed) = self.map.insert(beginning, alone) else {
+                return Ok(());
+            };
+            let (_, alone) = failed.value;
+            return Err(AllocFailed {
+                value: alone.into_only().into_record(),
+            });
+        };
+        let Err(failed) = group.insert(self.alloc, boxed) else {
+            return Ok(());
+        };
+        Err(AllocFailed {
+            value: failed.value.into_record(),
+        })
+    }
+
+    /// Takes the record of this key away. Where there is none, the records are as they were. Takes
+    /// no memory.
+    pub(super) fn remove(&mut self, key: &str) -> Option<Record>
+        ensures taken { (place : ℕ) → IsOf place self.old → self.new ≡ without_key place key.now self.old }
+        ensures record_taken { (place : ℕ) → IsOf place self.old → result ≡ record_at place key.now self.old }
+    {
+        let beginning = beginning_of(key);
+        let group = self.map.get_mut(&beginning)?;
+        let removed = group.remove(key)?;
+        if group.is_empty() {
+            self.map.remove(&beginning);
+        }
+        Some(removed.into_record())
+    }
+
+    /// Gives the record of this key the content. Where there is none, the records are as they were.
+    /// Takes no memory.
+    pub(super) fn set_content(&mut self, key: &str, content: Content)
+        ensures { (place : ℕ) → IsOf place self.old → self.new ≡ with_content_at place key.now content self.old }
+    {
+        let Some(group) = self.map.get_mut(&beginning_of(key)) else {
+            return;
+        };
+        group.set_content(key, content);
+    }
+
+    /// Gives the record of this key the labels, as the journal entry of this number leaves it. Where
+    /// there is none, the records are as they were. Takes no memory.
+    pub(super) fn relabel(&mut self, key: &str, labels: Labels, number: u64)
+        ensures { (place : ℕ) → IsOf place self.old → self.new ≡ relabelled place key.now labels number self.old }
+    {
+        let Some(group) = self.map.get_mut(&beginning_of(key)) else {
+            return;
+        };
+        group.relabel(key, labels, number);
+    }
+
+    /// The infos of the records whose keys come after the text and that have every part of the
+    /// filter: the first so many of them. It begins by a search for the text.
+    pub(super) fn page(
+        &self,
+        alloc: Global,
+        after: &str,
+        most: usize,
+        asked: &Filter,
+    ) -> Result<Sequence<Info>, AllocError>
+        ensures { IfOk result (λ infos. (place : ℕ) → IsOf place self.now → infos ≡ page place after.now most asked.now self.now) }
+    {
+        let start = Bound::Included(beginning_of(after));
+        let mut infos = Sequence::new(alloc);
+        for (_, group) in self.map.range((start, Bound::Unbounded)) {
+            if infos.len() >= most {
+                return Ok(infos);
+            }
+            infos = group.page(alloc, infos, after, most, asked)?;
+        }
+        Ok(infos)
+    }
+
+    /// The list with references to the records after its own, in their order.
+    pub(super) fn listed<'a>(
+        &'a self,
+        before: Vec<&'a Record>,
+    ) -> Result<Vec<&'a Record>, AllocError>
+        ensures { IfOk result (λ all. map (λ r. r.now) all.items ≡ map (λ r. r.now) before.entry.items ++ self.now) }
+    {
+        let mut list = before;
+        for group in self.map.values() {
+            list = group.listed(list)?;
+        }
+        Ok(list)
+    }
+}

@@ -1,0 +1,163 @@
+// Records of one namespace in a map by their keys.
+ghost use Rattle.std.specs.Prelude.{◌≡◌, ℕ, [], ◌∷◌, ◌++◌, length, false, map, option_copied, OnOk, OnErr, IfErr, IfOk, IsTrue, ◌↔◌};
+ghost use Rattle.snap_call.specs.Records.{record_at, has_key, with_record, without_key, with_content_at, relabelled};
+ghost use Rattle.snap_call.specs.Spaces.{IsOf, page_after};
+
+use super::boxed_record::BoxedRecord;
+use snap_record::{Content, Filter, Info, Labels, Record, Sequence};
+use std::alloc::{AllocError, AllocFailed, Global};
+use std::collections::BTreeMap;
+use std::marker::Model;
+use std::ops::Bound;
+
+/// Records of one namespace, by their keys. Contracts see the list, in the order of the keys.
+#[derive(Drop)]
+pub(super) struct Keyed {
+    map: BTreeMap<String, BoxedRecord>,
+}
+
+impl Model for Keyed {
+    ghost use Rattle.std.specs.Prelude.{List};
+    ghost use Rattle.std.specs.Map.{values_of};
+    ghost use Rattle.snap_record.specs.declared.record.Record.{Record};
+    ghost use Rattle.snap_call.specs.Spaces.{IsKeyed};
+
+    ghost Value = { List Record };
+
+    ghost view = { λ k. values_of k.map.entries };
+
+    ghost invariant = { λ k. IsKeyed k.map.entries };
+}
+
+impl Keyed {
+    /// No records. Takes no memory.
+    pub(super) fn new(alloc: Global) -> Keyed
+        ensures { result ≡ [] }
+    {
+        Keyed {
+            map: BTreeMap::new(alloc),
+        }
+    }
+
+    /// The record of a map that has no other. Takes no memory.
+    pub(super) fn into_only(self) -> BoxedRecord
+        requires { length self ≡ 1 }
+        ensures { self ≡ result ∷ [] }
+    {
+        let Keyed { mut map } = self;
+        let (_, only) = map.pop_first().unwrap();
+        only
+    }
+
+    /// Takes no memory.
+    pub(super) fn is_empty(&self) -> bool
+        ensures { IsTrue result ↔ (self.now ≡ []) }
+    {
+        self.map.is_empty()
+    }
+
+    /// The record of this key. Takes no memory.
+    pub(super) fn get(&self, key: &str) -> Option<&Record>
+        ensures { (place : ℕ) → IsOf place self.now → option_copied result ≡ record_at place key.now self.now }
+    {
+        match self.map.get(key) {
+            Some(boxed) => Some(boxed.record()),
+            None => None,
+        }
+    }
+
+    /// Puts a record in its place. Where memory is wanting, the records are as they were and the
+    /// error gives the record back.
+    pub(super) fn insert(
+        &mut self,
+        alloc: Global,
+        added: BoxedRecord,
+    ) -> Result<(), AllocFailed<BoxedRecord>>
+        requires of { IsOf added.namespace self.old }
+        requires absent { has_key added.namespace added.key self.old ≡ false }
+        ensures ok { OnOk result (self.new ≡ with_record added self.old) }
+        ensures err { OnErr result (self.new ≡ self.old) }
+        ensures value_returned { IfErr result (λ e. e.value ≡ added) }
+    {
+        let Ok(key) = String::from_str(alloc, added.record().key.as_str()) else {
+            return Err(AllocFailed { value: added });
+        };
+        match self.map.insert(key, added) {
+            Ok(_) => Ok(()),
+            Err(failed) => {
+                let (_, value) = failed.value;
+                Err(AllocFailed { value })
+            }
+        }
+    }
+
+    /// Takes the record of this key away. Where there is none, the records are as they were. Takes
+    /// no memory.
+    pub(super) fn remove(&mut self, key: &str) -> Option<BoxedRecord>
+        ensures taken { (place : ℕ) → IsOf place self.old → self.new ≡ without_key place key.now self.old }
+        ensures record_taken { (place : ℕ) → IsOf place self.old → result ≡ record_at place key.now self.old }
+    {
+        self.map.remove(key)
+    }
+
+    /// Gives the record of this key the content. Where there is none, the records are as they were.
+    /// Takes no memory.
+    pub(super) fn set_content(&mut self, key: &str, content: Content)
+        ensures { (place : ℕ) → IsOf place self.old → self.new ≡ with_content_at place key.now content self.old }
+    {
+        let Some(boxed) = self.map.get_mut(key) else {
+            return;
+        };
+        boxed.set_content(content);
+    }
+
+    /// Gives the record of this key the labels, as the journal entry of this number leaves it. Where
+    /// there is none, the records are as they were. Takes no memory.
+    pub(super) fn relabel(&mut self, key: &str, labels: Labels, number: u64)
+        ensures { (place : ℕ) → IsOf place self.old → self.new ≡ relabelled place key.now labels number self.old }
+    {
+        let Some(boxed) = self.map.get_mut(key) else {
+            return;
+        };
+        boxed.relabel(labels, number);
+    }
+
+    /// The infos with those of the records whose keys come after the text and that have every part of
+    /// the filter, until there are so many. It begins by a search for the text.
+    pub(super) fn page(
+        &self,
+        alloc: Global,
+        before: Sequence<Info>,
+        after: &str,
+        most: usize,
+        asked: &Filter,
+    ) -> Result<Sequence<Info>, AllocError>
+        ensures { IfOk result (λ infos. infos ≡ page_after after.now most asked.now before self.now) }
+    {
+        let start = String::from_str(alloc, after)?;
+        let mut infos = before;
+        for (_, boxed) in self.map.range((Bound::Excluded(start), Bound::Unbounded)) {
+            if infos.len() >= most {
+                return Ok(infos);
+            }
+            if boxed.record().matches(asked) {
+                infos.push(boxed.record().info()?)?;
+            }
+        }
+        Ok(infos)
+    }
+
+    /// The list with references to the records after its own, in their order.
+    pub(super) fn listed<'a>(
+        &'a self,
+        before: Vec<&'a Record>,
+    ) -> Result<Vec<&'a Record>, AllocError>
+        ensures { IfOk result (λ all. map (λ r. r.now) all.items ≡ map (λ r. r.now) before.entry.items ++ self.now) }
+    {
+        let mut list = before;
+        for boxed in self.map.values() {
+            list.push(boxed.record())?;
+        }
+        Ok(list)
+    }
+}
