@@ -1,5 +1,5 @@
 -- The records of one namespace, in groups by how their keys begin: what a change of one group makes of them.
-use Rattle.std.proofs.Common.{◌≡◌, ℕ, zero, suc, ◌-◌, Bool, true, false, cond, List, [], ◌∷◌, ◌++◌, length, take, map, Option, Some, None, refl, sym, ap, ◌∙◌, subst, arith, append_assoc}
+use Rattle.std.proofs.Common.{◌≡◌, ◌≢◌, ℕ, zero, suc, ◌-◌, Bool, true, false, cond, List, [], ◌∷◌, ◌++◌, length, take, map, Option, Some, None, refl, sym, ap, ◌∙◌, subst, arith, append_assoc}
 use Rattle.std.proofs.lemmas.List.{length-append}
 use Rattle.std.specs.Prelude.{if◌then◌else◌, ◌==◌, ◌&&◌, not, bytes_eq, filter, option_and_then}
 use Rattle.std.specs.List.{AllByRecursion}
@@ -25,7 +25,7 @@ use Rattle.snap_record.specs.declared.record.Record.{Record}
 use Rattle.snap_call.specs.Records.{record_cmp, is_named, record_at, has_key, with_record, without, without_key}
 use Rattle.snap_call.specs.Spaces.{IsOf, AreOfOne, place_of, AreGroups, joined, beginning, beginning_cmp, is_after, is_asked, infos_of}
 use Rattle.snap_call.proofs.Lists.{all-map, all-with_record, all-without, list_any-none, none-passes, some_same, none_some}
-use Rattle.snap_call.proofs.Entries.{amended, infos-begin}
+use Rattle.snap_call.proofs.Entries.{amended, without-none, infos-begin}
 use Rattle.snap_call.proofs.Spaces.{all-append, all-amended, amended-stops, without-stops, find-others, find-stops, filter-append, filter-none}
 
 abbrev pub Entry : Type 0
@@ -249,40 +249,66 @@ begun-remove : (test : ArrayVec ℕ → Bool) (es : List Entry) → AreBegun es 
 begun-remove test [] begun = tt
 begun-remove test (e ∷ es) begun = elim (test e.0) as (λ b. AreBegun (cond b es (e ∷ remove_entry test es))) [ true ↦ begun.1 | false ↦ (begun.0, begun-remove test es begun.1) ]
 
+-- what holds of each group
+module _ (P : List Record → Type 0) (test : ArrayVec ℕ → Bool) where
+  each-found : (es : List Entry) (g : List Record) → lookup test es ≡ Some g → AllByRecursion (λ e. P e.1) es → P g
+  each-found [] g found all = absurd (none_some g found)
+  each-found (e ∷ es) g found all = step (test e.0) found (λ later. each-found es g later all.1)
+    where
+      step : (b : Bool) → cond b (Some e.1) (lookup test es) ≡ Some g → (lookup test es ≡ Some g → P g) → P g
+      step true here next = subst P (some_same e.1 g here) all.0
+      step false here next = next here
+
+  each-set : (es : List Entry) (w : List Record) → P w → AllByRecursion (λ e. P e.1) es → AllByRecursion (λ e. P e.1) (set_value test es w)
+  each-set [] w here all = tt
+  each-set (e ∷ es) w here all = elim (test e.0) as (λ b. AllByRecursion (λ x. P x.1) (cond b ((e.0, w) ∷ es) (e ∷ set_value test es w))) [ true ↦ (here, all.1) | false ↦ (all.0, each-set es w here all.1) ]
+
+  each-remove : (es : List Entry) → AllByRecursion (λ e. P e.1) es → AllByRecursion (λ e. P e.1) (remove_entry test es)
+  each-remove [] all = tt
+  each-remove (e ∷ es) all = elim (test e.0) as (λ b. AllByRecursion (λ x. P x.1) (cond b es (e ∷ remove_entry test es))) [ true ↦ all.1 | false ↦ (all.0, each-remove es all.1) ]
+
+each-insert : (P : List Record → Type 0) (p : ArrayVec ℕ) (es : List Entry) (w : List Record) → P w → AllByRecursion (λ e. P e.1) es → AllByRecursion (λ e. P e.1) (insert_entry beginning_cmp es p w)
+each-insert P p [] w here all = (here, tt)
+each-insert P p (e ∷ es) w here all =
+    elim (beginning_cmp p e.0) as (λ o. AllByRecursion (λ x. P x.1) (match_ordering o ((p, w) ∷ e ∷ es) ((e.0, w) ∷ es) (e ∷ insert_entry beginning_cmp es p w))) [
+      | Less ↦ (here, all)
+      | Equal ↦ (here, all.1)
+      | Greater ↦ (all.0, each-insert P p es w here all.1)
+    ]
+
+abbrev HasOne : List Record → Type 0
+HasOne rs = rs ≢ []
+
+one-more : (r : Record) (rs : List Record) → HasOne (r ∷ rs)
+one-more r rs none = cc
+
+one-with_record : (r : Record) (rs : List Record) → HasOne (with_record r rs)
+one-with_record r [] = one-more r []
+one-with_record r (t ∷ ts) = elim (is_lt (record_cmp r t)) as (λ b. HasOne (if b then r ∷ t ∷ ts else t ∷ with_record r ts)) [ true ↦ one-more r (t ∷ ts) | false ↦ one-more t (with_record r ts) ]
+
+one-amended : (test : Record → Bool) (f : Record → Record) (rs : List Record) → HasOne rs → HasOne (amended test f rs)
+one-amended test f [] some = some
+one-amended test f (r ∷ rs) some = elim (test r) as (λ b. HasOne (if b then f r ∷ rs else r ∷ amended test f rs)) [ true ↦ one-more (f r) rs | false ↦ one-more r (amended test f rs) ]
+
+remove-set : (test : ArrayVec ℕ → Bool) (es : List Entry) (w : List Record) → remove_entry test (set_value test es w) ≡ remove_entry test es
+remove-set test [] w = refl
+remove-set test (e ∷ es) w = step (test e.0) refl (remove-set test es w)
+  where
+    step : (b : Bool) → test e.0 ≡ b → remove_entry test (set_value test es w) ≡ remove_entry test es → remove_entry test (cond b ((e.0, w) ∷ es) (e ∷ set_value test es w)) ≡ cond b es (e ∷ remove_entry test es)
+    step true is next = ap (λ b. cond b es ((e.0, w) ∷ remove_entry test es)) is
+    step false is next = ap (λ b. cond b (set_value test es w) (e ∷ remove_entry test (set_value test es w))) is ∙ ap (λ l. e ∷ l) next
+
 pub one-of : (place : ℕ) (rs : List Record) → IsOf place rs → AreOfOne rs
 one-of place [] of = tt
 one-of place (r ∷ rs) of = subst (λ n. IsOf n (r ∷ rs)) (sym of.0) of
 
--- a group that another takes the place of
-module _ (es ts : List Entry) (p : ArrayVec ℕ) (g w : List Record) (groups : AreGroups es) (found : lookup (at_beginning p) es ≡ Some g) (is : ts ≡ set_value (at_beginning p) es w) (sorted : IsStrictlySortedBy beginning_cmp (keys_of ts)) (key : Bytes) (own : p.items ≡ beginning key) where
-  of-group : (place : ℕ) → IsOf place (all_of es) → IsOf place g
-  of-group place of = all-found (λ r. r.namespace ≡ place) (at_beginning p) es g found of
-
-  abbrev here : ℕ
-  here = place_of (all_of es)
-
-  module _ (f : Record → Record) (changes : (place : ℕ) → IsOf place g → w ≡ amended (is_named place key) f g) where
-    pub put-amended : (place : ℕ) → IsOf place (all_of es) → all_of ts ≡ amended (is_named place key) f (all_of es)
-    put-amended place of = ap all_of (is ∙ ap (set_value (at_beginning p) es) (changes place (of-group place of))) ∙ groups-amended place key p own es groups of f g found
-
-    pub groups-put_amended : ((r : Record) → (f r).key ≡ r.key) → ((r : Record) → (f r).namespace ≡ r.namespace) → AreGroups ts
-    groups-put_amended same stays = record {
-      begun = subst AreBegun (sym is) (begun-set p es w (subst (AreIn p) (sym (changes here (of-group here groups.alike)))
-          (all-amended (is_named here key) f (λ r. beginning r.key ≡ p.items) g (λ r e. ap beginning (same r) ∙ e) (begun-found p es g found groups.begun))) groups.begun);
-      ordered = sorted;
-      alike = one-of here (all_of ts) (subst (IsOf here) (sym (put-amended here groups.alike)) (all-amended (is_named here key) f (λ r. r.namespace ≡ here) (all_of es) (λ r e. stays r ∙ e) groups.alike));
-    }
-
-  module _ (taken : (place : ℕ) → IsOf place g → w ≡ without_key place key g) where
-    pub put-without : (place : ℕ) → IsOf place (all_of es) → all_of ts ≡ without_key place key (all_of es)
-    put-without place of = ap all_of (is ∙ ap (set_value (at_beginning p) es) (taken place (of-group place of))) ∙ groups-without place key p own es groups of g found
-
-    pub groups-put_without : AreGroups ts
-    groups-put_without = record {
-      begun = subst AreBegun (sym is) (begun-set p es w (subst (AreIn p) (sym (taken here (of-group here groups.alike))) (all-without (is_named here key) (λ r. beginning r.key ≡ p.items) g (begun-found p es g found groups.begun))) groups.begun);
-      ordered = sorted;
-      alike = one-of here (all_of ts) (subst (IsOf here) (sym (put-without here groups.alike)) (all-without (is_named here key) (λ r. r.namespace ≡ here) (all_of es) groups.alike));
-    }
+pub set-same : (test : ArrayVec ℕ → Bool) (es : List Entry) (g : List Record) → lookup test es ≡ Some g → set_value test es g ≡ es
+set-same test [] g found = refl
+set-same test (e ∷ es) g found = step (test e.0) found (set-same test es g)
+  where
+    step : (b : Bool) → cond b (Some e.1) (lookup test es) ≡ Some g → (lookup test es ≡ Some g → set_value test es g ≡ es) → cond b ((e.0, g) ∷ es) (e ∷ set_value test es g) ≡ e ∷ es
+    step true here next = ap (λ x. (e.0, x) ∷ es) (sym (some_same e.1 g here))
+    step false here next = ap (λ l. e ∷ l) (next here)
 
 -- a group without records is no loss
 pub groups-less : (test : ArrayVec ℕ → Bool) (es : List Entry) (g : List Record) → lookup test es ≡ Some g → g ≡ [] → all_of (remove_entry test es) ≡ all_of es
@@ -301,32 +327,68 @@ lookup-set test (e ∷ es) g w found = step (test e.0) refl found (lookup-set te
     step true is here next = ap (λ b. cond b (Some w) (lookup test es)) is
     step false is here next = ap (λ b. cond b (Some e.1) (lookup test (set_value test es w))) is ∙ next here
 
-pub set-same : (test : ArrayVec ℕ → Bool) (es : List Entry) (g : List Record) → lookup test es ≡ Some g → set_value test es g ≡ es
-set-same test [] g found = refl
-set-same test (e ∷ es) g found = step (test e.0) found (set-same test es g)
-  where
-    step : (b : Bool) → cond b (Some e.1) (lookup test es) ≡ Some g → (lookup test es ≡ Some g → set_value test es g ≡ es) → cond b ((e.0, g) ∷ es) (e ∷ set_value test es g) ≡ e ∷ es
-    step true here next = ap (λ x. (e.0, x) ∷ es) (sym (some_same e.1 g here))
-    step false here next = ap (λ l. e ∷ l) (next here)
+-- a group that another takes the place of
+module _ (es ts : List Entry) (p : ArrayVec ℕ) (g w : List Record) (groups : AreGroups es) (found : lookup (at_beginning p) es ≡ Some g) (is : ts ≡ set_value (at_beginning p) es w) (sorted : IsStrictlySortedBy beginning_cmp (keys_of ts)) (key : Bytes) (own : p.items ≡ beginning key) where
+  of-group : (place : ℕ) → IsOf place (all_of es) → IsOf place g
+  of-group place of = all-found (λ r. r.namespace ≡ place) (at_beginning p) es g found of
+
+  abbrev here : ℕ
+  here = place_of (all_of es)
+
+  module _ (f : Record → Record) (changes : (place : ℕ) → IsOf place g → w ≡ amended (is_named place key) f g) where
+    pub put-amended : (place : ℕ) → IsOf place (all_of es) → all_of ts ≡ amended (is_named place key) f (all_of es)
+    put-amended place of = ap all_of (is ∙ ap (set_value (at_beginning p) es) (changes place (of-group place of))) ∙ groups-amended place key p own es groups of f g found
+
+    pub groups-put_amended : ((r : Record) → (f r).key ≡ r.key) → ((r : Record) → (f r).namespace ≡ r.namespace) → AreGroups ts
+    groups-put_amended same stays = record {
+      begun = subst AreBegun (sym is) (begun-set p es w (subst (AreIn p) (sym (changes here (of-group here groups.alike)))
+          (all-amended (is_named here key) f (λ r. beginning r.key ≡ p.items) g (λ r e. ap beginning (same r) ∙ e) (begun-found p es g found groups.begun))) groups.begun);
+      full = subst (AllByRecursion (λ e. HasOne e.1)) (sym is) (each-set HasOne (at_beginning p) es w (subst HasOne (sym (changes here (of-group here groups.alike))) (one-amended (is_named here key) f g (each-found HasOne (at_beginning p) es g found groups.full))) groups.full);
+      ordered = sorted;
+      alike = one-of here (all_of ts) (subst (IsOf here) (sym (put-amended here groups.alike)) (all-amended (is_named here key) f (λ r. r.namespace ≡ here) (all_of es) (λ r e. stays r ∙ e) groups.alike));
+    }
+
+  module _ (taken : (place : ℕ) → IsOf place g → w ≡ without_key place key g) where
+    pub put-without : (place : ℕ) → IsOf place (all_of es) → all_of ts ≡ without_key place key (all_of es)
+    put-without place of = ap all_of (is ∙ ap (set_value (at_beginning p) es) (taken place (of-group place of))) ∙ groups-without place key p own es groups of g found
+
+    alike-without : AreOfOne (all_of ts)
+    alike-without = one-of here (all_of ts) (subst (IsOf here) (sym (put-without here groups.alike)) (all-without (is_named here key) (λ r. r.namespace ≡ here) (all_of es) groups.alike))
+
+    -- some records are left
+    pub groups-put_without : w ≢ [] → AreGroups ts
+    groups-put_without some = record {
+      begun = subst AreBegun (sym is) (begun-set p es w (subst (AreIn p) (sym (taken here (of-group here groups.alike))) (all-without (is_named here key) (λ r. beginning r.key ≡ p.items) g (begun-found p es g found groups.begun))) groups.begun);
+      full = subst (AllByRecursion (λ e. HasOne e.1)) (sym is) (each-set HasOne (at_beginning p) es w some groups.full);
+      ordered = sorted;
+      alike = alike-without;
+    }
+
+    -- none went
+    pub groups-put_none : ((place : ℕ) → IsOf place g → record_at place key g ≡ None) → AreGroups ts
+    groups-put_none none =
+        let same : w ≡ g = taken here (of-group here groups.alike) ∙ without-none (is_named here key) g (none here (of-group here groups.alike)) in
+        subst AreGroups (sym (is ∙ ap (set_value (at_beginning p) es) same ∙ set-same (at_beginning p) es g found)) groups
+
+    -- none are left, and the group goes
+    module _ (us : List Entry) (none : w ≡ []) (gone : us ≡ remove_entry (at_beginning p) ts) where
+      pub all-removed : all_of us ≡ all_of ts
+      all-removed = ap all_of gone ∙ groups-less (at_beginning p) ts w (ap (lookup (at_beginning p)) is ∙ lookup-set (at_beginning p) es g w found) none
+
+      rest : us ≡ remove_entry (at_beginning p) es
+      rest = gone ∙ ap (remove_entry (at_beginning p)) is ∙ remove-set (at_beginning p) es w
+
+      pub groups-removed : IsStrictlySortedBy beginning_cmp (keys_of us) → AreGroups us
+      groups-removed still = record {
+        begun = subst AreBegun (sym rest) (begun-remove (at_beginning p) es groups.begun);
+        full = subst (AllByRecursion (λ e. HasOne e.1)) (sym rest) (each-remove HasOne (at_beginning p) es groups.full);
+        ordered = still;
+        alike = subst AreOfOne (sym all-removed) alike-without;
+      }
 
 -- a name that no record has, none of a group has
 pub absent-in : (place : ℕ) (key : Bytes) (test : ArrayVec ℕ → Bool) (es : List Entry) (g : List Record) → lookup test es ≡ Some g → has_key place key (all_of es) ≡ false → has_key place key g ≡ false
 absent-in place key test es g found none = list_any-none (is_named place key) g (all-found (λ r. is_named place key r ≡ false) test es g found (none-passes (is_named place key) (all_of es) none))
-
--- a group that lost all its records goes
-module _ (es us : List Entry) (test : ArrayVec ℕ → Bool) (w : List Record) (groups : AreGroups es) (found : lookup test es ≡ Some w) (none : w ≡ []) (is : us ≡ remove_entry test es) where
-  pub all-removed : all_of us ≡ all_of es
-  all-removed = ap all_of is ∙ groups-less test es w found none
-
-  pub groups-removed : IsStrictlySortedBy beginning_cmp (keys_of us) → AreGroups us
-  groups-removed sorted = record {
-    begun = subst AreBegun (sym is) (begun-remove test es groups.begun);
-    ordered = sorted;
-    alike = subst AreOfOne (sym all-removed) groups.alike;
-  }
-
-pub found-set : (es ts : List Entry) (p : ArrayVec ℕ) (g w : List Record) → lookup (at_beginning p) es ≡ Some g → ts ≡ set_value (at_beginning p) es w → lookup (at_beginning p) ts ≡ Some w
-found-set es ts p g w found is = ap (lookup (at_beginning p)) is ∙ lookup-set (at_beginning p) es g w found
 
 -- ---- one record more
 
@@ -411,6 +473,7 @@ module _ (r : Record) (p : ArrayVec ℕ) (own : p.items ≡ beginning r.key) whe
     pub groups-added : IsStrictlySortedBy beginning_cmp (keys_of ts) → AreGroups ts
     groups-added sorted = record {
       begun = subst AreBegun (sym is) (begun-insert p es w (subst (AreIn p) (sym put) (all-with_record r (λ t. beginning t.key ≡ p.items) (group_of es) (sym own) (group-begun es groups.begun))) groups.begun);
+      full = subst (AllByRecursion (λ e. HasOne e.1)) (sym is) (each-insert HasOne p es w (subst HasOne (sym put) (one-with_record r (group_of es))) groups.full);
       ordered = sorted;
       alike = one-of r.namespace (all_of ts) (subst (IsOf r.namespace) (sym all-added) (all-with_record r (λ t. t.namespace ≡ r.namespace) (all_of es) refl of));
     }

@@ -1,6 +1,6 @@
 -- Records by their namespaces: a list for each place, in the order of the places.
 -- Cited by invariants and private clauses alone.
-use Rattle.std.specs.Prelude.{◌≡◌, ℕ, suc, ◌-◌, Bool, List, [], ◌∷◌, ◌++◌, length, map, filter, take, count_by, bytes_eq, string_bytes}
+use Rattle.std.specs.Prelude.{◌≡◌, ◌≢◌, ℕ, suc, ◌-◌, Bool, List, [], ◌∷◌, ◌++◌, length, map, filter, take, count_by, bytes_eq, string_bytes}
 use Rattle.std.specs.Cmp.Lexicographic.{slice_cmp}
 use Rattle.std.specs.List.{AllByRecursion}
 use Rattle.std.specs.List.Sorted.{IsStrictlySortedBy}
@@ -56,9 +56,10 @@ beginning key = take 16 key
 abbrev pub beginning_cmp : ArrayVec ℕ → ArrayVec ℕ → Ordering
 beginning_cmp b c = slice_cmp nat_cmp b.items c.items
 
--- each group has records whose keys begin with its bytes, the groups are in their order, and all records are of one namespace
+-- each group has records whose keys begin with its bytes, one at the least, the groups are in their order, and all records are of one namespace
 pub record AreGroups (es : List (ArrayVec ℕ × List Record)) : Type 0 where
   pub begun : AllByRecursion (λ e. AllByRecursion (λ r. beginning r.key ≡ e.0.items) e.1) es
+  pub full : AllByRecursion (λ e. e.1 ≢ []) es
   pub ordered : IsStrictlySortedBy beginning_cmp (keys_of es)
   pub alike : AreOfOne (joined (values_of es))
 

@@ -1,10 +1,10 @@
-use Rattle.std.proofs.Common.{◌≡◌, [], None, Some, subst, sym, ap, ◌∙◌}
+use Rattle.std.proofs.Common.{◌≡◌, true≢false, None, Some, subst, sym, ap, ◌∙◌}
 use Rattle.std.specs.Map.{lookup}
 use Rattle.std.specs.BTreeMap.{values}
 use Rattle.std.specs.Option.{option_copied_mut}
 use Rattle.snap_call.specs.Records.{record_at, without_key}
 use Rattle.snap_call.specs.Spaces.{IsOf, joined}
-use Rattle.snap_call.proofs.Groups.{at_beginning, all-found, groups-found, groups-found_none, groups-without_none, put-without, groups-put_without, found-set, all-removed, groups-removed}
+use Rattle.snap_call.proofs.Groups.{at_beginning, all-found, groups-found, groups-found_none, groups-without_none, put-without, groups-put_without, groups-put_none, all-removed, groups-removed}
 use Rattle.snap_call.proofs.ordered.groups.Groups.remove.Goals as goal
 use Rattle.snap_call.proofs.ordered.groups.Groups.remove.Goals.{then-is_empty+in-Some-1, then-is_empty+in-None-1, else-is_empty}
 
@@ -34,7 +34,7 @@ invariant_of-self-in_err-removed c =
     let w = c.remove.new.self in
     let found : lookup (at_beginning p) es ≡ Some g = sym c.get_mut.ensures.value ∙ ap option_copied_mut c.in_ok-group.was in
     let h = c.get_mut.follows.holds w in
-    groups-put_without es _ p g w c.self.invariant found h.0 h.4 c.args.key.now c.beginning_of-beginning.ensures c.remove.ensures.taken
+    groups-put_none es _ p g w c.self.invariant found h.0 h.4 c.args.key.now c.beginning_of-beginning.ensures c.remove.ensures.taken (λ place of. sym (c.remove.ensures.record_taken place of) ∙ c.in_err-removed.was)
 
 pub returns-in_err-removed-clause-taken : goal.returns-in_err-removed-clause-taken
 returns-in_err-removed-clause-taken c = λ place of.
@@ -67,13 +67,7 @@ invariant_of-self-then-is_empty c =
     let w = c.remove.new.self in
     let found : lookup (at_beginning p) es ≡ Some g = sym c.get_mut.ensures.value ∙ ap option_copied_mut c.in_ok-group.was in
     let h = c.get_mut.follows.holds w in
-    let none : w ≡ [] = c.is_empty.ensures.0 c.if-is_empty.true in
-    groups-removed _ _ (at_beginning p) w
-    (groups-put_without es _ p g w c.self.invariant found h.0 h.4 c.args.key.now c.beginning_of-beginning.ensures c.remove.ensures.taken)
-    (found-set es _ p g w found h.0)
-    none
-    c.remove-then-is_empty.ensures.entries
-    c.remove-then-is_empty.ensures.ordered
+    groups-removed es _ p g w c.self.invariant found h.0 h.4 c.args.key.now c.beginning_of-beginning.ensures c.remove.ensures.taken _ (c.is_empty.ensures.0 c.if-is_empty.true) c.remove-then-is_empty.ensures.entries c.remove-then-is_empty.ensures.ordered
 
 pub invariant_of-self-else-is_empty : goal.invariant_of-self-else-is_empty
 invariant_of-self-else-is_empty c =
@@ -83,7 +77,7 @@ invariant_of-self-else-is_empty c =
     let w = c.remove.new.self in
     let found : lookup (at_beginning p) es ≡ Some g = sym c.get_mut.ensures.value ∙ ap option_copied_mut c.in_ok-group.was in
     let h = c.get_mut.follows.holds w in
-    groups-put_without es _ p g w c.self.invariant found h.0 h.4 c.args.key.now c.beginning_of-beginning.ensures c.remove.ensures.taken
+    groups-put_without es _ p g w c.self.invariant found h.0 h.4 c.args.key.now c.beginning_of-beginning.ensures c.remove.ensures.taken (λ none. true≢false (sym (c.is_empty.ensures.1 none) ∙ c.if-is_empty.false))
 
 pub returns-clause-taken : goal.returns-clause-taken
 returns-clause-taken c = λ place of.
@@ -93,12 +87,10 @@ returns-clause-taken c = λ place of.
     let w = c.remove.new.self in
     let found : lookup (at_beginning p) es ≡ Some g = sym c.get_mut.ensures.value ∙ ap option_copied_mut c.in_ok-group.was in
     let h = c.get_mut.follows.holds w in
-    let kept = groups-put_without es _ p g w c.self.invariant found h.0 h.4 c.args.key.now c.beginning_of-beginning.ensures c.remove.ensures.taken in
     let rest = put-without es _ p g w c.self.invariant found h.0 h.4 c.args.key.now c.beginning_of-beginning.ensures c.remove.ensures.taken place (subst (IsOf place) (sym c.self.view_is) of) in
-    let less = found-set es _ p g w found h.0 in
     elim c.if-is_empty.branch [
-      | then-is_empty+in-Some-1 b ↦ b.self-is ∙ all-removed _ _ (at_beginning p) w kept less (c.is_empty.ensures.0 b.if-is_empty.true) b.remove-then-is_empty.ensures.entries
-      | then-is_empty+in-None-1 b ↦ b.self-is ∙ all-removed _ _ (at_beginning p) w kept less (c.is_empty.ensures.0 b.if-is_empty.true) b.remove-then-is_empty.ensures.entries
+      | then-is_empty+in-Some-1 b ↦ b.self-is ∙ all-removed es _ p g w c.self.invariant found h.0 h.4 c.args.key.now c.beginning_of-beginning.ensures c.remove.ensures.taken _ (c.is_empty.ensures.0 b.if-is_empty.true) b.remove-then-is_empty.ensures.entries
+      | then-is_empty+in-None-1 b ↦ b.self-is ∙ all-removed es _ p g w c.self.invariant found h.0 h.4 c.args.key.now c.beginning_of-beginning.ensures c.remove.ensures.taken _ (c.is_empty.ensures.0 b.if-is_empty.true) b.remove-then-is_empty.ensures.entries
       | else-is_empty b ↦ b.self-is
     ]
     ∙ rest
