@@ -8,6 +8,7 @@ in bytes. A store that would take the product more than so many seconds to build
 not built, and the larger ones neither: a line on standard error says so.
 """
 
+import hashlib
 import sys
 
 from program import Pair, least
@@ -29,20 +30,25 @@ def key(number):
     return f"{number * 2654435761 % 2**32:08x}"
 
 
+def digest(number):
+    """Such a key as image builders have it."""
+    return "sha256:" + hashlib.sha256(str(number).encode()).hexdigest()
+
+
 def line(verb, **fields):
     parts = "".join(f',"{field}":"{value}"' for field, value in fields.items())
     return f'{{"do":"{verb}","ns":"a"{parts}}}'
 
 
-def snapshot(number):
-    return [line("prepare", key="k", parent=""), line("commit", key="k", name=key(number))]
+def snapshot(number, named=key):
+    return [line("prepare", key="k", parent=""), line("commit", key="k", name=named(number))]
 
 
-def cycle(number, size):
+def cycle(number, size, named):
     """A snapshot on one that stands, with a key that is taken from no other."""
-    own, name = key(size + 2 * number), key(size + 2 * number + 1)
+    own, name = named(size + 2 * number), named(size + 2 * number + 1)
     return [
-        line("prepare", key=own, parent=key(number * 7919 % size)),
+        line("prepare", key=own, parent=named(number * 7919 % size)),
         line("stat", key=own),
         line("commit", key=own, name=name),
         line("remove", key=name),
@@ -60,9 +66,10 @@ def say(text):
 class Bench:
     """Both programs with stores of as many snapshots."""
 
-    def __init__(self, pair, budget):
+    def __init__(self, pair, budget, named=key):
         self.pair = pair
         self.budget = budget
+        self.named = named
         self.size = 0
         self.entries = 0
         self.tell(['{"do":"open","root":"/r","namespaces":[["a",1099511627776,1099511627776]]}'])
@@ -83,7 +90,7 @@ class Bench:
         spent = 0
         for start in range(self.size, size, CHUNK):
             end = min(start + CHUNK, size)
-            ours, _ = self.tell([text for number in range(start, end) for text in snapshot(number)])
+            ours, _ = self.tell([text for number in range(start, end) for text in snapshot(number, self.named)])
             spent += ours
             # A call's cost may grow with the records: what is left takes at least as much for each.
             if spent + ours * (size - end) / (end - start) > self.budget:
@@ -92,30 +99,33 @@ class Bench:
         self.size = size
         return True
 
+    def time(self, what, lines, count):
+        ours, plain = least(self.tell(lines) for _ in range(REPEATS))
+        figure(what, self.size, "us", ours * 1e6 / count, plain * 1e6 / count)
+
+    def time_cycle(self, what):
+        self.time(what, [text for number in range(CYCLES) for text in cycle(number, self.size, self.named)], CYCLES)
+
     def measure(self):
         size = self.size
-        cycles = [text for number in range(CYCLES) for text in cycle(number, size)]
-        stats = [line("stat", key=key(number * 7919 % size)) for number in range(STATS)]
-        pages = [line("walk", after=key(number * 7919 % size)) for number in range(PAGES)]
-        for what, lines, count in (
-            ("prepare, stat, commit, remove", cycles, CYCLES),
-            ("stat", stats, STATS),
-            ("a page of walk", pages, PAGES),
-        ):
-            ours, plain = least(self.tell(lines) for _ in range(REPEATS))
-            figure(what, size, "us", ours * 1e6 / count, plain * 1e6 / count)
+        self.time_cycle("prepare, stat, commit, remove")
+        self.time("stat", [line("stat", key=key(number * 7919 % size)) for number in range(STATS)], STATS)
+        self.time("a page of walk", [line("walk", after=key(number * 7919 % size)) for number in range(PAGES)], PAGES)
+
+    def measure_digests(self):
+        self.time_cycle("the same four, keys of 71 bytes")
 
 
-def measure_times(script, plain, budget):
+def measure_times(script, plain, budget, sizes, named, measure):
     with Pair([script, "run"], [plain, "script"]) as pair:
-        bench = Bench(pair, budget)
-        for size in SIZES:
+        bench = Bench(pair, budget, named)
+        for size in sizes:
             say(f"store: {size} snapshots")
             if not bench.grow(size):
                 say(f"store: {size} snapshots would take more than {budget:g} seconds to build")
                 return
             bench.reopen()
-            bench.measure()
+            measure(bench)
 
 
 def grown(bench, lines_of):
@@ -147,7 +157,9 @@ def main():
     script, plain, *rest = sys.argv[1:]
     print("what", "snapshots", "unit", "ours", "plain", sep="\t")
     measure_memory(script, plain)
-    measure_times(script, plain, float(rest[0]) if rest else DEFAULT_BUDGET)
+    budget = float(rest[0]) if rest else DEFAULT_BUDGET
+    measure_times(script, plain, budget, SIZES, key, Bench.measure)
+    measure_times(script, plain, budget, SIZES[:-1], digest, Bench.measure_digests)
 
 
 if __name__ == "__main__":
