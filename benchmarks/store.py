@@ -10,11 +10,12 @@ not built, and the larger ones neither: a line on standard error says so.
 
 import hashlib
 import sys
+from contextlib import ExitStack
 
 from program import Pair, least
 
 SIZES = (100, 1000, 10000, 100000, 1000000)
-REPEATS = 5
+REPEATS = 100
 CYCLES = 250
 STATS = 1000
 PAGES = 20
@@ -99,33 +100,41 @@ class Bench:
         self.size = size
         return True
 
-    def time(self, what, lines, count):
-        ours, plain = least(self.tell(lines) for _ in range(REPEATS))
-        figure(what, self.size, "us", ours * 1e6 / count, plain * 1e6 / count)
+    def cycles(self, what):
+        return what, [text for number in range(CYCLES) for text in cycle(number, self.size, self.named)], CYCLES
 
-    def time_cycle(self, what):
-        self.time(what, [text for number in range(CYCLES) for text in cycle(number, self.size, self.named)], CYCLES)
-
-    def measure(self):
+    def calls(self):
+        """What is measured: its name, its lines and how often it is done in them."""
         size = self.size
-        self.time_cycle("prepare, stat, commit, remove")
-        self.time("stat", [line("stat", key=key(number * 7919 % size)) for number in range(STATS)], STATS)
-        self.time("a page of walk", [line("walk", after=key(number * 7919 % size)) for number in range(PAGES)], PAGES)
+        return [
+            self.cycles("prepare, stat, commit, remove"),
+            ("stat", [line("stat", key=key(number * 7919 % size)) for number in range(STATS)], STATS),
+            ("a page of walk", [line("walk", after=key(number * 7919 % size)) for number in range(PAGES)], PAGES),
+        ]
 
-    def measure_digests(self):
-        self.time_cycle("the same four, keys of 71 bytes")
+    def calls_with_digests(self):
+        return [self.cycles("the same four, keys of 71 bytes")]
 
 
-def measure_times(script, plain, budget, sizes, named, measure):
-    with Pair([script, "run"], [plain, "script"]) as pair:
-        bench = Bench(pair, budget, named)
+def measure_times(script, plain, budget, sizes, named, calls_of):
+    """The stores stand side by side and are measured in turns, so that what slows the machine slows each of them."""
+    with ExitStack() as stack:
+        measured = []
         for size in sizes:
             say(f"store: {size} snapshots")
+            pair = stack.enter_context(Pair([script, "run"], [plain, "script"]))
+            bench = Bench(pair, budget, named)
             if not bench.grow(size):
                 say(f"store: {size} snapshots would take more than {budget:g} seconds to build")
-                return
+                break
             bench.reopen()
-            measure(bench)
+            measured += [(bench, *call, []) for call in calls_of(bench)]
+        for _ in range(REPEATS):
+            for bench, _, lines, _, times in measured:
+                times.append(bench.tell(lines))
+        for bench, what, _, count, times in measured:
+            ours, plain_time = least(times)
+            figure(what, bench.size, "us", ours * 1e6 / count, plain_time * 1e6 / count)
 
 
 def grown(bench, lines_of):
@@ -158,8 +167,8 @@ def main():
     print("what", "snapshots", "unit", "ours", "plain", sep="\t")
     measure_memory(script, plain)
     budget = float(rest[0]) if rest else DEFAULT_BUDGET
-    measure_times(script, plain, budget, SIZES, key, Bench.measure)
-    measure_times(script, plain, budget, SIZES[:-1], digest, Bench.measure_digests)
+    measure_times(script, plain, budget, SIZES, key, Bench.calls)
+    measure_times(script, plain, budget, SIZES[:-1], digest, Bench.calls_with_digests)
 
 
 if __name__ == "__main__":
