@@ -5,7 +5,7 @@ import math
 from dataclasses import dataclass, field
 
 WIDTH, HEIGHT = 460, 330
-LEFT, RIGHT, TOP, BOTTOM = 58, 14, 30, 44
+LEFT, RIGHT, TOP, BOTTOM = 58, 34, 30, 44
 KEY_HEIGHT = 18
 COLOURS = ("#1b6ca8", "#c2410c", "#15803d", "#7e22ce", "#a16207", "#be123c", "#0f766e", "#525252")
 
@@ -94,7 +94,7 @@ def picture(panels, columns=2):
     names = list(dict.fromkeys(name for panel in panels for name in panel.lines))
     colours = dict(zip(names, itertools.cycle(COLOURS)))
     rows = math.ceil(len(panels) / columns)
-    width, height = WIDTH * min(columns, len(panels)), HEIGHT * rows + KEY_HEIGHT * (len(names) + 1) + 12
+    width, height = WIDTH * min(columns, len(panels)), HEIGHT * rows + KEY_HEIGHT * (len(names) + 2) + 12
     parts = [
         f'<svg xmlns="http://www.w3.org/2000/svg" viewBox="0 0 {width} {height}" width="{width}" height="{height}" '
         'font-family="sans-serif" font-size="12" fill="#111">',
@@ -108,5 +108,7 @@ def picture(panels, columns=2):
         parts.append(f'<path d="M{LEFT} {y - 4}h30" stroke="{colours[name]}" stroke-width="3"/>')
         parts.append(text_at(LEFT + 40, y, name))
         y += KEY_HEIGHT
-    parts.append(text_at(LEFT, y, "Filled points: the product. Dashed lines: the plain program. Processor time."))
+    for text in ("Filled points: the product. Dashed lines: the plain program.", "Times are of the processor."):
+        parts.append(text_at(LEFT, y, text))
+        y += KEY_HEIGHT
     return "\n".join([*parts, "</svg>", ""])
