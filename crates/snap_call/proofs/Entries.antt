@@ -290,3 +290,10 @@ infos-pushed most asked r items rest infos pushed all info below passes is same 
     ∙ sym (ap (λ b. infos ++ map info_of (take (most - length infos) (cond b (r ∷ filter (is_asked asked) rest) (filter (is_asked asked) rest)))) passes)
     ∙ sym (ap (λ l. infos ++ infos_of (most - length infos) asked l) is)
     ∙ so_far
+
+pub infos-passed : (most : ℕ) (asked : Filter) (r : Record) (items rest : List Record) (infos all : List Info) → is_asked asked r ≡ false → items ≡ r ∷ rest
+    → infos ++ infos_of (most - length infos) asked items ≡ all → infos ++ infos_of (most - length infos) asked rest ≡ all
+infos-passed most asked r items rest infos all fails is so_far =
+    sym (ap (λ b. infos ++ map info_of (take (most - length infos) (cond b (r ∷ filter (is_asked asked) rest) (filter (is_asked asked) rest)))) fails)
+    ∙ sym (ap (λ l. infos ++ infos_of (most - length infos) asked l) is)
+    ∙ so_far

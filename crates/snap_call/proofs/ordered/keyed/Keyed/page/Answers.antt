@@ -2,7 +2,7 @@ use Rattle.std.proofs.Common.{sym, ap, ◌∙◌, ◌++◌, ◌-◌, length, fil
 use Rattle.std.specs.Map.{values_of}
 use Rattle.snap_record.specs.Records.{info_of}
 use Rattle.snap_call.specs.Spaces.{is_after, is_asked, infos_of}
-use Rattle.snap_call.proofs.Entries.{values-after, infos-pushed}
+use Rattle.snap_call.proofs.Entries.{values-after, infos-enough, infos-all, infos-passed, infos-pushed}
 use Rattle.snap_call.proofs.ordered.keyed.Keyed.page.Goals as goal
 
 pub loop-boxed-init : goal.loop-boxed-init
@@ -24,4 +24,19 @@ loop-boxed-preserved-in_ok-push c =
     (ap values_of c.in-Some.ensures.steps)
     (c.in_ok-info.ensures ∙ ap info_of c.record-then-matches.ensures)
     c.in_ok-push.ensures.ok
+    c.loop-boxed.invariant
+
+pub returns-then-len-most : goal.returns-then-len-most
+returns-then-len-most c =
+    infos-enough c.args.most c.args.asked.now (values_of c.loop-boxed.boxed-iterator) c.loop-boxed.infos _ (omega (arith, c.if-len-most.true, c.len.ensures)) c.loop-boxed.invariant
+
+pub returns : goal.returns
+returns c =
+    infos-all c.args.most c.args.asked.now (values_of c.loop-boxed.boxed-iterator) c.loop-boxed.infos _ (ap values_of c.in-None.ensures.steps.0) c.loop-boxed.invariant
+
+pub loop-boxed-preserved : goal.loop-boxed-preserved
+loop-boxed-preserved c =
+    infos-passed c.args.most c.args.asked.now c.in-Some.boxed.now (values_of c.loop-boxed.boxed-iterator) (values_of c.next.new.self) c.loop-boxed.infos _
+    (ap (is_asked c.args.asked.now) (sym c.record.ensures) ∙ sym c.matches.ensures ∙ c.if-matches.false)
+    (ap values_of c.in-Some.ensures.steps)
     c.loop-boxed.invariant
