@@ -108,8 +108,8 @@ class Bench:
         size = self.size
         return [
             self.cycles("prepare, stat, commit, remove"),
-            ("stat", [line("stat", key=key(number * 7919 % size)) for number in range(STATS)], STATS),
-            ("a page of walk", [line("walk", after=key(number * 7919 % size)) for number in range(PAGES)], PAGES),
+            ("stat", [line("stat", key=self.named(number * 7919 % size)) for number in range(STATS)], STATS),
+            ("a page of walk", [line("walk", after=self.named(number * 7919 % size)) for number in range(PAGES)], PAGES),
         ]
 
     def calls_with_digests(self):

@@ -1,6 +1,6 @@
 -- The records of one namespace, in groups by how their keys begin: what a change of one group makes of them.
 use Rattle.std.proofs.Common.{◌≡◌, ◌≢◌, ℕ, zero, suc, ◌-◌, Bool, true, false, cond, List, [], ◌∷◌, ◌++◌, length, take, map, Option, Some, None, refl, sym, ap, ◌∙◌, subst, arith, append_assoc}
-use Rattle.std.proofs.lemmas.List.{length-append}
+use Rattle.std.proofs.lemmas.List.{length-append, length-map, map-append}
 use Rattle.std.specs.Prelude.{if◌then◌else◌, ◌==◌, ◌&&◌, not, bytes_eq, filter, option_and_then}
 use Rattle.std.specs.List.{AllByRecursion}
 use Rattle.std.specs.List.Sorted.{IsStrictlySortedBy}
@@ -28,6 +28,7 @@ use Rattle.snap_call.proofs.Lists.{all-map, all-with_record, all-without, list_a
 use Rattle.snap_call.proofs.Entries.{amended, without-none, infos-begin}
 use Rattle.snap_call.proofs.Spaces.{all-append, all-amended, amended-stops, without-stops, find-others, find-stops, filter-append, filter-none}
 
+-- a group with the bytes that its keys begin with
 abbrev pub Entry : Type 0
 Entry = ArrayVec ℕ × List Record
 
@@ -55,13 +56,15 @@ greater-equal e = cc
 beginning_total : IsTotalOrder beginning_cmp
 beginning_total = on_total (λ (b : ArrayVec ℕ). b.items) nat_list_cmp_total
 
--- the records' keys begin before these bytes, after them, or by them
+-- the bytes compare so with those that the records' keys begin with
 abbrev AreBegunBy : Ordering → ArrayVec ℕ → List Record → Type 0
 AreBegunBy o p rs = AllByRecursion (λ r. slice_cmp nat_cmp p.items (beginning r.key) ≡ o) rs
 
+-- the records' keys begin with the bytes
 abbrev AreIn : ArrayVec ℕ → List Record → Type 0
 AreIn p rs = AllByRecursion (λ r. beginning r.key ≡ p.items) rs
 
+-- those of each group begin with its own
 abbrev AreBegun : List Entry → Type 0
 AreBegun es = AllByRecursion (λ e. AreIn e.0 e.1) es
 
@@ -85,6 +88,7 @@ later-same : (p : ArrayVec ℕ) (b : ArrayVec ℕ) (es : List Entry) → beginni
 later-same p b [] is later = tt
 later-same p b (e ∷ es) is later = (beginning_total.congr p b e.0 is ∙ later.0, later-same p b es is later.1)
 
+-- the test of such bytes, as the map's calls have it
 abbrev pub at_beginning : ArrayVec ℕ → ArrayVec ℕ → Bool
 at_beginning p = is_at (beginning_cmp p)
 
@@ -96,6 +100,7 @@ all-split : (P : Record → Type 0) (rs ts : List Record) → AllByRecursion P (
 all-split P [] ts all = (tt, all)
 all-split P (r ∷ rs) ts all = let h = all-split P rs ts all.1 in ((all.0, h.0), h.1)
 
+-- the records of all groups
 abbrev pub all_of : List Entry → List Record
 all_of es = joined (values_of es)
 
@@ -245,9 +250,10 @@ module _ (p : ArrayVec ℕ) where
       step Equal is next = (in-same p e.0 w is all, begun.1)
       step Greater is next = (begun.0, next)
 
-begun-remove : (test : ArrayVec ℕ → Bool) (es : List Entry) → AreBegun es → AreBegun (remove_entry test es)
-begun-remove test [] begun = tt
-begun-remove test (e ∷ es) begun = elim (test e.0) as (λ b. AreBegun (cond b es (e ∷ remove_entry test es))) [ true ↦ begun.1 | false ↦ (begun.0, begun-remove test es begun.1) ]
+-- what holds of each entry holds of those that are left
+left-remove : (P : Entry → Type 0) (test : ArrayVec ℕ → Bool) (es : List Entry) → AllByRecursion P es → AllByRecursion P (remove_entry test es)
+left-remove P test [] all = tt
+left-remove P test (e ∷ es) all = elim (test e.0) as (λ b. AllByRecursion P (cond b es (e ∷ remove_entry test es))) [ true ↦ all.1 | false ↦ (all.0, left-remove P test es all.1) ]
 
 -- what holds of each group
 module _ (P : List Record → Type 0) (test : ArrayVec ℕ → Bool) where
@@ -263,10 +269,6 @@ module _ (P : List Record → Type 0) (test : ArrayVec ℕ → Bool) where
   each-set [] w here all = tt
   each-set (e ∷ es) w here all = elim (test e.0) as (λ b. AllByRecursion (λ x. P x.1) (cond b ((e.0, w) ∷ es) (e ∷ set_value test es w))) [ true ↦ (here, all.1) | false ↦ (all.0, each-set es w here all.1) ]
 
-  each-remove : (es : List Entry) → AllByRecursion (λ e. P e.1) es → AllByRecursion (λ e. P e.1) (remove_entry test es)
-  each-remove [] all = tt
-  each-remove (e ∷ es) all = elim (test e.0) as (λ b. AllByRecursion (λ x. P x.1) (cond b es (e ∷ remove_entry test es))) [ true ↦ all.1 | false ↦ (all.0, each-remove es all.1) ]
-
 each-insert : (P : List Record → Type 0) (p : ArrayVec ℕ) (es : List Entry) (w : List Record) → P w → AllByRecursion (λ e. P e.1) es → AllByRecursion (λ e. P e.1) (insert_entry beginning_cmp es p w)
 each-insert P p [] w here all = (here, tt)
 each-insert P p (e ∷ es) w here all =
@@ -276,6 +278,7 @@ each-insert P p (e ∷ es) w here all =
       | Greater ↦ (all.0, each-insert P p es w here all.1)
     ]
 
+-- there is a record
 abbrev HasOne : List Record → Type 0
 HasOne rs = rs ≢ []
 
@@ -298,6 +301,7 @@ remove-set test (e ∷ es) w = step (test e.0) refl (remove-set test es w)
     step true is next = ap (λ b. cond b es ((e.0, w) ∷ remove_entry test es)) is
     step false is next = ap (λ b. cond b (set_value test es w) (e ∷ remove_entry test (set_value test es w))) is ∙ ap (λ l. e ∷ l) next
 
+-- records of a namespace are of one
 pub one-of : (place : ℕ) (rs : List Record) → IsOf place rs → AreOfOne rs
 one-of place [] of = tt
 one-of place (r ∷ rs) of = subst (λ n. IsOf n (r ∷ rs)) (sym of.0) of
@@ -380,8 +384,8 @@ module _ (es ts : List Entry) (p : ArrayVec ℕ) (g w : List Record) (groups : A
 
       pub groups-removed : IsStrictlySortedBy beginning_cmp (keys_of us) → AreGroups us
       groups-removed still = record {
-        begun = subst AreBegun (sym rest) (begun-remove (at_beginning p) es groups.begun);
-        full = subst (AllByRecursion (λ e. HasOne e.1)) (sym rest) (each-remove HasOne (at_beginning p) es groups.full);
+        begun = subst AreBegun (sym rest) (left-remove (λ e. AreIn e.0 e.1) (at_beginning p) es groups.begun);
+        full = subst (AllByRecursion (λ e. HasOne e.1)) (sym rest) (left-remove (λ e. HasOne e.1) (at_beginning p) es groups.full);
         ordered = still;
         alike = subst AreOfOne (sym all-removed) alike-without;
       }
@@ -511,21 +515,13 @@ take-append (suc n) (x ∷ xs) ys =
     let e : n - length (take n xs) ≡ suc n - suc (length (take n xs)) = omega arith in
     ap (λ l. x ∷ l) (take-append n xs ys) ∙ ap (λ k. x ∷ (take n xs ++ take k ys)) e
 
-map-append : {X Y : Type 0} (f : X → Y) (xs ys : List X) → map f (xs ++ ys) ≡ map f xs ++ map f ys
-map-append f [] ys = refl
-map-append f (x ∷ xs) ys = ap (λ l. f x ∷ l) (map-append f xs ys)
-
-length-map : {X Y : Type 0} (f : X → Y) (xs : List X) → length (map f xs) ≡ length xs
-length-map f [] = refl
-length-map f (x ∷ xs) = ap suc (length-map f xs)
-
 -- the infos of two lists, one after the other
 infos-append : (n : ℕ) (asked : Filter) (rs ts : List Record) → infos_of n asked (rs ++ ts) ≡ infos_of n asked rs ++ infos_of (n - length (infos_of n asked rs)) asked ts
 infos-append n asked rs ts =
     ap (λ l. map info_of (take n l)) (filter-append (is_asked asked) rs ts)
     ∙ ap (map info_of) (take-append n (filter (is_asked asked) rs) (filter (is_asked asked) ts))
     ∙ map-append info_of (take n (filter (is_asked asked) rs)) _
-    ∙ ap (λ k. infos_of n asked rs ++ map info_of (take (n - k) (filter (is_asked asked) ts))) (sym (length-map info_of (take n (filter (is_asked asked) rs))))
+    ∙ ap (λ k. infos_of n asked rs ++ map info_of (take (n - k) (filter (is_asked asked) ts))) (sym (length-map (take n (filter (is_asked asked) rs)) info_of))
 
 -- a walk: the infos so far, and those of the groups that are left
 pub page-begin : (most : ℕ) (asked : Filter) (after : Bytes) (start : ArrayVec ℕ) (es ts : List Entry) (infos : List Info) → start.items ≡ beginning after → AreGroups es → infos ≡ []

@@ -157,7 +157,7 @@ impl Ordered {
     ///
     /// It begins by a search for the text and ends once it has so many. Its cost grows besides with
     /// the records that it passes, and with the texts and labels of the infos. The memory is that of
-    /// the infos and of a copy of the text.
+    /// the infos and, where keys begin alike, of a copy of the text at a time.
     pub(crate) fn page(
         &self,
         alloc: Global,
