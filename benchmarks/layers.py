@@ -157,13 +157,13 @@ def measure_library(library, plain):
     for layers in LAYERS:
         for entries in ENTRIES:
             say(f"library: {layers} layers of {entries} entries")
-            with Pair([library], [plain, "layers"]) as pair:
+            with Pair([library, "lists"], [plain, "layers"]) as pair:
                 stack_of(pair, layers, entries)
                 looks(pair, layers, entries)
                 edits(pair, layers, entries)
                 renames(pair, layers, 10, entries)
     say(f"library: {MOST_LAYERS} layers of {MANY_ENTRIES} entries")
-    with Pair([library], [plain, "layers"]) as pair:
+    with Pair([library, "lists"], [plain, "layers"]) as pair:
         stack_of(pair, MOST_LAYERS, MANY_ENTRIES)
         looks(pair, MOST_LAYERS, MANY_ENTRIES)
         edits(pair, MOST_LAYERS, MANY_ENTRIES)
@@ -173,7 +173,7 @@ def measure_library(library, plain):
 def measure_memory(library, plain):
     entries = ENTRIES[-1]
     say(f"memory of a layer of {entries} files")
-    with Pair([library], [plain, "layers"]) as pair:
+    with Pair([library, "lists"], [plain, "layers"]) as pair:
         # One chunk before, so that what any list of operations takes is there.
         fill(pair, ["mkdir /usr", f"mkdir {DIRECTORY}", *(f"create {name(k, 'none')}" for k in range(CHUNK))])
         before = pair.resident_bytes()
@@ -196,7 +196,7 @@ def measure_memory(library, plain):
 def measure_deep(library, plain):
     """A look alone, and the same beside a path of many names and a directory of many."""
     say(f"a path of {DEEP_NAMES} names")
-    with Pair([library], [plain, "layers"]) as pair:
+    with Pair([library, "lists"], [plain, "layers"]) as pair:
         fill(pair, ["mkdir /etc", f"create {BESIDE}"])
         figure("library", "look in a small layer", 1, 1, "us", *measure_looks(pair, [BESIDE] * PATHS))
         deeper = ["mkdir /b", "rename /a /b/a", "rename /b /a"]

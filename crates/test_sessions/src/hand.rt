@@ -1,16 +1,13 @@
 // An open snapshot as a script holds it.
 ghost use Rattle.std.specs.Prelude.{◌<◌};
 
-use crate::refused::Refused;
-use snap_book::{Active, Held, Refusal, Sealed};
+use crate::known::Key;
+use snap_book::{Held, Refusal, Sealed};
 use snap_ledger::StoreName;
-use snap_merge::{FsError, Stack};
 use snap_record::Text;
 use snap_script::Answer;
 use snap_store::{Session, Store};
-use snap_upper::Op;
 use snap_usage::Usage;
-use snap_writers::run;
 use std::alloc::{AllocError, Global};
 use std::sync::Wait;
 
@@ -32,13 +29,12 @@ impl Room {
 // The snapshot, with its key. One that is dropped is discarded, in memory that was taken before, since the
 // snapshot has to be spent where a run ends for want of memory.
 pub(crate) struct Hand<'a, N: StoreName, R: Wait> {
-    rt: &'a R,
-    store: &'a Store<N>,
-    namespace: Text,
-    key: Text,
-    id: u32,
-    room: Room,
-    held: Held<N>,
+    pub(crate) rt: &'a R,
+    pub(crate) store: &'a Store<N>,
+    pub(crate) key: Key,
+    pub(crate) id: u32,
+    pub(crate) room: Room,
+    pub(crate) held: Held<N>,
 }
 
 impl<'a, N: StoreName, R: Wait> Drop for Hand<'a, N, R> {
@@ -46,7 +42,6 @@ impl<'a, N: StoreName, R: Wait> Drop for Hand<'a, N, R> {
         let Hand {
             rt,
             store,
-            namespace: _,
             key: _,
             id: _,
             room,
@@ -68,88 +63,7 @@ fn seal<N: StoreName>(held: Held<N>) -> Result<Sealed<N>, Held<N>> {
     }
 }
 
-// The operation by a session that isn't open, which can't charge.
-fn apply_uncharged<N: StoreName>(active: &mut Active<N>, op: &Op) -> Result<(), Refused> {
-    match active.apply(op) {
-        Ok(()) => Ok(()),
-        Err(FsError::NeedsCharge(_)) => Err(Refused::NoSession),
-        Err(error) => Err(Refused::File(error)),
-    }
-}
-
 impl<'a, N: StoreName, R: Wait> Hand<'a, N, R> {
-    pub(crate) fn of(
-        rt: &'a R,
-        store: &'a Store<N>,
-        namespace: Text,
-        key: Text,
-        room: Room,
-        active: Active<N>,
-    ) -> Hand<'a, N, R> {
-        Hand {
-            rt,
-            store,
-            namespace,
-            key,
-            id: active.id(),
-            room,
-            held: Held::Active(active),
-        }
-    }
-
-    pub(crate) fn is_of(&self, namespace: &str, key: &str) -> bool {
-        self.namespace.as_str() == namespace && self.key.as_str() == key
-    }
-
-    // What it shows.
-    pub(crate) fn stack(&self) -> Stack<'_> {
-        match &self.held {
-            Held::Active(active) => active.stack(),
-            Held::Sealed(sealed) => sealed.stack(),
-        }
-    }
-
-    pub(crate) fn charge(
-        &mut self,
-        session: &mut Session,
-        need: Usage,
-        want: Usage,
-    ) -> Result<Answer, Refused> {
-        let Held::Active(active) = &mut self.held else {
-            return Err(Refused::NoHand);
-        };
-        self.store.charge(self.rt, session, active, need, want)?;
-        Ok(Answer::Share(active.share()))
-    }
-
-    pub(crate) fn trim(&mut self, session: &mut Session) -> Result<Answer, Refused> {
-        let Held::Active(active) = &mut self.held else {
-            return Err(Refused::NoHand);
-        };
-        self.store.trim(self.rt, session, active)?;
-        Ok(Answer::Share(active.share()))
-    }
-
-    // The operation, with the charge that it needs.
-    pub(crate) fn apply(
-        &mut self,
-        session: Option<&mut Session>,
-        op: &Op,
-        extra: Usage,
-    ) -> Result<Answer, Refused> {
-        let Held::Active(active) = &mut self.held else {
-            return Err(Refused::NoHand);
-        };
-        match session {
-            Some(session) => run(self.store, self.rt, session, active, op, extra)?,
-            None => apply_uncharged(active, op)?,
-        }
-        Ok(Answer::Changed {
-            count: active.count(),
-            share: active.share(),
-        })
-    }
-
     // Seals what is held, and commits it. Where that is refused the hand comes back.
     pub(crate) fn commit(
         self,
@@ -160,7 +74,6 @@ impl<'a, N: StoreName, R: Wait> Hand<'a, N, R> {
         let Hand {
             rt,
             store,
-            namespace,
             key,
             id,
             room,
@@ -176,7 +89,6 @@ impl<'a, N: StoreName, R: Wait> Hand<'a, N, R> {
         let hand = Hand {
             rt,
             store,
-            namespace,
             key,
             id,
             room,
@@ -185,18 +97,18 @@ impl<'a, N: StoreName, R: Wait> Hand<'a, N, R> {
         Err((why, hand))
     }
 
-    // Discards what is held. Where memory for the entry is refused the hand is dropped.
-    pub(crate) fn discard(self, session: &mut Session) -> Result<Usage, AllocError> {
-        session.reserve(1)?;
+    // Discards what is held.
+    pub(crate) fn discard(self, session: &mut Session) -> Usage
+        requires { 0 < session.old.spare }
+    {
         let Hand {
             rt,
             store,
-            namespace: _,
             key: _,
             id: _,
             room: _,
             held,
         } = self;
-        Ok(store.discard(rt, session, held))
+        store.discard(rt, session, held)
     }
 }

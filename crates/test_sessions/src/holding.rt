@@ -1,11 +1,16 @@
 // The commands on snapshots that the script holds.
 use crate::hand::Hand;
+use crate::known::{Kept, Key};
 use crate::refused::Refused;
 use crate::round::{Round, session_at};
+use snap_book::Held;
 use snap_ledger::StoreName;
+use snap_merge::FsError;
 use snap_record::Text;
-use snap_script::Answer;
+use snap_script::{Answer, FileCommand};
+use snap_upper::Op;
 use snap_usage::Usage;
+use snap_writers::run;
 use std::sync::Wait;
 
 // The hand goes out of its place.
@@ -31,19 +36,27 @@ impl<'a, N: StoreName, R: Wait> Round<'a, N, R> {
     ) -> Result<Answer, Refused> {
         let place = self.found(namespace, key)?;
         let session = session_at(&mut self.sessions, n)?;
-        match self.hands.get_mut(place) {
-            Some(hand) => hand.charge(session, need, want),
-            None => Err(Refused::NoHand),
-        }
+        let Some(hand) = self.hands.get_mut(place) else {
+            return Err(Refused::NoHand);
+        };
+        let Held::Active(active) = &mut hand.held else {
+            return Err(Refused::NoHand);
+        };
+        self.store.charge(self.rt, session, active, need, want)?;
+        Ok(Answer::Share(active.share()))
     }
 
     pub(crate) fn trim(&mut self, n: u64, namespace: &str, key: &str) -> Result<Answer, Refused> {
         let place = self.found(namespace, key)?;
         let session = session_at(&mut self.sessions, n)?;
-        match self.hands.get_mut(place) {
-            Some(hand) => hand.trim(session),
-            None => Err(Refused::NoHand),
-        }
+        let Some(hand) = self.hands.get_mut(place) else {
+            return Err(Refused::NoHand);
+        };
+        let Held::Active(active) = &mut hand.held else {
+            return Err(Refused::NoHand);
+        };
+        self.store.trim(self.rt, session, active)?;
+        Ok(Answer::Share(active.share()))
     }
 
     pub(crate) fn commit(
@@ -56,11 +69,12 @@ impl<'a, N: StoreName, R: Wait> Round<'a, N, R> {
     ) -> Result<Answer, Refused> {
         let place = self.found(namespace, key)?;
         let session = session_at(&mut self.sessions, n)?;
-        let kept = self.known.kept_as(namespace, name)?;
+        self.known.kept.reserve(1)?;
+        let key = Key::new(self.alloc, namespace, name)?;
         let hand = take(&mut self.hands, place)?;
         match hand.commit(session, name, lease) {
             Ok(answer) => {
-                self.known.keep(kept, None)?;
+                self.known.kept.push(Kept { key, view: None })?;
                 Ok(answer)
             }
             Err((why, hand)) => {
@@ -80,6 +94,41 @@ impl<'a, N: StoreName, R: Wait> Round<'a, N, R> {
         let session = session_at(&mut self.sessions, n)?;
         session.reserve(1)?;
         let hand = take(&mut self.hands, place)?;
-        Ok(Answer::Freed(hand.discard(session)?))
+        Ok(Answer::Freed(hand.discard(session)))
+    }
+
+    // The operation, with the charge that it needs. A session that isn't open can't charge.
+    fn apply(&mut self, n: u64, place: usize, op: &Op, extra: Usage) -> Result<Answer, Refused> {
+        let Some(hand) = self.hands.get_mut(place) else {
+            return Err(Refused::NoHand);
+        };
+        let Held::Active(active) = &mut hand.held else {
+            return Err(Refused::NoHand);
+        };
+        match self.sessions.get_mut(n as usize) {
+            Some(session) => run(self.store, self.rt, session, active, op, extra)?,
+            None => match active.apply(op) {
+                Ok(()) => {}
+                Err(FsError::NeedsCharge(_)) => return Err(Refused::NoSession),
+                Err(error) => return Err(Refused::File(error)),
+            },
+        }
+        Ok(Answer::Changed {
+            count: active.count(),
+            share: active.share(),
+        })
+    }
+
+    pub(crate) fn file(
+        &mut self,
+        n: u64,
+        namespace: &str,
+        key: &str,
+        operation: FileCommand,
+        extra: Usage,
+    ) -> Result<Answer, Refused> {
+        let place = self.found(namespace, key)?;
+        let op = operation.into_operation(self.alloc)?;
+        self.apply(n, place, &op, extra)
     }
 }

@@ -1,33 +1,14 @@
-// The lines of a script, and those of its answers.
+// The lines that are written.
 use crate::stop::Stop;
-use snap_script::{Answer, Command, Line, read_line};
+use snap_script::Answer;
 use std::alloc::Global;
 use std::io::Write;
-use std::str::Lines;
 
-// A command, and the number of its session.
-#[derive(Drop)]
-pub(crate) struct Told {
-    pub(crate) session: u64,
-    pub(crate) command: Command,
-}
-
-// The next command; none at the end of the lines.
-pub(crate) fn next_command(
-    alloc: Global,
-    lines: &mut Lines<'_>,
-    opened: bool,
-) -> Result<Option<Told>, Stop> {
-    for _ in 0..u64::MAX {
-        let Some(line) = lines.next() else {
-            return Ok(None);
-        };
-        match read_line(alloc, line.as_bytes(), opened)? {
-            Line::Empty => {}
-            Line::Command { session, command } => return Ok(Some(Told { session, command })),
-        }
+pub(crate) fn write_line<W: Write>(output: &mut W, line: &str) -> Result<(), Stop> {
+    match output.write_all(line.as_bytes()) {
+        Ok(()) => Ok(()),
+        Err(_) => Err(Stop::OutputFailed),
     }
-    Ok(None)
 }
 
 // The command was carried out, so where memory for the line is refused it is made again.
@@ -40,8 +21,5 @@ pub(crate) fn write_answer<W: Write>(
         Ok(line) => line,
         Err(_) => answer.line(alloc)?,
     };
-    match output.write_all(line.as_bytes()) {
-        Ok(()) => Ok(()),
-        Err(_) => Err(Stop::OutputFailed),
-    }
+    write_line(output, line.as_str())
 }

@@ -1,6 +1,8 @@
 // What a snapshot shows at a path.
+use crate::known::Kept;
 use crate::refused::Refused;
 use crate::round::Round;
+use snap_book::Held;
 use snap_layer::Bytes;
 use snap_ledger::StoreName;
 use snap_merge::{Seen, Stack};
@@ -27,23 +29,7 @@ fn shown_of(alloc: Global, seen: Seen<'_>) -> Result<Shown, AllocError> {
     }
 }
 
-fn look(alloc: Global, stack: &Stack<'_>, path: &Path) -> Result<Answer, Refused> {
-    match stack.look(path) {
-        Some(seen) => Ok(Answer::Seen(Some(shown_of(alloc, seen)?))),
-        None => Ok(Answer::Seen(None)),
-    }
-}
-
-// The file's first bytes, and how many it has.
-fn read(alloc: Global, stack: &Stack<'_>, path: &Path) -> Result<Answer, Refused> {
-    let bytes = stack.read(path)?;
-    let first = &bytes[..HEAD_BYTES.min(bytes.len())];
-    Ok(Answer::Head {
-        head: Bytes::copy_of(alloc, first)?,
-        size: bytes.len() as u64,
-    })
-}
-
+// Of a file that is read, the first bytes, and how many it has.
 fn looked_up(
     alloc: Global,
     lookup: Lookup,
@@ -51,9 +37,19 @@ fn looked_up(
     path: &Path,
 ) -> Result<Answer, Refused> {
     match lookup {
-        Lookup::Look => look(alloc, stack, path),
+        Lookup::Look => match stack.look(path) {
+            Some(seen) => Ok(Answer::Seen(Some(shown_of(alloc, seen)?))),
+            None => Ok(Answer::Seen(None)),
+        },
         Lookup::List => Ok(Answer::Names(Sequence::from(stack.list(alloc, path)?))),
-        Lookup::Read => read(alloc, stack, path),
+        Lookup::Read => {
+            let bytes = stack.read(path)?;
+            let first = &bytes[..HEAD_BYTES.min(bytes.len())];
+            Ok(Answer::Head {
+                head: Bytes::copy_of(alloc, first)?,
+                size: bytes.len() as u64,
+            })
+        }
         Lookup::Resolve => Ok(Answer::Path(stack.resolve(alloc, path)?)),
     }
 }
@@ -61,12 +57,21 @@ fn looked_up(
 impl<'a, N: StoreName, R: Wait> Round<'a, N, R> {
     // The layers of an open snapshot, or of a view.
     fn stack(&self, namespace: &str, key: &str) -> Result<Stack<'_>, Refused> {
-        if let Some(view) = self.known.view(namespace, key) {
+        if let Some(
+            Kept {
+                view: Some(view),
+                ..
+            },
+        ) = self.known.find(namespace, key)
+        {
             return Ok(view.stack());
         }
         let place = self.found(namespace, key)?;
         match self.hands.get(place) {
-            Some(hand) => Ok(hand.stack()),
+            Some(hand) => match &hand.held {
+                Held::Active(active) => Ok(active.stack()),
+                Held::Sealed(sealed) => Ok(sealed.stack()),
+            },
             None => Err(Refused::NoHand),
         }
     }

@@ -1,45 +1,101 @@
-//! Tests: scripts on a store; no part of the product.
+//! Tests: scripts on a store, and line by line with memory refused; no part of the product.
 //!
-//! The program reads a script from standard input and carries it out on a `Store`, where the product's
-//! program carries it out on a `World`. Its answers are the same, so the scripts and outputs of `examples/`
-//! show the store's own surface: calls by sessions with their tapes, open snapshots that are held as values,
-//! operations through `run`, and the close.
+//! Without a word the program reads a script from standard input and carries it out on a `Store`, where the
+//! product's program carries it out on a `World`. Its answers are the same, so the scripts and outputs of
+//! `examples/` show the store's own surface: calls by sessions with their tapes, open snapshots that are held as
+//! values, operations through `run`, and the close. `report` is not answered, nor are `tree` and `journal`, since a
+//! store lends no records. At the end of the input what is still held is discarded, the store is closed with all
+//! sessions, and the report of the closed store is written. Where memory is refused to a line of an open store, the
+//! line is carried out once more: so a run in which one allocation is refused there writes what a run with ample
+//! memory writes.
 //!
-//! `report` is not answered, since a store lends no records. At the end of the input what is still held is
-//! discarded, the store is closed with all sessions, and the report of the closed store is written. Where
-//! memory is refused to a line of an open store, the line is carried out once more: so a run in which one
-//! allocation is refused there writes what a run with ample memory writes. The status is 1 where the store is
-//! not closed, 2 for a line that is no command, 3 where a read or a write failed, and 4 for want of memory
-//! elsewhere.
+//! With the word `steps` it carries the script out as the product's program does, on a `World`, line by line. Where
+//! memory is refused to a line of an open store it writes `refused`, and carries the line out again. After each
+//! answer and after each `refused` it writes what stands then: the tree of each namespace, and the report. So what a
+//! refusal leaves can be compared with what stood before, and the answers with those of a run that was refused
+//! nothing.
+//!
+//! The status is 1 where the store is not closed, 2 for a line that is no command or another word, 3 where a read
+//! or a write failed, and 4 for want of memory where nothing is carried out again: while the input is read and a
+//! store is opened.
 #![tactic(auto)]
 
+ghost use Rattle.std.specs.Prelude.{◌≡◌};
+
 mod calls;
-mod file_commands;
 mod hand;
 mod holding;
 mod known;
 mod lines;
 mod lookups;
+mod play;
 mod refused;
 mod round;
 mod script;
-mod step;
+mod steps;
 mod stop;
 
-use crate::script::replay;
+use crate::script::carry_out;
+use crate::steps::carry_out_by_steps;
 use crate::stop::Stop;
-use std::io;
+use snap_ledger::{NewTable, StoreName};
+use std::alloc::Global;
 use std::io::{BufWriter, Write};
+use std::marker::Brand;
 use std::process::ExitCode;
+use std::rt::Env;
+use std::str::Lines;
 use std::sync::Wait;
+use std::{env, io};
 
-fn replayed<R: Wait + Input + Print + AllocGlobal>(rt: &R) -> Result<(), Stop> {
+// Whether the word asks for steps.
+fn asks_for_steps(rt: &(impl Env + AllocGlobal)) -> Result<bool, Stop> {
+    let mut words = env::args(rt)?;
+    let _ = words.next();
+    match words.next() {
+        None => Ok(false),
+        Some(word) if word.as_str() == "steps" => Ok(true),
+        Some(_) => Err(Stop::Word),
+    }
+}
+
+fn run<N: StoreName, R: Wait, W: Write>(
+    alloc: Global,
+    rt: &R,
+    table: NewTable,
+    by_steps: bool,
+    lines: &mut Lines<'_>,
+    output: &mut W,
+) -> Result<(), Stop>
+    requires { table ≡ N.table }
+{
+    if by_steps {
+        carry_out_by_steps::<N, W>(alloc, table, lines, output)
+    } else {
+        carry_out::<N, R, W>(alloc, rt, table, lines, output)
+    }
+}
+
+// Carries out the script. The store's name is made here.
+fn replay<R: Wait, W: Write>(
+    rt: &R,
+    alloc: Global,
+    by_steps: bool,
+    text: &str,
+    output: &mut W,
+) -> Result<(), Stop> {
+    let table = NewTable::new(alloc)?;
+    run::<Brand, R, W>(alloc, rt, table, by_steps, &mut text.lines(), output)
+}
+
+fn replayed<R: Wait + Env + Input + Print + AllocGlobal>(rt: &R) -> Result<(), Stop> {
     let alloc = rt.alloc();
+    let by_steps = asks_for_steps(rt)?;
     let text = io::read_to_string(alloc, rt.reader())?;
     let Ok(mut output) = BufWriter::new(alloc, io::writer(rt)) else {
         return Err(Stop::NoMemory);
     };
-    let ended = replay(rt, alloc, text.as_str(), &mut output);
+    let ended = replay(rt, alloc, by_steps, text.as_str(), &mut output);
     match output.flush() {
         Ok(()) => ended,
         Err(_) => Err(Stop::OutputFailed),

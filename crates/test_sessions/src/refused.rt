@@ -6,7 +6,7 @@ use snap_script::Answer;
 use snap_writers::RunError;
 use std::alloc::{AllocError, AllocFailed};
 
-#[derive(Clone, Copy, Debug, PartialEq, Eq)]
+#[derive(Clone, Copy)]
 pub(crate) enum Refused {
     // The session isn't open.
     NoSession,

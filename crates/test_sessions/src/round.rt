@@ -1,10 +1,11 @@
 // A round of a store: its sessions, and the open snapshots in the script's hands.
+ghost use Rattle.std.specs.Prelude.{◌≤◌, OnOk};
+
 use crate::hand::Hand;
 use crate::known::Known;
 use crate::refused::Refused;
 use crate::stop::Stop;
 use snap_book::Refusal;
-use snap_call::limits::MAX_JOURNAL;
 use snap_ledger::StoreName;
 use snap_script::Answer;
 use snap_store::{Session, Store};
@@ -20,6 +21,8 @@ pub(crate) struct Round<'a, N: StoreName, R: Wait> {
     pub(crate) known: Known,
     pub(crate) sessions: Vec<Session>,
     pub(crate) hands: Vec<Hand<'a, N, R>>,
+    // The entries of the next round, once the script asks for it.
+    pub(crate) next: Option<u64>,
 }
 
 // What is left of a round that has ended.
@@ -27,6 +30,7 @@ pub(crate) struct Round<'a, N: StoreName, R: Wait> {
 pub(crate) struct Ended {
     pub(crate) sessions: Vec<Session>,
     pub(crate) known: Known,
+    pub(crate) next: Option<u64>,
 }
 
 // The session of this number.
@@ -38,7 +42,9 @@ pub(crate) fn session_at(sessions: &mut Vec<Session>, n: u64) -> Result<&mut Ses
 }
 
 // Memory for an entry, asked for again where it was refused.
-fn reserve_again(session: &mut Session) -> Result<(), AllocError> {
+fn reserve_again(session: &mut Session) -> Result<(), AllocError>
+    ensures { OnOk result (1 ≤ session.new.spare) }
+{
     match session.reserve(1) {
         Ok(()) => Ok(()),
         Err(_) => session.reserve(1),
@@ -46,23 +52,6 @@ fn reserve_again(session: &mut Session) -> Result<(), AllocError> {
 }
 
 impl<'a, N: StoreName, R: Wait> Round<'a, N, R> {
-    // Without a session.
-    pub(crate) fn begin(
-        alloc: Global,
-        rt: &'a R,
-        store: &'a Store<N>,
-        known: Known,
-    ) -> Round<'a, N, R> {
-        Round {
-            alloc,
-            rt,
-            store,
-            known,
-            sessions: Vec::new(alloc),
-            hands: Vec::new(alloc),
-        }
-    }
-
     // Opens a session: its number.
     pub(crate) fn open_session(&mut self) -> Result<u64, Refused> {
         self.sessions.reserve(1)?;
@@ -72,43 +61,26 @@ impl<'a, N: StoreName, R: Wait> Round<'a, N, R> {
         Ok(number)
     }
 
-    fn open_first(&mut self) -> Result<Answer, Stop> {
-        match self.open_session() {
+    // What `open` and `reopen` are answered: whether session 0 is open. It is opened again where memory was
+    // refused.
+    pub(crate) fn first_session(&mut self) -> Result<Answer, Stop> {
+        let opened = match self.open_session() {
+            Err(Refused::Book(Refusal::OutOfMemory)) => self.open_session(),
+            opened => opened,
+        };
+        match opened {
             Ok(_) => Ok(Answer::Done),
             Err(refused) => refused.answer(),
         }
     }
 
-    // What `open` and `reopen` are answered: whether session 0 is open. It is opened again where memory was
-    // refused.
-    pub(crate) fn first_session(&mut self) -> Result<Answer, Stop> {
-        match self.open_first() {
-            Err(Stop::NoMemory) => self.open_first(),
-            answer => answer,
-        }
-    }
-
     // The place of the hand that has the key.
     pub(crate) fn found(&self, namespace: &str, key: &str) -> Result<usize, Refused> {
-        let place = self
-            .hands
-            .iter()
-            .position(|hand| hand.is_of(namespace, key));
-        match place {
+        let mut hands = self.hands.iter();
+        match hands.position(|hand| hand.key.is(namespace, key)) {
             Some(place) => Ok(place),
             None => Err(Refused::Book(self.known.refusal(namespace, key))),
         }
-    }
-
-    // Whether the next round, of so many entries, can begin.
-    pub(crate) fn check_end(&self, journal: u64) -> Result<(), Refused> {
-        if !self.hands.is_empty() {
-            return Err(Refused::StillOut);
-        }
-        if journal > MAX_JOURNAL {
-            return Err(Refused::Book(Refusal::BadArgument));
-        }
-        Ok(())
     }
 
     // Discards what is still held, by session 0.
@@ -120,13 +92,18 @@ impl<'a, N: StoreName, R: Wait> Round<'a, N, R> {
             known,
             mut sessions,
             hands,
+            next,
         } = self;
         if let Some(session) = sessions.first_mut() {
             for hand in hands {
                 reserve_again(session)?;
-                let _ = hand.discard(session)?;
+                let _ = hand.discard(session);
             }
         }
-        Ok(Ended { sessions, known })
+        Ok(Ended {
+            sessions,
+            known,
+            next,
+        })
     }
 }

@@ -1,19 +1,18 @@
-// A script: its store is opened, goes through its rounds, and is closed.
+// A script on a store, which is opened, goes through its rounds, and is closed.
 ghost use Rattle.std.specs.Prelude.{◌≡◌};
 
 use crate::known::Known;
-use crate::lines::{Told, next_command, write_answer};
+use crate::lines::write_answer;
 use crate::round::{Ended, Round};
 use crate::stop::Stop;
 use snap_book::{Config, Refusal};
 use snap_ledger::{NewTable, StoreName};
 use snap_record::{Sequence, Text};
-use snap_script::{Answer, Command};
+use snap_script::{Answer, Command, Line, names_of, read_line};
 use snap_store::{Cause, Closed, NotClosed, Session, Store};
 use snap_usage::Usage;
 use std::alloc::{AllocError, Global};
 use std::io::Write;
-use std::marker::Brand;
 use std::str::Lines;
 use std::sync::Wait;
 
@@ -25,17 +24,6 @@ struct Past<N: StoreName> {
     next: Option<u64>,
 }
 
-// Why no store is opened with the configuration.
-fn refusal_of(config: &Config) -> Option<Refusal> {
-    if !config.is_valid() {
-        Some(Refusal::BadArgument)
-    } else if config.journal == 0 {
-        Some(Refusal::JournalFull)
-    } else {
-        None
-    }
-}
-
 // The first configuration with which a store opens. Those before are refused.
 fn first_config<W: Write>(
     alloc: Global,
@@ -43,20 +31,28 @@ fn first_config<W: Write>(
     output: &mut W,
 ) -> Result<Option<Config>, Stop> {
     for _ in 0..u64::MAX {
-        let Some(told) = next_command(alloc, lines, false)? else {
+        let Some(line) = lines.next() else {
             return Ok(None);
         };
-        let Told {
+        let told = read_line(alloc, line.as_bytes(), false)?;
+        let Line::Command {
             session: _,
-            command: Command::Open { config },
+            command,
         } = told
         else {
+            continue;
+        };
+        let Command::Open { config } = command else {
             return Err(Stop::Line);
         };
-        match refusal_of(&config) {
-            Some(why) => write_answer(alloc, output, &Answer::Refused(why))?,
-            None => return Ok(Some(config)),
-        }
+        let why = if !config.is_valid() {
+            Refusal::BadArgument
+        } else if config.journal == 0 {
+            Refusal::JournalFull
+        } else {
+            return Ok(Some(config));
+        };
+        write_answer(alloc, output, &Answer::Refused(why))?;
     }
     Ok(None)
 }
@@ -88,11 +84,23 @@ fn one_round<N: StoreName, R: Wait, W: Write>(
     lines: &mut Lines<'_>,
     output: &mut W,
 ) -> Result<Past<N>, Stop> {
-    let mut round = Round::begin(alloc, rt, &store, known);
+    let mut round = Round {
+        alloc,
+        rt,
+        store: &store,
+        known,
+        sessions: Vec::new(alloc),
+        hands: Vec::new(alloc),
+        next: None,
+    };
     let answer = round.first_session()?;
     write_answer(alloc, output, &answer)?;
-    let next = round.play(lines, output)?;
-    let Ended { sessions, known } = round.end()?;
+    round.play(lines, output)?;
+    let Ended {
+        sessions,
+        known,
+        next,
+    } = round.end()?;
     let closed = close(store, sessions)?;
     Ok(Past {
         closed,
@@ -101,30 +109,22 @@ fn one_round<N: StoreName, R: Wait, W: Write>(
     })
 }
 
-// What the namespaces are charged.
-fn totals_of<N: StoreName>(
-    alloc: Global,
-    closed: &Closed<N>,
-    names: &[Text],
-) -> Result<Sequence<(Text, Usage)>, AllocError> {
-    let mut totals = Sequence::new(alloc);
-    for name in names {
-        let total = closed.totals(name.as_str()).unwrap_or(Usage::ZERO);
-        totals.push((name.clone()?, total))?;
-    }
-    Ok(totals)
-}
-
+// The report of a closed store: of each namespace, what it is charged.
 fn report<N: StoreName>(
     alloc: Global,
     closed: &Closed<N>,
     names: &[Text],
 ) -> Result<Answer, AllocError> {
+    let mut totals = Sequence::new(alloc);
+    for name in names {
+        let total = closed.totals(name.as_str()).unwrap_or(Usage::ZERO);
+        totals.push((name.clone()?, total))?;
+    }
     Ok(Answer::Report {
         entries: closed.journal().len() as u64,
         actives: 0,
         records: closed.records().len() as u64,
-        totals: totals_of(alloc, closed, names)?,
+        totals,
     })
 }
 
@@ -141,13 +141,14 @@ fn rounds<N: StoreName, R: Wait, W: Write>(
         let past = one_round(alloc, rt, store, known, lines, output)?;
         let Past {
             closed,
-            known: names,
+            known: left,
             next,
         } = past;
         let Some(journal) = next else {
-            let answer = match report(alloc, &closed, names.names()) {
+            let names = left.names.as_slice();
+            let answer = match report(alloc, &closed, names) {
                 Ok(answer) => answer,
-                Err(_) => report(alloc, &closed, names.names())?,
+                Err(_) => report(alloc, &closed, names)?,
             };
             return write_answer(alloc, output, &answer);
         };
@@ -155,12 +156,12 @@ fn rounds<N: StoreName, R: Wait, W: Write>(
             return Err(Stop::NotClosed);
         };
         store = reopened;
-        known = names;
+        known = left;
     }
     Err(Stop::NotClosed)
 }
 
-fn run<N: StoreName, R: Wait, W: Write>(
+pub(crate) fn carry_out<N: StoreName, R: Wait, W: Write>(
     alloc: Global,
     rt: &R,
     table: NewTable,
@@ -172,20 +173,12 @@ fn run<N: StoreName, R: Wait, W: Write>(
     let Some(config) = first_config(alloc, lines, output)? else {
         return Ok(());
     };
-    let known = Known::of(alloc, config.namespaces.as_slice())?;
+    let known = Known {
+        names: names_of(alloc, config.namespaces.as_slice())?,
+        kept: Vec::new(alloc),
+    };
     let Ok(store) = Store::<N>::open(alloc, table, config) else {
         return Err(Stop::NoMemory);
     };
     rounds(alloc, rt, store, known, lines, output)
-}
-
-// Carries out the script. The store's name is made here.
-pub(crate) fn replay<R: Wait, W: Write>(
-    rt: &R,
-    alloc: Global,
-    text: &str,
-    output: &mut W,
-) -> Result<(), Stop> {
-    let table = NewTable::new(alloc)?;
-    run::<Brand, R, W>(alloc, rt, table, &mut text.lines(), output)
 }

@@ -1,15 +1,18 @@
 // Why a run ends before the end of its input.
 use snap_script::ReadError;
-use std::alloc::{AllocError, AllocFailed};
+use snap_session::NoMemory;
+use std::alloc::AllocError;
 use std::io::ErrorKind;
 use std::{fmt, io};
 
-#[derive(Clone, Copy, Debug, PartialEq, Eq)]
+#[derive(Clone, Copy)]
 pub(crate) enum Stop {
     // The store was not closed, or no next round of it was opened.
     NotClosed,
     // A line is no command.
     Line,
+    // A word asks for nothing.
+    Word,
     InputFailed,
     OutputFailed,
     NoMemory,
@@ -19,7 +22,7 @@ impl Stop {
     pub(crate) fn status(self) -> u8 {
         match self {
             Stop::NotClosed => 1,
-            Stop::Line => 2,
+            Stop::Line | Stop::Word => 2,
             Stop::InputFailed | Stop::OutputFailed => 3,
             Stop::NoMemory => 4,
         }
@@ -31,6 +34,7 @@ impl fmt::Display for Stop {
         f.write_str(match self {
             Stop::NotClosed => "the store is not closed",
             Stop::Line => "a line is no command",
+            Stop::Word => "a word asks for nothing",
             Stop::InputFailed => "input failed",
             Stop::OutputFailed => "output failed",
             Stop::NoMemory => "want of memory",
@@ -46,10 +50,10 @@ impl From<AllocError> for Stop {
     }
 }
 
-impl<T: Drop> From<AllocFailed<T>> for Stop {
+impl From<NoMemory> for Stop {
     ghost from_gives = { λ _ _. Unit {0} };
 
-    fn from(_error: AllocFailed<T>) -> Stop {
+    fn from(_error: NoMemory) -> Stop {
         Stop::NoMemory
     }
 }

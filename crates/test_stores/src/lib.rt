@@ -1,16 +1,42 @@
-//! Tests of snap_call and snap_book; no part of the product.
+//! Tests of stores, of the calls of a book, and of what reads scripts and jobs; no part of the product.
 //!
-//! A test whose facts are `prove!` alone is a witness: they follow from the contracts, whatever the
+//! A function whose facts are `prove!` alone is a witness: they follow from the contracts, whatever the
 //! bodies are.
 #![tactic(auto)]
 
 #[cfg(test)]
-mod book;
+mod closes;
 #[cfg(test)]
-mod call;
+mod first_calls;
 #[cfg(test)]
-mod lease;
+mod full;
+#[cfg(test)]
+mod gates;
+#[cfg(test)]
+mod jobs;
+#[cfg(test)]
+mod leases;
 #[cfg(test)]
 mod life;
 #[cfg(test)]
-mod round;
+mod next_round;
+#[cfg(test)]
+mod plain_values;
+#[cfg(test)]
+mod rounds;
+#[cfg(test)]
+mod sent;
+#[cfg(test)]
+mod session_life;
+#[cfg(test)]
+mod setup;
+#[cfg(test)]
+mod store_calls;
+#[cfg(test)]
+mod stores;
+#[cfg(test)]
+mod streams;
+#[cfg(test)]
+mod threads;
+#[cfg(test)]
+mod words;

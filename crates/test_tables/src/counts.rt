@@ -1,21 +1,7 @@
 // How many edits of each kind were made.
-use super::edit::{Answer, Kind};
+use super::edit::{Answer, KINDS, Kind};
+use snap_layer::LayerError;
 use std::io;
-
-/// All kinds, in the order of their counts.
-const KINDS: [Kind; 11] = [
-    Kind::AddDir,
-    Kind::AddFile,
-    Kind::AddSymlink,
-    Kind::AddName,
-    Kind::AddLinked,
-    Kind::AddWhiteout,
-    Kind::TakeName,
-    Kind::MoveTree,
-    Kind::SetBytes,
-    Kind::SetOpaque,
-    Kind::SetMode,
-];
 
 /// How many edits of a kind were made, had no condition that holds, or found the layer full.
 #[derive(Clone, Copy)]
@@ -45,10 +31,14 @@ impl Counts {
         }
     }
 
-    pub(crate) fn add(&mut self, kind: Kind, answer: Answer) {
+    pub(crate) fn add(&mut self, kind: Kind, made: Result<Answer, LayerError>) {
         self.all = self.all.saturating_add(1);
         if let Some(count) = self.of_kinds.get_mut(kind as usize) {
-            count.add(answer);
+            match made {
+                Ok(Answer::Refused) => count.refused = count.refused.saturating_add(1),
+                Ok(_) => count.made = count.made.saturating_add(1),
+                Err(_) => count.full = count.full.saturating_add(1),
+            }
         }
     }
 
@@ -62,17 +52,5 @@ impl Counts {
         }
         let all = self.all;
         println!(rt; "{all} edits, the same")
-    }
-}
-
-impl Count {
-    fn add(&mut self, answer: Answer) {
-        match answer {
-            Answer::Made => self.made = self.made.saturating_add(1),
-            Answer::Numbered(_) => self.made = self.made.saturating_add(1),
-            Answer::Refused => self.refused = self.refused.saturating_add(1),
-            Answer::Full => self.full = self.full.saturating_add(1),
-            Answer::NoMemory => {}
-        }
     }
 }

@@ -5,7 +5,6 @@ use super::paths::Paths;
 use super::plain::Plain;
 use rand_core::utils::NextWord;
 use rand_pcg::Pcg32;
-use snap_layer::LayerError;
 use snap_path::Path;
 use std::fmt;
 
@@ -24,6 +23,21 @@ pub(crate) enum Kind {
     SetOpaque,
     SetMode,
 }
+
+/// All kinds, in their order.
+pub(crate) const KINDS: [Kind; 11] = [
+    Kind::AddDir,
+    Kind::AddFile,
+    Kind::AddSymlink,
+    Kind::AddName,
+    Kind::AddLinked,
+    Kind::AddWhiteout,
+    Kind::TakeName,
+    Kind::MoveTree,
+    Kind::SetBytes,
+    Kind::SetOpaque,
+    Kind::SetMode,
+];
 
 impl fmt::Display for Kind {
     fn fmt<W: fmt::Write>(&self, f: &mut fmt::Formatter<W>) -> fmt::Result {
@@ -58,57 +72,18 @@ pub(crate) struct Edit<'a> {
     pub(crate) bytes: &'a [u8],
 }
 
-impl fmt::Display for Edit<'_> {
-    fn fmt<W: fmt::Write>(&self, f: &mut fmt::Formatter<W>) -> fmt::Result {
-        let kind = self.kind;
-        let path = self.path;
-        let to = self.to;
-        let number = self.number;
-        let mark = self.mark;
-        write!(
-            f,
-            "{kind} at {path} (to {to}, number {number}, mark {mark})"
-        )
-    }
-}
-
-/// What an edit answers.
-#[derive(Clone, Copy, PartialEq, Eq)]
+/// What an edit answers that finds room.
+#[derive(Clone, Copy, PartialEq)]
 pub(crate) enum Answer {
     /// Its condition doesn't hold, so it wasn't made.
     Refused,
     Made,
     /// A file or symlink with the number was made.
     Numbered(u32),
-    Full,
-    NoMemory,
 }
 
-impl Answer {
-    pub(crate) fn of(made: Result<(), LayerError>) -> Answer {
-        match made {
-            Ok(()) => Answer::Made,
-            Err(error) => Answer::of_error(error),
-        }
-    }
-
-    pub(crate) fn of_number(made: Result<u32, LayerError>) -> Answer {
-        match made {
-            Ok(number) => Answer::Numbered(number),
-            Err(error) => Answer::of_error(error),
-        }
-    }
-
-    fn of_error(error: LayerError) -> Answer {
-        match error {
-            LayerError::LayerFull => Answer::Full,
-            LayerError::OutOfMemory => Answer::NoMemory,
-        }
-    }
-}
-
-/// How often each kind is chosen.
-const KINDS: [Kind; 22] = [
+/// How often each kind is chosen: so often as it stands here.
+const CHOICES: [Kind; 22] = [
     Kind::AddDir,
     Kind::AddDir,
     Kind::AddDir,
@@ -144,35 +119,27 @@ pub(crate) fn below(random: &mut Pcg32, limit: u32) -> u32
     random.next_word() % limit
 }
 
-/// An edit of the layer, at some of the paths. Its bytes are some of the given ones.
+/// An edit of the layer, at some of the paths. Its bytes are some of the given ones. Its number is that of a file or
+/// symlink at some path, else the least one, else 0.
 pub(crate) fn choose<'a>(
     random: &mut Pcg32,
     paths: &'a Paths,
     bytes: &'a [u8],
     plain: &Plain,
 ) -> Edit<'a> {
-    let kind = KINDS[below(random, 22) as usize];
+    let kind = CHOICES[below(random, 22) as usize];
     let path = paths.choose(random, plain);
     let to = paths.choose(random, plain);
-    let number = choose_number(random, paths, plain);
+    let named = plain.number_at(paths.choose(random, plain));
     let size = SIZES[below(random, 8) as usize];
     let start = below(random, 1000) as usize;
     Edit {
         kind,
         path,
         to,
-        number,
+        number: named.or(plain.next_body(0)).unwrap_or(0),
         mode: below(random, 4096),
         mark: below(random, 2) == 0,
         bytes: bytes.get(start..start + size).unwrap_or(bytes),
-    }
-}
-
-/// The number of a file or symlink at some path, else the least one, else 0.
-fn choose_number(random: &mut Pcg32, paths: &Paths, plain: &Plain) -> u32 {
-    let path = paths.choose(random, plain);
-    match plain.number_at(path) {
-        Some(number) => number,
-        None => plain.next_body(0).unwrap_or(0),
     }
 }

@@ -1,133 +1,53 @@
-//! Tests: a layer against the plain one; no part of the product.
+//! Tests: a layer against a plain one, and lists of operations on layers; no part of the product.
 //!
 //! `snap_layer` keeps a layer as a table of inodes. `Plain` keeps it as an ordered map from paths to nodes
-//! and one from numbers to bodies. The program tries 100,000 edits on both, which a generator of random
-//! numbers chooses, and makes each whose condition holds for both. It compares what each answers and what is
-//! read afterwards at the paths that it names, and now and then all that can be read.
+//! and one from numbers to bodies. Without a word the program tries 100,000 edits on both, which a generator of
+//! random numbers chooses, and makes each whose condition holds for both. It compares what each answers and what
+//! is read afterwards at the paths that it names, and now and then all that can be read. It prints how many edits
+//! of each kind were made, had no condition that holds, or found the layer full. The status is 1 at the first
+//! difference, which is printed with the edit's number, or for want of memory.
 //!
-//! It prints how many edits of each kind were made, had no condition that holds, or found the layer full.
-//! The status is 1 at the first difference, which is printed with the edit's number, or for want of memory.
+//! With the word `lists` it carries out lists of lookups and operations, so that they can be measured. It reads a
+//! word and a path a line. `look PATH` and the names of operations put something on a list, `looks N` carries the
+//! list of lookups out N times, and `apply` the list of operations once, on each upper layer; `fill` does so as if
+//! there were no lower layers. `commit` makes the upper layer the nearest lower one, and `uppers N` makes N empty
+//! ones in place of those that are there. The lists stay until `clear`. `looks`, `apply` and `fill` are answered,
+//! by counts. So what a lookup or an operation takes is what the program takes between two answers, and the
+//! making of paths is not in it. The status is 1 for want of memory or where a stream fails, and 2 for a line that
+//! is none.
+//!
+//! For any other word the status is 2.
 #![tactic(auto)]
 
 mod counts;
 mod edit;
+mod lists;
 mod on_layer;
 mod on_plain;
 mod pair;
 mod paths;
 mod plain;
-mod plain_edits;
+mod rounds;
 
-use crate::counts::Counts;
-use crate::edit::{Answer, Edit, below, choose};
-use crate::pair::{Fault, Pair};
-use crate::paths::Paths;
-use rand_pcg::Pcg32;
-use std::alloc::{AllocError, Global};
-use std::io;
+use crate::lists::carry_out;
+use crate::rounds::compare;
 use std::process::ExitCode;
+use std::{env, io};
 
-/// How many edits are made on the layers of a round.
-const LENGTHS: [u32; 8] = [50, 150, 300, 500, 1000, 2000, 3500, 5000];
+/// A line or a word that is none.
+const BAD_INPUT: u8 = 2;
 
-/// How many rounds there are.
-const ROUNDS: u32 = 8;
-
-/// After how many edits of a layer everything is compared.
-const PAUSE: u32 = 100;
+/// Does what the word asks for. The answer is the status.
+fn run(rt: &HostRuntime) -> io::Result<u8> {
+    let mut words = env::args(rt)?;
+    let _ = words.next();
+    match words.next() {
+        None => Ok(if compare(rt)? { 0 } else { 1 }),
+        Some(word) if word.as_str() == "lists" => Ok(if carry_out(rt)? { 0 } else { BAD_INPUT }),
+        Some(_) => Ok(BAD_INPUT),
+    }
+}
 
 fn main(rt: HostRuntime) -> ExitCode {
-    match run(&rt) {
-        Ok(true) => ExitCode::from(0),
-        Ok(false) => ExitCode::from(1),
-        Err(_) => ExitCode::from(1),
-    }
-}
-
-/// Makes and compares all edits. The answer is whether there is no difference.
-fn run(rt: &(impl Print + AllocGlobal)) -> io::Result<bool> {
-    let alloc = rt.alloc();
-    let bytes = some_bytes(alloc)?;
-    let short = all_paths(alloc, 1)?;
-    let long = all_paths(alloc, 255)?;
-    let mut random = Pcg32::new(42, 54);
-    let mut counts = Counts::new();
-    for round in 0..ROUNDS {
-        let paths = if round % 4 == 3 { &long } else { &short };
-        for edits in LENGTHS {
-            if !compare_layers(rt, &mut random, paths, &bytes, edits, &mut counts)? {
-                return Ok(false);
-            }
-        }
-    }
-    counts.print(rt)?;
-    Ok(true)
-}
-
-/// Makes so many edits on a new layer and a plain one. The answer is whether there is no difference.
-fn compare_layers(
-    rt: &(impl Print + AllocGlobal),
-    random: &mut Pcg32,
-    paths: &Paths,
-    bytes: &[u8],
-    edits: u32,
-    counts: &mut Counts,
-) -> io::Result<bool> {
-    let mut pair = new_pair(rt.alloc(), random)?;
-    for number in 1..=edits {
-        let edit = choose(random, paths, bytes, &pair.plain);
-        match step(
-            &mut pair,
-            paths,
-            &edit,
-            number % PAUSE == 0 || number == edits,
-        ) {
-            Ok(answer) => counts.add(edit.kind, answer),
-            Err(fault) => {
-                let before = counts.all;
-                println!(rt; "after {before} edits, {edit}: {fault:?}")?;
-                return Ok(false);
-            }
-        }
-    }
-    Ok(true)
-}
-
-fn all_paths(alloc: Global, length: usize) -> Result<Paths, AllocError> {
-    match Paths::new(alloc, length) {
-        Ok(paths) => Ok(paths),
-        Err(_) => Err(AllocError),
-    }
-}
-
-/// Empty layers. Those of every fourth pair have few numbers for files left.
-fn new_pair(alloc: Global, random: &mut Pcg32) -> Result<Pair, AllocError> {
-    let mode = below(random, 4096);
-    let few = below(random, 100);
-    let first = if below(random, 4) == 0 {
-        u32::MAX - few
-    } else {
-        1 + few
-    };
-    Pair::empty_from(alloc, mode, first)
-}
-
-/// Makes the edit on both, and compares them.
-fn step(pair: &mut Pair, paths: &Paths, edit: &Edit, pauses: bool) -> Result<Answer, Fault> {
-    let answer = pair.edit(edit)?;
-    if pauses {
-        pair.compare_all(paths, edit)?;
-    }
-    Ok(answer)
-}
-
-/// Bytes other than NUL.
-fn some_bytes(alloc: Global) -> Result<Vec<u8>, AllocError> {
-    let mut bytes = Vec::new(alloc);
-    for _ in 0..40 {
-        for byte in 1..=251u8 {
-            bytes.push(byte)?;
-        }
-    }
-    Ok(bytes)
+    ExitCode::from(run(&rt).unwrap_or(1))
 }

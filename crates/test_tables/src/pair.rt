@@ -1,45 +1,18 @@
 // A layer and the plain layer, and whether they are the same.
-ghost use Rattle.std.specs.Prelude.{◌≤◌};
-
-use super::edit::{Answer, Edit};
-use super::on_layer::edit_layer;
-use super::on_plain::edit_plain;
+use super::edit::{Answer, Edit, below};
+use super::on_layer::{between, edit_layer, standing};
 use super::paths::Paths;
 use super::plain::Plain;
-use snap_layer::{Body, Layer};
+use rand_pcg::Pcg32;
+use snap_layer::{Layer, LayerError};
 use snap_path::Path;
 use std::alloc::{AllocError, Global};
-
-/// The calls that are compared.
-#[derive(Clone, Copy, Debug)]
-pub(crate) enum Call {
-    Edit,
-    At,
-    AtFront,
-    Children,
-    Body,
-    LinkCount,
-    Inodes,
-    InodesWithout,
-    Blocks,
-    NextNumber,
-    Tally,
-    NextBody,
-    HasParent,
-    HasRoom,
-    HasRooms,
-    HasPlace,
-    IsTakeable,
-    CanMove,
-    HasShortPaths,
-    Equal,
-}
 
 /// Why the comparison ends.
 #[derive(Clone, Copy, Debug)]
 pub(crate) enum Fault {
-    /// The call answers one thing for the layer and another for the plain one.
-    Differs(Call),
+    /// This is one for the layer and another for the plain one.
+    Differs(&'static str),
     NoMemory,
 }
 
@@ -59,20 +32,24 @@ pub(crate) struct Pair {
     first: u32,
 }
 
-fn check(same: bool, call: Call) -> Result<(), Fault> {
-    if same {
+fn check(is_same: bool, what: &'static str) -> Result<(), Fault> {
+    if is_same {
         Ok(())
     } else {
-        Err(Fault::Differs(call))
+        Err(Fault::Differs(what))
     }
 }
 
 impl Pair {
-    /// Both empty, with the number of the first file.
-    pub(crate) fn empty_from(alloc: Global, mode: u32, first: u32) -> Result<Pair, AllocError>
-        requires mode { mode ≤ 4095 }
-        requires first { 1 ≤ first }
-    {
+    /// Empty layers. Those of every fourth pair have few numbers for files left.
+    pub(crate) fn new(alloc: Global, random: &mut Pcg32) -> Result<Pair, AllocError> {
+        let mode = below(random, 4096);
+        let few = below(random, 100);
+        let first = if below(random, 4) == 0 {
+            u32::MAX - few
+        } else {
+            1 + few
+        };
         Ok(Pair {
             layer: Layer::empty_from(alloc, mode, first)?,
             plain: Plain::empty_from(alloc, mode, first)?,
@@ -80,107 +57,79 @@ impl Pair {
         })
     }
 
-    /// Makes the edit on both, and compares what it answers and where it was made.
-    pub(crate) fn edit(&mut self, edit: &Edit) -> Result<Answer, Fault> {
-        let answer = edit_layer(&mut self.layer, edit);
-        check(answer == edit_plain(&mut self.plain, edit), Call::Edit)?;
-        self.compare_counts()?;
+    /// Makes the edit on both, and compares what it answers and where it was made; at a pause everything, and copies
+    /// before and after the edit is made on them once more.
+    pub(crate) fn edit(
+        &mut self,
+        edit: &Edit,
+        pause: Option<&Paths>,
+    ) -> Result<Result<Answer, LayerError>, Fault> {
+        let made = edit_layer(&mut self.layer, edit);
+        check(made == self.plain.edit(edit), "the answer")?;
+        if made == Err(LayerError::OutOfMemory) {
+            return Err(Fault::NoMemory);
+        }
+        let (tally, inodes) = (self.layer.tally(), self.layer.inodes());
+        let sums = (tally, inodes, self.layer.blocks(), self.layer.next_number());
+        check(sums == self.plain.sums(), "a sum")?;
         self.compare_at(edit.path)?;
         self.compare_at(edit.to)?;
-        self.compare_move(edit.path, edit.to)?;
+        let between = between(&self.layer, edit.path, edit.to);
+        check(
+            between == self.plain.between(edit.path, edit.to),
+            "two paths",
+        )?;
         self.compare_body(edit.number)?;
-        Ok(answer)
-    }
-
-    fn compare_counts(&self) -> Result<(), Fault> {
-        check(self.layer.inodes() == self.plain.inodes(), Call::Inodes)?;
-        check(self.layer.blocks() == self.plain.blocks(), Call::Blocks)?;
-        let next = self.layer.next_number();
-        check(next == self.plain.next_number(), Call::NextNumber)
+        if let Some(paths) = pause {
+            self.compare_all(paths)?;
+            self.compare_copies(edit)?;
+        }
+        Ok(made)
     }
 
     /// Compares what stands at the path and at those above it, and what may be done there.
     fn compare_at(&self, path: &Path) -> Result<(), Fault> {
-        let (layer, plain) = (&self.layer, &self.plain);
-        check(layer.at(path) == plain.at(path), Call::At)?;
+        check(
+            standing(&self.layer, path) == self.plain.standing(path),
+            "a path",
+        )?;
         for names in 0..path.names().len() {
-            check(
-                layer.at_front(path, names) == plain.at_front(path, names),
-                Call::AtFront,
-            )?;
+            let at = self.layer.at_front(path, names);
+            check(at == self.plain.at_front(path, names), "a path's front")?;
         }
-        check(
-            layer.has_parent(path) == plain.has_parent(path),
-            Call::HasParent,
-        )?;
-        check(layer.has_room(path) == plain.has_room(path), Call::HasRoom)?;
-        check(
-            layer.has_place(path) == plain.has_place(path),
-            Call::HasPlace,
-        )?;
-        check(
-            layer.is_takeable(path) == plain.is_takeable(path),
-            Call::IsTakeable,
-        )?;
-        let left = layer.inodes_without(path);
-        check(left == plain.inodes_without(path), Call::InodesWithout)
+        Ok(())
     }
 
-    /// Compares what may be done at both paths.
-    fn compare_move(&self, from: &Path, to: &Path) -> Result<(), Fault> {
-        let can = self.layer.can_move(from, to);
-        check(can == self.plain.can_move(from, to), Call::CanMove)?;
-        let rooms = self.layer.has_rooms(from, to);
-        check(rooms == self.plain.has_rooms(from, to), Call::HasRooms)?;
-        if from.names().is_empty() || to.names().is_empty() {
-            return Ok(());
-        }
-        let short = self.layer.has_short_paths(from, to);
+    /// Compares the file or symlink with the number, how many names it has, and the number after it.
+    fn compare_body(&self, number: u32) -> Result<(), Fault> {
+        let (layer, plain) = (&self.layer, &self.plain);
+        check(layer.body(number) == plain.bodies.get(&number), "a body")?;
         check(
-            short == self.plain.has_short_paths(from, to),
-            Call::HasShortPaths,
+            layer.link_count(number) == plain.link_count(number),
+            "the names of a body",
+        )?;
+        check(
+            layer.next_body(number) == plain.next_body(number),
+            "the next body",
         )
     }
 
-    fn compare_body(&self, number: u32) -> Result<(), Fault> {
-        let body = self.layer.body(number);
-        check(is_same_body(body, self.plain.body(number)), Call::Body)?;
-        let links = self.layer.link_count(number);
-        check(links == self.plain.link_count(number), Call::LinkCount)
-    }
-
-    /// Compares everything, and copies before and after the edit is made on them.
-    pub(crate) fn compare_all(&self, paths: &Paths, edit: &Edit) -> Result<(), Fault> {
+    fn compare_all(&self, paths: &Paths) -> Result<(), Fault> {
         for path in &paths.list {
-            check(self.layer.at(path) == self.plain.at(path), Call::At)?;
+            let at = self.layer.at(path);
+            check(at == self.plain.entries.get(path).copied(), "a node")?;
         }
-        for path in self.plain.entries.keys() {
+        for (path, _) in &self.plain.entries {
             self.compare_at(path)?;
-            self.compare_children(path)?;
+            let children = self.layer.children(path)?;
+            check(
+                self.plain.has_children(path, &children),
+                "the names in a directory",
+            )?;
         }
+        self.compare_body(0)?;
         for number in self.first..self.plain.next {
             self.compare_body(number)?;
-        }
-        self.compare_numbers()?;
-        check(self.layer.tally() == self.plain.tally(), Call::Tally)?;
-        self.compare_copies(edit)
-    }
-
-    fn compare_children(&self, path: &Path) -> Result<(), Fault> {
-        let children = self.layer.children(path)?;
-        check(children == self.plain.children(path)?, Call::Children)
-    }
-
-    /// Compares the numbers that files and symlinks have.
-    fn compare_numbers(&self) -> Result<(), Fault> {
-        let mut after = 0;
-        for _ in 0..u32::MAX {
-            let next = self.layer.next_body(after);
-            check(next == self.plain.next_body(after), Call::NextBody)?;
-            match next {
-                Some(number) => after = number,
-                None => break,
-            }
         }
         Ok(())
     }
@@ -188,21 +137,15 @@ impl Pair {
     fn compare_copies(&self, edit: &Edit) -> Result<(), Fault> {
         let mut layer = self.layer.copy()?;
         let mut plain = self.plain.copy()?;
+        check(layer == self.layer && plain.is_same(&self.plain), "a copy")?;
         check(
-            layer == self.layer && plain.is_same(&self.plain),
-            Call::Equal,
+            edit_layer(&mut layer, edit) == plain.edit(edit),
+            "the answer of a copy",
         )?;
-        let answer = edit_layer(&mut layer, edit);
-        check(answer == edit_plain(&mut plain, edit), Call::Edit)?;
-        let equal = layer == self.layer;
-        check(equal == plain.is_same(&self.plain), Call::Equal)
-    }
-}
-
-fn is_same_body(one: Option<&Body>, other: Option<&Body>) -> bool {
-    match (one, other) {
-        (Some(one), Some(other)) => one == other,
-        (None, None) => true,
-        _ => false,
+        let is_same = layer == self.layer;
+        check(
+            is_same == plain.is_same(&self.plain),
+            "a copy after an edit",
+        )
     }
 }

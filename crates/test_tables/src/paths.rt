@@ -2,7 +2,8 @@
 use super::edit::below;
 use super::plain::Plain;
 use rand_pcg::Pcg32;
-use snap_path::{Name, Path, PathError};
+use snap_layer::Node;
+use snap_path::{Name, Path};
 use std::alloc::{AllocError, Global};
 
 /// The letters of the names.
@@ -22,13 +23,15 @@ pub(crate) struct Paths {
 
 impl Paths {
     /// Each name is so many times its letter.
-    pub(crate) fn new(alloc: Global, length: usize) -> Result<Paths, PathError> {
+    pub(crate) fn new(alloc: Global, length: usize) -> Result<Paths, AllocError> {
         let mut list = Vec::new(alloc);
         list.push(Path::root(alloc))?;
         for place in 0..UP_TO_FOUR {
             for letter in LETTERS {
-                let name = name_of(alloc, letter, length)?;
-                push_below(&mut list, place, &name)?;
+                if let Some(directory) = list.get(place) {
+                    let path = path_below(alloc, directory, letter, length)?;
+                    list.push(path)?;
+                }
             }
         }
         Ok(Paths {
@@ -40,45 +43,40 @@ impl Paths {
     /// Some path: most often one whose parent is a directory of the layer.
     pub(crate) fn choose(&self, random: &mut Pcg32, plain: &Plain) -> &Path {
         if below(random, 8) == 0 {
-            return self.at(below(random, UP_TO_FIVE) as usize);
+            let place = below(random, UP_TO_FIVE) as usize;
+            return self.list.get(place).unwrap_or(&self.root);
         }
-        let mut place = 0usize;
+        let (mut place, mut path) = (0usize, &self.root);
         for _ in 0..5 {
-            if below(random, 5) == 0 || !is_dir(plain, self.at(place)) {
+            let stands = plain.entries.get(path);
+            if below(random, 5) == 0 || !matches!(stands, Some(Node::Dir { .. })) {
                 break;
             }
             let next = below(random, 4) as usize;
             place = place.saturating_mul(4).saturating_add(1 + next);
+            path = self.list.get(place).unwrap_or(&self.root);
         }
-        self.at(place)
-    }
-
-    fn at(&self, place: usize) -> &Path {
-        self.list.get(place).unwrap_or(&self.root)
+        path
     }
 }
 
-fn is_dir(plain: &Plain, path: &Path) -> bool {
-    match plain.at(path) {
-        Some(node) => node.is_dir(),
-        None => false,
-    }
-}
-
-/// The name of so many times the letter.
-fn name_of(alloc: Global, letter: char, length: usize) -> Result<Name, PathError> {
+/// The path of a name in the directory: so many times the letter.
+fn path_below(
+    alloc: Global,
+    directory: &Path,
+    letter: char,
+    length: usize,
+) -> Result<Path, AllocError> {
     let mut text = String::new(alloc);
     for _ in 0..length {
         text.push(letter)?;
     }
-    Name::parse(alloc, text.as_str())
-}
-
-/// Appends the path of the name in the directory at the place.
-fn push_below(list: &mut Vec<Path>, place: usize, name: &Name) -> Result<(), PathError> {
-    if let Some(directory) = list.get(place) {
-        let path = directory.join(name)?;
-        list.push(path)?;
+    // Such a name and such a path are valid, so it is memory that is refused.
+    let Ok(name) = Name::parse(alloc, text.as_str()) else {
+        return Err(AllocError);
+    };
+    match directory.join(&name) {
+        Ok(path) => Ok(path),
+        Err(_) => Err(AllocError),
     }
-    Ok(())
 }

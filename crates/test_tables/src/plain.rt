@@ -6,13 +6,24 @@ use std::alloc::{AllocError, Global};
 use std::collections::BTreeMap;
 
 /// A layer as an ordered map from paths to nodes and one from numbers to bodies, for comparison with
-/// `snap_layer::Layer`. It has the layer's calls. Each counts from scratch, and passes over all paths.
+/// `snap_layer::Layer`. It answers what the layer does. Each answer counts from scratch, and passes over all paths.
 #[derive(Drop)]
 pub(crate) struct Plain {
     pub(crate) alloc: Global,
     pub(crate) entries: BTreeMap<Path, Node>,
     pub(crate) bodies: BTreeMap<u32, Body>,
     pub(crate) next: u32,
+}
+
+/// What stands at a path, and what may be done there: a call of the layer each.
+#[derive(Clone, Copy, PartialEq)]
+pub(crate) struct Standing {
+    pub(crate) at: Option<Node>,
+    pub(crate) has_parent: bool,
+    pub(crate) has_room: bool,
+    pub(crate) has_place: bool,
+    pub(crate) is_takeable: bool,
+    pub(crate) inodes_without: usize,
 }
 
 impl Plain {
@@ -42,9 +53,9 @@ impl Plain {
         })
     }
 
-    /// What stands at the path.
-    pub(crate) fn at(&self, path: &Path) -> Option<Node> {
-        self.entries.get(path).copied()
+    /// Whether the entries, the bodies and the next numbers are the same.
+    pub(crate) fn is_same(&self, other: &Plain) -> bool {
+        self.entries == other.entries && self.bodies == other.bodies && self.next == other.next
     }
 
     /// What stands at the path of the first so many names of a path.
@@ -58,152 +69,118 @@ impl Plain {
         None
     }
 
-    /// The names in a directory.
-    pub(crate) fn children(&self, path: &Path) -> Result<Vec<Name>, AllocError> {
-        let mut names = Vec::new(self.alloc);
-        for other in self.entries.keys() {
+    /// Whether these are the names in a directory, in their order.
+    pub(crate) fn has_children(&self, path: &Path, children: &[Name]) -> bool {
+        let mut children = children.iter();
+        for (other, _) in &self.entries {
             if let Some(name) = name_below(path, other) {
-                names.push(name.clone()?)?;
+                if children.next() != Some(name) {
+                    return false;
+                }
             }
         }
-        Ok(names)
-    }
-
-    /// The file or symlink with the number.
-    pub(crate) fn body(&self, number: u32) -> Option<&Body> {
-        self.bodies.get(&number)
-    }
-
-    /// How many names the file number has.
-    pub(crate) fn link_count(&self, number: u32) -> usize {
-        self.entries
-            .values()
-            .filter(|node| node.has_number(number))
-            .count()
-    }
-
-    /// The directories, the whiteouts, and the files and symlinks.
-    pub(crate) fn inodes(&self) -> usize {
-        let unnumbered = self.entries.values().filter(|node| node.number().is_none());
-        unnumbered.count() + self.bodies.len()
-    }
-
-    /// The inodes that are left where what stands at the path and below it is taken. A file or symlink
-    /// goes where it stands at the path, and has no name elsewhere.
-    pub(crate) fn inodes_without(&self, path: &Path) -> usize {
-        let unnumbered = self.entries.iter().filter(|(other, node)| !other.begins(path)
-            && node.number().is_none());
-        let left = unnumbered.count() + self.bodies.len();
-        match self.number_at(path) {
-            Some(number) if self.names_outside(path, number) == 0 => left.saturating_sub(1),
-            _ => left,
-        }
-    }
-
-    /// How many names the file number has elsewhere than at the path and below it.
-    fn names_outside(&self, path: &Path, number: u32) -> usize {
-        self.entries
-            .iter()
-            .filter(|(other, node)| !other.begins(path) && node.has_number(number))
-            .count()
-    }
-
-    /// The blocks of the directories and the files.
-    pub(crate) fn blocks(&self) -> u64 {
-        let mut blocks = 0u64;
-        for node in self.entries.values() {
-            blocks = blocks.saturating_add(u64::from(node.is_dir()));
-        }
-        for body in self.bodies.values() {
-            blocks = blocks.saturating_add(body.blocks());
-        }
-        blocks
-    }
-
-    /// The number of the next file or symlink.
-    pub(crate) fn next_number(&self) -> u32 {
-        self.next
-    }
-
-    /// How many directories and how many whiteouts there are.
-    pub(crate) fn tally(&self) -> (usize, usize) {
-        let dirs = self.entries.values().filter(|node| node.is_dir());
-        let whiteouts = self.entries.values().filter(|node| node.is_whiteout());
-        (dirs.count(), whiteouts.count())
-    }
-
-    /// The least number above `after` that a file or symlink has.
-    pub(crate) fn next_body(&self, after: u32) -> Option<u32> {
-        self.bodies.keys().copied().find(|number| *number > after)
-    }
-
-    /// Whether the path isn't the root, and its parent is a directory.
-    pub(crate) fn has_parent(&self, path: &Path) -> bool {
-        let names = path.names().len();
-        if names == 0 {
-            return false;
-        }
-        match self.at_front(path, names - 1) {
-            Some(node) => node.is_dir(),
-            None => false,
-        }
-    }
-
-    /// Whether a directory may be added at the path.
-    pub(crate) fn has_room(&self, path: &Path) -> bool {
-        let free = match self.at(path) {
-            Some(node) => node.is_whiteout(),
-            None => true,
-        };
-        free && self.has_parent(path)
-    }
-
-    /// Whether a new file may be added at the path with one more name at the link.
-    pub(crate) fn has_rooms(&self, path: &Path, link: &Path) -> bool {
-        self.at(path).is_none() && self.has_parent(path) && self.has_room(link) && path != link
-    }
-
-    /// Whether what stands at the path may be replaced.
-    pub(crate) fn has_place(&self, path: &Path) -> bool {
-        self.has_parent(path) && self.has_whiteouts_alone(path)
-    }
-
-    /// Whether what stands at the path may be taken.
-    pub(crate) fn is_takeable(&self, path: &Path) -> bool {
-        !path.names().is_empty() && self.at(path).is_some() && self.has_whiteouts_alone(path)
-    }
-
-    /// Whether what stands at `from` may move to `to`.
-    pub(crate) fn can_move(&self, from: &Path, to: &Path) -> bool {
-        if self.at(from).is_none() || !self.has_place(to) {
-            return false;
-        }
-        !to.begins(from) && !from.begins(to) && self.has_short_paths(from, to)
-    }
-
-    /// Whether what stands at `from` and below it would have paths of at most 4095 bytes at `to`.
-    pub(crate) fn has_short_paths(&self, from: &Path, to: &Path) -> bool {
-        let front = from.as_str().len();
-        let target = to.as_str().len();
-        self.entries.keys().all(|other| {
-            !other.begins(from) || other.as_str().len() + target <= MAX_PATH_BYTES + front
-        })
-    }
-
-    /// Whether the entries, the bodies and the next numbers are the same.
-    pub(crate) fn is_same(&self, other: &Plain) -> bool {
-        self.entries == other.entries && self.bodies == other.bodies && self.next == other.next
+        children.next().is_none()
     }
 
     /// The file number at the path.
     pub(crate) fn number_at(&self, path: &Path) -> Option<u32> {
-        self.at(path)?.number()
+        self.entries.get(path)?.number()
     }
 
-    /// Whether nothing but whiteouts lies in the directory.
-    fn has_whiteouts_alone(&self, path: &Path) -> bool {
-        self.entries.iter().all(|(other, node)| name_below(path, other).is_none()
-            || node.is_whiteout())
+    /// How many names the file number has.
+    pub(crate) fn link_count(&self, number: u32) -> usize {
+        let mut links = 0usize;
+        for (_, node) in &self.entries {
+            links = links.saturating_add(usize::from(node.has_number(number)));
+        }
+        links
+    }
+
+    /// The least number above `after` that a file or symlink has.
+    pub(crate) fn next_body(&self, after: u32) -> Option<u32> {
+        for (number, _) in &self.bodies {
+            if *number > after {
+                return Some(*number);
+            }
+        }
+        None
+    }
+
+    /// The directories and the whiteouts; these, and the files and symlinks; the blocks of the directories and the
+    /// files; and the number of the next file or symlink.
+    pub(crate) fn sums(&self) -> ((usize, usize), usize, u64, u32) {
+        let (mut dirs, mut whiteouts, mut blocks) = (0usize, 0usize, 0u64);
+        for (_, node) in &self.entries {
+            dirs = dirs.saturating_add(usize::from(node.is_dir()));
+            whiteouts = whiteouts.saturating_add(usize::from(node.is_whiteout()));
+            blocks = blocks.saturating_add(u64::from(node.is_dir()));
+        }
+        for (_, body) in &self.bodies {
+            blocks = blocks.saturating_add(body.blocks());
+        }
+        let unnumbered = dirs.saturating_add(whiteouts);
+        let inodes = unnumbered.saturating_add(self.bodies.len());
+        ((dirs, whiteouts), inodes, blocks, self.next)
+    }
+
+    pub(crate) fn standing(&self, path: &Path) -> Standing {
+        let at = self.entries.get(path).copied();
+        let names = path.names().len();
+        let parent = if names > 0 {
+            self.at_front(path, names - 1)
+        } else {
+            None
+        };
+        let has_parent = matches!(parent, Some(Node::Dir { .. }));
+        let mut has_whiteouts_alone = true;
+        for (other, node) in &self.entries {
+            if !node.is_whiteout() && name_below(path, other).is_some() {
+                has_whiteouts_alone = false;
+            }
+        }
+        Standing {
+            at,
+            has_parent,
+            has_room: has_parent && matches!(at, None | Some(Node::Whiteout)),
+            has_place: has_parent && has_whiteouts_alone,
+            is_takeable: names > 0 && at.is_some() && has_whiteouts_alone,
+            inodes_without: self.inodes_without(path),
+        }
+    }
+
+    /// The inodes that are left where what stands at the path and below it is taken. A file or symlink
+    /// goes where it stands at the path, and has no other name.
+    pub(crate) fn inodes_without(&self, path: &Path) -> usize {
+        let mut left = self.bodies.len();
+        for (other, node) in &self.entries {
+            if !other.begins(path) && node.number().is_none() {
+                left = left.saturating_add(1);
+            }
+        }
+        match self.number_at(path) {
+            Some(number) if self.link_count(number) == 1 => left.saturating_sub(1),
+            _ => left,
+        }
+    }
+
+    /// Whether a new file may be added at `from` with one more name at `to`; whether what stands at `from` may move to
+    /// `to`; and whether it and all below it would have paths of at most 4095 bytes there, or one path is the root.
+    pub(crate) fn between(&self, from: &Path, to: &Path) -> (bool, bool, bool) {
+        let (source, target) = (self.standing(from), self.standing(to));
+        let (front, length) = (from.as_str().len(), to.as_str().len());
+        let mut is_short = true;
+        for (path, _) in &self.entries {
+            if path.begins(from) && path.as_str().len() + length > MAX_PATH_BYTES + front {
+                is_short = false;
+            }
+        }
+        let is_apart = !to.begins(from) && !from.begins(to);
+        let has_root = from.names().is_empty() || to.names().is_empty();
+        (
+            source.at.is_none() && source.has_parent && target.has_room && from != to,
+            source.at.is_some() && target.has_place && is_apart && is_short,
+            has_root || is_short,
+        )
     }
 }
 

@@ -1,6 +1,0 @@
-use Rattle.std.proofs.Common.{◌∙◌}
-use Rattle.test_history.proofs.Worked.{page_told}
-use Rattle.test_history.proofs.witness.first_page.Goals as goal
-
-pub returns : goal.returns
-returns c = page_told _ _ c.history.result (c.deref.ensures.value ∙ c.in_ok-entries.ensures) c.usage.ensures c.history.ensures

@@ -1,0 +1,98 @@
+// Edits of a layer, and what they make of its nodes and of its usage.
+use crate::setup::{layer, path};
+use snap_layer::{Body, Bytes, Layer, LayerError, Node};
+use snap_path::Path;
+use snap_path::limits::DEFAULT_MODE;
+use snap_usage::{count, recount};
+
+#[test]
+fn the_root_alone(rt: HostRuntime) {
+    let mut layer = layer(&rt, rt.alloc(), DEFAULT_MODE);
+    let usage = count(&layer);
+    prove!(usage.blocks == 1);
+    prove!(usage.inodes == 1);
+    let again = recount(&layer);
+    prove!(again == usage);
+    let next = layer.next_number();
+    prove!(next == 1);
+    let root = Path::root(rt.alloc());
+    layer.set_opaque(&root, true);
+    layer.set_mode(&root, 448);
+    let node = layer.at(&root);
+    prove!(matches!(
+        &node,
+        Some(Node::Dir {
+            mode: 448,
+            opaque: true
+        })
+    ));
+}
+
+#[test]
+fn equal_layers(rt: HostRuntime) {
+    let layer = layer(&rt, rt.alloc(), DEFAULT_MODE);
+    let copy = layer.copy().expect(&rt, "memory for a copy");
+    let same = copy == layer;
+    prove!(same);
+    let other = Layer::empty_from(rt.alloc(), DEFAULT_MODE, 7);
+    let other = other.expect(&rt, "memory for a layer");
+    let same = other == layer;
+    prove!(!same);
+}
+
+#[test]
+fn a_whiteout(rt: HostRuntime) {
+    let mut layer = layer(&rt, rt.alloc(), DEFAULT_MODE);
+    let path = path(&rt, rt.alloc(), "/a");
+    assert!(rt; layer.has_place(&path));
+    layer
+        .add_whiteout(&path)
+        .expect(&rt, "memory for a whiteout");
+    let usage = count(&layer);
+    prove!(usage.blocks == 1);
+    prove!(usage.inodes == 2);
+    let node = layer.at(&path);
+    prove!(matches!(&node, Some(Node::Whiteout)));
+}
+
+#[test]
+fn a_file(rt: HostRuntime) {
+    let mut layer = layer(&rt, rt.alloc(), DEFAULT_MODE);
+    let path = path(&rt, rt.alloc(), "/f");
+    let bytes = Bytes::copy_of(rt.alloc(), b"hi").expect(&rt, "memory for bytes");
+    assert!(rt; layer.has_place(&path));
+    let number = layer
+        .add_file(&path, 420, bytes)
+        .expect(&rt, "memory for a file");
+    prove!(number == 1);
+    let usage = count(&layer);
+    prove!(usage.blocks == 2);
+    prove!(usage.inodes == 2);
+}
+
+#[test]
+fn a_file_with_two_names(rt: HostRuntime) {
+    let mut layer = layer(&rt, rt.alloc(), DEFAULT_MODE);
+    let (file, link) = (path(&rt, rt.alloc(), "/f"), path(&rt, rt.alloc(), "/g"));
+    let bytes = Bytes::copy_of(rt.alloc(), b"hi").expect(&rt, "memory for bytes");
+    assert!(rt; layer.has_rooms(&file, &link));
+    let added = layer.add_linked(&file, &link, Body::File { mode: 420, bytes });
+    added.expect(&rt, "memory for a file");
+    let usage = count(&layer);
+    prove!(usage.blocks == 2);
+    prove!(usage.inodes == 2);
+    let names = layer.link_count(1);
+    prove!(names == 2);
+    let next = layer.next_number();
+    prove!(next == 2);
+}
+
+#[test]
+fn file_numbers_end(rt: HostRuntime) {
+    let last = Layer::empty_from(rt.alloc(), DEFAULT_MODE, 4_294_967_295);
+    let mut layer = last.expect(&rt, "memory for a layer");
+    let path = path(&rt, rt.alloc(), "/f");
+    assert!(rt; layer.has_place(&path));
+    let refused = layer.add_file(&path, 420, Bytes::new(Vec::new(rt.alloc())));
+    prove!(matches!(&refused, Err(LayerError::LayerFull)));
+}

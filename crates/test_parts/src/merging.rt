@@ -1,0 +1,69 @@
+// What a stack shows, and what is below an upper layer, by layers of a root alone.
+ghost use Rattle.std.specs.Prelude.{◌≡◌};
+ghost use Rattle.snap_layer.specs.Edits.{root_only};
+
+use crate::setup::{layer, path};
+use snap_copyup::{below, is_pure};
+use snap_layer::Shared;
+use snap_merge::{FsError, Seen, Stack, hides};
+use snap_path::Path;
+use snap_path::limits::DEFAULT_MODE;
+use std::alloc::Global;
+use std::process::Abort;
+
+/// A lower layer with a root of mode octal 755.
+fn lower<R: Abort>(rt: &R, alloc: Global) -> Shared
+    ensures { result ≡ root_only 493 1 }
+{
+    Shared::new(alloc, layer(rt, alloc, DEFAULT_MODE)).expect(rt, "memory for a lower layer")
+}
+
+#[test]
+fn what_roots_show(rt: HostRuntime) {
+    let root = Path::root(rt.alloc());
+    let (lowers, top) = ([lower(&rt, rt.alloc())], layer(&rt, rt.alloc(), 448));
+    let seen = Stack::over(&top, &lowers).look(&root);
+    prove!(matches!(&seen, Some(Seen::Dir { mode: 448 })));
+    let under = Stack::of(&lowers).look(&root);
+    prove!(matches!(&under, Some(Seen::Dir { mode: DEFAULT_MODE })));
+}
+
+#[test]
+fn nothing_is_there(rt: HostRuntime) {
+    let layer = layer(&rt, rt.alloc(), DEFAULT_MODE);
+    let stack = Stack::over(&layer, &[]);
+    let walked = stack.walk(&path(&rt, rt.alloc(), "/no/x"));
+    prove!(matches!(&walked, Err(FsError::NotFound)));
+    let read = stack.read(&Path::root(rt.alloc()));
+    prove!(matches!(&read, Err(FsError::IsDir)));
+}
+
+#[test]
+fn the_root_is_empty(rt: HostRuntime) {
+    let layer = layer(&rt, rt.alloc(), DEFAULT_MODE);
+    let stack = Stack::over(&layer, &[]);
+    let root = Path::root(rt.alloc());
+    let names = stack.list(rt.alloc(), &root);
+    let names = names.expect(&rt, "memory for a list").len();
+    prove!(names == 0);
+    let place = stack.resolve(rt.alloc(), &root);
+    let place = place.expect(&rt, "memory for a path");
+    let place = place.as_str();
+    prove!(place == "/");
+}
+
+#[test]
+fn an_opaque_root_is_pure(rt: HostRuntime) {
+    let lowers = [lower(&rt, rt.alloc())];
+    let mut layer = layer(&rt, rt.alloc(), 448);
+    let root = Path::root(rt.alloc());
+    let pure = is_pure(&layer, &lowers, &root);
+    prove!(!pure);
+    layer.set_opaque(&root, true);
+    let pure = is_pure(&layer, &lowers, &root);
+    prove!(pure);
+    let hidden = hides(&layer, &path(&rt, rt.alloc(), "/a"));
+    prove!(hidden);
+    let under = below(&layer, &lowers, &root);
+    prove!(matches!(&under, Some(Seen::Dir { mode: DEFAULT_MODE })));
+}

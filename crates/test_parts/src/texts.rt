@@ -1,0 +1,48 @@
+// The texts of errors, and of a usage.
+use crate::setup::{equal, usage};
+use snap_layer::LayerError;
+use snap_lease::LeaseError;
+use snap_merge::FsError;
+use snap_path::PathError;
+
+#[test]
+fn texts_of_file_calls(rt: HostRuntime) {
+    for (error, text) in [
+        (FsError::BadPath, "invalid path"),
+        (FsError::NotFound, "no such file or directory"),
+        (FsError::NotDir, "not a directory"),
+        (FsError::IsDir, "is a directory"),
+        (FsError::Exists, "file exists"),
+        (FsError::NotEmpty, "directory not empty"),
+        (FsError::CrossDevice, "invalid cross-device link"),
+        (FsError::Invalid, "invalid argument"),
+        (FsError::NotPermitted, "operation not permitted"),
+        (FsError::TooBig, "file too large"),
+        (FsError::LayerFull, "the layer is full"),
+        (
+            FsError::NeedsCharge(usage(4, 3)),
+            "a charge of 4/3 is needed",
+        ),
+        (FsError::TooManyLinks, "too many levels of symbolic links"),
+        (FsError::OutOfMemory, "out of memory"),
+    ] {
+        let found = format!(in rt.alloc(); "{error}").expect(&rt, "memory for a text");
+        equal(&rt, found.as_str(), text);
+    }
+}
+
+#[test]
+fn other_texts(rt: HostRuntime) {
+    let (bad, no_path) = (PathError::BadPath, PathError::OutOfMemory);
+    let (full, no_layer) = (LayerError::LayerFull, LayerError::OutOfMemory);
+    let (none, there) = (LeaseError::NoLease, LeaseError::LeaseExists);
+    let (no_lease, usage) = (LeaseError::OutOfMemory, usage(4, 3));
+    let found = format!(in rt.alloc();
+        "{bad}, {no_path}; {full}, {no_layer}; {none}, {there}, {no_lease}; {usage}"
+    ).expect(&rt, "memory for a text");
+    equal(
+        &rt,
+        found.as_str(),
+        "invalid path, out of memory; the layer is full, out of memory; no such lease, the lease exists already, out of memory; 4/3",
+    );
+}

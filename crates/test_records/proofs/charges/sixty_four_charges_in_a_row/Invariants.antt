@@ -1,4 +1,0 @@
-use Rattle.test_records.proofs.charges.sixty_four_charges_in_a_row.Given as goal
-
-abbrev pub ghosts-each_slot_is_issued_twice : goal.ghosts-each_slot_is_issued_twice
-ghosts-each_slot_is_issued_twice g a = record { table = a.table }

@@ -1,4 +1,0 @@
-use Rattle.test_sessions.proofs.script.replay.Given as goal
-
-abbrev pub ghosts-run : goal.ghosts-run
-ghosts-run g a = record { table = a.table }

@@ -1,0 +1,114 @@
+// The commands of a round.
+use crate::lines::write_answer;
+use crate::refused::Refused;
+use crate::round::Round;
+use crate::stop::Stop;
+use snap_book::Refusal;
+use snap_call::limits::MAX_JOURNAL;
+use snap_ledger::StoreName;
+use snap_script::{Answer, Command, Line, read_line};
+use std::io::Write;
+use std::str::Lines;
+use std::sync::Wait;
+
+impl<'a, N: StoreName, R: Wait> Round<'a, N, R> {
+    // The round ends for one of so many entries, unless a snapshot is open.
+    fn end_for(&mut self, journal: u64) -> Result<Option<Answer>, Refused> {
+        if !self.hands.is_empty() {
+            return Err(Refused::StillOut);
+        }
+        if journal > MAX_JOURNAL {
+            return Err(Refused::Book(Refusal::BadArgument));
+        }
+        self.next = Some(journal);
+        Ok(None)
+    }
+
+    // What a command on a snapshot or a session is answered.
+    fn do_command(&mut self, n: u64, command: Command) -> Result<Answer, Refused> {
+        match command {
+            Command::Session => Ok(Answer::Session(self.open_session()?)),
+            Command::Call(call) => self.call(n, &call),
+            Command::Charge {
+                namespace,
+                key,
+                need,
+                want,
+            } => self.charge(n, namespace.as_str(), key.as_str(), need, want),
+            Command::Trim { namespace, key } => self.trim(n, namespace.as_str(), key.as_str()),
+            Command::Commit {
+                namespace,
+                key,
+                name,
+                lease,
+            } => self.commit(n, namespace.as_str(), key.as_str(), name.as_str(), &lease),
+            Command::Discard { namespace, key } => {
+                self.discard(n, namespace.as_str(), key.as_str())
+            }
+            Command::File {
+                namespace,
+                key,
+                operation,
+                extra,
+            } => self.file(n, namespace.as_str(), key.as_str(), operation, extra),
+            Command::Lookup {
+                namespace,
+                key,
+                lookup,
+                path,
+            } => self.lookup(namespace.as_str(), key.as_str(), lookup, &path),
+            // `answer` takes the others, and no line of an open store opens one.
+            Command::Open { .. }
+            | Command::Reopen { .. }
+            | Command::Tree { .. }
+            | Command::Journal { .. }
+            | Command::Report => { Err(Refused::Book(Refusal::BadArgument)) }
+        }
+    }
+
+    // What a command is answered: nothing where the round ends for the next one, nor for a report, a tree or a
+    // journal.
+    fn answer(&mut self, n: u64, command: Command) -> Result<Option<Answer>, Refused> {
+        match command {
+            Command::Reopen { journal } => self.end_for(journal),
+            Command::Tree { .. } | Command::Journal { .. } | Command::Report => Ok(None),
+            command => Ok(Some(self.do_command(n, command)?)),
+        }
+    }
+
+    // What a line is answered.
+    fn attempt(&mut self, line: &str) -> Result<Option<Answer>, Stop> {
+        match read_line(self.alloc, line.as_bytes(), true)? {
+            Line::Empty => Ok(None),
+            Line::Command { session, command } => match self.answer(session, command) {
+                Ok(answer) => Ok(answer),
+                Err(refused) => Ok(Some(refused.answer()?)),
+            },
+        }
+    }
+
+    // Carries out the commands of the round, up to the end of the script or of the round. A line to which memory was
+    // refused is carried out once more.
+    pub(crate) fn play<W: Write>(
+        &mut self,
+        lines: &mut Lines<'_>,
+        output: &mut W,
+    ) -> Result<(), Stop> {
+        for _ in 0..u64::MAX {
+            let Some(line) = lines.next() else {
+                return Ok(());
+            };
+            let answer = match self.attempt(line) {
+                Err(Stop::NoMemory) => self.attempt(line)?,
+                answer => answer?,
+            };
+            if let Some(answer) = answer {
+                write_answer(self.alloc, output, &answer)?;
+            }
+            if self.next.is_some() {
+                return Ok(());
+            }
+        }
+        Ok(())
+    }
+}

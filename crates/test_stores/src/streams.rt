@@ -1,0 +1,108 @@
+// Streams that fail or have no end, and what a program that ends early is told.
+use crate::setup::{equal, text};
+use snap_jobs::{JobsStop, write_jobs_within};
+use snap_merge::FsError;
+use snap_script::{Field, path_of};
+use snap_session::{Stop, replay, replay_within};
+use std::io;
+use std::io::BufWriter;
+
+const THREE: &[u8] = br#"{"do":"open","root":"/r","namespaces":[]}
+{"do":"report"}
+{"do":"session"}
+"#;
+
+const ANSWERS: &[u8] = br#"{"ok":true}
+{"entries":1,"open":0,"records":0,"totals":{}}
+{"session":1}
+"#;
+
+/// Gives the bytes at each of so many reads, and then fails.
+#[derive(Drop)]
+struct Repeated {
+    bytes: &'static [u8],
+    reads: usize,
+}
+
+impl io::Read for Repeated {
+    fn read(&mut self, buf: &mut [u8]) -> io::Result<usize> {
+        if self.reads == 0 {
+            return Err(io::Error::from(io::ErrorKind::TimedOut));
+        }
+        self.reads -= 1;
+        let count = self.bytes.len().min(buf.len());
+        buf[..count].copy_from_slice(&self.bytes[..count]);
+        Ok(count)
+    }
+}
+
+/// Takes one write, and then nothing.
+#[derive(Drop)]
+struct Full(usize);
+
+impl io::Write for Full {
+    fn write(&mut self, buf: &[u8]) -> io::Result<usize> {
+        self.0 = self.0.saturating_add(1);
+        if self.0 > 1 {
+            return Err(io::Error::from(io::ErrorKind::StorageFull));
+        }
+        Ok(buf.len())
+    }
+
+    fn flush(&mut self) -> io::Result<()> {
+        Ok(())
+    }
+}
+
+#[test]
+fn streams_that_fail(rt: HostRuntime) {
+    let alloc = rt.alloc();
+    let mut three = Repeated {
+        bytes: THREE,
+        reads: 1,
+    };
+    let mut output = BufWriter::new(alloc, Vec::new(alloc)).expect(&rt, "a buffer");
+    let ended = replay(alloc, &mut three, &mut output);
+    let found = (ended, output.get_ref().as_slice());
+    let wanted = (Err(Stop::InputFailed), ANSWERS);
+    equal(&rt, "answers are out before a read fails", found, wanted);
+
+    let (mut three, mut full) = (THREE, Full(0));
+    let ended = replay(alloc, &mut three, &mut full);
+    let wanted = (Err(Stop::OutputFailed), 2);
+    equal(&rt, "a second write fails", (ended, full.0), wanted);
+}
+
+#[test]
+fn streams_without_end(rt: HostRuntime) {
+    let alloc = rt.alloc();
+    let mut spaces = Repeated {
+        bytes: b" ",
+        reads: usize::MAX,
+    };
+    let mut output = Vec::new(alloc);
+    let ended = replay_within(alloc, &mut spaces, &mut output, 100);
+    let wanted = (Err(Stop::InputFailed), 0);
+    equal(&rt, "a script", (ended, output.len()), wanted);
+
+    let ended = write_jobs_within(&rt, alloc, &mut spaces, &mut output, 4, 100);
+    let wanted = (Err(JobsStop::Lines(Stop::InputFailed)), 0);
+    equal(&rt, "a script of jobs", (ended, output.len()), wanted);
+
+    let mut three = THREE;
+    let ended = replay_within(alloc, &mut three, &mut output, 1);
+    let wanted = (Err(Stop::InputFailed), ANSWERS);
+    equal(&rt, "a read too many", (ended, output.as_slice()), wanted);
+}
+
+// The statuses of want of memory and of a store that isn't closed, a field's name, and a path that ends with a
+// slash.
+#[test]
+fn statuses_and_names(rt: HostRuntime) {
+    let (memory, open) = (Stop::OutOfMemory.status(), JobsStop::NotClosed.status());
+    prove!(memory == 4 && open == 5);
+    let name = Field::Namespace.name();
+    prove!(name == "ns");
+    let path = path_of(rt.alloc(), &text(&rt, rt.alloc(), "/etc/")).err();
+    prove!(path == Some(FsError::BadPath) || path == Some(FsError::OutOfMemory));
+}

@@ -1,4 +1,0 @@
-use Rattle.test_threads.proofs.life.a_round_of_one_session.Given as goal
-
-abbrev pub ghosts-round : goal.ghosts-round
-ghosts-round g a = record { table = a.table }

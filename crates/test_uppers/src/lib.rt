@@ -1,8 +1,0 @@
-//! Tests of snap_upper; no part of the product.
-//!
-//! A test whose facts are `prove!` alone is a witness: they follow from the contracts, whatever the
-//! bodies are.
-#![tactic(auto)]
-
-#[cfg(test)]
-mod upper;
