@@ -1,10 +1,11 @@
--- Lemmas on one lease, whose names are the bytes of the keys of a set.
-use Rattle.std.proofs.Common.{◌≡◌, ℕ, ◌+◌, ◌<◌, Bool, true, false, List, [], ◌∷◌, ◌++◌, ◌||◌, map, length, get_or, take, refl, sym, ap, ◌∙◌, String, string_bytes, if◌then◌else◌}
+-- Lemmas on one lease, whose names are the bytes of the keys of a map.
+use Rattle.std.proofs.Common.{◌≡◌, ℕ, ◌+◌, ◌<◌, Bool, true, false, List, [], ◌∷◌, ◌++◌, ◌||◌, map, length, get_or, take, refl, sym, ap, ◌∙◌, true≢false, String, string_bytes, if◌then◌else◌}
 use Rattle.std.proofs.lemmas.List.{map-append, take_more}
 use Rattle.std.specs.List.{list_any}
+use Rattle.std.specs.Map.{keys_of}
 use Rattle.std.specs.Str.{bytes_eq}
 use Rattle.std.specs.String.{string_eq}
-use Rattle.indexmap.specs.IndexSet.{insert_key}
+use Rattle.indexmap.specs.IndexMap.{insert_entry}
 use Rattle.std.proofs.lemmas.Slice.Eq.{bytes_eq-Decides}
 use Rattle.snap_lease.specs.Lease.{Lease, does_name, with_lease_name}
 use Rattle.snap_lease.specs.Live.{is_among, with_name}
@@ -15,15 +16,21 @@ list_any-map p f [] = refl
 list_any-map p f (x ∷ xs) = ap (λ b. p (f x) || b) (list_any-map p f xs)
 
 module _ {Z : Type 0} where
-  -- the set has the name where the lease names it
+  -- the map has the name where the lease names it
   pub list_any-names : (name : List ℕ) (keys : List (String Z)) → list_any (bytes_eq name) (map string_bytes keys) ≡ list_any (λ k. bytes_eq name (string_bytes k)) keys
   list_any-names name keys = list_any-map (bytes_eq name) string_bytes keys
 
-  -- the names after a new key is inserted
-  pub names-insert_key : (keys : List (String Z)) (k : String Z) → list_any (bytes_eq (string_bytes k)) (map string_bytes keys) ≡ false → map string_bytes (insert_key string_eq keys k) ≡ map string_bytes keys ++ string_bytes k ∷ []
-  names-insert_key keys k absent =
-      let none : list_any (string_eq k) keys ≡ false = sym (list_any-names (string_bytes k) keys) ∙ absent in
-      ap (λ b. map string_bytes (if b then keys else keys ++ k ∷ [])) none ∙ map-append string_bytes keys (k ∷ [])
+  module _ {X : Type 0} (k : String Z) (v : X) where
+    -- the names after a new key is inserted
+    pub names-insert_entry : (es : List (String Z × X)) → list_any (bytes_eq (string_bytes k)) (map string_bytes (keys_of es)) ≡ false → map string_bytes (keys_of (insert_entry string_eq es k v)) ≡ map string_bytes (keys_of es) ++ string_bytes k ∷ []
+    names-insert_entry [] absent = refl
+    names-insert_entry (e ∷ es) absent = by (string_eq k e.0) absent (names-insert_entry es)
+      where
+        by : (b : Bool) → (b || list_any (bytes_eq (string_bytes k)) (map string_bytes (keys_of es))) ≡ false
+            → (list_any (bytes_eq (string_bytes k)) (map string_bytes (keys_of es)) ≡ false → map string_bytes (keys_of (insert_entry string_eq es k v)) ≡ map string_bytes (keys_of es) ++ string_bytes k ∷ [])
+            → map string_bytes (keys_of (if b then (e.0, v) ∷ es else e ∷ insert_entry string_eq es k v)) ≡ string_bytes e.0 ∷ (map string_bytes (keys_of es) ++ string_bytes k ∷ [])
+        by true there rest = absurd (true≢false there)
+        by false there rest = ap (λ ns. string_bytes e.0 ∷ ns) (rest there)
 
 -- a lease that lacks the name has it last
 pub with_name-new : (name : List ℕ) (l : Lease) → does_name name l ≡ false → with_lease_name name l ≡ record l { names = l.names ++ name ∷ [] }
@@ -40,23 +47,23 @@ map-push f xs ys k x i within at same copied =
     let last : f k ≡ f (get_or xs i x) = same ∙ ap f at in
     map-append f ys (k ∷ []) ∙ ap (λ l. l ++ f k ∷ []) copied ∙ ap (λ y. map f (take i xs) ++ y ∷ []) last ∙ sym grown
 
--- a lease over the keys of a set, after a new key is inserted
-pub with_name-inserted : {Z : Type 0} (name : List ℕ) (l : Lease) (keys new : List (String Z)) (k : String Z)
-    → does_name name l ≡ false → l.names ≡ map string_bytes keys → string_bytes k ≡ name → new ≡ insert_key string_eq keys k
-    → record l { names = map string_bytes new } ≡ with_lease_name name l
-with_name-inserted name l keys new k absent seen is inserted =
-    let lacks : list_any (bytes_eq (string_bytes k)) (map string_bytes keys) ≡ false = ap (λ n. list_any (bytes_eq n) (map string_bytes keys)) is ∙ ap (list_any (bytes_eq name)) (sym seen) ∙ absent in
-    let grown : map string_bytes new ≡ l.names ++ name ∷ [] = ap (map string_bytes) inserted ∙ names-insert_key keys k lacks ∙ ap (λ ns. ns ++ string_bytes k ∷ []) (sym seen) ∙ ap (λ n. l.names ++ n ∷ []) is in
+-- a lease over the keys of a map, after a new key is inserted
+pub with_name-inserted : {Z X : Type 0} (name : List ℕ) (l : Lease) (es new : List (String Z × X)) (k : String Z) (v : X)
+    → does_name name l ≡ false → l.names ≡ map string_bytes (keys_of es) → string_bytes k ≡ name → new ≡ insert_entry string_eq es k v
+    → record l { names = map string_bytes (keys_of new) } ≡ with_lease_name name l
+with_name-inserted name l es new k v absent seen is inserted =
+    let lacks : list_any (bytes_eq (string_bytes k)) (map string_bytes (keys_of es)) ≡ false = ap (λ n. list_any (bytes_eq n) (map string_bytes (keys_of es))) is ∙ ap (list_any (bytes_eq name)) (sym seen) ∙ absent in
+    let grown : map string_bytes (keys_of new) ≡ l.names ++ name ∷ [] = ap (λ e. map string_bytes (keys_of e)) inserted ∙ names-insert_entry k v es lacks ∙ ap (λ ns. ns ++ string_bytes k ∷ []) (sym seen) ∙ ap (λ n. l.names ++ n ∷ []) is in
     ap (λ ns. record l { names = ns }) grown ∙ sym (with_name-new name l absent)
 
 -- ---- sets of names
 
 -- the names after a new key is inserted
-pub names-inserted : {Z : Type 0} (name : List ℕ) (names : List (List ℕ)) (keys new : List (String Z)) (k : String Z)
-    → is_among name names ≡ false → names ≡ map string_bytes keys → string_bytes k ≡ name → new ≡ insert_key string_eq keys k → map string_bytes new ≡ with_name name names
-names-inserted name names keys new k absent seen is inserted =
-    let lacks : list_any (bytes_eq (string_bytes k)) (map string_bytes keys) ≡ false = ap (λ n. list_any (bytes_eq n) (map string_bytes keys)) is ∙ ap (list_any (bytes_eq name)) (sym seen) ∙ absent in
-    let grown : map string_bytes new ≡ names ++ name ∷ [] = ap (map string_bytes) inserted ∙ names-insert_key keys k lacks ∙ ap (λ ns. ns ++ string_bytes k ∷ []) (sym seen) ∙ ap (λ n. names ++ n ∷ []) is in
+pub names-inserted : {Z X : Type 0} (name : List ℕ) (names : List (List ℕ)) (es new : List (String Z × X)) (k : String Z) (v : X)
+    → is_among name names ≡ false → names ≡ map string_bytes (keys_of es) → string_bytes k ≡ name → new ≡ insert_entry string_eq es k v → map string_bytes (keys_of new) ≡ with_name name names
+names-inserted name names es new k v absent seen is inserted =
+    let lacks : list_any (bytes_eq (string_bytes k)) (map string_bytes (keys_of es)) ≡ false = ap (λ n. list_any (bytes_eq n) (map string_bytes (keys_of es))) is ∙ ap (list_any (bytes_eq name)) (sym seen) ∙ absent in
+    let grown : map string_bytes (keys_of new) ≡ names ++ name ∷ [] = ap (λ e. map string_bytes (keys_of e)) inserted ∙ names-insert_entry k v es lacks ∙ ap (λ ns. ns ++ string_bytes k ∷ []) (sym seen) ∙ ap (λ n. names ++ n ∷ []) is in
     grown ∙ sym (ap (λ b. if b then names else names ++ name ∷ []) absent)
 
 or_none : (a : Bool) → (a || false) ≡ a

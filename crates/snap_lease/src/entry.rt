@@ -5,7 +5,7 @@ ghost use Rattle.snap_lease.specs.Index.{IsSame, IsRecounted, IsUncounted};
 ghost use Rattle.snap_lease.specs.Live.{is_among};
 
 use crate::live::LiveNames;
-use indexmap::IndexSet;
+use indexmap::IndexMap;
 use snap_counts::NamespaceCounts;
 use std::alloc::{AllocError, Global};
 use std::marker::Model;
@@ -16,16 +16,17 @@ pub(crate) struct LeaseEntry {
     namespace: String,
     name: String,
     until: Option<u64>,
-    names: IndexSet<String>,
+    names: IndexMap<String, ()>,
 }
 
 impl Model for LeaseEntry {
     ghost use Rattle.std.specs.Prelude.{map, string_bytes};
+    ghost use Rattle.std.specs.Map.{keys_of};
     ghost use Rattle.snap_lease.specs.Lease.{Lease};
 
     ghost Value = { Lease };
 
-    ghost view = { λ e. record { namespace = string_bytes e.namespace; name = string_bytes e.name; until = e.until; names = map string_bytes e.names.keys } };
+    ghost view = { λ e. record { namespace = string_bytes e.namespace; name = string_bytes e.name; until = e.until; names = map string_bytes (keys_of e.names.entries) } };
 }
 
 impl LeaseEntry {
@@ -42,7 +43,7 @@ impl LeaseEntry {
             namespace: String::from_str(alloc, namespace)?,
             name: String::from_str(alloc, lease)?,
             until,
-            names: IndexSet::new(alloc),
+            names: IndexMap::new(alloc),
         })
     }
 
@@ -64,7 +65,7 @@ impl LeaseEntry {
     pub(crate) fn does_name(&self, name: &str) -> bool
         ensures { result ≡ does_name name.now self.now }
     {
-        self.names.contains(name)
+        self.names.contains_key(name)
     }
 
     /// Whether it is live at the moment.
@@ -84,7 +85,7 @@ impl LeaseEntry {
         ensures err { OnErr result (self.new ≡ self.old) }
     {
         let name = String::from_str(alloc, name)?;
-        self.names.insert(name)?;
+        self.names.insert(name, ())?;
         Ok(())
     }
 
@@ -118,7 +119,7 @@ impl LeaseEntry {
         ensures { IsUncounted self.now counts.old counts.new }
     {
         let namespace = self.namespace.as_str();
-        for name in self.names.as_slice() {
+        for name in self.names.keys().as_slice() {
             counts.take(namespace, name.as_str());
         }
     }
@@ -128,7 +129,7 @@ impl LeaseEntry {
         ensures { IfOk result (λ v. map string_bytes v.items ≡ self.now.names) }
     {
         let mut names = Vec::with_capacity(alloc, self.names.len())?;
-        for name in self.names.as_slice() {
+        for name in self.names.keys().as_slice() {
             names.push(String::from_str(alloc, name.as_str())?)?;
         }
         Ok(names)
@@ -138,7 +139,7 @@ impl LeaseEntry {
     pub(crate) fn put_names(&self, alloc: Global, set: &mut LiveNames) -> Result<(), AllocError>
         ensures { OnOk result ((name : List ℕ) → is_among name set.new ≡ (is_among name set.old || does_name name self.now)) }
     {
-        for name in self.names.as_slice() {
+        for name in self.names.keys().as_slice() {
             set.add(alloc, name.as_str())?;
         }
         Ok(())

@@ -2,22 +2,23 @@
 ghost use Rattle.std.specs.Prelude.{◌≡◌, [], OnOk};
 ghost use Rattle.snap_lease.specs.Live.{is_among, with_name};
 
-use indexmap::IndexSet;
+use indexmap::IndexMap;
 use std::alloc::{AllocError, Global};
 use std::marker::Model;
 
 /// Names of snapshots, each once. Contracts see the list of their bytes, in the order in which they came.
 #[derive(Drop)]
 pub struct LiveNames {
-    names: IndexSet<String>,
+    names: IndexMap<String, ()>,
 }
 
 impl Model for LiveNames {
     ghost use Rattle.std.specs.Prelude.{List, ℕ, map, string_bytes};
+    ghost use Rattle.std.specs.Map.{keys_of};
 
     ghost Value = { List (List ℕ) };
 
-    ghost view = { λ n. map string_bytes n.names.keys };
+    ghost view = { λ n. map string_bytes (keys_of n.names.entries) };
 }
 
 impl LiveNames {
@@ -26,7 +27,7 @@ impl LiveNames {
         ensures { result ≡ [] }
     {
         LiveNames {
-            names: IndexSet::new(alloc),
+            names: IndexMap::new(alloc),
         }
     }
 
@@ -34,7 +35,7 @@ impl LiveNames {
     pub fn has(&self, name: &str) -> bool
         ensures { result ≡ is_among name.now self.now }
     {
-        self.names.contains(name)
+        self.names.contains_key(name)
     }
 
     /// Puts a copy of the name last. A name that is there already takes no memory.
@@ -45,7 +46,7 @@ impl LiveNames {
             return Ok(());
         }
         let name = String::from_str(alloc, name)?;
-        self.names.insert(name)?;
+        self.names.insert(name, ())?;
         Ok(())
     }
 }

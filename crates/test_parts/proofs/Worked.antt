@@ -1,5 +1,5 @@
 -- What the contract of `history` says of the worked round.
-use Rattle.std.proofs.Common.{◌≡◌, ℕ, List, [], ◌∷◌, Option, Some, map, refl, ap, subst, arith}
+use Rattle.std.proofs.Common.{◌≡◌, ℕ, List, [], ◌∷◌, Some, map, refl, ap, subst, arith}
 use Rattle.std.specs.Prelude.{Result, Ok, Err, IfOk}
 use Rattle.snap_usage.specs.declared.usage.Usage.{Usage}
 use Rattle.snap_call.specs.declared.config.Config.{Config}

@@ -7,6 +7,6 @@ use Rattle.snap_lease.proofs.entry.LeaseEntry.put.Goals as goal
 pub returns-clause-ok : goal.returns-clause-ok
 returns-clause-ok c =
     let absent : does_name c.args.name.now (the_view c.self.inside) ≡ false = ap (does_name c.args.name.now) c.self.view_is ∙ c.requires in
-    with_name-inserted c.args.name.now (the_view c.self.inside) c.self.inside.names.keys c.insert.new.self.keys c.in_ok-name.name
-    absent refl c.in_ok-name.ensures.ok c.in_ok-insert.ensures.keys
+    with_name-inserted c.args.name.now (the_view c.self.inside) c.self.inside.names.entries c.insert.new.self.entries c.in_ok-name.name tt
+    absent refl c.in_ok-name.ensures.ok c.in_ok-insert.ensures.entries
     ∙ ap (with_lease_name c.args.name.now) c.self.view_is
