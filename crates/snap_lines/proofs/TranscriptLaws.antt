@@ -1,49 +1,112 @@
 -- How the transcript of an input goes on.
-use Rattle.std.proofs.Common.{◌≡◌, ℕ, ◌+◌, ◌<◌, ◌≤◌, List, [], ◌∷◌, ◌++◌, length, take, drop, get_or, Bool, true, false, Result, Ok, Err, refl, sym, ap, ◌∙◌, arith, append_assoc, append-nil, length-append, Option, Some, None, subst, OnOk}
+use Rattle.std.proofs.Common.{◌≡◌, ℕ, ◌+◌, ◌<◌, ◌≤◌, List, [], ◌∷◌, ◌++◌, length, take, drop, get_or, Bool, true, false, Result, Ok, Err, refl, sym, ap, ◌∙◌, arith, append_assoc, append-nil, length-append, Option, Some, None, subst, OnOk, IfErr}
 use Rattle.std.specs.Prelude.{cond, nat_lt, ◌==◌, ◌||◌}
 use Rattle.std.proofs.lemmas.Bool.{lt-ltb, le-ltb, eqb-true}
 use Rattle.std.proofs.lemmas.List.{take_more, take-append-drop}
+use Rattle.std.proofs.lemmas.List.Sums.{sum_by-append}
 use Rattle.std.specs.Io.KnownBytes.{Appends, Keeps}
 use mir.Val.{bool_byte}
+use Rattle.snap_script.specs.declared.fault.Fault.{Fault}
 use Rattle.snap_script.specs.declared.fault.Fault.TheVariants.{TooLong}
 use Rattle.snap_lines.proofs.KnownLaws.{Appends-trans, Appends-kept, Appends-nil}
 use Rattle.snap_lines.proofs.LineLaws.{line_split, line_last, line_begins, Begins, feed_ended, feed_open, feed_long, open_more}
-use Rattle.snap_lines.specs.Effects.{Effects}
-use Rattle.snap_lines.specs.Lines.{lines_of, is_open, without_feed}
-use Rattle.snap_lines.specs.Transcripts.{Place, Transcript, Tells, prepended, transcript_from, effect_at, goes_on, place_after, max_line, max_bytes}
-use Rattle.snap_lines.specs.Runs.{Behind, Run, within, transcript_on, Leads, Goes, Ends, Takes, line_in}
+use Rattle.snap_lines.specs.Effects.{Effect, Effects}
+use Rattle.snap_lines.specs.Lines.{lines_of, is_open, without_feed, feeds}
+use Rattle.snap_lines.specs.Transcripts.{Place, Transcript, Tells, TellsPart, prepended, transcript_from, effect_at, goes_on, place_after, max_line, max_bytes}
+use Rattle.snap_lines.specs.Runs.{Behind, Run, within, transcript_on, Goes, Ends, Takes, line_in, Refuses, Breaks, Leaves, StopsIn, StopsAtEnd}
 use Rattle.snap_lines.specs.declared.stop.LineFault.{LineFault}
+use Rattle.snap_lines.specs.declared.stop.Stop.{Stop}
+use Rattle.snap_lines.specs.declared.stop.Stop.TheVariants.{Line, InputFailed, OutputFailed, OutOfMemory}
 
 pub on_ok : {T E : Type 0} {P Q : Type 0} (r : Result T E) → (P → Q) → OnOk r P → OnOk r Q
 on_ok (Ok x) f p = f p
 on_ok (Err e) f p = tt
 
+pub if_err : {T E : Type 0} {P Q : E → Type 0} (r : Result T E) → ((e : E) → P e → Q e) → IfErr r P → IfErr r Q
+if_err (Ok x) f p = tt
+if_err (Err e) f p = f e p
+
+-- a `?` gives this error
+pub err_is : {T E : Type 0} (P : E → Type 0) (r : Result T E) (x y : E) → r ≡ Err x → x ≡ y → P y → IfErr r P
+err_is {T} {E} P r x y h e p = subst (λ (z : Result T E). IfErr z P) (sym h) (subst P (sym e) p)
+
 prepended_twice : {A : Type 0} (a b : List ℕ) (s : Transcript A) → prepended a (prepended b s) ≡ prepended (a ++ b) s
 prepended_twice a b s = ap (λ t. record { text = t; fault = s.fault; value = s.value }) (sym (append_assoc a b s.text))
 
-pub leads_trans : {A : Type 0} (effect : Effects A) (r q s : Run A) (a b u v : List ℕ) → Leads effect r a q u → Leads effect q b s v → Leads effect r (a ++ b) s (u ++ v)
-leads_trans effect r q s a b u v f g rest =
-    ap (transcript_on effect r) (append_assoc a b rest) ∙ f (b ++ rest) ∙ ap (prepended u) (g rest) ∙ prepended_twice u v (transcript_on effect s rest)
+feeds_append : (a b : List ℕ) → feeds (a ++ b) ≡ feeds a + feeds b
+feeds_append a b = sum_by-append _ a b
 
 pub goes_none : {A : Type 0} (effect : Effects A) (r : Run A) (x : Option (List ℕ)) → Goes effect r [] r x x
-goes_none effect r x = ([], Appends-nil x, λ rest. refl)
+goes_none effect r x = record { lines = []; written = []; counted = refl; ended = λ rest. refl; leads = λ more. refl; appended = Appends-nil x }
 
 pub goes_trans : {A : Type 0} (effect : Effects A) (r q s : Run A) (a b : List ℕ) (x y z : Option (List ℕ)) → Goes effect r a q x y → Goes effect q b s y z → Goes effect r (a ++ b) s x z
-goes_trans effect r q s a b x y z f g =
-    (f.0 ++ g.0, Appends-trans x y z f.0 g.0 f.1 g.1, leads_trans effect r q s a b f.0 g.0 f.2 g.2)
+goes_trans effect r q s a b x y z f g = record {
+  lines = f.lines ++ g.lines;
+  written = f.written ++ g.written;
+  counted = length-append f.lines g.lines ∙ ap (λ n. n + length g.lines) f.counted ∙ ap (λ n. feeds a + n) g.counted ∙ sym (feeds_append a b);
+  ended = λ rest.
+      ap (λ l. lines_of (r.pending ++ l)) (append_assoc a b rest) ∙ f.ended (b ++ rest)
+      ∙ ap (λ l. f.lines ++ l) (g.ended rest) ∙ sym (append_assoc f.lines g.lines (lines_of (s.pending ++ rest)));
+  leads = λ more.
+      ap (transcript_from effect r.place) (append_assoc f.lines g.lines more) ∙ f.leads (g.lines ++ more)
+      ∙ ap (prepended f.written) (g.leads more) ∙ prepended_twice f.written g.written (transcript_from effect s.place more);
+  appended = Appends-trans x y z f.written g.written f.appended g.appended;
+}
+
+-- the transcript of the bytes and more is what is written for the lines in them, and then that of what is left
+pub goes_leads : {A : Type 0} (effect : Effects A) (r q : Run A) (bytes : List ℕ) (x y : Option (List ℕ)) (g : Goes effect r bytes q x y) (rest : List ℕ)
+    → transcript_on effect r (bytes ++ rest) ≡ prepended g.written (transcript_on effect q rest)
+unfolding transcript_on
+goes_leads effect r q bytes x y g rest = ap (transcript_from effect r.place) (g.ended rest) ∙ g.leads (lines_of (q.pending ++ rest))
+
+three : (a b more rest : List ℕ) → (a ++ (b ++ more)) ++ rest ≡ a ++ (b ++ (more ++ rest))
+three a b more rest = append_assoc a (b ++ more) rest ∙ ap (λ l. a ++ l) (append_assoc b more rest)
 
 pub goes_ends : {A : Type 0} (effect : Effects A) (r q : Run A) (a b more : List ℕ) (f : LineFault) (x y z : Option (List ℕ)) → Goes effect r a q x y → Ends effect q b f y z → Ends effect r (a ++ (b ++ more)) f x z
 goes_ends effect r q a b more f x y z g e = (
-  g.0 ++ e.0,
+  g.written ++ e.0,
   e.1,
-  Appends-trans x y z g.0 e.0 g.1 e.2,
+  Appends-trans x y z g.written e.0 g.appended e.2,
   λ rest.
-      ap (transcript_on effect r) (append_assoc a (b ++ more) rest ∙ ap (λ l. a ++ l) (append_assoc b more rest))
-      ∙ g.2 (b ++ (more ++ rest)) ∙ ap (prepended g.0) (e.3 (more ++ rest)),
+      ap (transcript_on effect r) (three a b more rest)
+      ∙ goes_leads effect r q a x y g (b ++ (more ++ rest)) ∙ ap (prepended g.written) (e.3 (more ++ rest)),
 )
 
+-- a text, and then a first part of the text of a transcript
+pub tells_part : {A : Type 0} (s t : Transcript A) (w : List ℕ) (x y z : Option (List ℕ)) → s ≡ prepended w t → Appends x y w → TellsPart t y z → TellsPart s x z
+tells_part s t w x y z e p h = (
+  w ++ h.0,
+  h.1,
+  ap (λ u. u.text) e ∙ ap (λ l. w ++ l) h.2 ∙ sym (append_assoc w h.0 h.1),
+  Appends-trans x y z w h.0 p h.3,
+)
+
+-- nothing of a transcript's text
+pub tells_none : {A : Type 0} (s : Transcript A) (x y : Option (List ℕ)) → Appends x y [] → TellsPart s x y
+tells_none s x y p = ([], s.text, refl, p)
+
+pub goes_stops : {A : Type 0} (effect : Effects A) (r q : Run A) (a b more : List ℕ) (stop : Stop) (x y z : Option (List ℕ)) → Goes effect r a q x y → StopsIn effect q b stop y z → StopsIn effect r (a ++ (b ++ more)) stop x z
+goes_stops effect r q a b more (Line f) x y z g e = goes_ends effect r q a b more f x y z g e
+goes_stops effect r q a b more InputFailed x y z g e = absurd e
+goes_stops effect r q a b more OutputFailed x y z g e = λ rest.
+    tells_part (transcript_on effect r ((a ++ (b ++ more)) ++ rest)) (transcript_on effect q (b ++ (more ++ rest))) g.written x y z
+    (ap (transcript_on effect r) (three a b more rest) ∙ goes_leads effect r q a x y g (b ++ (more ++ rest))) g.appended (e (more ++ rest))
+goes_stops effect r q a b more OutOfMemory x y z g e = record {
+  part = a ++ e.part;
+  more = e.more ++ more;
+  place = e.place;
+  is = ap (λ l. a ++ (l ++ more)) e.is ∙ ap (λ l. a ++ l) (append_assoc e.part e.more more) ∙ sym (append_assoc a e.part (e.more ++ more));
+  goes = goes_trans effect r q e.place a e.part x y z g e.goes;
+}
+
 pub goes_kept : {A : Type 0} (effect : Effects A) (r q : Run A) (bytes : List ℕ) (x y z : Option (List ℕ)) → Goes effect r bytes q x y → Keeps y z → Goes effect r bytes q x z
-goes_kept effect r q bytes x y z g k = (g.0, Appends-kept x y z g.0 g.1 k, g.2)
+goes_kept effect r q bytes x y z g k = record { lines = g.lines; written = g.written; counted = g.counted; ended = g.ended; leads = g.leads; appended = Appends-kept x y z g.written g.appended k }
+
+-- a flush failed after the bytes
+pub kept_stops : {A : Type 0} (effect : Effects A) (r q : Run A) (bytes : List ℕ) (x y z : Option (List ℕ)) → Goes effect r bytes q x y → Keeps y z → StopsIn effect r bytes OutputFailed x z
+kept_stops effect r q bytes x y z g k = λ rest.
+    let h = goes_kept effect r q bytes x y z g k in
+    tells_part (transcript_on effect r (bytes ++ rest)) (transcript_on effect q rest) h.written x z z (goes_leads effect r q bytes x z h rest) h.appended (tells_none (transcript_on effect q rest) z z (Appends-nil z))
 
 -- ---- one line
 
@@ -79,14 +142,26 @@ pub line_len : (p : List ℕ) (ended : Bool) (n k : ℕ) → n ≡ length p → 
 line_len p true n k h e = let l = length-append p (10 ∷ []) in omega arith
 line_len p false n k h e = omega arith
 
+pub leaves_refused : {A : Type 0} (effect : Effects A) (r : Run A) (line : List ℕ) (reading : Result (Effect A) Fault) (lines : ℕ) (stop : Stop) (x : Option (List ℕ)) → effect_at effect r.place line ≡ reading → lines ≡ r.place.lines
+    → Refuses reading lines stop → Leaves effect r line stop x x
+leaves_refused effect r line reading lines (Line f) x e n h = ((e ∙ h.0, h.1 ∙ ap (λ k. k + 1) n), refl)
+leaves_refused effect r line reading lines InputFailed x e n h = absurd h
+leaves_refused effect r line reading lines OutputFailed x e n h = absurd h
+leaves_refused effect r line reading lines OutOfMemory x e n h = (tt, refl)
+
+pub leaves_broken : {A : Type 0} (effect : Effects A) (r : Run A) (line : List ℕ) (e : Effect A) (stop : Stop) (x y : Option (List ℕ)) → effect_at effect r.place line ≡ Ok e → Breaks e.text stop x y → Leaves effect r line stop x y
+leaves_broken effect r line e (Line f) x y is b = absurd b
+leaves_broken effect r line e InputFailed x y is b = absurd b
+leaves_broken effect r line e OutputFailed x y is b = (e, is, b)
+leaves_broken effect r line e OutOfMemory x y is b = absurd b
+
 -- ---- what a line does to the transcript
 
-line_ok : {A : Type 0} (effect : Effects A) (r q : Run A) (line text rest : List ℕ) → effect_at effect r.place line ≡ Ok (record { value = q.place.value; text = text })
-    → q ≡ record { place = place_after r.place line q.place.value; pending = [] } → transcript_from effect r.place (line ∷ lines_of rest) ≡ prepended text (transcript_on effect q rest)
-unfolding transcript_on
-line_ok effect r q line text rest e h =
-    ap (λ z. goes_on r.place line z (λ p. transcript_from effect p (lines_of rest))) e
-    ∙ ap (λ z. prepended text (transcript_on effect z rest)) (sym h)
+line_ok : {A : Type 0} (effect : Effects A) (r q : Run A) (line text : List ℕ) → effect_at effect r.place line ≡ Ok (record { value = q.place.value; text = text })
+    → q ≡ record { place = place_after r.place line q.place.value; pending = [] } → (more : List (List ℕ)) → transcript_from effect r.place (line ∷ more) ≡ prepended text (transcript_from effect q.place more)
+line_ok effect r q line text e h more =
+    ap (λ z. goes_on r.place line z (λ p. transcript_from effect p more)) e
+    ∙ ap (λ z. prepended text (transcript_from effect z.place more)) (sym h)
 
 line_err : {A : Type 0} (effect : Effects A) (place : Place A) (line : List ℕ) (lines : List (List ℕ)) (f : LineFault) → effect_at effect place line ≡ Err f.cause → f.line ≡ place.lines + 1
     → transcript_from effect place (line ∷ lines) ≡ record { text = []; fault = Some f; value = place.value }
@@ -95,9 +170,14 @@ line_err effect place line lines f e h =
     ∙ ap (λ n. record { text = []; fault = Some (record { line = n; cause = f.cause }); value = place.value }) (sym h)
 
 pub newline_goes : {A : Type 0} (effect : Effects A) (r q : Run A) (x y : Option (List ℕ)) → is_open r.pending ≡ true → Takes effect r (line_in r.pending true) q x y → Goes effect r (10 ∷ []) q x y
-unfolding transcript_on
-newline_goes effect r q x y o t =
-    (t.0, t.3, λ rest. ap (transcript_from effect r.place) (line_split r.pending rest o) ∙ line_ok effect r q (line_in r.pending true) t.0 rest t.1 t.2)
+newline_goes effect r q x y o t = record {
+  lines = line_in r.pending true ∷ [];
+  written = t.0;
+  counted = refl;
+  ended = λ rest. line_split r.pending rest o ∙ ap (λ z. line_in r.pending true ∷ lines_of (z.pending ++ rest)) (sym t.2);
+  leads = line_ok effect r q (line_in r.pending true) t.0 t.1 t.2;
+  appended = t.3;
+}
 
 pub newline_ends : {A : Type 0} (effect : Effects A) (r : Run A) (f : LineFault) (x : Option (List ℕ)) → is_open r.pending ≡ true → effect_at effect r.place (line_in r.pending true) ≡ Err f.cause → f.line ≡ r.place.lines + 1
     → Ends effect r (10 ∷ []) f x x
@@ -105,16 +185,48 @@ unfolding transcript_on
 newline_ends effect r f x o e h =
     ([], r.place.value, Appends-nil x, λ rest. ap (transcript_from effect r.place) (line_split r.pending rest o) ∙ line_err effect r.place (line_in r.pending true) (lines_of rest) f e h)
 
-byte_goes : {A : Type 0} (effect : Effects A) (r : Run A) (b : ℕ) (x : Option (List ℕ)) → Goes effect r (b ∷ []) (record r { pending = r.pending ++ b ∷ [] }) x x
+-- a line that breaks off in its text
+pub newline_breaks : {A : Type 0} (effect : Effects A) (r : Run A) (e : Effect A) (x y : Option (List ℕ)) → is_open r.pending ≡ true → effect_at effect r.place (line_in r.pending true) ≡ Ok e → Breaks e.text OutputFailed x y
+    → StopsIn effect r (10 ∷ []) OutputFailed x y
 unfolding transcript_on
-byte_goes effect r b x = ([], Appends-nil x, λ rest. ap (λ l. transcript_from effect r.place (lines_of l)) (sym (append_assoc r.pending (b ∷ []) rest)))
+newline_breaks effect r e x y o is b = λ rest.
+    let line = line_in r.pending true in
+    let more = transcript_from effect (place_after r.place line e.value) (lines_of rest) in
+    let all : transcript_from effect r.place (lines_of (r.pending ++ 10 ∷ rest)) ≡ prepended e.text more =
+    ap (transcript_from effect r.place) (line_split r.pending rest o) ∙ ap (λ z. goes_on r.place line z (λ p. transcript_from effect p (lines_of rest))) is in (
+      take b.0 e.text,
+      drop b.0 e.text ++ more.text,
+      ap (λ u. u.text) all ∙ ap (λ l. l ++ more.text) (sym (take-append-drop b.0 e.text)) ∙ append_assoc (take b.0 e.text) (drop b.0 e.text) more.text,
+      b.1,
+    )
 
-pub byte_run : {A : Type 0} (effect : Effects A) (v : A) (n k : ℕ) (p q : List ℕ) (s : Behind) → behind n k p ≡ s → (b : ℕ) (x : Option (List ℕ)) → q ≡ p ++ b ∷ []
+byte_goes : {A : Type 0} (effect : Effects A) (r : Run A) (b : ℕ) (x : Option (List ℕ)) → (b == 10) ≡ false → Goes effect r (b ∷ []) (record r { pending = r.pending ++ b ∷ [] }) x x
+byte_goes effect r b x e = record {
+  lines = [];
+  written = [];
+  counted = ap (λ t. 0 + cond t 1 0) (sym e);
+  ended = λ rest. ap lines_of (sym (append_assoc r.pending (b ∷ []) rest));
+  leads = λ more. refl;
+  appended = Appends-nil x;
+}
+
+pub byte_run : {A : Type 0} (effect : Effects A) (v : A) (n k : ℕ) (p q : List ℕ) (s : Behind) → behind n k p ≡ s → (b : ℕ) (x : Option (List ℕ)) → (b == 10) ≡ false → q ≡ p ++ b ∷ []
     → Goes effect (within s v) (b ∷ []) (within (behind n k q) v) x x
-byte_run effect v n k p q s e b x h =
+byte_run effect v n k p q s e b x no_feed h =
     let is : within (behind s.lines s.bytes (s.pending ++ b ∷ [])) v ≡ within (behind n k q) v =
     ap (λ (z : Behind). within (behind z.lines z.bytes (z.pending ++ b ∷ [])) v) (sym e) ∙ ap (λ l. within (behind n k l) v) (sym h) in
-    subst (λ z. Goes effect (within s v) (b ∷ []) z x x) is (byte_goes effect (within s v) b x)
+    subst (λ z. Goes effect (within s v) (b ∷ []) z x x) is (byte_goes effect (within s v) b x no_feed)
+
+-- memory was refused before any of the bytes was taken
+pub stops_before : {A : Type 0} (effect : Effects A) (r : Run A) (bytes : List ℕ) (x y : Option (List ℕ)) → y ≡ x → StopsIn effect r bytes OutOfMemory x y
+stops_before effect r bytes x y e = record { part = []; more = bytes; place = r; is = refl; goes = subst (λ z. Goes effect r [] r x z) (sym e) (goes_none effect r x) }
+
+-- a line feed, where its line was not taken
+pub newline_stops : {A : Type 0} (effect : Effects A) (r : Run A) (stop : Stop) (x y : Option (List ℕ)) → is_open r.pending ≡ true → Leaves effect r (line_in r.pending true) stop x y → StopsIn effect r (10 ∷ []) stop x y
+newline_stops effect r (Line f) x y o h = subst (λ z. Ends effect r (10 ∷ []) f x z) (sym h.1) (newline_ends effect r f x o h.0.0 h.0.1)
+newline_stops effect r InputFailed x y o h = absurd h.0
+newline_stops effect r OutputFailed x y o h = newline_breaks effect r h.0 x y o h.1 h.2
+newline_stops effect r OutOfMemory x y o h = stops_before effect r (10 ∷ []) x y h.1
 
 begins_any : (p rest : List ℕ) → is_open p ≡ true → 0 < length p → Begins p rest
 begins_any [] rest o h = absurd (omega arith)
@@ -166,13 +278,12 @@ line_end : (p : List ℕ) → is_open p ≡ true → 0 < length p → lines_of (
 line_end [] o h = absurd (omega arith)
 line_end (b ∷ p) o h = ap (λ l. lines_of (b ∷ l)) (append-nil p) ∙ line_last b p o
 
-pub end_is : {A : Type 0} (effect : Effects A) (r q : Run A) (x y : Option (List ℕ)) → is_open r.pending ≡ true → 0 < length r.pending → (t : Takes effect r (line_in r.pending false) q x y)
+end_is : {A : Type 0} (effect : Effects A) (r q : Run A) (x y : Option (List ℕ)) → is_open r.pending ≡ true → 0 < length r.pending → (t : Takes effect r (line_in r.pending false) q x y)
     → transcript_on effect r [] ≡ record { text = t.0; fault = None; value = q.place.value }
 unfolding transcript_on
 end_is effect r q x y o h t =
-    let none : transcript_on effect q [] ≡ record { text = []; fault = None; value = q.place.value } = ap (λ z. transcript_on effect z []) t.2 in
-    ap (transcript_from effect r.place) (line_end r.pending o h) ∙ line_ok effect r q r.pending t.0 [] t.1 t.2
-    ∙ ap (prepended t.0) none ∙ ap (λ l. record { text = l; fault = None; value = q.place.value }) (append-nil t.0)
+    ap (transcript_from effect r.place) (line_end r.pending o h) ∙ line_ok effect r q r.pending t.0 t.1 t.2 []
+    ∙ ap (λ l. record { text = l; fault = None; value = q.place.value }) (append-nil t.0)
 
 pub end_ok : {A : Type 0} (effect : Effects A) (r q : Run A) (x y : Option (List ℕ)) → is_open r.pending ≡ true → 0 < length r.pending → Takes effect r (line_in r.pending false) q x y → Tells (transcript_on effect r []) None x y
 end_ok effect r q x y o h t = tells (transcript_on effect r []) t.0 None q.place.value x y (end_is effect r q x y o h t) t.3
@@ -185,6 +296,26 @@ pub end_err : {A : Type 0} (effect : Effects A) (r : Run A) (f : LineFault) (x :
 unfolding transcript_on
 end_err effect r f x o h e l =
     tells (transcript_on effect r []) [] (Some f) r.place.value x x (ap (transcript_from effect r.place) (line_end r.pending o h) ∙ line_err effect r.place r.pending [] f e l) (Appends-nil x)
+
+end_breaks : {A : Type 0} (effect : Effects A) (r : Run A) (e : Effect A) (x y : Option (List ℕ)) → is_open r.pending ≡ true → 0 < length r.pending → effect_at effect r.place (line_in r.pending false) ≡ Ok e → Breaks e.text OutputFailed x y
+    → TellsPart (transcript_on effect r []) x y
+unfolding transcript_on
+end_breaks effect r e x y o h is b =
+    let more = transcript_from effect (place_after r.place r.pending e.value) [] in
+    let all : transcript_on effect r [] ≡ prepended e.text more =
+    ap (transcript_from effect r.place) (line_end r.pending o h) ∙ ap (λ z. goes_on r.place r.pending z (λ p. transcript_from effect p [])) is in (
+      take b.0 e.text,
+      drop b.0 e.text ++ more.text,
+      ap (λ u. u.text) all ∙ ap (λ l. l ++ more.text) (sym (take-append-drop b.0 e.text)) ∙ append_assoc (take b.0 e.text) (drop b.0 e.text) more.text,
+      b.1,
+    )
+
+-- the end of the input, where the last line was not taken
+pub end_stops : {A : Type 0} (effect : Effects A) (r : Run A) (stop : Stop) (x y : Option (List ℕ)) → is_open r.pending ≡ true → 0 < length r.pending → Leaves effect r (line_in r.pending false) stop x y → StopsAtEnd effect r stop x y
+end_stops effect r (Line f) x y o more h = subst (λ z. Tells (transcript_on effect r []) (Some f) x z) (sym h.1) (end_err effect r f x o more h.0.0 h.0.1)
+end_stops effect r InputFailed x y o more h = absurd h.0
+end_stops effect r OutputFailed x y o more h = end_breaks effect r h.0 x y o more h.1 h.2
+end_stops effect r OutOfMemory x y o more h = h.1
 
 -- ---- bytes that come one by one
 
@@ -201,11 +332,11 @@ pub goes_more : {A : Type 0} (effect : Effects A) (r q s : Run A) (bytes : List 
 goes_more effect r q s bytes i b x y z h e f g =
     subst (λ (l : List ℕ). Goes effect r l s x z) (ap (λ n. take i bytes ++ n ∷ []) e ∙ sym (take_more bytes i 0 h)) (goes_trans effect r q s (take i bytes) (b ∷ []) x y z f g)
 
-pub ends_more : {A : Type 0} (effect : Effects A) (r q : Run A) (bytes : List ℕ) (i b : ℕ) (f : LineFault) (x y z : Option (List ℕ)) → i < length bytes → b ≡ get_or bytes i 0
-    → Goes effect r (take i bytes) q x y → Ends effect q (b ∷ []) f y z → Ends effect r bytes f x z
-ends_more effect r q bytes i b f x y z h e g k =
+pub stops_more : {A : Type 0} (effect : Effects A) (r q : Run A) (bytes : List ℕ) (i b : ℕ) (stop : Stop) (x y z : Option (List ℕ)) → i < length bytes → b ≡ get_or bytes i 0
+    → Goes effect r (take i bytes) q x y → StopsIn effect q (b ∷ []) stop y z → StopsIn effect r bytes stop x z
+stops_more effect r q bytes i b stop x y z h e g k =
     let parts : take i bytes ++ (b ∷ [] ++ drop (i + 1) bytes) ≡ bytes =
     sym (append_assoc (take i bytes) (b ∷ []) (drop (i + 1) bytes))
     ∙ ap (λ n. (take i bytes ++ n ∷ []) ++ drop (i + 1) bytes) e
     ∙ ap (λ l. l ++ drop (i + 1) bytes) (sym (take_more bytes i 0 h)) ∙ take-append-drop (i + 1) bytes in
-    subst (λ (l : List ℕ). Ends effect r l f x z) parts (goes_ends effect r q (take i bytes) (b ∷ []) (drop (i + 1) bytes) f x y z g k)
+    subst (λ (l : List ℕ). StopsIn effect r l stop x z) parts (goes_stops effect r q (take i bytes) (b ∷ []) (drop (i + 1) bytes) stop x y z g k)

@@ -1,11 +1,14 @@
 -- What is left of a transcript within a line, and how bytes lead from one place to another.
 -- Cited by invariants and private clauses alone.
-use Rattle.std.specs.Prelude.{◌≡◌, ℕ, List, [], ◌∷◌, ◌++◌, Bool, Option, Some, Ok, if◌then◌else◌}
+use Rattle.std.specs.Prelude.{◌≡◌, ℕ, ◌+◌, List, [], ◌∷◌, ◌++◌, length, take, Bool, Option, Some, Result, Ok, Err, if◌then◌else◌}
 use Rattle.std.specs.Io.KnownBytes.{Appends}
-use Rattle.snap_lines.specs.Effects.{Effects}
-use Rattle.snap_lines.specs.Lines.{lines_of}
-use Rattle.snap_lines.specs.Transcripts.{Place, Transcript, prepended, effect_at, place_after, transcript_from}
+use Rattle.snap_script.specs.declared.fault.Fault.{Fault}
+use Rattle.snap_lines.specs.Effects.{Effect, Effects}
+use Rattle.snap_lines.specs.Lines.{lines_of, feeds}
+use Rattle.snap_lines.specs.Transcripts.{Place, Transcript, prepended, effect_at, place_after, transcript_from, Tells, TellsPart}
 use Rattle.snap_lines.specs.declared.stop.LineFault.{LineFault}
+use Rattle.snap_lines.specs.declared.stop.Stop.{Stop}
+use Rattle.snap_lines.specs.declared.stop.Stop.TheVariants.{Line, InputFailed, OutputFailed, OutOfMemory}
 
 -- how many lines are behind, how many bytes they had, and what has come of the next line
 pub record Behind : Type 0 where
@@ -30,21 +33,44 @@ within b value = record { place = record { lines = b.lines; bytes = b.bytes; val
 unfoldable pub transcript_on : {A : Type 0} → Effects A → Run A → List ℕ → Transcript A
 transcript_on effect r rest = transcript_from effect r.place (lines_of (r.pending ++ rest))
 
--- bytes lead from r to q, and this is written on the way
-abbrev pub Leads : {A : Type 0} → Effects A → Run A → List ℕ → Run A → List ℕ → Type 0
-Leads effect r bytes q written = (rest : List ℕ) → transcript_on effect r (bytes ++ rest) ≡ prepended written (transcript_on effect q rest)
+-- bytes lead from r to q: these lines end in them, and what is written for the lines goes to the output
+pub record Goes {A : Type 0} (effect : Effects A) (r : Run A) (bytes : List ℕ) (q : Run A) (before behind : Option (List ℕ)) : Type 0 where
+  pub lines : List (List ℕ)
+  pub written : List ℕ
+  pub counted : length lines ≡ feeds bytes
+  pub ended : (rest : List ℕ) → lines_of (r.pending ++ (bytes ++ rest)) ≡ lines ++ lines_of (q.pending ++ rest)
+  pub leads : (more : List (List ℕ)) → transcript_from effect r.place (lines ++ more) ≡ prepended written (transcript_from effect q.place more)
+  pub appended : Appends before behind written
 
 -- bytes lead to a fault after the line that left the value
 abbrev pub Faults : {A : Type 0} → Effects A → Run A → List ℕ → LineFault → A → List ℕ → Type 0
 Faults effect r bytes f value written = (rest : List ℕ) → transcript_on effect r (bytes ++ rest) ≡ record { text = written; fault = Some f; value = value }
 
--- bytes lead from r to q, and what is written on the way goes to the output
-abbrev pub Goes : {A : Type 0} → Effects A → Run A → List ℕ → Run A → Option (List ℕ) → Option (List ℕ) → Type 0
-Goes effect r bytes q before behind = (written : List ℕ) × Appends before behind written × Leads effect r bytes q written
-
 -- bytes lead to a fault, and what is written before it goes to the output
 abbrev pub Ends : {A : Type 0} → Effects A → Run A → List ℕ → LineFault → Option (List ℕ) → Option (List ℕ) → Type 0
 Ends {A} effect r bytes f before behind = (written : List ℕ) × (value : A) × Appends before behind written × Faults effect r bytes f value written
+
+-- some of the bytes, the first ones, lead from r to a place, and what is written for the lines in them goes to the output
+pub record GoesPart {A : Type 0} (effect : Effects A) (r : Run A) (bytes : List ℕ) (before behind : Option (List ℕ)) : Type 0 where
+  pub part : List ℕ
+  pub more : List ℕ
+  pub place : Run A
+  pub is : bytes ≡ part ++ more
+  pub goes : Goes effect r part place before behind
+
+-- what went to the output where the run stops within the bytes, or, at a write that failed, after them
+abbrev pub StopsIn : {A : Type 0} → Effects A → Run A → List ℕ → Stop → Option (List ℕ) → Option (List ℕ) → Type 0
+StopsIn effect r bytes (Line f) before behind = Ends effect r bytes f before behind
+StopsIn effect r bytes InputFailed before behind = ⊥
+StopsIn effect r bytes OutputFailed before behind = (rest : List ℕ) → TellsPart (transcript_on effect r (bytes ++ rest)) before behind
+StopsIn effect r bytes OutOfMemory before behind = GoesPart effect r bytes before behind
+
+-- what went to the output where the run stops at the end of the input
+abbrev pub StopsAtEnd : {A : Type 0} → Effects A → Run A → Stop → Option (List ℕ) → Option (List ℕ) → Type 0
+StopsAtEnd effect r (Line f) before behind = Tells (transcript_on effect r []) (Some f) before behind
+StopsAtEnd effect r InputFailed before behind = ⊥
+StopsAtEnd effect r OutputFailed before behind = TellsPart (transcript_on effect r []) before behind
+StopsAtEnd effect r OutOfMemory before behind = behind ≡ before
 
 -- the line that has come, with its line feed where that ended it
 abbrev pub line_in : List ℕ → Bool → List ℕ
@@ -54,3 +80,19 @@ line_in pending ended = if ended then pending ++ 10 ∷ [] else pending
 abbrev pub Takes : {A : Type 0} → Effects A → Run A → List ℕ → Run A → Option (List ℕ) → Option (List ℕ) → Type 0
 Takes effect r line q before behind = (text : List ℕ) × (effect_at effect r.place line ≡ Ok (record { value = q.place.value; text = text }))
     × (q ≡ record { place = place_after r.place line q.place.value; pending = [] }) × Appends before behind text
+
+-- the line after so many has this fault, or memory was refused
+abbrev pub Refuses : {A : Type 0} → Result (Effect A) Fault → ℕ → Stop → Type 0
+Refuses reading lines (Line f) = (reading ≡ Err f.cause) × (f.line ≡ lines + 1)
+Refuses reading lines OutOfMemory = Unit {0}
+Refuses reading lines stop = ⊥
+
+-- a write failed after a first part of the text
+abbrev pub Breaks : List ℕ → Stop → Option (List ℕ) → Option (List ℕ) → Type 0
+Breaks text OutputFailed before behind = (n : ℕ) × Appends before behind (take n text)
+Breaks text stop before behind = ⊥
+
+-- a line was not taken: it has a fault or memory was refused, and nothing went to the output, or a first part of its text did
+abbrev pub Leaves : {A : Type 0} → Effects A → Run A → List ℕ → Stop → Option (List ℕ) → Option (List ℕ) → Type 0
+Leaves {A} effect r line OutputFailed before behind = (e : Effect A) × (effect_at effect r.place line ≡ Ok e) × Breaks e.text OutputFailed before behind
+Leaves effect r line stop before behind = Refuses (effect_at effect r.place line) r.place.lines stop × (behind ≡ before)

@@ -1,12 +1,14 @@
 -- What the lines of an input make of a value and what is written for them, line for line, and the first fault; cited by the public clauses of `read_lines`.
 -- Cited by `read_lines`, `write_jobs_within`, `write_jobs` and others.
-use Rattle.std.specs.Prelude.{◌≡◌, ℕ, ◌+◌, List, [], ◌∷◌, ◌++◌, length, Bool, ◌||◌, Option, Some, None, Result, Ok, Err, nat_lt, if◌then◌else◌}
-use Rattle.std.specs.Io.KnownBytes.{Appends}
+use Rattle.std.specs.Prelude.{◌≡◌, ℕ, ◌+◌, List, [], ◌∷◌, ◌++◌, length, take, Bool, ◌||◌, Option, Some, None, Result, Ok, Err, nat_lt, if◌then◌else◌}
+use Rattle.std.specs.Io.KnownBytes.{Appends, Consumes}
 use Rattle.snap_script.specs.declared.fault.Fault.{Fault}
 use Rattle.snap_script.specs.declared.fault.Fault.TheVariants.{TooLong}
 use Rattle.snap_lines.specs.Effects.{Effect, Effects}
-use Rattle.snap_lines.specs.Lines.{lines_of, without_feed}
+use Rattle.snap_lines.specs.Lines.{lines_of, without_feed, feeds}
 use Rattle.snap_lines.specs.declared.stop.LineFault.{LineFault}
+use Rattle.snap_lines.specs.declared.stop.Stop.{Stop}
+use Rattle.snap_lines.specs.declared.stop.Stop.TheVariants.{Line, InputFailed, OutputFailed, OutOfMemory}
 
 -- a line has at most 16 MiB, without its line feed
 abbrev pub max_line : ℕ
@@ -54,10 +56,31 @@ abbrev pub transcript_from : {A : Type 0} → Effects A → Place A → List (Li
 transcript_from effect p [] = record { text = []; fault = None; value = p.value }
 transcript_from effect p (line ∷ lines) = goes_on p line (effect_at effect p line) (λ q. transcript_from effect q lines)
 
+-- before the first line
+abbrev pub start : {A : Type 0} → A → Place A
+start value = record { lines = 0; bytes = 0; value = value }
+
 -- the transcript of an input, from the value before its first line
 unfoldable pub transcript : {A : Type 0} → Effects A → A → List ℕ → Transcript A
-transcript effect value bytes = transcript_from effect (record { lines = 0; bytes = 0; value = value }) (lines_of bytes)
+transcript effect value bytes = transcript_from effect (start value) (lines_of bytes)
+
+-- the transcript of the first lines alone
+unfoldable pub first_lines : {A : Type 0} → Effects A → A → List ℕ → ℕ → Transcript A
+first_lines effect value bytes n = transcript_from effect (start value) (take n (lines_of bytes))
 
 -- the output takes the text of a transcript that has this fault
 abbrev pub Tells : {A : Type 0} → Transcript A → Option LineFault → Option (List ℕ) → Option (List ℕ) → Type 0
 Tells s fault before behind = (s.fault ≡ fault) × Appends before behind s.text
+
+-- the output takes a first part of the text of a transcript
+abbrev pub TellsPart : {A : Type 0} → Transcript A → Option (List ℕ) → Option (List ℕ) → Type 0
+TellsPart s before after = (part rest : List ℕ) × (s.text ≡ part ++ rest) × Appends before after part
+
+-- What was written where a run over these bytes stops, with what the input has left. At a line's fault, which is that of
+-- the transcript, and at want of memory: the text of whole lines. At a read that failed: the text of all lines whose
+-- line feed was read, none of which has a fault. At a write that failed: a first part of the text.
+abbrev pub Stops : {A : Type 0} → Effects A → A → List ℕ → Option (List ℕ) → Stop → Option (List ℕ) → Option (List ℕ) → Type 0
+Stops effect value bytes left (Line f) before after = Tells (transcript effect value bytes) (Some f) before after
+Stops effect value bytes left InputFailed before after = (read : List ℕ) × Consumes (Some bytes) left read × Tells (first_lines effect value bytes (feeds read)) None before after
+Stops effect value bytes left OutputFailed before after = TellsPart (transcript effect value bytes) before after
+Stops effect value bytes left OutOfMemory before after = (n : ℕ) × Tells (first_lines effect value bytes n) None before after

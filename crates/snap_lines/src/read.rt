@@ -1,7 +1,6 @@
-ghost use Rattle.std.specs.Prelude.{◌≡◌, Some, None, Ok, Err, OnOk, IfOk, IfSome, length, ◌<◌};
-ghost use Rattle.snap_lines.specs.Transcripts.{transcript, Tells};
-ghost use Rattle.snap_lines.specs.Runs.{within, Goes, Ends};
-ghost use Rattle.snap_lines.specs.declared.stop.LineFault.{LineFault};
+ghost use Rattle.std.specs.Prelude.{◌≡◌, None, OnOk, IfOk, IfErr, IfSome, length, ◌<◌};
+ghost use Rattle.snap_lines.specs.Transcripts.{transcript, Tells, Stops};
+ghost use Rattle.snap_lines.specs.Runs.{within, Goes, StopsIn};
 
 use crate::reader::Reader;
 use crate::stop::Stop;
@@ -35,8 +34,8 @@ fn take_read<T: TakeLine, W: Write>(
 ) -> Result<(), Stop>
     ensures ok { OnOk result (Goes T.effect (within reader.old taker.old) bytes.now (within reader.new taker.new)
         (W.contents output.old) (W.contents output.new)) }
-    ensures fault { (f : LineFault) → result ≡ Err (Stop.Line f)
-        → Ends T.effect (within reader.old taker.old) bytes.now f (W.contents output.old) (W.contents output.new) }
+    ensures err { IfErr result (λ stop. StopsIn T.effect (within reader.old taker.old) bytes.now stop
+        (W.contents output.old) (W.contents output.new)) }
 {
     reader.feed(bytes, taker, output)?;
     match output.flush() {
@@ -57,8 +56,8 @@ fn read_all<T: TakeLine, R: Read, W: Write>(
         Tells (transcript T.effect taker.old bytes) None (W.contents output.old) (W.contents output.new))) }
     ensures value { OnOk result (IfSome (R.remaining input.old) (λ bytes.
         (transcript T.effect taker.old bytes).value ≡ taker.new)) }
-    ensures fault { (f : LineFault) → result ≡ Err (Stop.Line f) → IfSome (R.remaining input.old) (λ bytes.
-        Tells (transcript T.effect taker.old bytes) (Some f) (W.contents output.old) (W.contents output.new)) }
+    ensures stopped { IfErr result (λ stop. IfSome (R.remaining input.old) (λ bytes.
+        Stops T.effect taker.old bytes (R.remaining input.new) stop (W.contents output.old) (W.contents output.new))) }
 {
     let mut reader = Reader::new(alloc);
     let Ok(mut chunk) = chunk(alloc) else {
@@ -79,8 +78,9 @@ fn read_all<T: TakeLine, R: Read, W: Write>(
 ///
 /// Where it ends well, and the input and the output tell their bytes, what was written is the text of
 /// `transcript` for all that the input had, no line has a fault, and the taker is what the last line
-/// left. Where it ends with a line, that is the first with a fault, and what was written is the text for
-/// the lines before. Nothing is said of the taker after an error.
+/// left. Where it stops, what was written is the text for whole lines from the first on: at a line, which is
+/// the first with a fault, for those before it; at a read that failed, for all that were read; where a write
+/// failed, a first part of a text may follow. Nothing is said of the taker after an error.
 ///
 /// `Line` where the taker finds a fault, or a line has more than 16,777,216 bytes without its line feed,
 /// or takes the bytes of all lines past 1,073,741,824. `InputFailed` where a read failed, or the end of
@@ -100,8 +100,8 @@ pub fn read_lines<T: TakeLine, R: Read, W: Write>(
         Tells (transcript T.effect taker.old bytes) None (W.contents output.old) (W.contents output.new))) }
     ensures value { OnOk result (IfSome (R.remaining input.old) (λ bytes.
         (transcript T.effect taker.old bytes).value ≡ taker.new)) }
-    ensures fault { (f : LineFault) → result ≡ Err (Stop.Line f) → IfSome (R.remaining input.old) (λ bytes.
-        Tells (transcript T.effect taker.old bytes) (Some f) (W.contents output.old) (W.contents output.new)) }
+    ensures stopped { IfErr result (λ stop. IfSome (R.remaining input.old) (λ bytes.
+        Stops T.effect taker.old bytes (R.remaining input.new) stop (W.contents output.old) (W.contents output.new))) }
 {
     let result = read_all(alloc, taker, input, output, reads);
     match output.flush() {

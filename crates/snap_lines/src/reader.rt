@@ -1,20 +1,22 @@
 // Where a run stands within an input, and the step of one line.
-ghost use Rattle.std.specs.Prelude.{Some, None, ◌≡◌, ◌<◌, ◌≤◌, ◌+◌, [], ◌∷◌, length, false, Ok, Err, OnOk, IfOk};
+ghost use Rattle.std.specs.Prelude.{None, ◌≡◌, ◌<◌, ◌≤◌, ◌+◌, [], ◌∷◌, length, false, Ok, Err, OnOk, IfOk, IfErr};
 ghost use Rattle.std.specs.Io.KnownBytes.{Appends};
 ghost use Rattle.snap_lines.specs.Effects.{effect_with, text_bytes};
-ghost use Rattle.snap_lines.specs.Transcripts.{Tells, effect_at, max_bytes};
-ghost use Rattle.snap_lines.specs.Runs.{nothing, within, transcript_on, Takes, Goes, Ends, line_in};
-ghost use Rattle.snap_lines.specs.declared.stop.LineFault.{LineFault};
+ghost use Rattle.snap_lines.specs.Transcripts.{Tells, max_bytes};
+ghost use Rattle.snap_lines.specs.Runs.{nothing, within, transcript_on, line_in, Takes, Goes, Refuses, Breaks, Leaves, StopsIn, StopsAtEnd};
 
 use crate::stop::{LineFault, Stop};
 use crate::take::TakeLine;
 use snap_script::{Fault, MAX_LINE_BYTES, ReadError};
 use std::alloc::Global;
-use std::io::Write;
+use std::io::{ErrorKind, Write};
 use std::marker::Model;
 
 // All lines have at most so many bytes, with their line feeds.
 const MAX_BYTES: usize = 1_073_741_824;
+
+// A text is written by at most so many writes.
+const WRITES: u64 = u64::MAX;
 
 fn fault(lines: usize, cause: Fault) -> Stop
     requires { lines ≤ max_bytes }
@@ -33,8 +35,8 @@ fn text_of<T: TakeLine>(
 ) -> Result<Option<String>, Stop>
     requires { lines ≤ max_bytes }
     ensures ok { IfOk result (λ text. T.effect taker.old line.now ≡ Ok (effect_with taker.new text)) }
-    ensures fault { (f : LineFault) → result ≡ Err (Stop.Line f)
-        → (T.effect taker.old line.now ≡ Err f.cause) × (f.line ≡ lines + 1) }
+    ensures err { IfErr result (λ stop. Refuses (T.effect taker.old line.now) lines stop) }
+    ensures memory { result ≡ Err Stop.OutOfMemory → T.wanting taker.new }
 {
     match taker.take_line(alloc, line) {
         Ok(text) => Ok(text),
@@ -43,14 +45,32 @@ fn text_of<T: TakeLine>(
     }
 }
 
+// Writes the bytes, or a first part of them where a write fails.
+fn write_bytes<W: Write>(output: &mut W, bytes: &[u8]) -> Result<(), Stop>
+    ensures ok { OnOk result (Appends (W.contents output.old) (W.contents output.new) bytes.now) }
+    ensures err { IfErr result (λ stop. Breaks bytes.now stop (W.contents output.old) (W.contents output.new)) }
+{
+    let mut written = 0;
+    'writes: for _ in 0..WRITES {
+        if written == bytes.len() {
+            return Ok(());
+        }
+        match output.write(&bytes[written..]) {
+            Ok(0) => return Err(Stop::OutputFailed),
+            Ok(n) => written += n,
+            Err(e) if e.kind() == ErrorKind::Interrupted => {}
+            Err(_) => return Err(Stop::OutputFailed),
+        }
+    }
+    Err(Stop::OutputFailed)
+}
+
 fn write_text<W: Write>(output: &mut W, text: Option<String>) -> Result<(), Stop>
     ensures ok { OnOk result (Appends (W.contents output.old) (W.contents output.new) (text_bytes text)) }
-    ensures err { (f : LineFault) → result ≡ Err (Stop.Line f) → ⊥ }
+    ensures err { IfErr result (λ stop. Breaks (text_bytes text) stop (W.contents output.old) (W.contents output.new)) }
 {
     match text {
-        Some(text) => output
-            .write_all(text.as_bytes())
-            .map_err(|_| Stop::OutputFailed),
+        Some(text) => write_bytes(output, text.as_bytes()),
         None => Ok(()),
     }
 }
@@ -101,9 +121,9 @@ impl Reader {
         requires { ended ≡ false → 0 < length self.old.pending }
         ensures ok { OnOk result (Takes T.effect (within self.old taker.old) (line_in self.old.pending ended)
             (within self.new taker.new) (W.contents output.old) (W.contents output.new)) }
-        ensures fault { (f : LineFault) → result ≡ Err (Stop.Line f)
-            → (effect_at T.effect (within self.old taker.old).place (line_in self.old.pending ended) ≡ Err f.cause)
-            × (f.line ≡ self.old.lines + 1) × (W.contents output.new ≡ W.contents output.old) }
+        ensures err { IfErr result (λ stop. Leaves T.effect (within self.old taker.old) (line_in self.old.pending ended) stop
+            (W.contents output.old) (W.contents output.new)) }
+        ensures memory { result ≡ Err Stop.OutOfMemory → T.wanting taker.new }
     {
         let line = self.pending.as_slice();
         let len = line.len() + usize::from(ended);
@@ -127,8 +147,8 @@ impl Reader {
     ) -> Result<(), Stop>
         ensures ok { OnOk result (Goes T.effect (within self.old taker.old) (b ∷ []) (within self.new taker.new)
             (W.contents output.old) (W.contents output.new)) }
-        ensures fault { (f : LineFault) → result ≡ Err (Stop.Line f)
-            → Ends T.effect (within self.old taker.old) (b ∷ []) f (W.contents output.old) (W.contents output.new) }
+        ensures err { IfErr result (λ stop. StopsIn T.effect (within self.old taker.old) (b ∷ []) stop
+            (W.contents output.old) (W.contents output.new)) }
     {
         // With a field read, the proof knows the type's invariant.
         let _ = &self.alloc;
@@ -151,8 +171,8 @@ impl Reader {
     ) -> Result<(), Stop>
         ensures ok { OnOk result (Goes T.effect (within self.old taker.old) bytes.now (within self.new taker.new)
             (W.contents output.old) (W.contents output.new)) }
-        ensures fault { (f : LineFault) → result ≡ Err (Stop.Line f)
-            → Ends T.effect (within self.old taker.old) bytes.now f (W.contents output.old) (W.contents output.new) }
+        ensures err { IfErr result (λ stop. StopsIn T.effect (within self.old taker.old) bytes.now stop
+            (W.contents output.old) (W.contents output.new)) }
     {
         for b in bytes {
             self.take_byte(*b, taker, output)?;
@@ -169,9 +189,8 @@ impl Reader {
         ensures ok { OnOk result (Tells (transcript_on T.effect (within self.old taker.old) []) None
             (W.contents output.old) (W.contents output.new)) }
         ensures value { OnOk result ((transcript_on T.effect (within self.old taker.old) []).value ≡ taker.new) }
-        ensures fault { (f : LineFault) → result ≡ Err (Stop.Line f)
-            → Tells (transcript_on T.effect (within self.old taker.old) []) (Some f)
-            (W.contents output.old) (W.contents output.new) }
+        ensures err { IfErr result (λ stop. StopsAtEnd T.effect (within self.old taker.old) stop
+            (W.contents output.old) (W.contents output.new)) }
     {
         if self.pending.as_slice().is_empty() {
             return Ok(());

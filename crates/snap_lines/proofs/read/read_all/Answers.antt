@@ -1,9 +1,10 @@
-use Rattle.std.proofs.Common.{ℕ, ◌<◌, [], length, take, None, Some, arith, subst}
+use Rattle.std.proofs.Common.{ℕ, ◌<◌, [], length, take, None, sym, arith, subst}
 use Rattle.std.specs.Io.KnownBytes.{Consumes, IsAtEnd}
 use Rattle.std.proofs.lemmas.Result.{err_from_is_err_and}
-use Rattle.snap_lines.proofs.TranscriptLaws.{on_ok}
-use Rattle.snap_lines.proofs.ReadLaws.{reading_end, reading_value, reading_more, reading_fault}
-use Rattle.snap_lines.specs.Runs.{within}
+use Rattle.snap_lines.proofs.TranscriptLaws.{on_ok, if_err, err_is}
+use Rattle.snap_lines.proofs.ReadLaws.{Reading, reading_end, reading_value, reading_none, reading_more, reading_stopped, reading_stopped_at_end, reading_failed, reading_not_begun}
+use Rattle.snap_lines.specs.Runs.{Behind, within}
+use Rattle.snap_lines.proofs.KnownLaws.{Keeps-same}
 use Rattle.snap_lines.proofs.read.read_all.Goals as goal
 
 pub returns-in-Ok-eq0-clause-done : goal.returns-in-Ok-eq0-clause-done
@@ -22,19 +23,35 @@ returns-in-Ok-eq0-clause-value g c =
     subst (λ (n : ℕ). Consumes (g.R.Read.remaining c.reads.input) (g.R.Read.remaining c.read.new.self) (take n c.read.new.buf)) c.in-Ok-eq0.field-0-test c.in-Ok-eq0.ensures.bytes.0 in
     on_ok c.finish.result (reading_value g.T.TakeLine.effect c.args.taker.now c.finish.new.taker _ _ _ _ _ (within c.reads.reader c.reads.taker) c.reads.invariant none at_end) c.finish.ensures.value
 
-pub returns-in-Ok-eq0-clause-fault : goal.returns-in-Ok-eq0-clause-fault
-returns-in-Ok-eq0-clause-fault g c = λ f e.
+pub returns-in-Ok-eq0-clause-stopped : goal.returns-in-Ok-eq0-clause-stopped
+returns-in-Ok-eq0-clause-stopped g c =
     let room : 0 < length c.read.new.buf = omega arith in
     let at_end : IsAtEnd (g.R.Read.remaining c.read.new.self) = c.in-Ok-eq0.ensures.bytes.1 c.in-Ok-eq0.field-0-test room in
     let none : Consumes (g.R.Read.remaining c.reads.input) (g.R.Read.remaining c.read.new.self) [] =
     subst (λ (n : ℕ). Consumes (g.R.Read.remaining c.reads.input) (g.R.Read.remaining c.read.new.self) (take n c.read.new.buf)) c.in-Ok-eq0.field-0-test c.in-Ok-eq0.ensures.bytes.0 in
-    reading_end g.T.TakeLine.effect c.args.taker.now _ _ _ _ _ _ (within c.reads.reader c.reads.taker) (Some f) c.reads.invariant none at_end (c.finish.ensures.fault f e)
-
-pub returns-in_err-take_read-in-Ok-read-clause-fault : goal.returns-in_err-take_read-in-Ok-read-clause-fault
-returns-in_err-take_read-in-Ok-read-clause-fault g c = λ f e.
-    let p = err_from_is_err_and c.from_residual.result c.from_residual.ensures.1 in
-    let known = c.in_err-take_read-in-Ok-read.ensures.fault f (cc (p.1, p.2)) in
-    reading_fault g.T.TakeLine.effect c.args.taker.now _ _ _ _ _ _ (within c.reads.reader c.reads.taker) _ f c.reads.invariant c.in-Ok-read.ensures.bytes.0 known
+    if_err c.finish.result (λ stop h. reading_stopped_at_end g.T.TakeLine.effect c.args.taker.now _ _ _ _ _ _ _ (within c.reads.reader c.reads.taker) stop c.reads.invariant none at_end h) c.finish.ensures.err
 
 pub reads-preserved : goal.reads-preserved
 reads-preserved g c = reading_more g.T.TakeLine.effect c.args.taker.now _ _ _ _ _ _ _ _ _ c.reads.invariant c.in-Ok-read.ensures.bytes.0 c.in_ok-take_read-in-Ok-read.ensures.ok
+
+pub reads-init : goal.reads-init
+reads-init g c =
+    let a = g.R.Read.remaining c.args.input.now in
+    let x = g.W.Write.contents c.args.output.now in
+    subst (λ (s : Behind). Reading g.T.TakeLine.effect c.args.taker.now a a x x (within s c.args.taker.now)) (sym c.new-reader.ensures) (reading_none g.T.TakeLine.effect c.args.taker.now a x)
+
+pub returns-in_default-clause-stopped : goal.returns-in_default-clause-stopped
+returns-in_default-clause-stopped g c = reading_not_begun g.T.TakeLine.effect c.args.taker.now (g.R.Read.remaining c.args.input.now) (g.R.Read.remaining c.args.input.now) (g.W.Write.contents c.args.output.now)
+
+pub returns-in_err-take_read-in-Ok-read-clause-stopped : goal.returns-in_err-take_read-in-Ok-read-clause-stopped
+returns-in_err-take_read-in-Ok-read-clause-stopped g c =
+    let p = err_from_is_err_and c.from_residual.result c.from_residual.ensures.1 in
+    let stop = c.in_err-take_read-in-Ok-read.field-0.0 in
+    err_is _ c.from_residual.result p.0 stop p.1 (cc p.2)
+    (reading_stopped g.T.TakeLine.effect c.args.taker.now _ _ _ _ _ _ _ (within c.reads.reader c.reads.taker) _ stop c.reads.invariant c.in-Ok-read.ensures.bytes.0 c.in_err-take_read-in-Ok-read.ensures.err)
+
+pub returns-in-Err-clause-stopped : goal.returns-in-Err-clause-stopped
+returns-in-Err-clause-stopped g c = reading_failed g.T.TakeLine.effect c.args.taker.now _ _ _ _ _ (within c.reads.reader c.reads.taker) c.reads.invariant c.in-Err.ensures.bytes
+
+pub returns-clause-stopped : goal.returns-clause-stopped
+returns-clause-stopped g c = reading_failed g.T.TakeLine.effect c.args.taker.now _ _ _ _ _ (within c.reads.reader c.reads.taker) c.reads.invariant (Keeps-same _)

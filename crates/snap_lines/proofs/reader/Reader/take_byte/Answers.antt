@@ -1,9 +1,12 @@
-use Rattle.std.proofs.Common.{◌≡◌, ℕ, ◌+◌, List, [], ◌∷◌, length, true, sym, ap, ◌∙◌, subst, Option}
+use Rattle.std.proofs.Common.{◌≡◌, ℕ, ◌+◌, [], ◌∷◌, length, true, refl, sym, ap, ◌∙◌, subst}
 use Rattle.std.proofs.lemmas.Bool.{ne_eqb}
+use Rattle.std.proofs.lemmas.Result.{err_from_is_err_and}
 use Rattle.snap_script.specs.declared.fault.Fault.TheVariants.{TooLong}
 use Rattle.snap_lines.specs.Lines.{is_open}
-use Rattle.snap_lines.specs.Runs.{Behind, within, Goes, Ends}
-use Rattle.snap_lines.proofs.TranscriptLaws.{on_ok, newline_goes, newline_ends, byte_run, long_ends}
+use Rattle.snap_lines.specs.Runs.{Behind, within, Goes, StopsIn}
+use Rattle.snap_lines.specs.declared.stop.Stop.{Stop}
+use Rattle.snap_lines.specs.declared.stop.Stop.TheVariants.{OutOfMemory}
+use Rattle.snap_lines.proofs.TranscriptLaws.{on_ok, if_err, err_is, newline_goes, newline_stops, byte_run, long_ends, stops_before}
 use Rattle.snap_lines.proofs.reader.Reader.take_byte.Goals as goal
 
 pub returns-then-b-eq10-clause-ok : goal.returns-then-b-eq10-clause-ok
@@ -15,24 +18,29 @@ returns-then-b-eq10-clause-ok g c =
     on_ok c.take_line.result (λ t. subst (λ (b : ℕ). Goes effect old (b ∷ []) new (g.W.Write.contents c.args.output.now) (g.W.Write.contents c.take_line.new.output))
     (sym c.if-b-eq10.true) (newline_goes effect old new _ _ no_feed t)) c.take_line.ensures.ok
 
-pub returns-then-b-eq10-clause-fault : goal.returns-then-b-eq10-clause-fault
-returns-then-b-eq10-clause-fault g c = λ f e.
+pub returns-then-b-eq10-clause-err : goal.returns-then-b-eq10-clause-err
+returns-then-b-eq10-clause-err g c =
     let effect = g.T.TakeLine.effect in
     let old = within c.args.self.now c.args.taker.now in
     let no_feed = subst (λ (z : Behind). is_open z.pending ≡ true) c.self.view_is c.self.invariant.3 in
-    let known = c.take_line.ensures.fault f e in
-    let x = g.W.Write.contents c.args.output.now in
-    subst (λ (b : ℕ). Ends effect old (b ∷ []) f x (g.W.Write.contents c.take_line.new.output)) (sym c.if-b-eq10.true)
-    (subst (λ (y : Option (List ℕ)). Ends effect old (10 ∷ []) f x y) (sym known.2)
-    (newline_ends effect old f x no_feed known.0 known.1))
-
-pub returns-then-as_slice-eq-MAX_LINE_BYTES-clause-fault : goal.returns-then-as_slice-eq-MAX_LINE_BYTES-clause-fault
-returns-then-as_slice-eq-MAX_LINE_BYTES-clause-fault g c = λ f e.
-    let no_feed = subst (λ (z : Behind). is_open z.pending ≡ true) c.self.view_is c.self.invariant.3 in
-    let is : f ≡ record { line = c.self.inside.lines + 1; cause = TooLong } = cc in
-    long_ends g.T.TakeLine.effect (within c.args.self.now c.args.taker.now) c.args.b f _ no_feed (ne_eqb _ _ c.if-b-eq10.false)
-    (ap (λ (z : Behind). length z.pending) (sym c.self.view_is) ∙ ap length (sym c.as_slice.ensures.value) ∙ c.if-as_slice-eq-MAX_LINE_BYTES.true)
-    (is ∙ ap (λ (z : Behind). record { line = z.lines + 1; cause = TooLong }) c.self.view_is)
+    if_err c.take_line.result (λ stop h. subst (λ (b : ℕ). StopsIn effect old (b ∷ []) stop (g.W.Write.contents c.args.output.now) (g.W.Write.contents c.take_line.new.output))
+    (sym c.if-b-eq10.true) (newline_stops effect old stop _ _ no_feed h)) c.take_line.ensures.err
 
 pub returns-clause-ok : goal.returns-clause-ok
-returns-clause-ok g c = byte_run g.T.TakeLine.effect c.args.taker.now _ _ _ _ _ c.self.view_is c.args.b _ c.in_ok-push.ensures.items
+returns-clause-ok g c = byte_run g.T.TakeLine.effect c.args.taker.now _ _ _ _ _ c.self.view_is c.args.b _ (ne_eqb _ _ c.if-b-eq10.false) c.in_ok-push.ensures.items
+
+pub returns-then-as_slice-eq-MAX_LINE_BYTES-clause-err : goal.returns-then-as_slice-eq-MAX_LINE_BYTES-clause-err
+returns-then-as_slice-eq-MAX_LINE_BYTES-clause-err g c =
+    let effect = g.T.TakeLine.effect in
+    let old = within c.args.self.now c.args.taker.now in
+    let x = g.W.Write.contents c.args.output.now in
+    let no_feed = subst (λ (z : Behind). is_open z.pending ≡ true) c.self.view_is c.self.invariant.3 in
+    subst (λ (s : Stop). StopsIn effect old (c.args.b ∷ []) s x x) (sym c.fault.ensures)
+    (long_ends effect old c.args.b (record { line = c.self.inside.lines + 1; cause = TooLong }) x no_feed (ne_eqb _ _ c.if-b-eq10.false)
+    (ap (λ (z : Behind). length z.pending) (sym c.self.view_is) ∙ ap length (sym c.as_slice.ensures.value) ∙ c.if-as_slice-eq-MAX_LINE_BYTES.true)
+    (ap (λ (z : Behind). record { line = z.lines + 1; cause = TooLong }) c.self.view_is))
+
+pub returns-in_err-push-clause-err : goal.returns-in_err-push-clause-err
+returns-in_err-push-clause-err g c =
+    let p = err_from_is_err_and c.from_residual.result c.from_residual.ensures.1 in
+    err_is _ c.from_residual.result p.0 OutOfMemory p.1 (cc p.2) (stops_before g.T.TakeLine.effect (within c.args.self.now c.args.taker.now) (c.args.b ∷ []) _ _ refl)
