@@ -1,6 +1,6 @@
 -- The store that a script has opened; the public clauses of `Script` see this value.
 -- Cited by `Script as TakeLine`, `replay_within`, `replay` and others.
-use Rattle.std.specs.Prelude.{ℕ, List, [], None, replicate, map, unwrap_or}
+use Rattle.std.specs.Prelude.{ℕ, Bool, false, List, [], Option, None, replicate, map, unwrap_or}
 use Rattle.std.specs.Option.{option_map}
 use Rattle.snap_usage.specs.declared.usage.Usage.{Usage}
 use Rattle.snap_usage.specs.Counted.{count_of, no_usage}
@@ -14,6 +14,15 @@ use Rattle.snap_world.specs.World.{WorldValue, hand_at}
 pub record OpenedValue : Type 0 where
   pub world : WorldValue
   pub names : List Bytes
+
+-- the store that a script has opened, or none; and whether, without one, the name is gone that it would have
+pub record ScriptValue : Type 0 where
+  pub store : Option OpenedValue
+  pub spent : Bool
+
+-- before the first line
+abbrev pub unopened : ScriptValue
+unopened = record { store = None; spent = false }
 
 -- the world that a configuration opens
 abbrev pub new_world : Config → WorldValue

@@ -1,6 +1,6 @@
-ghost use Rattle.std.specs.Prelude.{◌≡◌, Some, None, Ok, Err, OnOk, IfSome};
-ghost use Rattle.snap_lines.specs.Transcripts.{Tells};
-ghost use Rattle.snap_lines.specs.declared.stop.LineFault.{LineFault};
+ghost use Rattle.std.specs.Prelude.{◌≡◌, None, OnOk, IfErr, IfSome};
+ghost use Rattle.snap_lines.specs.Transcripts.{Tells, Stops};
+ghost use Rattle.snap_session.specs.Opened.{unopened};
 ghost use Rattle.snap_session.specs.Script.{script, effect_of};
 
 use crate::script::Script;
@@ -40,8 +40,8 @@ fn run<N: StoreName, R: Read, W: Write>(
     requires { table ≡ N.table }
     ensures done { OnOk result (IfSome (R.remaining input.old)
         (λ bytes. Tells (script bytes) None (W.contents output.old) (W.contents output.new))) }
-    ensures fault { (f : LineFault) → result ≡ Err (Stop.Line f) → IfSome (R.remaining input.old)
-        (λ bytes. Tells (script bytes) (Some f) (W.contents output.old) (W.contents output.new)) }
+    ensures stopped { IfErr result (λ stop. IfSome (R.remaining input.old) (λ bytes.
+        Stops effect_of unopened bytes (R.remaining input.new) stop (W.contents output.old) (W.contents output.new))) }
 {
     let mut script: Script<N> = Script::new(alloc, table);
     read_lines(alloc, &mut script, input, output, reads)
@@ -51,8 +51,9 @@ fn run<N: StoreName, R: Read, W: Write>(
 /// output. An empty line has no answer.
 ///
 /// Where it ends well, and the input and the output tell their bytes, what was written is the text of
-/// `script` for all that the input had, and no line has a fault. Where it ends with a line, that is
-/// the first with a fault, and what was written is the text for the lines before.
+/// `script` for all that the input had, and no line has a fault. Where it stops, what was written is the text
+/// for whole lines from the first on: at a line, which is the first with a fault, for those before it; at a
+/// read that failed, for all that were read; where a write failed, a first part of a text may follow.
 ///
 /// `Line` where a line is no command, has more than 16,777,216 bytes without its line feed, or takes
 /// the bytes of all lines past 1,073,741,824. `InputFailed` where a read failed, or the end of the
@@ -69,8 +70,8 @@ pub fn replay_within<R: Read, W: Write>(
 ) -> Result<(), Stop>
     ensures done { OnOk result (IfSome (R.remaining input.old)
         (λ bytes. Tells (script bytes) None (W.contents output.old) (W.contents output.new))) }
-    ensures fault { (f : LineFault) → result ≡ Err (Stop.Line f) → IfSome (R.remaining input.old)
-        (λ bytes. Tells (script bytes) (Some f) (W.contents output.old) (W.contents output.new)) }
+    ensures stopped { IfErr result (λ stop. IfSome (R.remaining input.old) (λ bytes.
+        Stops effect_of unopened bytes (R.remaining input.new) stop (W.contents output.old) (W.contents output.new))) }
 {
     let Ok(table) = NewTable::new(alloc) else {
         return Err(Stop::OutOfMemory);
@@ -82,8 +83,8 @@ pub fn replay_within<R: Read, W: Write>(
 pub fn replay<R: Read, W: Write>(alloc: Global, input: &mut R, output: &mut W) -> Result<(), Stop>
     ensures done { OnOk result (IfSome (R.remaining input.old)
         (λ bytes. Tells (script bytes) None (W.contents output.old) (W.contents output.new))) }
-    ensures fault { (f : LineFault) → result ≡ Err (Stop.Line f) → IfSome (R.remaining input.old)
-        (λ bytes. Tells (script bytes) (Some f) (W.contents output.old) (W.contents output.new)) }
+    ensures stopped { IfErr result (λ stop. IfSome (R.remaining input.old) (λ bytes.
+        Stops effect_of unopened bytes (R.remaining input.new) stop (W.contents output.old) (W.contents output.new))) }
 {
     replay_within(alloc, input, output, READS)
 }
