@@ -5,7 +5,7 @@ ghost use Rattle.snap_script.specs.Gives.{Gives};
 ghost use Rattle.snap_jobs.specs.Lines.{opened_as, read_with, taken};
 
 use crate::job::job_of;
-use snap_call::{Config, Refusal};
+use snap_call::Config;
 use snap_ledger::{NewTable, StoreName};
 use snap_lines::TakeLine;
 use snap_record::{Sequence, Text};
@@ -37,8 +37,8 @@ impl<N: StoreName> Model for Read<N> {
 /// What was read of a script of jobs. Contracts see nothing, or, once the first line has opened a store, the
 /// names of its namespaces and the jobs.
 ///
-/// The table names the store, and goes to it when it is opened. Where that is refused, for its configuration
-/// or for want of memory, the name is spent, and a later line that opens a store is `OutOfMemory`.
+/// The table names the store, and goes to it when it is opened. Where memory is refused then, the name is spent,
+/// and a later line that opens a store is `OutOfMemory`. A configuration without its form leaves the name.
 #[derive(Drop)]
 pub struct JobLines<N: StoreName> {
     table: Option<NewTable>,
@@ -73,6 +73,9 @@ impl<N: StoreName> JobLines<N> {
         ensures read { Gives (λ read. read) result (opened_as config) }
         ensures same { self.new ≡ self.old }
     {
+        if !config.is_valid() {
+            return Err(ReadError::Fault(Fault::BadField(Field::Open)));
+        }
         let names = names_of(alloc, config.namespaces.as_slice())?;
         let table = self.table.take().ok_or(ReadError::OutOfMemory)?;
         match Store::open(alloc, table, config) {
@@ -81,7 +84,7 @@ impl<N: StoreName> JobLines<N> {
                 names,
                 jobs: Vec::new(alloc),
             }),
-            Err(Refusal::BadArgument) => Err(ReadError::Fault(Fault::BadField(Field::Open))),
+            // The form was tested, so memory was refused.
             Err(_) => Err(ReadError::OutOfMemory),
         }
     }
