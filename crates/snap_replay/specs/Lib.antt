@@ -1,2 +1,3 @@
 pub mod Exit
+pub mod Replayed
 pub mod Tasks

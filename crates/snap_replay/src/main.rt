@@ -6,6 +6,7 @@
 #![tactic(auto)]
 
 ghost use Rattle.snap_replay.specs.Exit.{exit_of};
+ghost use Rattle.snap_replay.specs.Replayed.{HasReplayed};
 ghost use Rattle.snap_replay.specs.Tasks.{IsTask};
 ghost use Rattle.std.specs.Prelude.{◌≡◌, ◌≤◌, IfOk, IfSome};
 
@@ -15,7 +16,7 @@ use snap_jobs::{JobsStop, MAX_WORKERS, write_jobs};
 use snap_lines::Stop;
 use snap_session::replay;
 use std::alloc::Global;
-use std::io::{BufWriter, ErrorKind};
+use std::io::{BufWriter, ErrorKind, Read, Write};
 use std::process::ExitCode;
 use std::sync::Wait;
 use std::thread::Threads;
@@ -27,13 +28,27 @@ const BAD_WORDS: u8 = 2;
 // Memory was refused.
 const WANT_OF_MEMORY: JobsStop = JobsStop::Lines(Stop::OutOfMemory);
 
+// Replays the script of an input.
+fn replay_from<R: Read, W: Write>(
+    alloc: Global,
+    input: &mut R,
+    output: &mut W,
+) -> Result<(), JobsStop>
+    ensures { IfSome (R.remaining input.old) (λ bytes. HasReplayed bytes (R.remaining input.new) result (W.contents output.old) (W.contents output.new)) }
+{
+    match replay(alloc, input, output) {
+        Ok(()) => Ok(()),
+        Err(stop) => Err(JobsStop::Lines(stop)),
+    }
+}
+
 fn replayed<T: Input + Print + AllocGlobal>(rt: &T) -> Result<(), JobsStop> {
     let alloc = rt.alloc();
     let mut input = rt.reader();
     let Ok(mut output) = BufWriter::new(alloc, io::writer(rt)) else {
         return Err(WANT_OF_MEMORY);
     };
-    Ok(replay(alloc, &mut input, &mut output)?)
+    replay_from(alloc, &mut input, &mut output)
 }
 
 fn jobs_written<T: Threads + Wait + Sync + Input + Print + AllocGlobal>(
