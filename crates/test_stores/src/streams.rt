@@ -54,6 +54,28 @@ impl io::Write for Full {
     }
 }
 
+/// Takes at most five bytes at every second write, and is interrupted at the others.
+#[derive(Drop)]
+struct Slow {
+    is_ready: bool,
+    bytes: Vec<u8>,
+}
+
+impl io::Write for Slow {
+    fn write(&mut self, buf: &[u8]) -> io::Result<usize> {
+        self.is_ready = !self.is_ready;
+        if self.is_ready {
+            return Err(io::Error::from(io::ErrorKind::Interrupted));
+        }
+        let count = buf.len().min(5);
+        self.bytes.write(&buf[..count])
+    }
+
+    fn flush(&mut self) -> io::Result<()> {
+        Ok(())
+    }
+}
+
 #[test]
 fn streams_that_fail(rt: HostRuntime) {
     let alloc = rt.alloc();
@@ -71,6 +93,15 @@ fn streams_that_fail(rt: HostRuntime) {
     let ended = replay(alloc, &mut three, &mut full);
     let wanted = (Err(Stop::OutputFailed), 2);
     equal(&rt, "a second write fails", (ended, full.0), wanted);
+
+    let mut three = THREE;
+    let mut slow = Slow {
+        is_ready: false,
+        bytes: Vec::new(alloc),
+    };
+    let ended = replay(alloc, &mut three, &mut slow);
+    let found = (ended, slow.bytes.as_slice());
+    equal(&rt, "short writes", found, (Ok(()), ANSWERS));
 }
 
 #[test]
