@@ -1,6 +1,7 @@
 -- What a run of jobs is answered.
--- Cited by invariants and private clauses alone.
-use Rattle.std.specs.Prelude.{Bool, true, false, ◌&&◌, not, List, map, unwrap_or}
+-- Cited by `write_jobs_within`, `write_jobs`.
+use Rattle.std.specs.Prelude.{◌≡◌, ◌⊎◌, ℕ, Bool, true, false, ◌&&◌, not, List, [], map, take, Option, Some, None, unwrap_or}
+use Rattle.std.specs.Io.KnownBytes.{Appends}
 use Rattle.std.specs.List.{count_by}
 use Rattle.std.specs.Option.{option_map}
 use Rattle.snap_usage.specs.declared.usage.Usage.{Usage}
@@ -9,10 +10,19 @@ use Rattle.snap_record.specs.Labels.{Bytes}
 use Rattle.snap_call.specs.Records.{charge_of}
 use Rattle.snap_call.specs.State.{place_of}
 use Rattle.snap_book.specs.Book.{BookValue}
+use Rattle.snap_script.specs.Answers.{answer_line}
 use Rattle.snap_script.specs.declared.answer.Answer.{Answer}
 use Rattle.snap_script.specs.declared.answer.Answer.TheVariants.{Jobs}
 use Rattle.snap_writers.specs.declared.job.Ended.{Ended}
 use Rattle.snap_writers.specs.declared.job.Ended.TheVariants.{Committed, Discarded}
+use Rattle.snap_writers.specs.declared.job.Job.{Job}
+use Rattle.snap_writers.specs.Jobs.{IsReport}
+use Rattle.snap_lines.specs.Transcripts.{transcript}
+use Rattle.snap_lines.specs.declared.stop.Stop.TheVariants.{Line, OutputFailed}
+use Rattle.snap_jobs.specs.declared.stop.JobsStop.{JobsStop}
+use Rattle.snap_jobs.specs.declared.stop.JobsStop.TheVariants.{Lines}
+use Rattle.snap_jobs.specs.Lines.{ReadValue, jobs_effect}
+use Rattle.snap_jobs.specs.Words.{is_of_jobs}
 
 -- a job that was committed
 abbrev pub is_committed : Ended → Bool
@@ -39,3 +49,30 @@ totals_of book names = map (λ name. (name, total_of book name)) names
 -- how many jobs ended in each way, and the totals
 abbrev pub answer_of : List Ended → BookValue → List Bytes → Answer
 answer_of ends book names = Jobs (count_by is_committed ends) (count_by is_discarded ends) (count_by is_refused ends) (totals_of book names)
+
+-- the text is the line of the answer to some report of the jobs
+pub record IsLineOf (jobs : List Job) (names : List Bytes) (text : List ℕ) : Type 0 where
+  pub ends : List Ended
+  pub closed : BookValue
+  pub report : IsReport jobs ends closed
+  pub line : text ≡ answer_line (answer_of ends closed names)
+
+-- what is written, by what was read: nothing where no line has opened a store, and else the line of a report of the jobs
+abbrev pub IsText : Option ReadValue → List ℕ → Type 0
+IsText None text = text ≡ []
+IsText (Some read) text = IsLineOf read.jobs read.names text
+
+-- the text is written
+abbrev pub HasWritten : Option ReadValue → Option (List ℕ) → Option (List ℕ) → Type 0
+HasWritten read before after = (text : List ℕ) × IsText read text × Appends before after text
+
+-- where that ends otherwise: nothing is written, or a write failed and a first part of the text is
+abbrev pub HasBroken : Option ReadValue → JobsStop → Option (List ℕ) → Option (List ℕ) → Type 0
+HasBroken read (Lines OutputFailed) before after = (text : List ℕ) × (n : ℕ) × IsText read text × Appends before after (take n text)
+HasBroken read stop before after = (is_of_jobs stop ≡ true) × (after ≡ before)
+
+-- where it ends otherwise over these bytes: a line's fault is the one that the lines have; nothing is written, but where a write failed a first part of the text may be
+abbrev pub HasStopped : List ℕ → JobsStop → Option (List ℕ) → Option (List ℕ) → Type 0
+HasStopped bytes (Lines (Line f)) before after = ((transcript jobs_effect None bytes).fault ≡ Some f) × Appends before after []
+HasStopped bytes (Lines OutputFailed) before after = Appends before after [] ⊎ ((text : List ℕ) × (n : ℕ) × IsText (transcript jobs_effect None bytes).value text × Appends before after (take n text))
+HasStopped bytes stop before after = Appends before after []

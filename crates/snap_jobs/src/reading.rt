@@ -84,8 +84,8 @@ impl<N: StoreName> JobLines<N> {
                 names,
                 jobs: Vec::new(alloc),
             }),
-            // The form was tested, so memory was refused.
-            Err(_) => Err(ReadError::OutOfMemory),
+            Err(Refusal::OutOfMemory) => Err(ReadError::OutOfMemory),
+            Err(_) => unreachable!(),
         }
     }
 

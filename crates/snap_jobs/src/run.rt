@@ -1,19 +1,21 @@
-ghost use Rattle.std.specs.Prelude.{◌≡◌, ◌≤◌, Some, None, Ok, Err, OnOk, IfErr, IfSome, false};
-ghost use Rattle.snap_lines.specs.Transcripts.{transcript, Tells};
-ghost use Rattle.snap_lines.specs.declared.stop.LineFault.{LineFault};
+ghost use Rattle.std.specs.Prelude.{◌≡◌, ◌≤◌, None, OnOk, IfOk, IfErr, IfSome, true, string_bytes};
+ghost use Rattle.std.specs.Io.KnownBytes.{Appends};
+ghost use Rattle.snap_lines.specs.Transcripts.{transcript};
+ghost use Rattle.snap_lines.specs.Runs.{Breaks};
+ghost use Rattle.snap_writers.specs.Jobs.{IsReport};
+ghost use Rattle.snap_jobs.specs.Answer.{HasBroken, HasStopped, HasWritten, IsLineOf};
 ghost use Rattle.snap_jobs.specs.Lines.{jobs_effect};
-ghost use Rattle.snap_jobs.specs.Words.{is_line};
+ghost use Rattle.snap_jobs.specs.Words.{is_of_jobs};
 
 use crate::answer::answer_of;
 use crate::reading::{JobLines, Read};
 use crate::stop::JobsStop;
 use snap_ledger::{NewTable, StoreName};
-use snap_lines::{Stop, read_lines};
+use snap_lines::{Stop, read_lines, write_bytes};
 use snap_store::{Cause, NotClosed, Store};
 use snap_writers::{Gate, Job, Report, RunFault, run_jobs};
 use std::alloc::Global;
-use std::io;
-use std::io::Write;
+use std::io::{Read as Input, Write};
 use std::marker::Brand;
 use std::sync::Wait;
 use std::thread::Threads;
@@ -32,11 +34,13 @@ impl Gate for OpenGate {
 
 // Why the store that comes back was not closed.
 fn stop_of<N: StoreName>(back: &NotClosed<N>) -> JobsStop
-    ensures { is_line result ≡ false }
+    ensures { is_of_jobs result ≡ true }
 {
     match back.cause {
         Cause::OutOfMemory => JobsStop::Lines(Stop::OutOfMemory),
-        _ => JobsStop::NotClosed,
+        Cause::StillOut(_) | Cause::SessionsMissing | Cause::TapeMismatch(_) => {
+            JobsStop::NotClosed
+        }
     }
 }
 
@@ -49,7 +53,8 @@ fn report_of<N: StoreName + Send + Sync, T: Threads + Wait + Sync>(
     workers: u32,
 ) -> Result<Report<N>, JobsStop>
     requires { (1 ≤ workers) × (workers ≤ 16) }
-    ensures { IfErr result (λ stop. is_line stop ≡ false) }
+    ensures report { IfOk result (λ report. IsReport jobs.now report.ends report.closed) }
+    ensures stop { IfErr result (λ stop. is_of_jobs stop ≡ true) }
 {
     match run_jobs(rt, alloc, store, jobs, workers, &OpenGate) {
         Ok(report) => Ok(report),
@@ -68,7 +73,8 @@ fn line_of<N: StoreName + Send + Sync, T: Threads + Wait + Sync>(
     workers: u32,
 ) -> Result<String, JobsStop>
     requires { (1 ≤ workers) × (workers ≤ 16) }
-    ensures { IfErr result (λ stop. is_line stop ≡ false) }
+    ensures line { IfOk result (λ line. IsLineOf read.jobs read.names (string_bytes line)) }
+    ensures stop { IfErr result (λ stop. is_of_jobs stop ≡ true) }
 {
     let Read { store, names, jobs } = read;
     let report = report_of(rt, alloc, store, jobs.as_slice(), workers)?;
@@ -76,12 +82,43 @@ fn line_of<N: StoreName + Send + Sync, T: Threads + Wait + Sync>(
     Ok(answer.line(alloc)?)
 }
 
-fn write_line<W: Write>(output: &mut W, line: &str) -> io::Result<()> {
-    output.write_all(line.as_bytes())?;
-    output.flush()
+// Writes the line, or a first part of it where a write fails.
+fn write_line<W: Write>(output: &mut W, line: &str) -> Result<(), Stop>
+    ensures written { OnOk result (Appends (W.contents output.old) (W.contents output.new) line.now) }
+    ensures part { IfErr result (λ stop. Breaks line.now stop (W.contents output.old) (W.contents output.new)) }
+{
+    write_bytes(output, line.as_bytes())?;
+    match output.flush() {
+        Ok(()) => Ok(()),
+        Err(_) => Err(Stop::OutputFailed),
+    }
 }
 
-fn run<N: StoreName + Send + Sync, T: Threads + Wait + Sync, R: io::Read, W: Write>(
+// Runs the jobs that were read, and writes the line of their answer; nothing where no line has opened a store.
+fn run_read<N: StoreName + Send + Sync, T: Threads + Wait + Sync, W: Write>(
+    rt: &T,
+    alloc: Global,
+    read: Option<Read<N>>,
+    output: &mut W,
+    workers: u32,
+) -> Result<(), JobsStop>
+    requires { (1 ≤ workers) × (workers ≤ 16) }
+    ensures written { OnOk result (HasWritten read (W.contents output.old) (W.contents output.new)) }
+    ensures stopped { IfErr result (λ stop. HasBroken read stop (W.contents output.old) (W.contents output.new)) }
+{
+    let Some(read) = read else {
+        return Ok(());
+    };
+    match line_of(rt, alloc, read, workers) {
+        Ok(line) => match write_line(output, line.as_str()) {
+            Ok(()) => Ok(()),
+            Err(stop) => Err(JobsStop::Lines(stop)),
+        },
+        Err(stop) => Err(stop),
+    }
+}
+
+fn run<N: StoreName + Send + Sync, T: Threads + Wait + Sync, R: Input, W: Write>(
     rt: &T,
     alloc: Global,
     table: NewTable,
@@ -93,19 +130,15 @@ fn run<N: StoreName + Send + Sync, T: Threads + Wait + Sync, R: io::Read, W: Wri
     requires table { table ≡ N.table }
     requires workers { (1 ≤ workers) × (workers ≤ 16) }
     ensures done { OnOk result (IfSome (R.remaining input.old) (λ bytes. (transcript jobs_effect None bytes).fault ≡ None)) }
-    ensures fault { (f : LineFault) → result ≡ Err (JobsStop.Lines (Stop.Line f))
-        → IfSome (R.remaining input.old) (λ bytes. Tells (transcript jobs_effect None bytes) (Some f)
-        (W.contents output.old) (W.contents output.new)) }
+    ensures written { OnOk result (IfSome (R.remaining input.old) (λ bytes. HasWritten (transcript jobs_effect None bytes).value
+        (W.contents output.old) (W.contents output.new))) }
+    ensures stopped { IfErr result (λ stop. IfSome (R.remaining input.old) (λ bytes. HasStopped bytes stop
+        (W.contents output.old) (W.contents output.new))) }
 {
     let mut lines: JobLines<N> = JobLines::new(table);
-    read_lines(alloc, &mut lines, input, output, reads)?;
-    let Some(read) = lines.into_read() else {
-        return Ok(());
-    };
-    let line = line_of(rt, alloc, read, workers)?;
-    match write_line(output, line.as_str()) {
-        Ok(()) => Ok(()),
-        Err(_) => Err(JobsStop::Lines(Stop::OutputFailed)),
+    match read_lines(alloc, &mut lines, input, output, reads) {
+        Ok(()) => run_read(rt, alloc, lines.into_read(), output, workers),
+        Err(stop) => Err(JobsStop::Lines(stop)),
     }
 }
 
@@ -125,7 +158,7 @@ fn run<N: StoreName + Send + Sync, T: Threads + Wait + Sync, R: io::Read, W: Wri
 /// The store's name is made here, so a call has a store of its own. It waits for the workers. Takes memory
 /// for a read, for one line, for all jobs, and for the store. The cost is that of the lines and of
 /// [`run_jobs`](snap_writers::run_jobs).
-pub fn write_jobs_within<T: Threads + Wait + Sync, R: io::Read, W: Write>(
+pub fn write_jobs_within<T: Threads + Wait + Sync, R: Input, W: Write>(
     rt: &T,
     alloc: Global,
     input: &mut R,
@@ -135,9 +168,10 @@ pub fn write_jobs_within<T: Threads + Wait + Sync, R: io::Read, W: Write>(
 ) -> Result<(), JobsStop>
     requires { (1 ≤ workers) × (workers ≤ 16) }
     ensures done { OnOk result (IfSome (R.remaining input.old) (λ bytes. (transcript jobs_effect None bytes).fault ≡ None)) }
-    ensures fault { (f : LineFault) → result ≡ Err (JobsStop.Lines (Stop.Line f))
-        → IfSome (R.remaining input.old) (λ bytes. Tells (transcript jobs_effect None bytes) (Some f)
-        (W.contents output.old) (W.contents output.new)) }
+    ensures written { OnOk result (IfSome (R.remaining input.old) (λ bytes. HasWritten (transcript jobs_effect None bytes).value
+        (W.contents output.old) (W.contents output.new))) }
+    ensures stopped { IfErr result (λ stop. IfSome (R.remaining input.old) (λ bytes. HasStopped bytes stop
+        (W.contents output.old) (W.contents output.new))) }
 {
     let Ok(table) = NewTable::new(alloc) else {
         return Err(JobsStop::Lines(Stop::OutOfMemory));
@@ -146,7 +180,7 @@ pub fn write_jobs_within<T: Threads + Wait + Sync, R: io::Read, W: Write>(
 }
 
 /// [`write_jobs_within`] with at most 4,294,967,295 reads.
-pub fn write_jobs<T: Threads + Wait + Sync, R: io::Read, W: Write>(
+pub fn write_jobs<T: Threads + Wait + Sync, R: Input, W: Write>(
     rt: &T,
     alloc: Global,
     input: &mut R,
@@ -155,9 +189,10 @@ pub fn write_jobs<T: Threads + Wait + Sync, R: io::Read, W: Write>(
 ) -> Result<(), JobsStop>
     requires { (1 ≤ workers) × (workers ≤ 16) }
     ensures done { OnOk result (IfSome (R.remaining input.old) (λ bytes. (transcript jobs_effect None bytes).fault ≡ None)) }
-    ensures fault { (f : LineFault) → result ≡ Err (JobsStop.Lines (Stop.Line f))
-        → IfSome (R.remaining input.old) (λ bytes. Tells (transcript jobs_effect None bytes) (Some f)
-        (W.contents output.old) (W.contents output.new)) }
+    ensures written { OnOk result (IfSome (R.remaining input.old) (λ bytes. HasWritten (transcript jobs_effect None bytes).value
+        (W.contents output.old) (W.contents output.new))) }
+    ensures stopped { IfErr result (λ stop. IfSome (R.remaining input.old) (λ bytes. HasStopped bytes stop
+        (W.contents output.old) (W.contents output.new))) }
 {
     write_jobs_within(rt, alloc, input, output, workers, READS)
 }

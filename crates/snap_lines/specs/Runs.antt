@@ -1,5 +1,5 @@
 -- What is left of a transcript within a line, and how bytes lead from one place to another.
--- Cited by invariants and private clauses alone.
+-- Cited by `write_bytes`.
 use Rattle.std.specs.Prelude.{◌≡◌, ℕ, ◌+◌, List, [], ◌∷◌, ◌++◌, length, take, Bool, Option, Some, Result, Ok, Err, if◌then◌else◌}
 use Rattle.std.specs.Io.KnownBytes.{Appends}
 use Rattle.snap_script.specs.declared.fault.Fault.{Fault}

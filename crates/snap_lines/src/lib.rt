@@ -12,5 +12,6 @@ mod stop;
 mod take;
 
 pub use read::read_lines;
+pub use reader::write_bytes;
 pub use stop::{LineFault, Stop};
 pub use take::TakeLine;

@@ -45,8 +45,11 @@ fn text_of<T: TakeLine>(
     }
 }
 
-// Writes the bytes, or a first part of them where a write fails.
-fn write_bytes<W: Write>(output: &mut W, bytes: &[u8]) -> Result<(), Stop>
+/// Writes the bytes to an output. A write that is interrupted is made again.
+///
+/// `OutputFailed` where a write failed or took nothing; then a first part of the bytes may be written, and no more.
+/// Takes no memory itself. The cost is that of the writes.
+pub fn write_bytes<W: Write>(output: &mut W, bytes: &[u8]) -> Result<(), Stop>
     ensures ok { OnOk result (Appends (W.contents output.old) (W.contents output.new) bytes.now) }
     ensures err { IfErr result (λ stop. Breaks bytes.now stop (W.contents output.old) (W.contents output.new)) }
 {

@@ -1,6 +1,7 @@
 -- What a close finds of a book and the sessions that are handed in, and what is known of a closed store.
--- Cited by `close_cause`, `Store::close`, `run_jobs`.
+-- Cited by `close_cause`, `Store::close`, `write_jobs_within` and others.
 use Rattle.std.specs.Prelude.{◌≡◌, ℕ, ◌<◌, List, map, filter, All, Option, None, Some, Ok, Err}
+use Rattle.snap_call.specs.declared.entry.Entry.{Entry}
 use Rattle.snap_call.specs.declared.state.State.{State}
 use Rattle.snap_call.specs.Good.{Good}
 use Rattle.snap_call.specs.Journal.{Replays}
@@ -29,7 +30,7 @@ IsCause b sessions (Some SessionsMissing) = (open_count b.state.records ≡ 0) �
 IsCause b sessions (Some (TapeMismatch m)) = (open_count b.state.records ≡ 0) × IsCheck b.journal sessions (Err (faults.Mismatch m))
 IsCause b sessions (Some OutOfMemory) = ⊥
 
--- ---- a closed store
+-- ---- what holds of every book
 
 -- what holds of every book: the round began at a good state without open snapshots and sessions, and the journal leads, one step for each entry, from there to this state, which is good
 pub record IsKept (b : BookValue) : Type 0 where
@@ -37,12 +38,31 @@ pub record IsKept (b : BookValue) : Type 0 where
   pub replays : Replays b.opening b.journal b.state
   pub good : Good b.state
 
--- all of a closed store: the sessions are all those of the round; no snapshot is open; the round began at a good state without open snapshots and sessions, from which the journal leads, one step for each entry, to this state, which is good; each session's tape is its own entries; and what each namespace is charged is the sum of the blocks and inodes counted over its committed layers
-pub record IsClosed (b : BookValue) (sessions : List SessionValue) : Type 0 where
-  pub all : AreAll b.journal sessions
-  pub idle : open_count b.state.records ≡ 0
-  pub began : IsOpening b.opening
-  pub replays : Replays b.opening b.journal b.state
-  pub good : Good b.state
-  pub tapes : All (IsOwn b.journal) sessions
-  pub totals : (place : ℕ) → charge_of place b.state.records ≡ sum_of counted_in place b.state.records
+-- ---- a close that fails
+
+-- why a book was not closed: its cause; or a snapshot is open, and memory was refused for the list of those that are
+abbrev pub IsRefusal : BookValue → List SessionValue → Cause → Type 0
+IsRefusal b sessions OutOfMemory = 0 < open_count b.state.records
+IsRefusal b sessions cause = IsCause b sessions (Some cause)
+
+-- it is the cause of a book that is kept
+abbrev pub HasCause : List SessionValue → Cause → Type 0
+HasCause sessions cause = (b : BookValue) × IsKept b × IsRefusal b sessions cause
+
+-- ---- a closed store
+
+-- the sessions are all those of the round, and each one's tape is its own entries of the journal
+pub record AreSessions (journal : List Entry) (sessions : List SessionValue) : Type 0 where
+  pub all : AreAll journal sessions
+  pub tapes : All (IsOwn journal) sessions
+
+-- no snapshot is open, and what each namespace is charged is the sum of the blocks and inodes counted over its committed layers
+pub record IsSettled (s : State) : Type 0 where
+  pub idle : open_count s.records ≡ 0
+  pub totals : (place : ℕ) → charge_of place s.records ≡ sum_of counted_in place s.records
+
+-- all of a closed store: its sessions, what is charged, and how the journal leads from the round's beginning to its state
+pub record IsClosed (b : BookValue) (handed : List SessionValue) : Type 0 where
+  pub sessions : AreSessions b.journal handed
+  pub settled : IsSettled b.state
+  pub kept : IsKept b

@@ -5,7 +5,7 @@ ghost use Rattle.snap_call.specs.Records.{charge_of, open_count};
 ghost use Rattle.snap_call.specs.State.{place_of};
 ghost use Rattle.snap_call.specs.Totals.{counted_in, sum_of};
 ghost use Rattle.snap_book.specs.Round.{round_answer};
-ghost use Rattle.snap_store.specs.Closing.{IsClosed, IsKept};
+ghost use Rattle.snap_store.specs.Closing.{AreSessions, HasCause, IsKept, IsRefusal, IsSettled};
 
 use crate::cause::{Cause, close_cause};
 use crate::store::Store;
@@ -60,23 +60,17 @@ impl<N: StoreName> Store<N> {
     /// number of each session, or for the list of open snapshots. The cost is one pass over the journal and
     /// the tapes, as [`close_cause`] has it.
     pub fn close(self, sessions: Vec<Session>) -> Result<Closed<N>, NotClosed<N>>
-        // Ok: all that holds of a closed store, in one record.
-        ensures closed { IfOk result (λ closed. IsClosed closed sessions.items) }
+        ensures sessions { IfOk result (λ closed. AreSessions closed.journal sessions.items) }
+        ensures totals { IfOk result (λ closed. IsSettled closed.state) }
+        ensures kept { IfOk result (λ closed. IsKept closed) }
         ensures returned { IfErr result (λ back. back.sessions ≡ sessions) }
+        ensures cause { IfErr result (λ back. HasCause back.sessions.items back.cause) }
     {
         let (alloc, book) = self.into_book();
         match close_cause(alloc, &book, sessions.as_slice()) {
             Ok(None) => Ok(Closed::of(alloc, book)),
-            Ok(Some(cause)) => Err(NotClosed {
-                store: Store::of(alloc, book),
-                sessions,
-                cause,
-            }),
-            Err(_) => Err(NotClosed {
-                store: Store::of(alloc, book),
-                sessions,
-                cause: Cause::OutOfMemory,
-            }),
+            Ok(Some(cause)) => Err(NotClosed::of(alloc, book, sessions, cause)),
+            Err(_) => Err(NotClosed::of(alloc, book, sessions, Cause::OutOfMemory)),
         }
     }
 
@@ -98,6 +92,23 @@ impl<N: StoreName> Store<N> {
                 closed: Closed { alloc, book },
                 refusal,
             }),
+        }
+    }
+}
+
+impl<N: StoreName> NotClosed<N> {
+    // The store of a book that can't be closed for the cause.
+    fn of(alloc: Global, book: Book<N>, sessions: Vec<Session>, cause: Cause) -> NotClosed<N>
+        requires { IsRefusal book sessions.items cause }
+        ensures returned { result.sessions ≡ sessions }
+        ensures cause { HasCause result.sessions.items result.cause }
+    {
+        // The clauses of the records tell what the book keeps.
+        let _records = book.records();
+        NotClosed {
+            store: Store::of(alloc, book),
+            sessions,
+            cause,
         }
     }
 }

@@ -28,9 +28,10 @@ use Rattle.snap_store.specs.Values.{IsPrepared}
 use Rattle.snap_writers.specs.Run.{Follows, HasCharged, HasFailed, HasRun, IsSameSnapshot}
 use Rattle.snap_writers.specs.declared.running.RunError.{RunError}
 use Rattle.snap_writers.specs.declared.running.RunError.TheVariants.{File, Book}
+use Rattle.snap_writers.specs.declared.job.End.TheVariants as ends
 use Rattle.snap_writers.specs.declared.job.Ended.{Ended}
 use Rattle.snap_writers.specs.declared.job.Job.{Job}
-use Rattle.snap_writers.specs.Jobs.{Done, Granted, IsCommitOf, IsPrepareOf, IsWork, all_after, commit_by, commit_of, commits, then_after, with_end}
+use Rattle.snap_writers.specs.Jobs.{Done, Granted, IsCommitOf, IsPrepareOf, IsWorkFor, all_after, commit_by, commit_of, commits, then_after, with_end}
 use Rattle.snap_writers.specs.Going.{GoesOn, HasRunJob, IsFresh, IsReady, granted}
 
 -- ---- lists
@@ -38,7 +39,7 @@ use Rattle.snap_writers.specs.Going.{GoesOn, HasRunJob, IsFresh, IsReady, grante
 pub any_left : {A : Type 0} (P : A → Type 0) (xs ys : List A) → Any P xs → Any P (xs ++ ys)
 any_left P xs ys h = (h.0, h.1, omega (arith, h.2, length-append xs ys), get_or_append_left xs ys h.1 h.0 h.2 ∙ h.3, h.4)
 
-any_right : {A : Type 0} (P : A → Type 0) (xs ys : List A) → Any P ys → Any P (xs ++ ys)
+pub any_right : {A : Type 0} (P : A → Type 0) (xs ys : List A) → Any P ys → Any P (xs ++ ys)
 any_right P xs ys h = (length xs + h.0, h.1, omega (arith, h.2, length-append xs ys), get_or-append-add xs ys h.0 h.1 ∙ h.3, h.4)
 
 pub any_last : {A : Type 0} (P : A → Type 0) (xs : List A) (x : A) → P x → Any P (xs ++ x ∷ [])
@@ -59,6 +60,10 @@ zip_weaker R S f [] [] p = tt
 zip_weaker R S f [] (y ∷ ys) p = absurd p
 zip_weaker R S f (x ∷ xs) [] p = absurd p
 zip_weaker R S f (x ∷ xs) (y ∷ ys) p = (f x y p.0, zip_weaker R S f xs ys p.1)
+
+pub all_map : {A : Type 0} (P Q : A → Type 0) → ((x : A) → P x → Q x) → (xs : List A) → AllByRecursion P xs → AllByRecursion Q xs
+all_map P Q f [] all = tt
+all_map P Q f (x ∷ xs) all = (f x all.0, all_map P Q f xs all.1)
 
 -- ---- granted Commits
 
@@ -82,81 +87,85 @@ commit_of_refused call given why = refl
 pub more_tape : (tape more : List Entry) (d : Done) (g : Granted) → IsCommitOf tape d g → IsCommitOf (tape ++ more) d g
 more_tape tape more d g is = record { end = is.end; prepared = any_left _ tape more is.prepared; made = is.made; usage = is.usage; count = is.count }
 
--- ---- a call
+-- ---- calls for a job
 
-pub untaped : (old new : SessionValue) → Untaped old new → GoesOn old new []
-untaped old new same = record { number = same.number; more = []; tape = same.tape ∙ sym (append-nil old.tape); calls = tt; commits = refl }
+module _ (j : Job) where
+  pub untaped : (old new : SessionValue) → Untaped old new → GoesOn j old new []
+  untaped old new same = record { number = same.number; more = []; tape = same.tape ∙ sym (append-nil old.tape); calls = tt; commits = refl }
 
-pub taped : (old new : SessionValue) (call : Call) (given : Given) (reply : Reply) → Taped old new call given reply → IsWork call → GoesOn old new (commit_of call given reply [])
-taped old new call given reply t work = record { number = t.number; more = entry old.number call given reply ∷ []; tape = t.tape; calls = (work, tt); commits = refl }
+  pub taped : (old new : SessionValue) (call : Call) (given : Given) (reply : Reply) → Taped old new call given reply → IsWorkFor j call → GoesOn j old new (commit_of call given reply [])
+  taped old new call given reply t work = record { number = t.number; more = entry old.number call given reply ∷ []; tape = t.tape; calls = (work, tt); commits = refl }
 
-pub refused : (old new : SessionValue) (call : Call) (given : Given) (why : Refusal) → RefusedOn old new call given why → IsWork call → GoesOn old new []
-refused old new call given JournalFull by work = untaped old new by
-refused old new call given OutOfMemory by work = untaped old new by
-refused old new call given why by work = subst (GoesOn old new) (commit_of_refused call given why) (taped old new call given (replies.Refused why) by work)
+  pub refused : (old new : SessionValue) (call : Call) (given : Given) (why : Refusal) → RefusedOn old new call given why → IsWorkFor j call → GoesOn j old new []
+  refused old new call given JournalFull by work = untaped old new by
+  refused old new call given OutOfMemory by work = untaped old new by
+  refused old new call given why by work = subst (GoesOn j old new) (commit_of_refused call given why) (taped old new call given (replies.Refused why) by work)
 
--- ---- one after another
+  pub stays : (old new : SessionValue) → new ≡ old → GoesOn j old new []
+  stays old new same = subst (λ (s : SessionValue). GoesOn j old s []) (sym same) (record { number = refl; more = []; tape = sym (append-nil old.tape); calls = tt; commits = refl })
 
-pub stays : (old new : SessionValue) → new ≡ old → GoesOn old new []
-stays old new same = subst (λ (s : SessionValue). GoesOn old s []) (sym same) (record { number = refl; more = []; tape = sym (append-nil old.tape); calls = tt; commits = refl })
+  pub then_on : (old mid new : SessionValue) (granted : List Granted) → GoesOn j old mid [] → GoesOn j mid new granted → GoesOn j old new granted
+  then_on old mid new granted p q = record {
+    number = q.number ∙ p.number;
+    more = p.more ++ q.more;
+    tape = q.tape ∙ (ap (λ (l : List Entry). l ++ q.more) p.tape ∙ append_assoc old.tape p.more q.more);
+    calls = all_append (λ e. IsWorkFor j e.call) p.more q.more p.calls q.calls;
+    commits = commits_append p.more q.more ∙ (ap (λ (l : List Granted). l ++ commits q.more) p.commits ∙ q.commits);
+  }
 
-pub then_on : (old mid new : SessionValue) (granted : List Granted) → GoesOn old mid [] → GoesOn mid new granted → GoesOn old new granted
-then_on old mid new granted p q = record {
-  number = q.number ∙ p.number;
-  more = p.more ++ q.more;
-  tape = q.tape ∙ (ap (λ (l : List Entry). l ++ q.more) p.tape ∙ append_assoc old.tape p.more q.more);
-  calls = all_append (λ e. IsWork e.call) p.more q.more p.calls q.calls;
-  commits = commits_append p.more q.more ∙ (ap (λ (l : List Granted). l ++ commits q.more) p.commits ∙ q.commits);
-}
+  -- an operation with its charge
+  charged : (s t : SessionValue) (old new : ActiveValue) (op : Op) (need want : Usage) (result : Result Unit RunError) → want ≡ wanted need j.extra → HasCharged s t old new op need want result → GoesOn j s t []
+  charged s t old new op need want (Ok done) is h = taped s t (calls.Charge old.share.slot old.share.id need want) Nothing (replies.Charged new.share.usage) h.0.taped is
+  charged s t old new op need want (Err (File e)) is h = taped s t (calls.Charge old.share.slot old.share.id need want) Nothing (replies.Charged new.share.usage) h.1.taped is
+  charged s t old new op need want (Err (Book why)) is h = refused s t (calls.Charge old.share.slot old.share.id need want) Nothing why h.0 is
 
--- ---- an operation with its charge
+  failed : (s t : SessionValue) (old new : ActiveValue) (op : Op) (e : FsError) (need : Option Usage) (result : Result Unit RunError) → HasFailed s t old new op j.extra e need result → GoesOn j s t []
+  failed s t old new op e (Some need) result h = charged s t old new op need (wanted need j.extra) result refl h
+  failed s t old new op e None result h = stays s t h.1
 
-charged : (s t : SessionValue) (old new : ActiveValue) (op : Op) (need want : Usage) (result : Result Unit RunError) → HasCharged s t old new op need want result → GoesOn s t []
-charged s t old new op need want (Ok done) h = taped s t (calls.Charge old.share.slot old.share.id need want) Nothing (replies.Charged new.share.usage) h.0.taped tt
-charged s t old new op need want (Err (File e)) h = taped s t (calls.Charge old.share.slot old.share.id need want) Nothing (replies.Charged new.share.usage) h.1.taped tt
-charged s t old new op need want (Err (Book why)) h = refused s t (calls.Charge old.share.slot old.share.id need want) Nothing why h.0 tt
+  followed : (s t : SessionValue) (old new : ActiveValue) (op : Op) (first : Outcome) (result : Result Unit RunError) → Follows s t old new op j.extra first result → GoesOn j s t []
+  followed s t old new op (Ok next) result h = stays s t h.1
+  followed s t old new op (Err e) result h = failed s t old new op e (needed_by e) result h
 
-failed : (s t : SessionValue) (old new : ActiveValue) (op : Op) (extra : Usage) (e : FsError) (need : Option Usage) (result : Result Unit RunError) → HasFailed s t old new op extra e need result → GoesOn s t []
-failed s t old new op extra e (Some need) result h = charged s t old new op need (wanted need extra) result h
-failed s t old new op extra e None result h = stays s t h.1
+  pub run_goes : (s t : SessionValue) (old new : ActiveValue) (op : Op) (result : Result Unit RunError) → HasRun s t old new op j.extra result → GoesOn j s t []
+  run_goes s t old new op result h = followed s t old new op h.first result h.follows
 
-followed : (s t : SessionValue) (old new : ActiveValue) (op : Op) (extra : Usage) (first : Outcome) (result : Result Unit RunError) → Follows s t old new op extra first result → GoesOn s t []
-followed s t old new op extra (Ok next) result h = stays s t h.1
-followed s t old new op extra (Err e) result h = failed s t old new op extra e (needed_by e) result h
+  -- a prepare
+  pub prepare_goes : (s t : SessionValue) (namespace key parent : Bytes) (labels : List Label) (answer : Result ActiveValue Refusal)
+      → IsWorkFor j (calls.Prepare namespace key parent labels)
+      → IfOk answer (λ a. IsPrepared s t namespace key parent labels a) → IfErr answer (λ why. RefusedOn s t (calls.Prepare namespace key parent labels) Nothing why) → GoesOn j s t []
+  prepare_goes s t namespace key parent labels (Ok a) work granted none = taped s t (calls.Prepare namespace key parent labels) Nothing _ granted.taped work
+  prepare_goes s t namespace key parent labels (Err why) work none by = refused s t (calls.Prepare namespace key parent labels) Nothing why by work
 
-pub run_goes : (s t : SessionValue) (old new : ActiveValue) (op : Op) (extra : Usage) (result : Result Unit RunError) → HasRun s t old new op extra result → GoesOn s t []
-run_goes s t old new op extra result h = followed s t old new op extra h.first result h.follows
+  -- a commit under a text that is the job's name
+  pub commits_as : (name text : Bytes) (lease : Option Bytes) → j.end ≡ ends.Commit name lease → text ≡ name → j.end ≡ ends.Commit text lease
+  commits_as name text lease end named = end ∙ ap (λ n. ends.Commit n lease) (sym named)
 
--- ---- a prepare
-
-pub prepare_goes : (s t : SessionValue) (namespace key parent : Bytes) (labels : List Label) (answer : Result ActiveValue Refusal) → IfOk answer (λ a. IsPrepared s t namespace key parent labels a) → IfErr answer (λ why. RefusedOn s t (calls.Prepare namespace key parent labels) Nothing why) → GoesOn s t []
-prepare_goes s t namespace key parent labels (Ok a) granted none = taped s t (calls.Prepare namespace key parent labels) Nothing _ granted.taped tt
-prepare_goes s t namespace key parent labels (Err why) none by = refused s t (calls.Prepare namespace key parent labels) Nothing why by tt
-
--- ---- a commit
-
-pub commit_goes : (s t : SessionValue) (a sealed : ActiveValue) (name text : Bytes) (lease : Option Bytes) (usage : Usage) → sealed ≡ a → text ≡ name → usage ≡ count_of sealed.layer → Taped s t (calls.Commit sealed.share.slot sealed.share.id text lease) (Layer sealed.layer) (replies.Committed sealed.share.id usage) → GoesOn s t (granted a name lease ∷ [])
-commit_goes s t a sealed name text lease usage is named counted call =
-    subst (λ (x : ActiveValue). GoesOn s t (granted x name lease ∷ [])) is
-    (subst (λ (n : Bytes). GoesOn s t (granted sealed n lease ∷ [])) named
-    (subst (λ (u : Usage). GoesOn s t (record { id = sealed.share.id; name = text; lease = lease; layer = sealed.layer; usage = u } ∷ [])) counted
-    (taped s t (calls.Commit sealed.share.slot sealed.share.id text lease) (Layer sealed.layer) (replies.Committed sealed.share.id usage) call tt)))
+  -- a commit
+  pub commit_goes : (s t : SessionValue) (a sealed : ActiveValue) (name text : Bytes) (lease : Option Bytes) (usage : Usage)
+      → j.end ≡ ends.Commit name lease → sealed ≡ a → text ≡ name → usage ≡ count_of sealed.layer
+      → Taped s t (calls.Commit sealed.share.slot sealed.share.id text lease) (Layer sealed.layer) (replies.Committed sealed.share.id usage) → GoesOn j s t (granted a name lease ∷ [])
+  commit_goes s t a sealed name text lease usage end is named counted call =
+      subst (λ (x : ActiveValue). GoesOn j s t (granted x name lease ∷ [])) is
+      (subst (λ (n : Bytes). GoesOn j s t (granted sealed n lease ∷ [])) named
+      (subst (λ (u : Usage). GoesOn j s t (record { id = sealed.share.id; name = text; lease = lease; layer = sealed.layer; usage = u } ∷ [])) counted
+      (taped s t (calls.Commit sealed.share.slot sealed.share.id text lease) (Layer sealed.layer) (replies.Committed sealed.share.id usage) call (commits_as name text lease end named))))
 
 -- ---- what is known of a snapshot, once the tape has gone on
 
-pub ready : (old new : SessionValue) (j : Job) (before after : ActiveValue) → IsFresh old.tape j before → GoesOn old new [] → IsSameSnapshot before after → all_after j.ops before.layer before.lowers ≡ Ok after.layer → IsReady new.tape j after
+pub ready : (old new : SessionValue) (j : Job) (before after : ActiveValue) → IsFresh old.tape j before → GoesOn j old new [] → IsSameSnapshot before after → all_after j.ops before.layer before.lowers ≡ Ok after.layer → IsReady new.tape j after
 ready old new j before after fresh goes same done = record {
   prepared = subst (λ (l : List Entry). Any (IsPrepareOf j after.share.id) l) (sym goes.tape) (any_left (IsPrepareOf j after.share.id) old.tape goes.more (subst (λ id. Any (IsPrepareOf j id) old.tape) (sym same.id) fresh.prepared));
   made = record { lowers = before.lowers; base = fresh.base; made = ap (λ (t : Tree). all_after j.ops t before.lowers) (sym fresh.layer) ∙ done };
 }
 
 -- a job that has no commit
-pub ends_so : (old new : SessionValue) (j : Job) (end : Ended) → with_end j end [] ≡ [] → GoesOn old new [] → HasRunJob old new j end
+pub ends_so : (old new : SessionValue) (j : Job) (end : Ended) → with_end j end [] ≡ [] → GoesOn j old new [] → HasRunJob old new j end
 ends_so old new j end none goes = record { granted = []; goes = goes; of = subst (λ (l : List Done). AllZip (IsCommitOf new.tape) l []) (sym none) tt }
 
 -- the tape went on before
-pub then_ended : (old mid new : SessionValue) (j : Job) (end : Ended) → GoesOn old mid [] → HasRunJob mid new j end → HasRunJob old new j end
-then_ended old mid new j end before job = record { granted = job.granted; goes = then_on old mid new job.granted before job.goes; of = job.of }
+pub then_ended : (old mid new : SessionValue) (j : Job) (end : Ended) → GoesOn j old mid [] → HasRunJob mid new j end → HasRunJob old new j end
+then_ended old mid new j end before job = record { granted = job.granted; goes = then_on j old mid new job.granted before job.goes; of = job.of }
 
 -- ---- several operations
 

@@ -21,6 +21,7 @@ use Rattle.snap_writers.specs.Jobs.{HaveWorked, IsStoredOf, IsWorked, commits, d
 use Rattle.snap_writers.specs.Starting.{AreInOrder, AreWorked, Each, ends_at, sessions_of, with_session}
 use Rattle.snap_writers.proofs.Storing.{granted_total, stored_all, stored_of, tape_keeps}
 use Rattle.snap_writers.proofs.Sums.{over, over_once, sum_first}
+use Rattle.snap_writers.proofs.Walking.{done_unprepared}
 use Rattle.snap_writers.proofs.Weaving.{Woven, woven}
 
 -- ---- of each session
@@ -33,10 +34,6 @@ all_there : {A : Type 0} (P : A → Type 0) (xs : List A) (i : ℕ) (x : A) → 
 all_there P [] i x all there = absurd (cc)
 all_there P (y ∷ ys) zero x all there = subst P (cc) all.0
 all_there P (y ∷ ys) (suc i) x all there = all_there P ys i x all.1 there
-
-all_map : {A : Type 0} (P Q : A → Type 0) → ((x : A) → P x → Q x) → (xs : List A) → AllByRecursion P xs → AllByRecursion Q xs
-all_map P Q f [] all = tt
-all_map P Q f (x ∷ xs) all = (f x all.0, all_map P Q f xs all.1)
 
 -- each session of the workers has calls that take nothing away
 kept_with : (jobs : List Job) (es : List Ended) (o : Option SessionValue) (rest : List SessionValue) → HaveWorked jobs es o → AllByRecursion (λ s. AreKeeping s.tape) rest → AllByRecursion (λ s. AreKeeping s.tape) (with_session o rest)
@@ -64,14 +61,14 @@ keeps_all n (e ∷ es) below each = (
 )
 
 journal_keeps : (b : BookValue) (sessions : List SessionValue) → IsClosed b sessions → AllByRecursion (λ s. AreKeeping s.tape) sessions → AreKeeping b.journal
-journal_keeps b sessions closed keep = keeps_all (length sessions) b.journal closed.all.known of
+journal_keeps b sessions closed keep = keeps_all (length sessions) b.journal closed.sessions.all.known of
   where
     own_are : AllByRecursion (IsOwn b.journal) sessions
-    own_are = all_rec (IsOwn b.journal) sessions closed.tapes
+    own_are = all_rec (IsOwn b.journal) sessions closed.sessions.tapes
 
     of : (k : ℕ) → k < length sessions → AreKeeping (own b.journal k)
     of k low =
-        let there = stands (has_number k) sessions (omega (arith, closed.all.once.once k low)) in
+        let there = stands (has_number k) sessions (omega (arith, closed.sessions.all.once.once k low)) in
         let s = there.1 in
         let tape : s.tape ≡ own b.journal k = all_there (IsOwn b.journal) sessions there.0 s own_are there.2 ∙ ap (own b.journal) (eqb-true s.number k there.3) in
         subst AreKeeping tape (all_there (λ (x : SessionValue). AreKeeping x.tape) sessions there.0 s keep there.2)
@@ -105,7 +102,7 @@ by_workers h origin journal (w ∷ ws) are = omega (
 )
 
 stored_here : (origin : ℕ → Origin) (journal : List Entry) (jobs : List Job) (es : List Ended) (o : Option SessionValue) (rest : List SessionValue) → AreOrigins origin journal → AllByRecursion (IsOwn journal) (with_session o rest) → HaveWorked jobs es o → AllZip IsStoredOf (done jobs es) (stored_by origin o)
-stored_here origin journal jobs es None rest are own_are worked = subst (λ l. AllZip IsStoredOf l []) (sym worked) tt
+stored_here origin journal jobs es None rest are own_are (why, is) = subst (λ l. AllZip IsStoredOf l []) (sym (ap (done jobs) is ∙ done_unprepared why jobs jobs)) tt
 stored_here origin journal jobs es (Some s) rest are own_are worked = stored_all origin jobs es s (subst (AreOrigins origin) (sym own_are.0) (own_origins origin journal are s.number)) worked
 
 stored_at : (origin : ℕ → Origin) (journal : List Entry) (jobs : List Job) (n m k : ℕ) (ws : List Worked) → AreOrigins origin journal → AllByRecursion (IsOwn journal) (sessions_of ws) → Each (λ k w. IsWorked jobs (k + 1) n w) m ws → k < length ws → AllZip IsStoredOf (done (every n (m + k) jobs) (ends_at ws k)) (lists_at origin ws k)
@@ -128,7 +125,7 @@ pub stores : (jobs : List Job) (workers : ℕ) (ws : List Worked) (ends : List E
 stores jobs workers ws ends b some worked order closed = record { stored = all.stored; of = all.of; committed = law }
   where
     own_are : AllByRecursion (IsOwn b.journal) (sessions_of ws)
-    own_are = all_rec (IsOwn b.journal) (sessions_of ws) closed.tapes
+    own_are = all_rec (IsOwn b.journal) (sessions_of ws) closed.sessions.tapes
 
     keeps : AreKeeping b.journal
     keeps = journal_keeps b (sessions_of ws) closed (sessions_keep jobs workers 0 ws worked.each)
@@ -137,7 +134,7 @@ stores jobs workers ws ends b some worked order closed = record { stored = all.s
     origin = origin_in b.journal
 
     are : AreOrigins origin b.journal
-    are = origins b.opening b.journal b.state keeps closed.replays
+    are = origins b.opening b.journal b.state keeps closed.kept.replays
 
     lists : ℕ → List Stored
     lists = lists_at origin ws
@@ -157,8 +154,8 @@ stores jobs workers ws ends b some worked order closed = record { stored = all.s
     law : (h : Stored → ℕ) → worth h b.state ≡ worth h b.opening + total h all.stored
     law h = omega (
       arith,
-      tapes_law (length (sessions_of ws)) b.opening b.journal b.state closed.began.idle keeps closed.all.known closed.replays origin are h,
-      over_once (λ k. grants h origin (own b.journal k)) (sessions_of ws) closed.all.once,
+      tapes_law (length (sessions_of ws)) b.opening b.journal b.state closed.kept.began.idle keeps closed.sessions.all.known closed.kept.replays origin are h,
+      over_once (λ k. grants h origin (own b.journal k)) (sessions_of ws) closed.sessions.all.once,
       by_workers h origin b.journal ws own_are,
       all.total h,
       ap (λ n. sum_below n (λ k. total h (lists k))) worked.count,

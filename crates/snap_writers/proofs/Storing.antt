@@ -14,7 +14,7 @@ use Rattle.snap_tape.specs.Tapes.{SessionValue}
 use Rattle.snap_grants.specs.Grants.{AreKeeping, AreOrigins, IsKeeping, IsOrigin, Origin, Stored, grant_by, grant_of, grants}
 use Rattle.snap_writers.specs.declared.job.Job.{Job}
 use Rattle.snap_writers.specs.declared.job.Ended.{Ended}
-use Rattle.snap_writers.specs.Jobs.{Done, Granted, HasWorked, IsCommitOf, IsPrepareOf, IsStoredOf, IsWork, commit_by, commit_of, commits, done, name_of, total}
+use Rattle.snap_writers.specs.Jobs.{Done, Granted, HasWorked, IsCommitOf, IsPrepareOf, IsStoredOf, IsWork, IsWorkFor, commit_by, commit_of, commits, done, name_of, total}
 
 -- ---- a tape's granted Commits, as what is stored
 
@@ -62,16 +62,16 @@ stored_all origin jobs es s are worked = zip_map (IsCommitOf s.tape) IsStoredOf 
 
 -- ---- a worker's calls take nothing committed away
 
-work_keeps : (call : Call) → IsWork call → IsKeeping call
-work_keeps (calls.Prepare namespace key parent labels) work = tt
-work_keeps (calls.Charge slot id need want) work = tt
-work_keeps (calls.Commit slot id name lease) work = tt
-work_keeps (calls.Discard slot id) work = tt
-work_keeps call work = absurd work
+work_keeps : (j : Job) (call : Call) → IsWorkFor j call → IsKeeping call
+work_keeps j (calls.Prepare namespace key parent labels) work = tt
+work_keeps j (calls.Charge slot id need want) work = tt
+work_keeps j (calls.Commit slot id name lease) work = tt
+work_keeps j (calls.Discard slot id) work = tt
+work_keeps j call work = absurd work
 
-all_keep : (es : List Entry) → AllByRecursion (λ e. IsWork e.call) es → AreKeeping es
-all_keep [] work = tt
-all_keep (e ∷ es) work = (work_keeps e.call work.0, all_keep es work.1)
+all_keep : (jobs : List Job) (es : List Entry) → AllByRecursion (λ e. IsWork jobs e.call) es → AreKeeping es
+all_keep jobs [] work = tt
+all_keep jobs (e ∷ es) ((k, j, low, at, work), rest) = (work_keeps j e.call work, all_keep jobs es rest)
 
 pub tape_keeps : (jobs : List Job) (es : List Ended) (s : SessionValue) → HasWorked jobs es s → AreKeeping s.tape
-tape_keeps jobs es s worked = subst AreKeeping (sym worked.tape) (tt, all_keep worked.rest worked.calls)
+tape_keeps jobs es s worked = subst AreKeeping (sym worked.tape) (tt, all_keep jobs worked.rest worked.calls)

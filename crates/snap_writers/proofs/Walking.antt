@@ -1,7 +1,10 @@
 -- How a worker goes on through its jobs.
-use Rattle.std.specs.List.{AllZip}
-use Rattle.std.proofs.Common.{◌≡◌, ℕ, zero, suc, ◌+◌, ◌<◌, List, [], ◌∷◌, ◌++◌, length, refl, sym, ap, ◌∙◌, subst, arith, append-nil, length-append}
-use Rattle.std.proofs.lemmas.List.{append_assoc, length-map, set_at}
+use Rattle.std.specs.Prelude.{get_or, take}
+use Rattle.std.specs.List.{AllByRecursion, AllZip}
+use Rattle.std.proofs.Common.{◌≡◌, ℕ, zero, suc, ◌+◌, ◌<◌, List, [], ◌∷◌, ◌++◌, length, refl, sym, ap, ◌∙◌, subst, arith, add-one, append-nil, length-append}
+use Rattle.std.proofs.Math.Seq.{take-suc}
+use Rattle.std.proofs.lemmas.Grind.{take-set_at}
+use Rattle.std.proofs.lemmas.List.{append_assoc, length-map, map-append, set_at}
 use Rattle.std.proofs.Math.ListN.{set}
 use Rattle.snap_call.specs.declared.call.Call.TheVariants as calls
 use Rattle.snap_call.specs.declared.call.Given.TheVariants.{Nothing}
@@ -14,20 +17,24 @@ use Rattle.snap_writers.specs.declared.job.Job.{Job}
 use Rattle.snap_writers.specs.declared.job.Ended.{Ended}
 use Rattle.snap_writers.specs.declared.job.Ended.TheVariants as ended
 use Rattle.snap_writers.specs.declared.job.Worked.{Worked}
-use Rattle.snap_writers.specs.Jobs.{Done, Granted, HasWorked, IsCommitOf, IsWork, IsWorked, commits, done, with_end}
+use Rattle.snap_writers.specs.Jobs.{Done, Granted, HasWorked, IsCommitOf, IsWork, IsWorkFor, IsWorked, commits, done, unprepared, with_end}
 use Rattle.snap_writers.specs.Going.{HasRunJob, IsGoing, none_run}
-use Rattle.snap_writers.specs.Starting.{unprepared}
-use Rattle.snap_writers.proofs.Calling.{all_append, commits_append, more_tape, zip_append, zip_weaker}
+use Rattle.snap_writers.proofs.Calling.{all_append, all_map, any_right, commits_append, more_tape, zip_append, zip_weaker}
 
 pub done_none : {X : Type 0} (js : List Job) (xs : List X) → done js (none_run xs) ≡ []
 done_none [] xs = refl
 done_none (j ∷ js) [] = refl
 done_none (j ∷ js) (x ∷ xs) = done_none js xs
 
-pub done_unprepared : {X : Type 0} (js : List Job) (xs : List X) → done js (unprepared xs) ≡ []
-done_unprepared [] xs = refl
-done_unprepared (j ∷ js) [] = refl
-done_unprepared (j ∷ js) (x ∷ xs) = done_unprepared js xs
+pub done_unprepared : {X : Type 0} (why : Refusal) (js : List Job) (xs : List X) → done js (unprepared why xs) ≡ []
+done_unprepared why [] xs = refl
+done_unprepared why (j ∷ js) [] = refl
+done_unprepared why (j ∷ js) (x ∷ xs) = done_unprepared why js xs
+
+-- no job was prepared, of so many that were not run
+pub unprepared-none : {X : Type 0} (why : Refusal) (xs : List X) → unprepared why (none_run xs) ≡ unprepared why xs
+unprepared-none why [] = refl
+unprepared-none why (x ∷ xs) = ap (λ (es : List Ended). ended.NotPrepared why ∷ es) (unprepared-none why xs)
 
 pub length_none : (js : List Job) → length (none_run js) ≡ length js
 length_none js = length-map js (λ _. ended.NotRun)
@@ -46,6 +53,7 @@ begins all s ends are tape = record {
   count = omega arith;
   behind = refl;
   are = are;
+  among = λ call work. work;
   rest = [];
   tape = tape;
   calls = tt;
@@ -54,6 +62,10 @@ begins all s ends are tape = record {
   of = subst (λ (l : List Entry). AllZip (IsCommitOf s.tape) [] (commits l)) (sym tape) tt;
 }
 
+-- calls for the next job are for one of all
+works : (all left : List Job) (j : Job) (s : SessionValue) (ends : List Ended) (place : ℕ) → IsGoing all (j ∷ left) s ends place → (more : List Entry) → AllByRecursion (λ x. IsWorkFor j x.call) more → AllByRecursion (λ x. IsWork all x.call) more
+works all left j s ends place was more calls = all_map (λ (x : Entry). IsWorkFor j x.call) (λ (x : Entry). IsWork all x.call) (λ x work. was.among x.call (0, j, omega arith, refl, work)) more calls
+
 -- a job is done
 pub goes : (all left : List Job) (j : Job) (s t : SessionValue) (ends : List Ended) (place : ℕ) (e : Ended) → IsGoing all (j ∷ left) s ends place → HasRunJob s t j e → IsGoing all left t (set ends place e) (place + 1)
 goes all left j s t ends place e was job = record {
@@ -61,9 +73,10 @@ goes all left j s t ends place e was job = record {
   count = omega (arith, was.count);
   behind = length-append was.front (e ∷ []) ∙ omega (arith, was.behind);
   are = ap (λ (es : List Ended). set es place e) was.are ∙ (set_at was.front ended.NotRun (none_run left) e place was.behind ∙ sym (append_assoc was.front (e ∷ []) (none_run left)));
+  among = λ call work. was.among call (any_right (λ (x : Job). IsWorkFor x call) (j ∷ []) left work);
   rest = was.rest ++ job.goes.more;
   tape = job.goes.tape ∙ (ap (λ (l : List Entry). l ++ job.goes.more) was.tape ∙ ap (λ n. entry n calls.Session Nothing replies.Opened ∷ (was.rest ++ job.goes.more)) (sym job.goes.number));
-  calls = all_append (λ x. IsWork x.call) was.rest job.goes.more was.calls job.goes.calls;
+  calls = all_append (λ x. IsWork all x.call) was.rest job.goes.more was.calls (works all left j s ends place was job.goes.more job.goes.calls);
   committed = was.committed ++ with_end j e [];
   done = λ es.
       ap (done all) (append_assoc was.front (e ∷ []) es)
@@ -84,7 +97,7 @@ stops all left j s t ends place was job = (
   record {
     rest = was.rest ++ job.goes.more;
     tape = job.goes.tape ∙ (ap (λ (l : List Entry). l ++ job.goes.more) was.tape ∙ ap (λ n. entry n calls.Session Nothing replies.Opened ∷ (was.rest ++ job.goes.more)) (sym job.goes.number));
-    calls = all_append (λ x. IsWork x.call) was.rest job.goes.more was.calls job.goes.calls;
+    calls = all_append (λ x. IsWork all x.call) was.rest job.goes.more was.calls (works all left j s ends place was job.goes.more job.goes.calls);
     commits = subst (λ (l : List Done). AllZip (IsCommitOf t.tape) l (commits t.tape)) (sym are) (subst (λ (l : List Granted). AllZip (IsCommitOf t.tape) was.committed l) (sym grown) before);
   },
 )
@@ -118,22 +131,14 @@ ends_all all left s ends place was = (counts, record { rest = was.rest; tape = w
 pub room : (all left : List Job) (j : Job) (s : SessionValue) (ends : List Ended) (place : ℕ) → IsGoing all (j ∷ left) s ends place → place < length ends
 room all left j s ends place was = omega (arith, ap length was.are, length-append was.front (none_run (j ∷ left)), was.behind, length_none (j ∷ left), was.count)
 
--- ---- a worker without a session
-
-none_behind : (j : Job) (e : Ended) (rest : List Done) → with_end j e rest ≡ [] → rest ≡ []
-none_behind j (ended.Committed usage) rest none = absurd (cc)
-none_behind j e rest none = none
-
-still_none : (j : Job) (e : Ended) (rest other : List Done) → with_end j e rest ≡ [] → other ≡ [] → with_end j e other ≡ []
-still_none j (ended.Committed usage) rest other none is = absurd (cc)
-still_none j e rest other none is = is
-
--- with an end that is none of a commit in a place
-pub none_set : (js : List Job) (es : List Ended) (k : ℕ) (why : Refusal) → done js es ≡ [] → done js (set es k (ended.NotPrepared why)) ≡ []
-none_set [] es k why none = refl
-none_set (j ∷ js) [] k why none = refl
-none_set (j ∷ js) (e ∷ es) zero why none = none_behind j e (done js es) none
-none_set (j ∷ js) (e ∷ es) (suc k) why none = still_none j e (done js es) (done js (set es k (ended.NotPrepared why))) none (none_set js es k why (none_behind j e (done js es) none))
+-- no job was prepared, of one more
+pub unprepared-more : (why : Refusal) (es was : List Ended) (k : ℕ) → k < length was → length es ≡ length was → take k es ≡ unprepared why (take k was)
+    → take (k + 1) (set es k (ended.NotPrepared why)) ≡ unprepared why (take (k + 1) was)
+unprepared-more why es was k low same before =
+    let grown : take (k + 1) was ≡ take k was ++ get_or was k ended.NotRun ∷ [] = rw add-one (take-suc was k ended.NotRun low) in
+    take-set_at es k (k + 1) (ended.NotPrepared why) refl (omega (arith, low, same))
+    ∙ (ap (λ (l : List Ended). l ++ ended.NotPrepared why ∷ []) before
+    ∙ (sym (map-append (λ (_ : Ended). ended.NotPrepared why) (take k was) (get_or was k ended.NotRun ∷ [])) ∙ ap (λ (l : List Ended). unprepared why l) (sym grown)))
 
 -- what is owed by what is promised
 pub owed : (jobs jobs' : List Job) (worker worker' workers workers' : ℕ) (w : Worked) → jobs ≡ jobs' → worker ≡ worker' → workers ≡ workers' → IsWorked jobs worker workers w → IsWorked jobs' worker' workers' w

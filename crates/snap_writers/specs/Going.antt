@@ -5,6 +5,7 @@ use Rattle.std.specs.List.{AllByRecursion, AllZip}
 use Rattle.snap_layer.specs.Edits.{root_only}
 use Rattle.snap_usage.specs.Counted.{count_of}
 use Rattle.snap_record.specs.Labels.{Bytes}
+use Rattle.snap_call.specs.declared.call.Call.{Call}
 use Rattle.snap_call.specs.declared.call.Call.TheVariants as calls
 use Rattle.snap_call.specs.declared.call.Given.TheVariants.{Nothing}
 use Rattle.snap_call.specs.declared.entry.Entry.{Entry}
@@ -15,14 +16,14 @@ use Rattle.snap_tape.specs.Tapes.{SessionValue}
 use Rattle.snap_writers.specs.declared.job.Job.{Job}
 use Rattle.snap_writers.specs.declared.job.Ended.{Ended}
 use Rattle.snap_writers.specs.declared.job.Ended.TheVariants as ended
-use Rattle.snap_writers.specs.Jobs.{Done, Granted, IsCommitOf, IsMadeBy, IsPrepareOf, IsWork, commits, done, with_end}
+use Rattle.snap_writers.specs.Jobs.{Done, Granted, IsCommitOf, IsMadeBy, IsPrepareOf, IsWork, IsWorkFor, commits, done, with_end}
 
--- the session's tape went on by calls of a worker, of which these are the granted Commits
-pub record GoesOn (old new : SessionValue) (granted : List Granted) : Type 0 where
+-- the session's tape went on by calls for the job, of which these are the granted Commits
+pub record GoesOn (j : Job) (old new : SessionValue) (granted : List Granted) : Type 0 where
   pub number : new.number ≡ old.number
   pub more : List Entry
   pub tape : new.tape ≡ old.tape ++ more
-  pub calls : AllByRecursion (λ e. IsWork e.call) more
+  pub calls : AllByRecursion (λ e. IsWorkFor j e.call) more
   pub commits : commits more ≡ granted
 
 -- the commit of the snapshot
@@ -43,7 +44,7 @@ pub record IsReady (tape : List Entry) (j : Job) (a : ActiveValue) : Type 0 wher
 -- the job's end, or that it has none, is what its calls left on the tape
 pub record HasRunJob (old new : SessionValue) (j : Job) (end : Ended) : Type 0 where
   pub granted : List Granted
-  pub goes : GoesOn old new granted
+  pub goes : GoesOn j old new granted
   pub of : AllZip (IsCommitOf new.tape) (with_end j end []) granted
 
 -- the end where there is one
@@ -54,15 +55,16 @@ end_or (Some end) = end
 abbrev pub none_run : {X : Type 0} → List X → List Ended
 none_run js = map (λ _. ended.NotRun) js
 
--- of all a worker's jobs these are left, and so many are behind it; whatever the ends of those that are left will be, the jobs that ended Committed are these and what of the ones left ends so; and they are what the tape was granted
+-- of all a worker's jobs these are left, and so many are behind it; a call for one that is left is for one of all; whatever the ends of those that are left will be, the jobs that ended Committed are these and what of the ones left ends so; and they are what the tape was granted
 pub record IsGoing (all left : List Job) (s : SessionValue) (ends : List Ended) (place : ℕ) : Type 0 where
   pub front : List Ended
   pub count : length all ≡ place + length left
   pub behind : length front ≡ place
   pub are : ends ≡ front ++ none_run left
+  pub among : (call : Call) → IsWork left call → IsWork all call
   pub rest : List Entry
   pub tape : s.tape ≡ entry s.number calls.Session Nothing replies.Opened ∷ rest
-  pub calls : AllByRecursion (λ e. IsWork e.call) rest
+  pub calls : AllByRecursion (λ e. IsWork all e.call) rest
   pub committed : List Done
   pub done : (es : List Ended) → done all (front ++ es) ≡ committed ++ done left es
   pub of : AllZip (IsCommitOf s.tape) committed (commits s.tape)

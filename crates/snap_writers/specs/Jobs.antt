@@ -1,6 +1,6 @@
 -- Jobs, and what is owed by a worker and by a run of all workers.
--- Cited by `run_worker`, `run_jobs`.
-use Rattle.std.specs.Prelude.{◌≡◌, ◌⊎◌, ℕ, zero, suc, ◌+◌, ◌-◌, ◌≤◌, ◌<◌, List, [], ◌∷◌, length, Any, Option, None, Some, Ok, Err}
+-- Cited by `run_worker`, `run_jobs`, `write_jobs_within` and others.
+use Rattle.std.specs.Prelude.{◌≡◌, ℕ, zero, suc, ◌+◌, ◌-◌, List, [], ◌∷◌, length, map, Any, Option, None, Some, Ok, Err}
 use Rattle.std.specs.List.{AllByRecursion, AllZip}
 use Rattle.snap_layer.specs.Edits.{root_only}
 use Rattle.snap_layer.specs.Tree.{Tree}
@@ -14,10 +14,13 @@ use Rattle.snap_call.specs.declared.call.Call.TheVariants as calls
 use Rattle.snap_call.specs.declared.call.Given.{Given}
 use Rattle.snap_call.specs.declared.call.Given.TheVariants.{Nothing, Layer}
 use Rattle.snap_call.specs.declared.entry.Entry.{Entry}
+use Rattle.snap_call.specs.declared.refusal.Refusal.{Refusal}
 use Rattle.snap_call.specs.declared.reply.Reply.{Reply}
 use Rattle.snap_call.specs.declared.reply.Reply.TheVariants as replies
 use Rattle.snap_call.specs.Journal.{entry}
 use Rattle.snap_book.specs.Active.{root_mode}
+use Rattle.snap_book.specs.Book.{BookValue}
+use Rattle.snap_book.specs.Wanted.{wanted}
 use Rattle.snap_tape.specs.Tapes.{SessionValue}
 use Rattle.snap_grants.specs.Grants.{Stored, worth}
 use Rattle.snap_store.specs.Closing.{IsClosed}
@@ -27,9 +30,6 @@ use Rattle.snap_writers.specs.declared.job.End.TheVariants as ends
 use Rattle.snap_writers.specs.declared.job.Ended.{Ended}
 use Rattle.snap_writers.specs.declared.job.Ended.TheVariants as ended
 use Rattle.snap_writers.specs.declared.job.Worked.{Worked}
-use Rattle.snap_writers.specs.declared.job.Report.{Report}
-use Rattle.snap_writers.specs.declared.job.RunFault.{RunFault}
-use Rattle.snap_writers.specs.declared.job.RunFault.TheVariants as faults
 
 -- ---- which jobs are a worker's
 
@@ -85,13 +85,17 @@ abbrev pub commits : List Entry → List Granted
 commits [] = []
 commits (e ∷ es) = commit_of e.call e.given e.reply (commits es)
 
--- a call that a worker makes
-abbrev pub IsWork : Call → Type 0
-IsWork (calls.Prepare namespace key parent labels) = Unit {0}
-IsWork (calls.Charge slot id need want) = Unit {0}
-IsWork (calls.Commit slot id name lease) = Unit {0}
-IsWork (calls.Discard slot id) = Unit {0}
-IsWork call = ⊥
+-- a call that a worker makes for the job: its Prepare, without labels; a Charge, which wants the job's extra beyond the need; its Commit; or a Discard
+abbrev pub IsWorkFor : Job → Call → Type 0
+IsWorkFor j (calls.Prepare namespace key parent labels) = (namespace ≡ j.namespace) × (key ≡ j.key) × (parent ≡ j.parent) × (labels ≡ [])
+IsWorkFor j (calls.Charge slot id need want) = want ≡ wanted need j.extra
+IsWorkFor j (calls.Commit slot id name lease) = j.end ≡ ends.Commit name lease
+IsWorkFor j (calls.Discard slot id) = Unit {0}
+IsWorkFor j call = ⊥
+
+-- a call that a worker makes for one of its jobs
+abbrev pub IsWork : List Job → Call → Type 0
+IsWork jobs call = Any (λ j. IsWorkFor j call) jobs
 
 -- the entry is of a Prepare for the job, without labels, which was granted the id
 abbrev pub IsPrepareOf : Job → ℕ → Entry → Type 0
@@ -125,16 +129,20 @@ pub record IsCommitOf (tape : List Entry) (d : Done) (g : Granted) : Type 0 wher
   pub usage : g.usage ≡ d.usage
   pub count : d.usage ≡ count_of g.layer
 
--- a worker's session: its tape begins with its own opening, and has the calls of a worker alone after it; its granted Commits are, in order, those of the jobs that ended Committed
+-- a worker's session: its tape begins with its own opening, and has calls for its jobs alone after it; its granted Commits are, in order, those of the jobs that ended Committed
 pub record HasWorked (jobs : List Job) (es : List Ended) (s : SessionValue) : Type 0 where
   pub rest : List Entry
   pub tape : s.tape ≡ entry s.number calls.Session Nothing replies.Opened ∷ rest
-  pub calls : AllByRecursion (λ e. IsWork e.call) rest
+  pub calls : AllByRecursion (λ e. IsWork jobs e.call) rest
   pub commits : AllZip (IsCommitOf s.tape) (done jobs es) (commits s.tape)
 
--- a worker without a session has committed no job
+-- no job was prepared, for this reason
+abbrev pub unprepared : {X : Type 0} → Refusal → List X → List Ended
+unprepared why js = map (λ _. ended.NotPrepared why) js
+
+-- a worker without a session has prepared no job, for one reason
 abbrev pub HaveWorked : List Job → List Ended → Option SessionValue → Type 0
-HaveWorked jobs es None = done jobs es ≡ []
+HaveWorked jobs es None = (why : Refusal) × (es ≡ unprepared why jobs)
 HaveWorked jobs es (Some s) = HasWorked jobs es s
 
 -- what a worker gives back: one end for each job of its own, and its session
@@ -163,17 +171,10 @@ total h [] = 0
 total h (s ∷ ss) = h s + total h ss
 
 -- one end for each job, in order; all of a closed store; and, however snapshots are weighed, its committed ones are those that the round began with and one for each job that ended Committed
-pub record IsReport {N : Type 0} (jobs : List Job) (r : Report N) : Type 0 where
-  pub ends : length r.ends ≡ length jobs
+pub record IsReport (jobs : List Job) (es : List Ended) (b : BookValue) : Type 0 where
+  pub count : length es ≡ length jobs
   pub sessions : List SessionValue
-  pub closed : IsClosed r.closed sessions
+  pub closed : IsClosed b sessions
   pub stored : List Stored
-  pub of : AllZip IsStoredOf (done jobs r.ends) stored
-  pub committed : (h : Stored → ℕ) → worth h r.closed.state ≡ worth h r.closed.opening + total h stored
-
--- where there is no report of jobs that were all let through
-abbrev pub IsFault : {N : Type 0} → List Job → ℕ → RunFault N → Type 0
-IsFault jobs workers (faults.BadWorkers store) = (workers ≡ 0) ⊎ (16 < workers)
-IsFault jobs workers (faults.OutOfMemory store) = (1 ≤ workers) × (workers ≤ 16)
-IsFault jobs workers (faults.GateClosed worker report) = IsReport jobs report × (1 ≤ worker) × (worker ≤ workers)
-IsFault jobs workers (faults.NotClosed back) = (1 ≤ workers) × (workers ≤ 16)
+  pub of : AllZip IsStoredOf (done jobs es) stored
+  pub committed : (h : Stored → ℕ) → worth h b.state ≡ worth h b.opening + total h stored

@@ -1,16 +1,18 @@
 -- What workers start with, and what they give back once all have ended.
--- Cited by invariants and private clauses alone.
-use Rattle.std.specs.Prelude.{◌≡◌, ℕ, zero, suc, ◌+◌, ◌<◌, List, [], ◌∷◌, length, map, Option, None, Some}
+-- Cited by `run_jobs`.
+use Rattle.std.specs.Prelude.{◌≡◌, ◌⊎◌, ℕ, zero, suc, ◌+◌, ◌<◌, ◌≤◌, List, [], ◌∷◌, length, Option, None, Some}
 use Rattle.snap_call.specs.declared.refusal.Refusal.TheVariants.{OutOfMemory}
 use Rattle.snap_tape.specs.Tapes.{SessionValue}
 use Rattle.snap_writers.specs.declared.assignment.Assignment.{Assignment}
 use Rattle.snap_writers.specs.declared.job.Job.{Job}
 use Rattle.snap_writers.specs.declared.job.Ended.{Ended}
-use Rattle.snap_writers.specs.declared.job.Ended.TheVariants as ended
+use Rattle.snap_writers.specs.declared.job.RunFault.{RunFault}
+use Rattle.snap_writers.specs.declared.job.RunFault.TheVariants as faults
 use Rattle.snap_writers.specs.declared.job.Worked.{Worked}
 use Rattle.snap_writers.specs.declared.threads.Started.{Started}
 use Rattle.snap_writers.specs.declared.threads.Started.TheVariants.{There, Threadless}
-use Rattle.snap_writers.specs.Jobs.{IsWorked, every, jobs_of}
+use Rattle.snap_store.specs.Closing.{HasCause}
+use Rattle.snap_writers.specs.Jobs.{IsReport, IsWorked, every, jobs_of, unprepared}
 use Rattle.snap_writers.specs.Going.{none_run}
 
 -- each element with its place, from k on
@@ -18,15 +20,11 @@ abbrev pub Each : {X : Type 0} → (ℕ → X → Type 0) → ℕ → List X →
 Each P k [] = Unit {0}
 Each P k (x ∷ xs) = P k x × Each P (k + 1) xs
 
--- no job was prepared
-abbrev pub unprepared : {X : Type 0} → List X → List Ended
-unprepared js = map (λ _. ended.NotPrepared OutOfMemory) js
-
 -- what the worker starts with
 pub record IsAssigned (jobs : List Job) (worker workers : ℕ) (a : Assignment) : Type 0 where
   pub number : a.worker ≡ worker
   pub ends : a.ends ≡ none_run (jobs_of jobs worker workers)
-  pub threadless : a.threadless ≡ unprepared (jobs_of jobs worker workers)
+  pub threadless : a.threadless ≡ unprepared OutOfMemory (jobs_of jobs worker workers)
 
 pub record AreAssigned (jobs : List Job) (workers : ℕ) (all : List Assignment) : Type 0 where
   pub count : length all ≡ workers
@@ -65,3 +63,22 @@ with_session (Some s) rest = s ∷ rest
 abbrev pub sessions_of : List Worked → List SessionValue
 sessions_of [] = []
 sessions_of (w ∷ ws) = with_session w.session (sessions_of ws)
+
+-- ---- where there is no report of jobs that were all let through
+
+-- 1 to 16 workers
+abbrev pub IsCount : ℕ → Type 0
+IsCount workers = (1 ≤ workers) × (workers ≤ 16)
+
+-- the sessions are all that the workers got, each with what its worker did
+pub record AreBack (jobs : List Job) (workers : ℕ) (sessions : List SessionValue) : Type 0 where
+  pub all : List Worked
+  pub worked : AreWorked jobs workers all
+  pub are : sessions ≡ sessions_of all
+
+-- there are not 1 to 16 workers; or there are, and: nothing was run; or the gate stopped a worker, and this is the report; or the sessions of all workers are back, and the close of the store failed for the cause
+abbrev pub IsFault : {N : Type 0} → List Job → ℕ → RunFault N → Type 0
+IsFault jobs workers (faults.BadWorkers store) = (workers ≡ 0) ⊎ (16 < workers)
+IsFault jobs workers (faults.OutOfMemory store) = IsCount workers
+IsFault jobs workers (faults.GateClosed worker report) = IsCount workers × IsReport jobs report.ends report.closed × (1 ≤ worker) × (worker ≤ workers)
+IsFault jobs workers (faults.NotClosed back) = IsCount workers × AreBack jobs workers back.sessions.items × HasCause back.sessions.items back.cause

@@ -1,5 +1,5 @@
 // A worker on its way through its jobs.
-ghost use Rattle.std.specs.Prelude.{◌≡◌, ◌<◌, ◌≤◌, List, [], ◌∷◌, length, true, OnOk, IfOk, IfErr, Ok, Some};
+ghost use Rattle.std.specs.Prelude.{◌≡◌, ◌<◌, ◌≤◌, [], ◌∷◌, true, OnOk, IfOk, IfErr, Ok, Some};
 ghost use Rattle.snap_usage.specs.Counted.{count_of};
 ghost use Rattle.snap_upper.specs.After.{after};
 ghost use Rattle.snap_writers.specs.Run.{IsSameSnapshot};
@@ -8,7 +8,8 @@ ghost use Rattle.snap_call.specs.declared.call.Call.TheVariants as calls;
 ghost use Rattle.snap_call.specs.declared.call.Given.TheVariants.{Nothing};
 ghost use Rattle.snap_call.specs.declared.reply.Reply.TheVariants as replies;
 ghost use Rattle.snap_writers.specs.declared.job.Job.{Job as JobValue};
-ghost use Rattle.snap_writers.specs.Jobs.{IsWorked, all_after, done, jobs_of};
+ghost use Rattle.snap_writers.specs.declared.job.End.TheVariants.{Commit};
+ghost use Rattle.snap_writers.specs.Jobs.{IsWorked, all_after, jobs_of, unprepared};
 ghost use Rattle.snap_writers.specs.Going.{GoesOn, HasRunJob, IsFresh, IsReady, end_or, granted, none_run};
 
 use crate::job::{End, Ended, Ends, Gate, Job, Worked};
@@ -65,7 +66,7 @@ impl<'a, N: StoreName, R: Wait, G: Gate> Worker<'a, N, R, G> {
     fn prepare(&mut self, job: &Job) -> Result<Active<N>, Refusal>
         requires may { self.old.may_step ≡ true }
         ensures fresh { IfOk result (λ a. IsFresh self.new.session.tape job.now a) }
-        ensures goes { GoesOn self.old.session self.new.session [] }
+        ensures goes { GoesOn job.now self.old.session self.new.session [] }
         ensures room { OnOk result (0 < self.new.session.spare) }
     {
         self.may_step = false;
@@ -80,20 +81,27 @@ impl<'a, N: StoreName, R: Wait, G: Gate> Worker<'a, N, R, G> {
         )
     }
 
-    // Does an operation.
-    fn operate(&mut self, active: &mut Active<N>, op: &Op, extra: Usage) -> Result<(), RunError>
+    // Does an operation of the job.
+    fn operate(&mut self, active: &mut Active<N>, op: &Op, job: &Job) -> Result<(), RunError>
         requires room { 0 < self.old.session.spare }
         requires may { self.old.may_step ≡ true }
         ensures done { OnOk result (after op.now active.old.layer active.old.lowers ≡ Ok active.new.layer) }
         ensures same { IsSameSnapshot active.old active.new }
-        ensures goes { GoesOn self.old.session self.new.session [] }
+        ensures goes { GoesOn job.now self.old.session self.new.session [] }
         ensures room { 0 < self.new.session.spare }
     {
         self.may_step = false;
         if self.session.reserve(2).is_err() {
             return Err(RunError::Book(Refusal::OutOfMemory));
         }
-        run(self.store, self.rt, &mut self.session, active, op, extra)
+        run(
+            self.store,
+            self.rt,
+            &mut self.session,
+            active,
+            op,
+            job.extra,
+        )
     }
 
     // Does the job's operations, in order.
@@ -101,37 +109,39 @@ impl<'a, N: StoreName, R: Wait, G: Gate> Worker<'a, N, R, G> {
         requires { 0 < self.old.session.spare }
         ensures done { OnOk result (all_after job.now.ops active.old.layer active.old.lowers ≡ Ok active.new.layer) }
         ensures same { IsSameSnapshot active.old active.new }
-        ensures goes { GoesOn self.old.session self.new.session [] }
+        ensures goes { GoesOn job.now self.old.session self.new.session [] }
         ensures room { 0 < self.new.session.spare }
     {
         for op in job.ops.as_slice() {
             if !self.passes() {
                 return Err(Stop::Gate);
             }
-            self.operate(active, op, job.extra)?;
+            self.operate(active, op, job)?;
         }
         Ok(())
     }
 
-    // Ends the snapshot without a commit.
+    // Ends the snapshot without a commit, for whichever job it is of.
     fn discard(&mut self, held: Held<N>)
         requires { 0 < self.old.session.spare }
-        ensures { GoesOn self.old.session self.new.session [] }
+        ensures { (j : JobValue) → GoesOn j self.old.session self.new.session [] }
     {
         self.store.discard(self.rt, &mut self.session, held);
     }
 
-    // Commits the snapshot, or discards it and tells why.
+    // Commits the snapshot as the job says, or discards it and tells why.
     fn commit(
         &mut self,
         active: Active<N>,
+        job: &Job,
         name: &Text,
         lease: &Option<Text>,
     ) -> Result<Usage, Refusal>
-        requires { 0 < self.old.session.spare }
-        ensures granted { IfOk result (λ usage. GoesOn self.old.session self.new.session (granted active name.now lease.now ∷ [])) }
+        requires room { 0 < self.old.session.spare }
+        requires end { job.now.end ≡ Commit name.now lease.now }
+        ensures granted { IfOk result (λ usage. GoesOn job.now self.old.session self.new.session (granted active name.now lease.now ∷ [])) }
         ensures count { IfOk result (λ usage. usage ≡ count_of active.layer) }
-        ensures refused { IfErr result (λ _. GoesOn self.old.session self.new.session []) }
+        ensures refused { IfErr result (λ _. GoesOn job.now self.old.session self.new.session []) }
     {
         let sealed = match active.seal() {
             Ok(sealed) => sealed,
@@ -165,7 +175,7 @@ impl<'a, N: StoreName, R: Wait, G: Gate> Worker<'a, N, R, G> {
     {
         self.may_step = false;
         match &job.end {
-            End::Commit { name, lease } => match self.commit(active, name, lease) {
+            End::Commit { name, lease } => match self.commit(active, job, name, lease) {
                 Ok(usage) => Ended::Committed(usage),
                 Err(why) => Ended::NotCommitted(why),
             },
@@ -254,9 +264,7 @@ impl<'a, N: StoreName, R: Wait, G: Gate> Worker<'a, N, R, G> {
 
 // All jobs of a worker without a session ended so.
 fn unstarted(ends: Ends, why: Refusal) -> Ends
-    requires { (jobs : List JobValue) → done jobs ends ≡ [] }
-    ensures size { length result ≡ length ends }
-    ensures none { (jobs : List JobValue) → done jobs result ≡ [] }
+    ensures { result ≡ unprepared why ends }
 {
     let mut ends = ends;
     for place in 0..ends.len() {

@@ -1,7 +1,7 @@
 // All jobs, by workers on threads of their own.
-ghost use Rattle.std.specs.Prelude.{◌≡◌, ◌≤◌, [], length, IfOk, IfErr, vec_capacity};
-ghost use Rattle.snap_writers.specs.Jobs.{IsFault, IsReport};
-ghost use Rattle.snap_writers.specs.Starting.{AreAssigned};
+ghost use Rattle.std.specs.Prelude.{◌≡◌, ◌≤◌, [], length, IfOk, IfErr, OnOk, vec_capacity};
+ghost use Rattle.snap_writers.specs.Jobs.{IsReport};
+ghost use Rattle.snap_writers.specs.Starting.{AreAssigned, IsCount, IsFault};
 
 use crate::assignment::{Assignment, assignments};
 use crate::job::{Ended, Gate, Job, Report, RunFault};
@@ -58,7 +58,9 @@ pub fn run_jobs<N: StoreName + Send + Sync, R: Threads + Wait + Sync, G: Gate>(
     gate: &G,
 ) -> Result<Report<N>, RunFault<N>>
     // Ok: all that is owed for all jobs, in one record.
-    ensures report { IfOk result (λ report. IsReport jobs.now report) }
+    ensures report { IfOk result (λ report. IsReport jobs.now report.ends report.closed) }
+    ensures workers { OnOk result (IsCount workers) }
+    // Err: why, and what is given back.
     ensures fault { IfErr result (λ fault. IsFault jobs.now workers fault) }
 {
     if workers == 0 || workers > MAX_WORKERS {

@@ -1,11 +1,12 @@
-use Rattle.std.proofs.Common.{List, length, length-set, ap, ◌∙◌}
-use Rattle.snap_writers.specs.declared.job.Ended.{Ended}
-use Rattle.snap_writers.specs.Jobs.{done}
-use Rattle.snap_writers.proofs.Walking.{none_set}
+use Rattle.std.specs.Prelude.{take}
+use Rattle.std.proofs.Common.{◌+◌, length, length-set, ap, arith, ◌∙◌}
+use Rattle.snap_writers.proofs.Walking.{unprepared-more}
 use Rattle.snap_writers.proofs.worker.unstarted.Goals as goal
 
 pub loop-place-preserved : goal.loop-place-preserved
-loop-place-preserved c = record {
-  size = ap length c.set.ensures ∙ (length-set _ _ _ ∙ c.loop-place.invariant.size);
-  none = λ jobs. ap (λ (l : List Ended). done jobs l) c.set.ensures ∙ none_set jobs c.loop-place.ends c.loop-place.place c.args.why (c.loop-place.invariant.none jobs);
-}
+loop-place-preserved c =
+    let was = c.loop-place.invariant in
+    record {
+      size = ap length c.set.ensures ∙ (length-set _ _ _ ∙ was.size);
+      behind = ap (take (c.loop-place.place + 1)) c.set.ensures ∙ unprepared-more c.args.why c.loop-place.ends c.args.ends c.loop-place.place (omega (arith, c.loop-place-test.true, c.len-place-end.ensures)) was.size was.behind;
+    }

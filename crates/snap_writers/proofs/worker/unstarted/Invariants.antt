@@ -1,10 +1,10 @@
-use Rattle.std.proofs.Common.{◌≡◌, List, [], length}
-use Rattle.snap_writers.specs.declared.job.Job.{Job as JobValue}
-use Rattle.snap_writers.specs.Jobs.{done}
+use Rattle.std.proofs.Common.{◌≡◌, length}
+use Rattle.std.specs.Prelude.{drop, take}
+use Rattle.snap_writers.specs.Jobs.{unprepared}
 use Rattle.snap_writers.proofs.worker.unstarted.Given as goal
 
 abbrev pub invariant-loop-place : goal.invariant-loop-place
 invariant-loop-place l = record {
   size : length l.ends ≡ length l.fn.ends;
-  none : (jobs : List JobValue) → done jobs l.ends ≡ [];
+  behind : take l.place l.ends ≡ unprepared l.fn.why (take l.place l.fn.ends);
 }

@@ -10,7 +10,7 @@ returns-in_err-operate-clause-goes g c =
     let mid = c.loop-op.self.session in
     let asked = c.passes.new.self.session in
     let new = c.operate.new.self.session in
-    then_on old mid new [] c.loop-op.invariant.goes (then_on mid asked new [] (stays mid asked c.passes.ensures.same) c.in_err-operate.ensures.goes)
+    then_on c.args.job.now old mid new [] c.loop-op.invariant.goes (then_on c.args.job.now mid asked new [] (stays c.args.job.now mid asked c.passes.ensures.same) c.in_err-operate.ensures.goes)
 
 pub loop-op-preserved : goal.loop-op-preserved
 loop-op-preserved g c =
@@ -22,6 +22,6 @@ loop-op-preserved g c =
     record {
       done = all_after-more c.args.job.now.ops c.loop-op.op-index c.op-item.result c.op-item.result c.args.active.now.layer c.loop-op.active.layer c.operate.new.active.layer c.args.active.now.lowers c.loop-op.active.lowers (omega (arith, c.loop-op-test.true, ap (λ (l : List Op). length l) c.as_slice-op-items.ensures)) (c.op-item.is ∙ ap (λ (l : List Op). get_or l c.loop-op.op-index c.op-item.result) c.as_slice-op-items.ensures) was.same.lowers was.done c.in_ok-operate.ensures.done;
       same = same_snapshot c.args.active.now c.loop-op.active c.operate.new.active was.same c.in_ok-operate.ensures.same;
-      goes = then_on old mid new [] was.goes (then_on mid asked new [] (stays mid asked c.passes.ensures.same) c.in_ok-operate.ensures.goes);
+      goes = then_on c.args.job.now old mid new [] was.goes (then_on c.args.job.now mid asked new [] (stays c.args.job.now mid asked c.passes.ensures.same) c.in_ok-operate.ensures.goes);
       room = c.in_ok-operate.ensures.room;
     }

@@ -8,4 +8,4 @@ returns-in-Ok g c =
     let old = c.args.self.now.session in
     let asked = c.passes.new.self.session in
     let mid = c.prepare.new.self.session in
-    then_ended old mid c.work.new.self.session c.args.job.now (end_or c.work.result) (then_on old asked mid [] (stays old asked c.passes.ensures.same) c.in-Ok.ensures.goes) c.work.ensures
+    then_ended old mid c.work.new.self.session c.args.job.now (end_or c.work.result) (then_on c.args.job.now old asked mid [] (stays c.args.job.now old asked c.passes.ensures.same) c.in-Ok.ensures.goes) c.work.ensures

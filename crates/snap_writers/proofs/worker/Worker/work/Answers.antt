@@ -9,7 +9,7 @@ returns-then-passes g c =
     let mid = c.operate_all.new.self.session in
     let asked = c.passes.new.self.session in
     let new = c.end.new.self.session in
-    then_ended old mid new c.args.job.now c.end.result c.in-Ok.ensures.goes (then_ended mid asked new c.args.job.now c.end.result (stays mid asked c.passes.ensures.same) c.end.ensures)
+    then_ended old mid new c.args.job.now c.end.result c.in-Ok.ensures.goes (then_ended mid asked new c.args.job.now c.end.result (stays c.args.job.now mid asked c.passes.ensures.same) c.end.ensures)
 
 pub returns-else-passes : goal.returns-else-passes
 returns-else-passes g c =
@@ -17,18 +17,18 @@ returns-else-passes g c =
     let mid = c.operate_all.new.self.session in
     let asked = c.passes.new.self.session in
     let new = c.discard.new.self.session in
-    ends_so old new c.args.job.now NotRun refl (then_on old mid new [] c.in-Ok.ensures.goes (then_on mid asked new [] (stays mid asked c.passes.ensures.same) c.discard.ensures))
+    ends_so old new c.args.job.now NotRun refl (then_on c.args.job.now old mid new [] c.in-Ok.ensures.goes (then_on c.args.job.now mid asked new [] (stays c.args.job.now mid asked c.passes.ensures.same) (c.discard.ensures c.args.job.now)))
 
 pub returns-in-Gate : goal.returns-in-Gate
 returns-in-Gate g c =
     let old = c.args.self.now.session in
     let mid = c.operate_all.new.self.session in
     let new = c.discard-in-Err.new.self.session in
-    ends_so old new c.args.job.now NotRun refl (then_on old mid new [] c.in-Err.ensures.goes c.discard-in-Err.ensures)
+    ends_so old new c.args.job.now NotRun refl (then_on c.args.job.now old mid new [] c.in-Err.ensures.goes (c.discard-in-Err.ensures c.args.job.now))
 
 pub returns-in-Failed : goal.returns-in-Failed
 returns-in-Failed g c =
     let old = c.args.self.now.session in
     let mid = c.operate_all.new.self.session in
     let new = c.discard-in-Err.new.self.session in
-    ends_so old new c.args.job.now (Failed c.in-Failed.error) refl (then_on old mid new [] c.in-Err.ensures.goes c.discard-in-Err.ensures)
+    ends_so old new c.args.job.now (Failed c.in-Failed.error) refl (then_on c.args.job.now old mid new [] c.in-Err.ensures.goes (c.discard-in-Err.ensures c.args.job.now))

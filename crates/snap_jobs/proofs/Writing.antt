@@ -1,0 +1,136 @@
+-- What is written for the lines of jobs, which is nothing, and after them.
+use Rattle.std.specs.Prelude.{if◌then◌else◌, IfErr, IfSome, OnOk, take}
+use Rattle.std.specs.Io.KnownBytes.{Appends, Keeps}
+use Rattle.std.proofs.Common.{◌≡◌, inl, inr, ℕ, Bool, true, false, List, [], ◌∷◌, ◌++◌, Option, None, Some, Result, Ok, Err, refl, sym, ap, ◌∙◌, subst, append-nil, length, arith, take_all}
+use Rattle.snap_script.specs.declared.fault.Fault.{Fault}
+use Rattle.snap_script.specs.declared.fault.Fault.TheVariants.{TooLong}
+use Rattle.snap_script.specs.Results.{◌>>=◌}
+use Rattle.snap_lines.specs.Effects.{Effect}
+use Rattle.snap_lines.specs.Lines.{feeds, lines_of, without_feed}
+use Rattle.snap_lines.specs.Runs.{Breaks}
+use Rattle.snap_lines.specs.declared.stop.Stop.{Stop}
+use Rattle.snap_lines.specs.declared.stop.Stop.TheVariants.{Line, InputFailed, OutputFailed, OutOfMemory}
+use Rattle.snap_lines.specs.Transcripts.{Place, Stops, Tells, Transcript, effect_at, first_lines, goes_on, is_over_limit, place_after, start, transcript, transcript_from}
+use Rattle.snap_jobs.specs.Answer.{HasBroken, HasStopped, HasWritten, IsText}
+use Rattle.snap_jobs.specs.Lines.{ReadValue, jobs_effect, taken}
+use Rattle.snap_jobs.specs.Words.{is_of_jobs}
+use Rattle.snap_jobs.specs.declared.stop.JobsStop.{JobsStop}
+use Rattle.snap_jobs.specs.declared.stop.JobsStop.TheVariants.{Lines, NotClosed}
+
+-- no text
+abbrev IsSilent : Result (Effect (Option ReadValue)) Fault → Type 0
+IsSilent (Ok e) = e.text ≡ []
+IsSilent (Err f) = Unit {0}
+
+silent_by : (r : Result (Option ReadValue) Fault) → IsSilent (r >>= λ v. Ok (record { value = v; text = [] }))
+silent_by (Ok v) = refl
+silent_by (Err f) = tt
+
+silent : (read : Option ReadValue) (bytes : List ℕ) → IsSilent (jobs_effect read bytes)
+unfolding jobs_effect
+silent read bytes = silent_by (taken read bytes)
+
+silent_at : (p : Place (Option ReadValue)) (line : List ℕ) → IsSilent (effect_at jobs_effect p line)
+unfolding effect_at
+silent_at p line = by (is_over_limit p line)
+  where
+    by : (b : Bool) → IsSilent (if b then Err TooLong else jobs_effect p.value (without_feed line))
+    by true = tt
+    by false = silent p.value (without_feed line)
+
+after_line : (p : Place (Option ReadValue)) (line : List ℕ) (r : Result (Effect (Option ReadValue)) Fault) (more : Place (Option ReadValue) → Transcript (Option ReadValue)) → IsSilent r → ((q : Place (Option ReadValue)) → (more q).text ≡ []) → (goes_on p line r more).text ≡ []
+after_line p line (Err c) more quiet none = refl
+after_line p line (Ok e) more quiet none = ap (λ (t : List ℕ). t ++ (more (place_after p line e.value)).text) quiet ∙ none (place_after p line e.value)
+
+-- no text is written for any lines
+pub no_text : (p : Place (Option ReadValue)) (lines : List (List ℕ)) → (transcript_from jobs_effect p lines).text ≡ []
+no_text p [] = refl
+no_text p (line ∷ lines) = after_line p line (effect_at jobs_effect p line) (λ q. transcript_from jobs_effect q lines) (silent_at p line) (λ q. no_text q lines)
+
+pub none_written : (read : Option ReadValue) (bytes : List ℕ) → (transcript jobs_effect read bytes).text ≡ []
+unfolding transcript
+none_written read bytes = no_text (start read) (lines_of bytes)
+
+-- nothing was written, and then the text
+appends_after : (a b c : Option (List ℕ)) (text : List ℕ) → Appends a b [] → Appends b c text → Appends a c text
+appends_after None b c text p q = tt
+appends_after (Some x) None c text p q = absurd p
+appends_after (Some x) (Some y) None text p q = absurd q
+appends_after (Some x) (Some y) (Some z) text p q = q ∙ ap (λ l. l ++ text) (p ∙ append-nil x)
+
+-- where all lines were read, and then the text was written
+written_then : (remaining : Option (List ℕ)) (read : Option ReadValue) (before mid after : Option (List ℕ))
+    → IfSome remaining (λ bytes. Tells (transcript jobs_effect None bytes) None before mid) → IfSome remaining (λ bytes. (transcript jobs_effect None bytes).value ≡ read)
+    → HasWritten read mid after → IfSome remaining (λ bytes. HasWritten (transcript jobs_effect None bytes).value before after)
+written_then None read before mid after tells value wrote = tt
+written_then (Some bytes) read before mid after tells value (text, is, wrote) =
+    subst (λ (v : Option ReadValue). HasWritten v before after) (sym value)
+    (text, is, appends_after before mid after text (subst (Appends before mid) (none_written None bytes) tells.1) wrote)
+
+pub written : {E : Type 0} (r : Result Unit E) (remaining : Option (List ℕ)) (read : Option ReadValue) (before mid after : Option (List ℕ))
+    → IfSome remaining (λ bytes. Tells (transcript jobs_effect None bytes) None before mid) → IfSome remaining (λ bytes. (transcript jobs_effect None bytes).value ≡ read)
+    → OnOk r (HasWritten read mid after) → OnOk r (IfSome remaining (λ bytes. HasWritten (transcript jobs_effect None bytes).value before after))
+written (Ok done) remaining read before mid after tells value wrote = written_then remaining read before mid after tells value wrote
+written (Err e) remaining read before mid after tells value wrote = tt
+
+-- ---- an end otherwise
+
+-- no text is written for the first lines alone
+pub none_of_first : (read : Option ReadValue) (bytes : List ℕ) (n : ℕ) → (first_lines jobs_effect read bytes n).text ≡ []
+unfolding first_lines
+none_of_first read bytes n = no_text (start read) (take n (lines_of bytes))
+
+-- where the lines end otherwise
+stopped_at : (bytes : List ℕ) (left : Option (List ℕ)) (stop : Stop) (before after : Option (List ℕ)) → Stops jobs_effect None bytes left stop before after → HasStopped bytes (Lines stop) before after
+stopped_at bytes left (Line f) before after h = (h.0, subst (Appends before after) (none_written None bytes) h.1)
+stopped_at bytes left InputFailed before after (read, taken, tells) = subst (Appends before after) (none_of_first None bytes (feeds read)) tells.1
+stopped_at bytes left OutputFailed before after (part, rest, is, told) = inl (subst (Appends before after) (no_front part rest (sym is ∙ none_written None bytes)) told)
+  where
+    no_front : (xs ys : List ℕ) → xs ++ ys ≡ [] → xs ≡ []
+    no_front [] ys e = refl
+    no_front (x ∷ xs) ys e = absurd (cc)
+stopped_at bytes left OutOfMemory before after (n, tells) = subst (Appends before after) (none_of_first None bytes n) tells.1
+
+pub lines_stopped : (remaining left : Option (List ℕ)) (stop : Stop) (before after : Option (List ℕ)) → IfSome remaining (λ bytes. Stops jobs_effect None bytes left stop before after) → IfSome remaining (λ bytes. HasStopped bytes (Lines stop) before after)
+lines_stopped None left stop before after h = tt
+lines_stopped (Some bytes) left stop before after h = stopped_at bytes left stop before after h
+
+-- where what follows the lines ends otherwise
+broken_at : (bytes : List ℕ) (read : Option ReadValue) (stop : JobsStop) (before mid after : Option (List ℕ)) → (transcript jobs_effect None bytes).value ≡ read → Appends before mid [] → HasBroken read stop mid after → HasStopped bytes stop before after
+broken_at bytes read (Lines (Line f)) before mid after value none broke = absurd (cc)
+broken_at bytes read (Lines InputFailed) before mid after value none broke = absurd (cc)
+broken_at bytes read (Lines OutputFailed) before mid after value none (text, n, is, wrote) = inr (text, n, subst (λ (v : Option ReadValue). IsText v text) (sym value) is, appends_after before mid after (take n text) none wrote)
+broken_at bytes read (Lines OutOfMemory) before mid after value none broke = subst (λ (o : Option (List ℕ)). Appends before o []) (sym broke.1) none
+broken_at bytes read NotClosed before mid after value none broke = subst (λ (o : Option (List ℕ)). Appends before o []) (sym broke.1) none
+
+pub broken : (r : Result Unit JobsStop) (remaining : Option (List ℕ)) (read : Option ReadValue) (before mid after : Option (List ℕ))
+    → IfSome remaining (λ bytes. Tells (transcript jobs_effect None bytes) None before mid) → IfSome remaining (λ bytes. (transcript jobs_effect None bytes).value ≡ read)
+    → IfErr r (λ stop. HasBroken read stop mid after) → IfErr r (λ stop. IfSome remaining (λ bytes. HasStopped bytes stop before after))
+broken (Ok done) remaining read before mid after tells value broke = tt
+broken (Err stop) None read before mid after tells value broke = tt
+broken (Err stop) (Some bytes) read before mid after tells value broke = broken_at bytes read stop before mid after value (subst (Appends before mid) (none_written None bytes) tells.1) broke
+
+-- where the text of the line is not written whole
+pub line_broken : (read : Option ReadValue) (text : List ℕ) (stop : Stop) (before after : Option (List ℕ)) → IsText read text → Breaks text stop before after → HasBroken read (Lines stop) before after
+line_broken read text (Line f) before after is broke = absurd broke
+line_broken read text InputFailed before after is broke = absurd broke
+line_broken read text OutputFailed before after is (n, wrote) = (text, n, is, wrote)
+line_broken read text OutOfMemory before after is broke = absurd broke
+
+-- where the jobs' run ends otherwise
+pub jobs_broken : (read : Option ReadValue) (stop : JobsStop) (at : Option (List ℕ)) → is_of_jobs stop ≡ true → HasBroken read stop at at
+jobs_broken read (Lines (Line f)) at of = absurd (cc)
+jobs_broken read (Lines InputFailed) at of = absurd (cc)
+jobs_broken read (Lines OutputFailed) at of = absurd (cc)
+jobs_broken read (Lines OutOfMemory) at of = (refl, refl)
+jobs_broken read NotClosed at of = (refl, refl)
+
+-- the whole text is its first part of its length
+pub whole : (text : List ℕ) (before mid after : Option (List ℕ)) → Appends before mid text → Keeps mid after → (n : ℕ) × Appends before after (take n text)
+whole text before mid after wrote kept = (length text, subst (Appends before after) (sym (take_all (length text) text (omega arith))) (appends_kept before mid after text wrote kept))
+  where
+    appends_kept : (a b c : Option (List ℕ)) (bs : List ℕ) → Appends a b bs → Keeps b c → Appends a c bs
+    appends_kept None b c bs p q = tt
+    appends_kept (Some x) None c bs p q = absurd p
+    appends_kept (Some x) (Some y) None bs p q = absurd q
+    appends_kept (Some x) (Some y) (Some z) bs p q = q ∙ p
