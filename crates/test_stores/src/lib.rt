@@ -31,6 +31,8 @@ mod session_life;
 #[cfg(test)]
 mod setup;
 #[cfg(test)]
+mod spared;
+#[cfg(test)]
 mod store_calls;
 #[cfg(test)]
 mod stores;
