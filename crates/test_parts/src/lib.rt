@@ -22,6 +22,8 @@ mod records;
 #[cfg(test)]
 mod setup;
 #[cfg(test)]
+mod stacks;
+#[cfg(test)]
 mod texts;
 #[cfg(test)]
 mod uppers;

@@ -42,3 +42,5 @@ mod streams;
 mod threads;
 #[cfg(test)]
 mod words;
+#[cfg(test)]
+mod worked;
