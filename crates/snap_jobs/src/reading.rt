@@ -5,7 +5,7 @@ ghost use Rattle.snap_script.specs.Gives.{Gives};
 ghost use Rattle.snap_jobs.specs.Lines.{opened_as, read_with, taken};
 
 use crate::job::job_of;
-use snap_call::Config;
+use snap_call::{Config, Refusal};
 use snap_ledger::{NewTable, StoreName};
 use snap_lines::TakeLine;
 use snap_record::{Sequence, Text};
