@@ -37,7 +37,7 @@ begins config e =
 stands : (names : List Bytes) (after : WorldValue × StepAnswer) (store : Option OpenedValue) (answer : Answer) → is_started after.1 ≡ true → started names after ≡ (store, answer) → is_some store ≡ true
 stands names after store answer e is =
     ap (λ (z : Option OpenedValue × Answer). is_some z.0) (sym is)
-    ∙ ap (λ (t : Bool). is_some (if t then (Some (record { world = after.0; names = names }), answers.Done) else (None, told 0 0 after.0 after.1)).0) e
+    ∙ ap (λ (t : Bool). let z : Option OpenedValue × Answer = if t then (Some (record { world = after.0; names = names }), answers.Done) else (None, told 0 0 after.0 after.1) in is_some z.0) e
 
 pub returns-clause-store : goal.returns-clause-store
 returns-clause-store g c =
