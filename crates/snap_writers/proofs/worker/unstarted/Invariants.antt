@@ -1,5 +1,5 @@
 use Rattle.std.proofs.Common.{◌≡◌, length}
-use Rattle.std.specs.Prelude.{drop, take}
+use Rattle.std.specs.Prelude.{take}
 use Rattle.snap_writers.specs.Jobs.{unprepared}
 use Rattle.snap_writers.proofs.worker.unstarted.Given as goal
 
