@@ -10,7 +10,7 @@ use Rattle.snap_call.specs.declared.reply.Reply.TheVariants.{Refused}
 -- a refusal that leaves no entry
 abbrev pub IsUnrecorded : Refusal → Type 0
 IsUnrecorded JournalFull = Unit {0}
-IsUnrecorded OutOfMemory = Unit {0}
+IsUnrecorded (OutOfMemory want) = Unit {0}
 IsUnrecorded why = ⊥
 
 -- a refusal that is recorded
@@ -21,6 +21,14 @@ IsRecorded why = IsUnrecorded why → ⊥
 abbrev pub IsInEntry : Reply → Type 0
 IsInEntry (Refused why) = IsRecorded why
 IsInEntry reply = Unit {0}
+
+-- a call that changes nothing
+abbrev pub IsAsk : Call → Type 0
+IsAsk (calls.Stat namespace key) = Unit {0}
+IsAsk (calls.Usage namespace key) = Unit {0}
+IsAsk (calls.Mounts namespace key) = Unit {0}
+IsAsk (calls.Walk namespace after most asked) = Unit {0}
+IsAsk call = ⊥
 
 -- a call that takes no snapshot out of its writer's hands, and puts none into them
 abbrev pub IsPlain : Call → Type 0

@@ -10,7 +10,7 @@ ghost use Rattle.snap_call.specs.Step.{added, refused, relabelled_at, remove, re
 ghost use Rattle.snap_call.specs.declared.call.Given.TheVariants.{Nothing};
 ghost use Rattle.snap_call.specs.declared.reply.Reply.TheVariants.{Removed};
 ghost use Rattle.snap_accounts.specs.Changes.{CanChange, IsNewView, IsUnused, changed};
-ghost use Rattle.snap_accounts.specs.Entries.{IsPlain, IsInEntry, IsRecorded};
+ghost use Rattle.snap_accounts.specs.Entries.{IsAsk, IsPlain, IsInEntry, IsRecorded};
 ghost use Rattle.snap_accounts.specs.Vacant.{IsSite};
 
 use crate::accounts::Accounts;
@@ -81,7 +81,7 @@ fn empty_layer(alloc: Global) -> Result<Shared, AllocError>
 {
     match Shared::new(alloc, Layer::empty(alloc, DEFAULT_MODE)?) {
         Ok(layer) => Ok(layer),
-        Err(_) => Err(AllocError),
+        Err((no_memory, _)) => Err(no_memory.into()),
     }
 }
 
@@ -262,7 +262,7 @@ impl<N: StoreName> Accounts<N> {
             Err(LabelsError::BadLabels) => {
                 return Ok((Reply::Refused(Refusal::BadArgument), Change::Nothing));
             }
-            Err(LabelsError::OutOfMemory) => return Err(AllocError),
+            Err(LabelsError::OutOfMemory(no_memory)) => return Err(no_memory.into()),
         };
         let info = info_with(snapshot, &labels, self.state.entries + 1)?;
         let key = key.clone()?;
@@ -296,7 +296,7 @@ impl<N: StoreName> Accounts<N> {
 
     // The reply to a call that changes nothing.
     fn plan_ask(&self, alloc: Global, call: &Call) -> Result<(Reply, Change), AllocError>
-        requires plain { IsPlain call.now }
+        requires ask { IsAsk call.now }
         ensures reply { IfOk result (λ p. step self.now call.now Nothing ≡ (changed self.now p.1, p.0)) }
         ensures recorded { IfOk result (λ p. IsInEntry p.0) }
         ensures possible { IfOk result (λ p. CanChange self.now p.1) }
@@ -313,7 +313,20 @@ impl<N: StoreName> Accounts<N> {
                 most,
                 asked,
             } => self.walk(alloc, namespace.as_str(), after.as_str(), *most, asked)?,
-            _ => return Err(AllocError),
+            Call::Session
+            | Call::Prepare { .. }
+            | Call::Charge { .. }
+            | Call::Trim { .. }
+            | Call::Commit { .. }
+            | Call::Discard { .. }
+            | Call::View { .. }
+            | Call::Remove { .. }
+            | Call::Update { .. }
+            | Call::SetLimit { .. }
+            | Call::LeaseCreate { .. }
+            | Call::LeaseAdd { .. }
+            | Call::LeaseRelease { .. }
+            | Call::Sweep { .. } => unreachable!(),
         };
         Ok((reply, Change::Nothing))
     }
@@ -364,7 +377,15 @@ impl<N: StoreName> Accounts<N> {
             } => self.plan_lease_name(namespace, lease, name),
             Call::LeaseRelease { namespace, lease } => self.plan_lease_end(namespace, lease),
             Call::Sweep { namespace, moment } => self.plan_sweep(alloc, namespace, *moment),
-            _ => self.plan_ask(alloc, call),
+            Call::Stat { .. } | Call::Usage { .. } | Call::Mounts { .. } | Call::Walk { .. } => {
+                self.plan_ask(alloc, call)
+            }
+            Call::Session
+            | Call::Prepare { .. }
+            | Call::Charge { .. }
+            | Call::Trim { .. }
+            | Call::Commit { .. }
+            | Call::Discard { .. } => unreachable!(),
         }
     }
 
@@ -376,9 +397,9 @@ impl<N: StoreName> Accounts<N> {
         ensures open { OnOk result (open_count self.new.records ≡ open_count self.old.records) }
         ensures err { OnErr result (self.new ≡ self.old) }
     {
-        let Ok(()) = self.state.records.insert(snapshot) else {
-            return Err(AllocError);
-        };
+        if let Err((no_memory, _)) = self.state.records.insert(snapshot) {
+            return Err(no_memory.into());
+        }
         self.state.next_id += 1;
         self.state.entries += 1;
         Ok(())

@@ -16,6 +16,7 @@ use crate::charge::sum;
 use snap_call::{Refusal, is_key};
 use snap_layer::Shared;
 use snap_ledger::{Share, StoreName};
+use snap_path::NoMemory;
 use snap_record::Text;
 use snap_usage::{Usage, count, difference};
 
@@ -82,7 +83,7 @@ impl<N: StoreName> Accounts<N> {
         name: Text,
         lease: &Option<Text>,
         layer: Shared,
-    ) -> Result<Usage, (Share<N>, Shared)>
+    ) -> Result<Usage, (NoMemory, Share<N>, Shared)>
         requires slot { share.slot < 64 }
         requires entries { self.old.entries < 2 ^ 63 }
         requires covers { Covers share.usage (count_of layer) }
@@ -94,7 +95,7 @@ impl<N: StoreName> Accounts<N> {
         ensures count { IfOk result (λ usage. usage ≡ count_of layer) }
         ensures open { OnOk result (open_count self.new.records + 1 ≡ open_count self.old.records) }
         ensures unchanged { OnErr result (self.new ≡ self.old) }
-        ensures returned { IfErr result (λ back. (back.0 ≡ share) × (back.1 ≡ layer)) }
+        ensures returned { IfErr result (λ back. (back.1 ≡ share) × (back.2 ≡ layer)) }
     {
         let mut share = share;
         let slot = share.slot();
@@ -103,9 +104,9 @@ impl<N: StoreName> Accounts<N> {
         let usage = count(layer.layer());
         let after = self.total_with(place, held, usage);
         let number = self.state.entries + 1;
-        let Ok(()) = self.state.commit(slot, &name, lease, &layer) else {
-            return Err((share, layer));
-        };
+        if let Err(refused) = self.state.commit(slot, &name, lease, &layer) {
+            return Err((refused.into(), share, layer));
+        }
         self.totals.set(place, after);
         self.slots.spend(share);
         self.opened -= 1;

@@ -11,6 +11,7 @@ ghost use Rattle.snap_accounts.specs.Entries.{IsInEntry, IsRecorded};
 use crate::accounts::Accounts;
 use crate::change::Change;
 use snap_call::{Namespace, Refusal, Reply, is_committed, is_key, is_limit};
+use snap_lease::LeaseError;
 use snap_ledger::StoreName;
 use snap_record::Text;
 use snap_usage::Usage;
@@ -216,16 +217,20 @@ impl<N: StoreName> Accounts<N> {
         until: Option<u64>,
     ) -> Result<(), AllocError>
         requires space { IsSpace self.old namespace.now }
+        requires new { has_lease self.old.leases namespace.now lease.now ≡ false }
         requires entries { self.old.entries < 2 ^ 63 }
         ensures done { OnOk result (self.new ≡ leasing self.old (self.old.leases ++ empty_lease namespace.now lease.now until ∷ [])) }
         ensures open { OnOk result (open_count self.new.records ≡ open_count self.old.records) }
         ensures err { OnErr result (self.new ≡ self.old) }
     {
-        let Ok(()) = self.state.leases.create(namespace, lease, until) else {
-            return Err(AllocError);
-        };
-        self.state.entries += 1;
-        Ok(())
+        match self.state.leases.create(namespace, lease, until) {
+            Ok(()) => {
+                self.state.entries += 1;
+                Ok(())
+            }
+            Err(LeaseError::OutOfMemory(no_memory)) => Err(no_memory.into()),
+            Err(LeaseError::NoLease | LeaseError::LeaseExists) => unreachable!(),
+        }
     }
 
     // The lease has a name more.
@@ -241,11 +246,14 @@ impl<N: StoreName> Accounts<N> {
         ensures open { OnOk result (open_count self.new.records ≡ open_count self.old.records) }
         ensures err { OnErr result (self.new ≡ self.old) }
     {
-        let Ok(()) = self.state.leases.add(namespace, lease, name) else {
-            return Err(AllocError);
-        };
-        self.state.entries += 1;
-        Ok(())
+        match self.state.leases.add(namespace, lease, name) {
+            Ok(()) => {
+                self.state.entries += 1;
+                Ok(())
+            }
+            Err(LeaseError::OutOfMemory(no_memory)) => Err(no_memory.into()),
+            Err(LeaseError::NoLease | LeaseError::LeaseExists) => unreachable!(),
+        }
     }
 
     // There is a lease less.

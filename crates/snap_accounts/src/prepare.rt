@@ -171,9 +171,9 @@ impl<N: StoreName> Accounts<N> {
         let Vacancy { place, slot } = vacancy;
         let id = added.id;
         let after = sum(self.total(place), one(), self.state.limit_at(place));
-        let Ok(()) = self.state.records.insert(added) else {
-            return Err(AllocError);
-        };
+        if let Err((no_memory, _)) = self.state.records.insert(added) {
+            return Err(no_memory.into());
+        }
         self.state.next_id += 1;
         self.state.entries += 1;
         self.totals.set(place, after);

@@ -82,7 +82,7 @@ kept_open s j none no_copy began good sessions closed numbers =
 -- a refusal that is recorded, as the typed calls say it
 pub refused_by : (why : Refusal) (old new : BookValue) (n : ℕ) (call : Call) (given : Given) → IsRecorded why → Recorded old new n call given (Refused why) → RefusedBy old new n call given why
 refused_by JournalFull old new n call given h r = absurd (h tt)
-refused_by OutOfMemory old new n call given h r = absurd (h tt)
+refused_by (OutOfMemory want) old new n call given h r = absurd (h tt)
 refused_by why old new n call given h r = r
 
 -- one session more

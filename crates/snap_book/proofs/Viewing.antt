@@ -29,7 +29,7 @@ use Rattle.snap_accounts.specs.declared.change.Change.{Change}
 use Rattle.snap_accounts.specs.declared.change.Change.TheVariants.{View}
 use Rattle.snap_accounts.specs.Changes.{CanChange, changed}
 use Rattle.snap_book.specs.Book.{BookValue, Recorded}
-use Rattle.snap_book.specs.Viewed.{ViewedValue, IsViewOf}
+use Rattle.snap_book.specs.Viewed.{ViewedValue, IsView, HasView, ComesWith, IsViewOf}
 
 -- ---- a record that was added
 
@@ -103,6 +103,41 @@ pub granted_answer : (s : State) (namespace key parent : Bytes) (labels : List L
 granted_answer s namespace key parent labels call change reply (Err why) is e can made = tt
 granted_answer s namespace key parent labels call change reply (Ok v) is e can made =
     granted_view s namespace key parent labels change reply v (ap (λ (o : Call). step s o givens.Nothing) (sym is) ∙ e) can made
+
+-- ---- the view that comes with a reply
+
+-- no other change takes an id
+adds_view : (s : State) (change : Change) → CanChange s change → (changed s change).next_id ≡ s.next_id + 1 → HasView change
+adds_view s (View r) can next = subst IsView (sym can.view) tt
+adds_view s change can next = absurd (omega (arith, next))
+
+IsNoRefusal : Reply → Type 0
+IsNoRefusal reply = (why : Refusal) → reply ≡ replies.Refused why → ⊥
+
+refuses : (s t : State) (why : Refusal) (reply : Reply) → refused s why ≡ (t, reply) → IsNoRefusal reply → ⊥
+refuses s t why reply e not = not why (sym (ap (λ (p : State × Reply). p.1) e))
+
+numbered_view : (s : State) (key parent : Bytes) (labels : List Label) (place : ℕ) (change : Change) (reply : Reply) (few : Bool)
+    → (if few then viewed s place key parent labels else refused s NumbersSpent) ≡ (changed s change, reply) → CanChange s change → IsNoRefusal reply → HasView change
+numbered_view s key parent labels place change reply true e can not = adds_view s change can (sym (ap (λ (p : State × Reply). p.0.next_id) e))
+numbered_view s key parent labels place change reply false e can not = absurd (refuses s (changed s change) NumbersSpent reply e not)
+
+placed_view : (s : State) (key parent : Bytes) (labels : List Label) (change : Change) (reply : Reply) (found : Result ℕ Refusal)
+    → unless_refused s found (view_at s key parent labels) ≡ (changed s change, reply) → CanChange s change → IsNoRefusal reply → HasView change
+placed_view s key parent labels change reply (Ok place) e can not = numbered_view s key parent labels place change reply (nat_le s.next_id 4294967295) e can not
+placed_view s key parent labels change reply (Err why) e can not = absurd (refuses s (changed s change) why reply e not)
+
+replied_view : (s : State) (namespace key parent : Bytes) (labels : List Label) (change : Change) (reply : Reply)
+    → view s namespace key parent labels ≡ (changed s change, reply) → CanChange s change → ComesWith reply change
+replied_view s namespace key parent labels change (replies.Refused why) e can = tt
+replied_view s namespace key parent labels change reply e can =
+    placed_view s key parent labels change reply (place_for s namespace key parent labels) e can (λ why is. absurd (cc))
+
+-- a call View that is not refused adds a view
+pub comes_with : (s : State) (namespace key parent : Bytes) (labels : List Label) (call : Call) (change : Change) (reply : Reply) → call ≡ calls.View namespace key parent labels
+    → step s call givens.Nothing ≡ (changed s change, reply) → CanChange s change → ComesWith reply change
+comes_with s namespace key parent labels call change reply is e can =
+    replied_view s namespace key parent labels change reply (ap (λ (o : Call). step s o givens.Nothing) (sym is) ∙ e) can
 
 -- ---- the call, as the book says it
 

@@ -43,7 +43,7 @@ pub record Recorded (old new : BookValue) (n : ℕ) (call : Call) (given : Given
 -- a refused call is recorded, but where the journal is full or memory is refused: then all is as before
 abbrev pub RefusedBy : BookValue → BookValue → ℕ → Call → Given → Refusal → Type 0
 RefusedBy old new n call given JournalFull = new ≡ old
-RefusedBy old new n call given OutOfMemory = new ≡ old
+RefusedBy old new n call given (OutOfMemory want) = new ≡ old
 RefusedBy old new n call given why = Recorded old new n call given (Refused why)
 
 -- a call's reply: a refusal as above, and any other reply is recorded

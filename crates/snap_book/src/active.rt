@@ -7,6 +7,7 @@ ghost use Rattle.snap_book.specs.Held.{share_of};
 use snap_call::EntryRoom;
 use snap_layer::{Layer, Shared};
 use snap_ledger::{Share, StoreName};
+use snap_path::NoMemory;
 use snap_record::{Sequence, Text};
 use snap_usage::{Usage, count, difference};
 use std::alloc::Global;
@@ -126,9 +127,9 @@ impl<N: StoreName> Active<N> {
 
     /// The same snapshot, whose layer does not change any more. Where memory is refused it comes back
     /// unchanged. The cost is constant.
-    pub fn seal(self) -> Result<Sealed<N>, Active<N>>
+    pub fn seal(self) -> Result<Sealed<N>, (NoMemory, Active<N>)>
         ensures ok { IfOk result (λ s. s ≡ self) }
-        ensures err { IfErr result (λ a. a ≡ self) }
+        ensures err { IfErr result (λ back. back.1 ≡ self) }
     {
         let Active {
             alloc,
@@ -148,15 +149,18 @@ impl<N: StoreName> Active<N> {
                 share,
                 discard_room,
             }),
-            Err(layer) => Err(Active {
-                alloc,
-                namespace,
-                key,
-                lowers,
-                layer,
-                share,
-                discard_room,
-            }),
+            Err((no_memory, layer)) => {
+                let active = Active {
+                    alloc,
+                    namespace,
+                    key,
+                    lowers,
+                    layer,
+                    share,
+                    discard_room,
+                };
+                Err((no_memory, active))
+            }
         }
     }
 }

@@ -15,6 +15,7 @@ ghost use Rattle.snap_accounts.specs.Changes.{CanChange, changed};
 ghost use Rattle.snap_accounts.specs.Entries.{IsUnrecorded, IsRecorded};
 ghost use Rattle.snap_call.specs.Step.{counted, refused, step, IsAllowed};
 ghost use Rattle.std.specs.Option.{option_map};
+ghost use Rattle.snap_path.specs.Memory.{no_memory};
 ghost use Rattle.snap_book.specs.Slot.{found_of, slot_of};
 
 use crate::journal::{Journal, Opening, session_entry};
@@ -63,7 +64,7 @@ impl<N: StoreName> Book<N> {
         requires { table ≡ N.table }
         ensures opened { IfOk result (λ b. b ≡ record { state = opening config; journal = []; opening = opening config; limit = config.journal; copy = None }) }
         ensures bad { IsErrOf result BadArgument ↔ (is_config config ≡ false) }
-        ensures err { IfErr result (λ why. (why ≡ BadArgument) ⊎ (why ≡ OutOfMemory)) }
+        ensures err { IfErr result (λ why. (why ≡ BadArgument) ⊎ (why ≡ OutOfMemory no_memory)) }
     {
         if !config.is_valid() {
             return Err(Refusal::BadArgument);

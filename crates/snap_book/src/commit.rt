@@ -124,7 +124,7 @@ impl<N: StoreName> Book<N> {
                 self.journal.push(entry, copy);
                 Ok(usage)
             }
-            Err((share, layer)) => {
+            Err((no_memory, share, layer)) => {
                 let sealed = Sealed {
                     namespace,
                     key,
@@ -133,7 +133,7 @@ impl<N: StoreName> Book<N> {
                     share,
                     discard_room,
                 };
-                Err((Refusal::OutOfMemory, sealed))
+                Err((Refusal::OutOfMemory(no_memory), sealed))
             }
         }
     }
@@ -161,10 +161,10 @@ impl<N: StoreName> Book<N> {
         ensures full { IsRefusedWith result JournalFull → self.old.limit ≤ length self.old.journal + open_count self.old.state.records }
     {
         let id = sealed.share.id();
-        let Ok(settlement) = settlement_of(self.alloc, session, call, id, name, layer) else {
-            return Err((Refusal::OutOfMemory, sealed));
-        };
-        self.settle(settlement, lease, sealed)
+        match settlement_of(self.alloc, session, call, id, name, layer) {
+            Ok(settlement) => self.settle(settlement, lease, sealed),
+            Err(refused) => Err((refused.into(), sealed)),
+        }
     }
 
     // Commits a snapshot that its call names, or notes why not.
@@ -214,11 +214,13 @@ impl<N: StoreName> Book<N> {
     {
         let slot = sealed.share.slot();
         let id = sealed.share.id();
-        let Ok(layer) = sealed.layer.again() else {
-            return Err((Refusal::OutOfMemory, sealed));
+        let layer = match sealed.layer.again() {
+            Ok(layer) => layer,
+            Err(refused) => return Err((refused.into(), sealed)),
         };
-        let Ok(call) = commit_call(self.alloc, slot, id, name, lease) else {
-            return Err((Refusal::OutOfMemory, sealed));
+        let call = match commit_call(self.alloc, slot, id, name, lease) {
+            Ok(call) => call,
+            Err(refused) => return Err((refused.into(), sealed)),
         };
         self.commit_or_refuse(session, call, layer, name, lease, sealed)
     }

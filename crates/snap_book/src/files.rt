@@ -1,6 +1,7 @@
 // The files of an open snapshot: what it shows, and the operations on its layer.
 ghost use Rattle.std.specs.Prelude.{◌≡◌, ◌⊎◌, [], ◌∷◌, IfOk, IfErr, IfSome, Ok, Err, ◌↔◌, OnOk, OnErr, IsErrOf, false};
 ghost use Rattle.std.specs.Option.{option_map};
+ghost use Rattle.snap_path.specs.Memory.{no_memory};
 ghost use Rattle.snap_merge.specs.Objects.{object, seen};
 ghost use Rattle.snap_merge.specs.Walk.{Answers};
 ghost use Rattle.snap_merge.specs.Reading.{reading};
@@ -49,7 +50,7 @@ impl<N: StoreName> Active<N> {
     /// is refused. The cost is that of [`Stack::list`].
     pub fn list(&self, path: &Path) -> Result<Vec<Name>, FsError>
         ensures ok { IfOk result (λ v. listing (self.now.layer ∷ self.now.lowers) path.now ≡ Ok v.items) }
-        ensures err { IfErr result (λ e. (e ≡ OutOfMemory) ⊎ (listing (self.now.layer ∷ self.now.lowers) path.now ≡ Err e)) }
+        ensures err { IfErr result (λ e. (e ≡ OutOfMemory no_memory) ⊎ (listing (self.now.layer ∷ self.now.lowers) path.now ≡ Err e)) }
         // Any other error comes before memory is taken.
         ensures first { IfErr (listing (self.now.layer ∷ self.now.lowers) path.now) (λ e. result ≡ Err e) }
         // A list has exactly the names at which something is seen, in order.
@@ -131,7 +132,7 @@ impl<N: StoreName> Active<N> {
         ensures ok { OnOk result (worked op.now self.old.share.usage self.old.layer self.old.lowers ≡ Ok self.new.layer) }
         ensures same { OnOk result (self.new ≡ record self.old { layer = self.new.layer }) }
         // Err: memory was refused, or the error is the operation's under the share; all stays.
-        ensures error { IfErr result (λ e. (e ≡ OutOfMemory) ⊎ (worked op.now self.old.share.usage self.old.layer self.old.lowers ≡ Err e)) }
+        ensures error { IfErr result (λ e. (e ≡ OutOfMemory no_memory) ⊎ (worked op.now self.old.share.usage self.old.layer self.old.lowers ≡ Err e)) }
         ensures unchanged { OnErr result (self.new ≡ self.old) }
         // An error of the operation under the share comes before any memory is taken.
         ensures first { lists_names op.now (self.old.layer ∷ self.old.lowers) ≡ false → IfErr (worked op.now self.old.share.usage self.old.layer self.old.lowers) (λ e. result ≡ Err e) }

@@ -153,7 +153,7 @@ impl Journal {
         }
         match self.reserve(owed, more) {
             Ok(()) => Ok(()),
-            Err(_) => Err(Refusal::OutOfMemory),
+            Err(refused) => Err(refused.into()),
         }
     }
 

@@ -122,7 +122,7 @@ impl<N: StoreName> Book<N> {
         }
         match planned(self.alloc, &self.accounts, &call) {
             Ok(plan) => self.carry_out(session, call, plan),
-            Err(_) => Reply::Refused(Refusal::OutOfMemory),
+            Err(refused) => Reply::Refused(refused.into()),
         }
     }
 }

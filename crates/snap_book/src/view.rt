@@ -11,7 +11,7 @@ ghost use Rattle.snap_call.specs.declared.reply.Reply.TheVariants as replies;
 ghost use Rattle.snap_accounts.specs.Changes.{CanChange, changed};
 ghost use Rattle.snap_accounts.specs.Entries.{IsRecorded};
 ghost use Rattle.snap_book.specs.Book.{Recorded, RefusedBy};
-ghost use Rattle.snap_book.specs.Viewed.{IsViewOf};
+ghost use Rattle.snap_book.specs.Viewed.{ComesWith, IsViewOf};
 
 use crate::book::Book;
 use crate::viewed::Viewed;
@@ -45,6 +45,7 @@ fn answer_to(
     reply: &Reply,
     change: &Change,
 ) -> Result<Result<Viewed, Refusal>, AllocError>
+    requires { ComesWith reply.now change.now }
     ensures granted { IfOk result (λ answer. IfOk answer (IsViewOf change.now)) }
     ensures refused { IfOk result (λ answer. IfErr answer (λ why. reply.now ≡ replies.Refused why)) }
 {

@@ -1,6 +1,7 @@
 // A view in its reader's hands: what it shows. Nothing of it is charged.
 ghost use Rattle.std.specs.Prelude.{◌≡◌, ◌⊎◌, [], IfOk, IfErr, IfSome, Ok, Err};
 ghost use Rattle.std.specs.Option.{option_map};
+ghost use Rattle.snap_path.specs.Memory.{no_memory};
 ghost use Rattle.snap_merge.specs.Objects.{object, seen};
 ghost use Rattle.snap_merge.specs.Walk.{Answers};
 ghost use Rattle.snap_merge.specs.Reading.{reading};
@@ -8,7 +9,7 @@ ghost use Rattle.snap_merge.specs.Listing.{listing, IsListing};
 ghost use Rattle.snap_merge.specs.Resolving.{plain_error, resolution};
 ghost use Rattle.snap_merge.specs.Rules.{ResolvingRules};
 ghost use Rattle.snap_merge.specs.declared.error.FsError.TheVariants.{OutOfMemory};
-ghost use Rattle.snap_book.specs.Viewed.{IsViewOf};
+ghost use Rattle.snap_book.specs.Viewed.{HasView, IsViewOf};
 
 use snap_accounts::Change;
 use snap_layer::Shared;
@@ -51,15 +52,16 @@ fn again(alloc: Global, layers: &[Shared]) -> Result<Sequence<Shared>, AllocErro
 }
 
 impl Viewed {
-    // The view that a change adds. Where it adds none, the answer is an error too.
+    // The view that a change adds.
     pub(crate) fn added_by(alloc: Global, change: &Change) -> Result<Viewed, AllocError>
+        requires { HasView change.now }
         ensures { IfOk result (λ v. IsViewOf change.now v) }
     {
         let Change::View(snapshot) = change else {
-            return Err(AllocError);
+            unreachable!()
         };
         let Content::View { layers } = &snapshot.content else {
-            return Err(AllocError);
+            unreachable!()
         };
         Ok(Viewed {
             alloc,
@@ -104,7 +106,7 @@ impl Viewed {
     /// is refused. The cost is that of [`Stack::list`].
     pub fn list(&self, path: &Path) -> Result<Vec<Name>, FsError>
         ensures ok { IfOk result (λ v. listing self.now.lowers path.now ≡ Ok v.items) }
-        ensures err { IfErr result (λ e. (e ≡ OutOfMemory) ⊎ (listing self.now.lowers path.now ≡ Err e)) }
+        ensures err { IfErr result (λ e. (e ≡ OutOfMemory no_memory) ⊎ (listing self.now.lowers path.now ≡ Err e)) }
         // Any other error comes before memory is taken.
         ensures first { IfErr (listing self.now.lowers path.now) (λ e. result ≡ Err e) }
         // A list has exactly the names at which something is seen, in order.

@@ -26,6 +26,7 @@ use Rattle.snap_call.specs.State.{place_of, name_at, limit_at, chain_from, is_ba
 use Rattle.snap_call.specs.Good.{IsGuarding, IsCounted, IsShown, Good}
 use Rattle.snap_call.specs.Step.{counted, one, new_active, prepared, committed, leases_after, added, new_view, viewed, removed_at}
 use Rattle.snap_call.proofs.Leasing.{place_of-name_at, guarding-with_name}
+use Rattle.snap_call.proofs.Lengths.{length-with_record, length-without, length-without_found, length-recharged, length-relabelled}
 use Rattle.snap_call.proofs.Lists.{all-map, all-both, committed-from, find-with_record_own, find-none, none-passes, record_at-is_named, same_slot, active_at-all, all-with_record, pairwise-with_record, all-without, pairwise-without, all-beside, all-recharged, pairwise-recharged}
 use Rattle.snap_call.proofs.InOrder.{sorted-with_record, sorted-without, sorted-recharged, has_key-without}
 use Rattle.snap_call.proofs.Chains.{HasParent, chain, Keeps, KeepsFor, Every, every, OnParent, on_parent, AreOn, all_on, IsOther, Keeps-after, Keeps-with_record, Keeps-without_slot, Keeps-recharged, on_other, keeps-without_key, keeps-HasParent, keeps-NamesStand, keeps-some_chain, keeps-ancestors, chain-found}
@@ -140,6 +141,7 @@ good_counters s m n good = record {
   sorted = good.sorted;
   ids = good.ids;
   numbered = good.numbered;
+  fewer = good.fewer;
   slots = good.slots;
   open_slots = good.open_slots;
   shown = good.shown;
@@ -172,6 +174,7 @@ good_added s r good low free base deep next count few shown apart beside room = 
       (all-map (λ t. t.id < s.next_id) (λ t. t.id ≢ r.id) (λ t h. omega (arith, h, next)) rs good.numbered)
       good.ids;
   numbered = all-with_record r (λ t. t.id < s.next_id + 1) rs (omega (arith, next)) (all-map (λ t. t.id < s.next_id) (λ t. t.id < s.next_id + 1) (λ t h. omega (arith, h)) rs good.numbered);
+  fewer = omega (arith, length-with_record r rs, good.fewer);
   slots = pairwise-with_record r AreApart rs apart beside good.slots;
   open_slots = all-with_record r (λ t. HasLowSlot t.content) rs few good.open_slots;
   shown = stand_shown ns rs ts keeps ts chained (all-with_record r (λ t. IsShown rs t.namespace t.parent t.content) rs shown good.shown);
@@ -248,6 +251,7 @@ module _ (slot : ℕ) (to : Usage) where
     sorted = sorted-recharged slot to rs good.sorted;
     ids = pairwise-recharged slot to (λ t u. t.id ≢ u.id) rs (λ t u is h. h) (λ t u is h. h) good.ids;
     numbered = all-recharged slot to (λ t. t.id < s.next_id) rs (λ t is h. h) good.numbered;
+    fewer = omega (arith, length-recharged slot to rs, good.fewer);
     slots = pairwise-recharged slot to AreApart rs
         (λ t u is h k out. h k (sym (same_slot slot k to t.content is) ∙ out))
         (λ t u is h k out. same_slot slot k to u.content is ∙ h k out)
@@ -297,6 +301,7 @@ good_discarded s slot r good e = record {
   sorted = sorted-without (is_slot slot) rs good.sorted;
   ids = pairwise-without (is_slot slot) (λ t u. t.id ≢ u.id) rs good.ids;
   numbered = all-without (is_slot slot) (λ t. t.id < s.next_id) rs good.numbered;
+  fewer = omega (arith, length-without (is_slot slot) rs, good.fewer);
   slots = pairwise-without (is_slot slot) AreApart rs good.slots;
   open_slots = all-without (is_slot slot) (λ t. HasLowSlot t.content) rs good.open_slots;
   shown = stand_shown ns rs ts keeps ts chained (all-without (is_slot slot) (λ t. IsShown rs t.namespace t.parent t.content) rs good.shown);
@@ -390,6 +395,7 @@ module _ (s : State) (place : ℕ) (key : Bytes) (r : Record) (good : Good s) (e
     sorted = sorted-without p rs good.sorted;
     ids = pairwise-without p (λ t u. t.id ≢ u.id) rs good.ids;
     numbered = all-without p (λ t. t.id < s.next_id) rs good.numbered;
+    fewer = omega (arith, length-without p rs, good.fewer);
     slots = pairwise-without p AreApart rs good.slots;
     open_slots = all-without p (λ t. HasLowSlot t.content) rs good.open_slots;
     shown = shown_on P rs ts keeps ts on chained (all-without p (λ t. IsShown rs t.namespace t.parent t.content) rs good.shown);
@@ -445,6 +451,7 @@ good_committed s slot name lease layer r good e free less = record {
       (all-beside (is_slot slot) (λ t u. t.id ≢ u.id) (λ t. t.id ≢ r.id) rs r e (λ t h same. h (sym same)) (λ t h. h) good.ids)
       (pairwise-without (is_slot slot) (λ t u. t.id ≢ u.id) rs good.ids);
   numbered = all-with_record c (λ t. t.id < s.next_id) us (active_at-all (λ t. t.id < s.next_id) slot rs r e good.numbered) (all-without (is_slot slot) (λ t. t.id < s.next_id) rs good.numbered);
+  fewer = omega (arith, length-with_record c us, length-without_found (is_slot slot) rs r e, good.fewer);
   slots = pairwise-with_record c AreApart us
       (all-map (λ t. HasLowSlot t.content) (AreApart c) (λ t h k is. absurd (true≢false (sym is))) us places)
       (all-map (λ t. HasLowSlot t.content) (λ t. AreApart t c) (λ t h k is. refl) us places)
@@ -518,6 +525,7 @@ good_relabelled s place key labels good = record {
   sorted = sorted-relabelled place key labels n rs good.sorted;
   ids = pairwise-relabelled place key labels n (λ t u. t.id ≢ u.id) rs (λ t u h. h) (λ t u h. h) good.ids;
   numbered = all-relabelled place key labels n (λ t. t.id < s.next_id) rs (λ t h. h) good.numbered;
+  fewer = omega (arith, length-relabelled place key labels n rs, good.fewer);
   slots = pairwise-relabelled place key labels n AreApart rs (λ t u h. h) (λ t u h. h) good.slots;
   open_slots = all-relabelled place key labels n (λ t. HasLowSlot t.content) rs (λ t h. h) good.open_slots;
   shown = all-relabelled place key labels n (λ t. IsShown ts t.namespace t.parent t.content) rs (λ t h. h)

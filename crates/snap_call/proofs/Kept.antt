@@ -5,6 +5,7 @@ use Rattle.std.specs.List.Sorted.{IsStrictlySortedBy}
 use Rattle.std.specs.Option.{option_map_or, is_some}
 use Rattle.std.specs.Prelude.{if◌then◌else◌, ◌&&◌, not, nat_lt, nat_le, Result, Ok, Err}
 use Rattle.std.proofs.lemmas.Bool.{and_parts, not-false}
+use Rattle.std.proofs.lemmas.Bool.Decides.{nat_tests}
 use Rattle.snap_layer.specs.Tree.{Tree}
 use Rattle.snap_usage.specs.declared.usage.Usage.{Usage}
 use Rattle.snap_usage.specs.Counted.{count_of, covers}
@@ -247,6 +248,9 @@ namespaces_formed c e =
 root_formed : (c : Config) → is_config c ≡ true → is_root_text c.root ≡ true
 root_formed c e = (and_parts _ _ (and_parts _ _ (and_parts _ _ (and_parts _ _ (and_parts _ _ e).0).0).0).0).0
 
+first_given : (c : Config) → is_config c ≡ true → 0 < c.first_id
+first_given c e = let first : nat_le 1 c.first_id ≡ true = (and_parts _ _ e).1 in grind (arith, nat_tests)
+
 pub good_opening : (c : Config) → is_config c ≡ true → Good (opening c)
 unfolding IsStrictlySortedBy
 good_opening c e = record {
@@ -262,6 +266,7 @@ good_opening c e = record {
   sorted = tt;
   ids = tt;
   numbered = tt;
+  fewer = first_given c e;
   slots = tt;
   open_slots = tt;
   shown = tt;

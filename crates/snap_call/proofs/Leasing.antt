@@ -145,6 +145,7 @@ module _ (limit : Usage) where
     sorted = good.sorted;
     ids = good.ids;
     numbered = good.numbered;
+    fewer = good.fewer;
     slots = good.slots;
     open_slots = good.open_slots;
     shown = good.shown;
@@ -167,6 +168,7 @@ good_leasing s ls good leased once = record {
   sorted = good.sorted;
   ids = good.ids;
   numbered = good.numbered;
+  fewer = good.fewer;
   slots = good.slots;
   open_slots = good.open_slots;
   shown = good.shown;

@@ -1,4 +1,5 @@
 pub mod Lists
+mod Lengths
 pub mod InOrder
 pub mod Entries
 pub mod Spaces

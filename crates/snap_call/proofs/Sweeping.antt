@@ -1,5 +1,5 @@
 -- What a sweep keeps true of the state, and what stays as it is.
-use Rattle.std.proofs.Common.{◌≡◌, ◌≢◌, ℕ, ◌<◌, Bool, true, false, true≢false, not, List, length, Option, Some, None, IsSome, refl, sym, ap, ◌∙◌, subst}
+use Rattle.std.proofs.Common.{◌≡◌, ◌≢◌, ℕ, ◌<◌, Bool, true, false, true≢false, not, List, length, Option, Some, None, IsSome, refl, sym, ap, ◌∙◌, subst, arith}
 use Rattle.std.specs.List.{AllByRecursion, list_any}
 use Rattle.std.specs.Option.{option_map_or}
 use Rattle.std.specs.Prelude.{◌==◌, ◌&&◌, bytes_eq, find}
@@ -23,6 +23,7 @@ use Rattle.snap_call.specs.State.{place_of, limit_at, ancestors}
 use Rattle.snap_call.specs.Reached.{is_above, is_reached, is_swept, swept, unswept}
 use Rattle.snap_call.specs.Good.{IsGuarding, IsCounted, IsShown, Good}
 use Rattle.snap_call.specs.Step.{refused, swept_at, sweep_at, sweep}
+use Rattle.snap_call.proofs.Lengths.{length-filtered}
 use Rattle.snap_call.proofs.Lists.{all-each, all-map, all-both, all-any, all-kept, pairwise-filter, find-all, find-filter, find-passes, committed-parts, committed-from}
 use Rattle.snap_call.proofs.InOrder.{own_found, sorted-filter}
 use Rattle.snap_call.proofs.Chains.{HasParent, NamesStand, chain, OnParent, on_parent, on_parent-map, KeepsFor, AreOn, keeps-ancestors}
@@ -253,6 +254,7 @@ module _ (s : State) (namespace : Bytes) (place moment : ℕ) where
         sorted = sorted-filter stays rs good.sorted;
         ids = pairwise-filter stays (λ t u. t.id ≢ u.id) rs good.ids;
         numbered = all-filter (λ t. t.id < s.next_id) stays rs good.numbered;
+        fewer = omega (arith, length-filtered stays rs, good.fewer);
         slots = pairwise-filter stays AreApart rs good.slots;
         open_slots = all-filter (λ t. HasLowSlot t.content) stays rs good.open_slots;
         shown = shown_on P rs ts keeps ts on chained (all-filter (λ t. IsShown rs t.namespace t.parent t.content) stays rs good.shown);

@@ -53,6 +53,8 @@ pub record Good (s : State) : Type 0 where
   -- no two snapshots have the same id, and the next one is above all
   pub ids : AllPairwise (λ r t. r.id ≢ t.id) s.records
   pub numbered : AllByRecursion (λ r. r.id < s.next_id) s.records
+  -- there are fewer snapshots than the next id
+  pub fewer : length s.records < s.next_id
   -- no two active snapshots have the same slot, and each has one of 0 to 63
   pub slots : AllPairwise AreApart s.records
   pub open_slots : AllByRecursion (λ r. HasLowSlot r.content) s.records

@@ -1,9 +1,10 @@
-ghost use Rattle.std.specs.Prelude.{◌≡◌, ◌<◌, [], false, map, length, option_copied, OnOk, OnErr, IfErr, IfOk, vec_len};
+ghost use Rattle.std.specs.Prelude.{◌≡◌, ◌<◌, ◌+◌, ◌^◌, [], false, map, length, option_copied, OnOk, OnErr, IfErr, IfOk, vec_len};
 ghost use Rattle.snap_call.specs.Records.{record_at, has_key, has_children, child_count, with_record, without_key, with_content_at, relabelled, page};
 ghost use Rattle.snap_call.specs.Spaces.{AreFrom, joined};
 
+use snap_path::NoMemory;
 use snap_record::{Content, Filter, Info, Labels, Record, Sequence};
-use std::alloc::{AllocError, AllocFailed, Global};
+use std::alloc::{AllocError, Global};
 use std::marker::Model;
 
 mod boxed_record;
@@ -94,22 +95,20 @@ impl Ordered {
     /// memory is that of the room, of the record and of its entry, of a copy of the name of its parent
     /// where no other record of the namespace is on it, and of copies of the keys that begin as its
     /// own where there are such.
-    pub(crate) fn insert(&mut self, added: Record) -> Result<(), AllocFailed<Record>>
-        requires { has_key added.namespace added.key self.old ≡ false }
+    pub(crate) fn insert(&mut self, added: Record) -> Result<(), (NoMemory, Record)>
+        requires new { has_key added.namespace added.key self.old ≡ false }
+        requires few { length self.old + 1 < 2 ^ 64 }
         ensures ok { OnOk result (self.new ≡ with_record added self.old) }
         ensures err { OnErr result (self.new ≡ self.old) }
-        ensures value_returned { IfErr result (λ e. e.value ≡ added) }
+        ensures value_returned { IfErr result (λ back. back.1 ≡ added) }
     {
         let place = added.namespace;
-        let Some(count) = self.count.checked_add(1) else {
-            return Err(AllocFailed { value: added });
-        };
-        let Ok(()) = grow(&mut self.spaces, place) else {
-            return Err(AllocFailed { value: added });
-        };
+        if let Err(refused) = grow(&mut self.spaces, place) {
+            return Err((refused.into(), added));
+        }
         let space = &mut self.spaces[place];
         space.insert(added)?;
-        self.count = count;
+        self.count += 1;
         Ok(())
     }
 

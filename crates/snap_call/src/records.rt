@@ -1,4 +1,4 @@
-ghost use Rattle.std.specs.Prelude.{◌≡◌, ◌<◌, [], true, false, not, filter, map, length, option_copied, None, OnOk, OnErr, IfErr, IfOk, IsTrue, ◌↔◌, ℕ};
+ghost use Rattle.std.specs.Prelude.{◌≡◌, ◌<◌, ◌+◌, ◌^◌, [], true, false, not, filter, map, length, option_copied, None, OnOk, OnErr, IfErr, IfOk, IsTrue, ◌↔◌, ℕ};
 ghost use Rattle.std.specs.List.{list_any};
 ghost use Rattle.snap_call.specs.Records.{record_at, has_key, has_children, child_count, is_slot, active_at, with_record, without_key, without_keys, without_slot, recharged, relabelled, page, lowest_free, HasLowSlot};
 ghost use Rattle.snap_call.specs.Indexes.{slot_of};
@@ -6,9 +6,10 @@ ghost use Rattle.snap_call.specs.Indexes.{slot_of};
 use crate::open_slots::{Name, OpenSlots};
 use crate::ordered::Ordered;
 use snap_ledger::MAX_SLOTS;
+use snap_path::NoMemory;
 use snap_record::{Content, Filter, Info, Labels, Record, Sequence, Text};
 use snap_usage::Usage;
-use std::alloc::{AllocError, AllocFailed, Global};
+use std::alloc::{AllocError, Global};
 use std::marker::Model;
 
 /// The records of a store, in order of their namespaces' places and the bytes of their keys.
@@ -137,23 +138,25 @@ impl Records {
 
     /// Puts a record in its place. Its key is new in its namespace, and where it is active its slot is
     /// free. Where memory is wanting, the records are as they were and the error gives the record back.
-    pub fn insert(&mut self, added: Record) -> Result<(), AllocFailed<Record>>
+    pub fn insert(&mut self, added: Record) -> Result<(), (NoMemory, Record)>
         requires new { has_key added.namespace added.key self.old ≡ false }
+        requires few { length self.old + 1 < 2 ^ 64 }
         requires low { HasLowSlot added.content }
         requires free { (slot : ℕ) → is_slot slot added ≡ true → active_at slot self.old ≡ None }
         ensures ok { OnOk result (self.new ≡ with_record added self.old) }
         ensures err { OnErr result (self.new ≡ self.old) }
-        ensures value_returned { IfErr result (λ e. e.value ≡ added) }
+        ensures value_returned { IfErr result (λ back. back.1 ≡ added) }
     {
         let Some(slot) = slot_of(&added.content) else {
             return self.rows.insert(added);
         };
-        let Ok(key) = added.key.clone() else {
-            return Err(AllocFailed { value: added });
+        let key = match added.key.clone() {
+            Ok(key) => key,
+            Err(refused) => return Err((refused.into(), added)),
         };
-        let Ok(()) = self.slots.reserve(slot) else {
-            return Err(AllocFailed { value: added });
-        };
+        if let Err(refused) = self.slots.reserve(slot) {
+            return Err((refused.into(), added));
+        }
         let name = Name {
             place: added.namespace,
             key,

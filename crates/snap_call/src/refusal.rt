@@ -1,6 +1,8 @@
 ghost use Rattle.std.specs.Prelude.{◌≡◌};
+ghost use Rattle.snap_path.specs.Memory.{no_memory};
 ghost use Rattle.snap_call.specs.declared.refusal.Refusal.TheVariants.{OutOfMemory};
 
+use snap_path::NoMemory;
 use std::alloc::AllocError;
 use thiserror::Error;
 
@@ -64,13 +66,13 @@ pub enum Refusal {
     JournalFull,
     /// A growth was refused.
     #[error("out of memory")]
-    OutOfMemory,
+    OutOfMemory(NoMemory),
 }
 
 impl From<AllocError> for Refusal {
-    ghost from_gives = { λ _ e. e ≡ OutOfMemory };
+    ghost from_gives = { λ _ e. e ≡ OutOfMemory no_memory };
 
-    fn from(_e: AllocError) -> Refusal {
-        Refusal::OutOfMemory
+    fn from(refused: AllocError) -> Refusal {
+        Refusal::OutOfMemory(refused.into())
     }
 }

@@ -1,4 +1,4 @@
-ghost use Rattle.std.specs.Prelude.{◌≡◌, ◌<◌, ◌+◌, ◌^◌, length, true, false, Some, OnOk, OnErr, IfOk};
+ghost use Rattle.std.specs.Prelude.{◌≡◌, ◌<◌, ◌+◌, ◌^◌, length, true, false, Some, IsSome, OnOk, OnErr, IfOk};
 ghost use Rattle.snap_call.specs.Forms.{is_config};
 ghost use Rattle.snap_call.specs.Good.{Good};
 ghost use Rattle.snap_call.specs.Records.{active_at, committed_as, has_key, with_record, without_slot};
@@ -13,7 +13,7 @@ use crate::config::{Config, Namespace};
 use crate::forms::has_name;
 use crate::records::Records;
 use snap_layer::Shared;
-use snap_lease::Leases;
+use snap_lease::{LeaseError, Leases};
 use snap_record::{Content, Record, Sequence, Text};
 use snap_usage::{Usage, count};
 use std::alloc::{AllocError, Global};
@@ -115,13 +115,9 @@ impl State {
     /// Names the snapshot in the lease of the namespace at the place, where one is given. Takes memory
     /// for a name that is new; where that is refused, nothing changes. The cost grows with the number of
     /// leases.
-    pub fn name_in(
-        &mut self,
-        place: usize,
-        name: &str,
-        lease: &Option<Text>,
-    ) -> Result<(), AllocError>
-        requires { has_named self.old place lease.now ≡ true }
+    fn name_in(&mut self, place: usize, name: &str, lease: &Option<Text>) -> Result<(), AllocError>
+        requires place { place < length self.old.namespaces }
+        requires named { has_named self.old place lease.now ≡ true }
         ensures ok { OnOk result (self.new ≡ record self.old { leases = leases_after self.old place name.now lease.now }) }
         ensures err { OnErr result (self.new ≡ self.old) }
     {
@@ -129,14 +125,15 @@ impl State {
             return Ok(());
         };
         let Some(namespace) = self.namespaces.as_slice().get(place) else {
-            return Err(AllocError);
+            unreachable!()
         };
         match self
             .leases
             .add(namespace.name.as_str(), lease.as_str(), name)
         {
             Ok(()) => Ok(()),
-            Err(_) => Err(AllocError),
+            Err(LeaseError::OutOfMemory(no_memory)) => Err(no_memory.into()),
+            Err(LeaseError::NoLease | LeaseError::LeaseExists) => unreachable!(),
         }
     }
 
@@ -155,6 +152,8 @@ impl State {
         layer: &Shared,
     ) -> Result<(), AllocError>
         requires good { Good self.old }
+        requires open { IsSome (active_at slot self.old.records) }
+        requires few { length self.old.records + 1 < 2 ^ 64 }
         requires entries { self.old.entries < 2 ^ 63 }
         requires new { (r : Record) → active_at slot self.old.records ≡ Some r → has_key r.namespace name.now self.old.records ≡ false }
         requires named { (r : Record) → active_at slot self.old.records ≡ Some r → has_named self.old r.namespace lease.now ≡ true }
@@ -162,17 +161,17 @@ impl State {
         ensures err { OnErr result (self.new ≡ self.old) }
     {
         let Some(active) = self.records.active_at(slot) else {
-            return Err(AllocError);
+            unreachable!()
         };
         let place = active.namespace;
         let committed = committed_as(active, name, layer, self.entries + 1)?;
-        let Ok(()) = self.records.insert(committed) else {
-            return Err(AllocError);
-        };
-        let Ok(()) = self.name_in(place, name.as_str(), lease) else {
+        if let Err((no_memory, _)) = self.records.insert(committed) {
+            return Err(no_memory.into());
+        }
+        if let Err(refused) = self.name_in(place, name.as_str(), lease) {
             let _ = self.records.take_key(place, name.as_str());
-            return Err(AllocError);
-        };
+            return Err(refused);
+        }
         let _ = self.records.take_slot(slot);
         Ok(())
     }

@@ -1,6 +1,7 @@
 -- What is put at a path, once the directories above it stand.
 -- Cited by `copy_up`, `ensure_dirs`, `put` and others.
 use Rattle.std.specs.Prelude.{◌≡◌, ◌⊎◌, ℕ, ◌+◌, ◌≤◌, true, false, List, [], ◌∷◌, ◌++◌, length, Option, Some, None, is_some, if◌then◌else◌}
+use Rattle.snap_path.specs.Memory.{no_memory}
 use Rattle.snap_path.specs.Text.{Names}
 use Rattle.snap_layer.specs.declared.node.Node.{Node}
 use Rattle.snap_layer.specs.declared.node.Node.TheVariants as node
@@ -38,7 +39,7 @@ CanStand Whiteout t p = IsFreePlace t p
 
 -- why a next layer was not made: it would pass the limits of a layer, or memory was refused
 abbrev pub IsRefusal : Tree → FsError → Type 0
-IsRefusal t e = (e ≡ OutOfMemory) ⊎ ((e ≡ LayerFull) × (is_within t ≡ false))
+IsRefusal t e = (e ≡ OutOfMemory no_memory) ⊎ ((e ≡ LayerFull) × (is_within t ≡ false))
 
 -- the second layer takes so many inodes more than the first, and as many blocks
 abbrev pub TakesMore : ℕ → Tree → Tree → Type 0

@@ -65,21 +65,19 @@ impl Counts {
 
     /// Counts the text once more.
     ///
-    /// `AllocError` where memory is refused, which it takes for the first count of a text alone, and where the count is 2^64 - 1
-    /// already. After it every count is as it was. It costs what `count` does.
+    /// The condition is a count below 2^64 - 1. `AllocError` where memory is refused, which it takes for the first count of a
+    /// text alone. After it every count is as it was. It costs what `count` does.
     pub fn add(&mut self, text: &str) -> Result<(), AllocError>
+        requires { count_in text.now self.old + 1 < 2 ^ 64 }
         // The text counts once more, and every other text as it did.
         ensures ok { OnOk result ((q : List ℕ) → count_in q self.new ≡ count_in q self.old + (if bytes_eq q text.now then 1 else 0)) }
 
         // A text that is counted takes no memory. After an error nothing changed.
-        ensures there { 0 < count_in text.now self.old → count_in text.now self.old + 1 < 2 ^ 64 → IsOk result }
+        ensures there { 0 < count_in text.now self.old → IsOk result }
         ensures err { OnErr result ((q : List ℕ) → count_in q self.new ≡ count_in q self.old) }
     {
         if let Some(number) = self.map.get_mut(text) {
-            let Some(more) = number.checked_add(1) else {
-                return Err(AllocError);
-            };
-            *number = more;
+            *number += 1;
             return Ok(());
         }
         let key = String::from_str(self.alloc, text)?;

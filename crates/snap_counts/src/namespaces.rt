@@ -59,14 +59,15 @@ impl NamespaceCounts {
 
     /// Counts the text once more in the namespace.
     ///
-    /// `AllocError` where memory is refused, which it takes for the first count of a text in a namespace alone, and where the
-    /// count is 2^64 - 1 already. After it every count is as it was. It costs what `count` does.
+    /// The condition is a count below 2^64 - 1. `AllocError` where memory is refused, which it takes for the first count of a
+    /// text in a namespace alone. After it every count is as it was. It costs what `count` does.
     pub fn add(&mut self, namespace: &str, text: &str) -> Result<(), AllocError>
+        requires { count_within namespace.now text.now self.old + 1 < 2 ^ 64 }
         // The text counts once more in the namespace, and every other count stays.
         ensures ok { OnOk result ((space q : List ℕ) → count_within space q self.new ≡ count_within space q self.old + (if bytes_eq space namespace.now && bytes_eq q text.now then 1 else 0)) }
 
         // What is counted takes no memory. After an error nothing changed.
-        ensures there { 0 < count_within namespace.now text.now self.old → count_within namespace.now text.now self.old + 1 < 2 ^ 64 → IsOk result }
+        ensures there { 0 < count_within namespace.now text.now self.old → IsOk result }
         ensures err { OnErr result ((space q : List ℕ) → count_within space q self.new ≡ count_within space q self.old) }
     {
         if let Some(counts) = self.map.get_mut(namespace) {

@@ -89,7 +89,7 @@ stopped_at bytes left OutputFailed before after (part, rest, is, told) = inl (su
     no_front : (xs ys : List ℕ) → xs ++ ys ≡ [] → xs ≡ []
     no_front [] ys e = refl
     no_front (x ∷ xs) ys e = absurd (cc)
-stopped_at bytes left OutOfMemory before after (n, tells) = subst (Appends before after) (none_of_first None bytes n) tells.1
+stopped_at bytes left (OutOfMemory want) before after (n, tells) = subst (Appends before after) (none_of_first None bytes n) tells.1
 
 pub lines_stopped : (remaining left : Option (List ℕ)) (stop : Stop) (before after : Option (List ℕ)) → IfSome remaining (λ bytes. Stops jobs_effect None bytes left stop before after) → IfSome remaining (λ bytes. HasStopped bytes (Lines stop) before after)
 lines_stopped None left stop before after h = tt
@@ -100,7 +100,7 @@ broken_at : (bytes : List ℕ) (read : Option ReadValue) (stop : JobsStop) (befo
 broken_at bytes read (Lines (Line f)) before mid after value none broke = absurd (cc)
 broken_at bytes read (Lines InputFailed) before mid after value none broke = absurd (cc)
 broken_at bytes read (Lines OutputFailed) before mid after value none (text, n, is, wrote) = inr (text, n, subst (λ (v : Option ReadValue). IsText v text) (sym value) is, appends_after before mid after (take n text) none wrote)
-broken_at bytes read (Lines OutOfMemory) before mid after value none broke = subst (λ (o : Option (List ℕ)). Appends before o []) (sym broke.1) none
+broken_at bytes read (Lines (OutOfMemory want)) before mid after value none broke = subst (λ (o : Option (List ℕ)). Appends before o []) (sym broke.1) none
 broken_at bytes read NotClosed before mid after value none broke = subst (λ (o : Option (List ℕ)). Appends before o []) (sym broke.1) none
 
 pub broken : (r : Result Unit JobsStop) (remaining : Option (List ℕ)) (read : Option ReadValue) (before mid after : Option (List ℕ))
@@ -115,14 +115,14 @@ pub line_broken : (read : Option ReadValue) (text : List ℕ) (stop : Stop) (bef
 line_broken read text (Line f) before after is broke = absurd broke
 line_broken read text InputFailed before after is broke = absurd broke
 line_broken read text OutputFailed before after is (n, wrote) = (text, n, is, wrote)
-line_broken read text OutOfMemory before after is broke = absurd broke
+line_broken read text (OutOfMemory want) before after is broke = absurd broke
 
 -- where the jobs' run ends otherwise
 pub jobs_broken : (read : Option ReadValue) (stop : JobsStop) (at : Option (List ℕ)) → is_of_jobs stop ≡ true → HasBroken read stop at at
 jobs_broken read (Lines (Line f)) at of = absurd (cc)
 jobs_broken read (Lines InputFailed) at of = absurd (cc)
 jobs_broken read (Lines OutputFailed) at of = absurd (cc)
-jobs_broken read (Lines OutOfMemory) at of = (refl, refl)
+jobs_broken read (Lines (OutOfMemory want)) at of = (refl, refl)
 jobs_broken read NotClosed at of = (refl, refl)
 
 -- the whole text is its first part of its length

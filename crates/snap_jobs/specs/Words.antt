@@ -13,7 +13,7 @@ jobs_stop_words NotClosed = codes "not closed"
 
 -- whether the end is one of the jobs' run, and not of a read or a write: memory was refused, or the store was not closed
 abbrev pub is_of_jobs : JobsStop → Bool
-is_of_jobs (Lines OutOfMemory) = true
+is_of_jobs (Lines (OutOfMemory want)) = true
 is_of_jobs NotClosed = true
 is_of_jobs stop = false
 

@@ -1,13 +1,15 @@
 // The lines of a script of jobs, and what was read of them.
-ghost use Rattle.std.specs.Prelude.{◌≡◌, None};
+ghost use Rattle.std.specs.Prelude.{◌≡◌, None, Some, Ok};
 ghost use Rattle.serde_json.specs.View.{view};
 ghost use Rattle.snap_script.specs.Gives.{Gives};
+ghost use Rattle.snap_script.specs.Results.{◌>>=◌};
 ghost use Rattle.snap_jobs.specs.Lines.{opened_as, read_with, taken};
 
 use crate::job::job_of;
 use snap_call::{Config, Refusal};
 use snap_ledger::{NewTable, StoreName};
 use snap_lines::TakeLine;
+use snap_path::NoMemory;
 use snap_record::{Sequence, Text};
 use snap_script::{Fault, Field, ReadError, is_empty, names_of, read_object, read_open};
 use snap_store::Store;
@@ -37,23 +39,25 @@ impl<N: StoreName> Model for Read<N> {
 /// What was read of a script of jobs. Contracts see nothing, or, once the first line has opened a store, the
 /// names of its namespaces and the jobs.
 ///
-/// The table names the store, and goes to it when it is opened. Where memory is refused then, the name is spent,
-/// and a later line that opens a store is `OutOfMemory`. A configuration without its form leaves the name.
+/// The table names the store, and goes to it when it is opened. Where memory is refused then, the name is spent, and
+/// the refusal is kept for a later line that opens a store. A configuration without its form leaves the name.
 #[derive(Drop)]
 pub struct JobLines<N: StoreName> {
     table: Option<NewTable>,
+    refused: Option<NoMemory>,
     read: Option<Read<N>>,
 }
 
 impl<N: StoreName> Model for JobLines<N> {
-    ghost use Rattle.std.specs.Prelude.{◌≡◌, Option, IfSome};
+    ghost use Rattle.std.specs.Prelude.{◌≡◌, ◌||◌, Option, true, is_some, IfSome};
     ghost use Rattle.snap_jobs.specs.Lines.{ReadValue};
 
     ghost Value = { Option ReadValue };
 
     ghost view = { λ s. s.read };
 
-    ghost invariant = { λ s. IfSome s.table (λ t. t ≡ N.table) };
+    // The table is there until a store is opened with it or memory is refused.
+    ghost invariant = { λ s. IfSome s.table (λ t. t ≡ N.table) × ((is_some s.table || (is_some s.refused || is_some s.read)) ≡ true) };
 }
 
 impl<N: StoreName> JobLines<N> {
@@ -64,36 +68,48 @@ impl<N: StoreName> JobLines<N> {
     {
         JobLines {
             table: Some(table),
+            refused: None,
             read: None,
         }
     }
 
-    // A store of the configuration.
-    fn open(&mut self, alloc: Global, config: Config) -> Result<Read<N>, ReadError>
-        ensures read { Gives (λ read. read) result (opened_as config) }
-        ensures same { self.new ≡ self.old }
+    // Opens a store of the configuration.
+    fn open(&mut self, alloc: Global, config: Config) -> Result<(), ReadError>
+        requires { self.old ≡ None }
+        ensures { Gives (λ _. self.new) result (do Ok (Some (← opened_as config))) }
     {
         if !config.is_valid() {
             return Err(ReadError::Fault(Fault::BadField(Field::Open)));
         }
         let names = names_of(alloc, config.namespaces.as_slice())?;
-        let table = self.table.take().ok_or(ReadError::OutOfMemory)?;
+        if let Some(no_memory) = self.refused {
+            return Err(no_memory.into());
+        }
+        let Some(table) = self.table.take() else {
+            unreachable!()
+        };
         match Store::open(alloc, table, config) {
-            Ok(store) => Ok(Read {
-                store,
-                names,
-                jobs: Vec::new(alloc),
-            }),
-            Err(Refusal::OutOfMemory) => Err(ReadError::OutOfMemory),
+            Ok(store) => {
+                self.read = Some(Read {
+                    store,
+                    names,
+                    jobs: Vec::new(alloc),
+                });
+                Ok(())
+            }
+            Err(Refusal::OutOfMemory(no_memory)) => {
+                self.refused = Some(no_memory);
+                Err(no_memory.into())
+            }
             Err(_) => unreachable!(),
         }
     }
 
     // Reads the first line that isn't empty.
     #[tactic(auto, unfolding(crate::specs::Lines::read_with))]
-    fn read_first(&mut self, alloc: Global, line: &[u8]) -> Result<Read<N>, ReadError>
-        ensures read { Gives (λ read. read) result (read_with None line.now) }
-        ensures same { self.new ≡ self.old }
+    fn read_first(&mut self, alloc: Global, line: &[u8]) -> Result<(), ReadError>
+        requires { self.old ≡ None }
+        ensures { Gives (λ _. self.new) result (do Ok (Some (← read_with None line.now))) }
     {
         let line = read_object(alloc, line)?;
         let config = read_open(alloc, &line)?;
@@ -142,7 +158,7 @@ impl<N: StoreName> TakeLine for JobLines<N> {
             return Ok(None);
         }
         match &mut self.read {
-            None => self.read = Some(self.read_first(alloc, line)?),
+            None => self.read_first(alloc, line)?,
             Some(read) => read.take_job(alloc, line)?,
         }
         Ok(None)

@@ -12,6 +12,7 @@ use crate::reading::{JobLines, Read};
 use crate::stop::JobsStop;
 use snap_ledger::{NewTable, StoreName};
 use snap_lines::{Stop, read_lines, write_bytes};
+use snap_script::Shortage;
 use snap_store::{Cause, NotClosed, Store};
 use snap_writers::{Gate, Job, Report, RunFault, run_jobs};
 use std::alloc::Global;
@@ -37,7 +38,9 @@ fn stop_of<N: StoreName>(back: &NotClosed<N>) -> JobsStop
     ensures { is_of_jobs result ≡ true }
 {
     match back.cause {
-        Cause::OutOfMemory => JobsStop::Lines(Stop::OutOfMemory),
+        Cause::OutOfMemory(no_memory) => {
+            JobsStop::Lines(Stop::OutOfMemory(Shortage::Allocator(no_memory)))
+        }
         Cause::StillOut(_) | Cause::SessionsMissing | Cause::TapeMismatch(_) => {
             JobsStop::NotClosed
         }
@@ -60,7 +63,9 @@ fn report_of<N: StoreName + Send + Sync, T: Threads + Wait + Sync>(
         Ok(report) => Ok(report),
         Err(RunFault::GateClosed { worker: _, report }) => Ok(report),
         Err(RunFault::BadWorkers(_)) => unreachable!(),
-        Err(RunFault::OutOfMemory(_)) => Err(JobsStop::Lines(Stop::OutOfMemory)),
+        Err(RunFault::OutOfMemory(_, no_memory)) => {
+            Err(JobsStop::Lines(Stop::OutOfMemory(Shortage::Allocator(no_memory))))
+        }
         Err(RunFault::NotClosed(back)) => Err(stop_of(&back)),
     }
 }
@@ -173,9 +178,7 @@ pub fn write_jobs_within<T: Threads + Wait + Sync, R: Input, W: Write>(
     ensures stopped { IfErr result (λ stop. IfSome (R.remaining input.old) (λ bytes. HasStopped bytes stop
         (W.contents output.old) (W.contents output.new))) }
 {
-    let Ok(table) = NewTable::new(alloc) else {
-        return Err(JobsStop::Lines(Stop::OutOfMemory));
-    };
+    let table = NewTable::new(alloc)?;
     run::<Brand, T, R, W>(rt, alloc, table, input, output, workers, reads)
 }
 

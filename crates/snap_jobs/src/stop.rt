@@ -1,4 +1,5 @@
 ghost use Rattle.std.specs.Prelude.{◌≡◌};
+ghost use Rattle.snap_path.specs.Memory.{no_memory};
 ghost use Rattle.snap_jobs.specs.Words.{status_of};
 
 use snap_lines::Stop;
@@ -39,13 +40,14 @@ impl From<Stop> for JobsStop {
 
 impl From<AllocError> for JobsStop {
     ghost use Rattle.std.specs.Prelude.{◌≡◌};
+    ghost use Rattle.snap_script.specs.declared.fault.Shortage.TheVariants.{Allocator};
     ghost use Rattle.snap_lines.specs.declared.stop.Stop.TheVariants.{OutOfMemory};
     ghost use Rattle.snap_jobs.specs.declared.stop.JobsStop.TheVariants.{Lines};
 
-    ghost from_gives = { λ _ e. e ≡ Lines OutOfMemory };
+    ghost from_gives = { λ _ e. e ≡ Lines (OutOfMemory (Allocator no_memory)) };
 
-    fn from(_e: AllocError) -> JobsStop {
-        JobsStop::Lines(Stop::OutOfMemory)
+    fn from(refused: AllocError) -> JobsStop {
+        JobsStop::Lines(refused.into())
     }
 }
 

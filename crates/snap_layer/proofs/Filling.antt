@@ -4,6 +4,7 @@ use Rattle.std.specs.Prelude.{is_some, ◌==◌, ◌&&◌, IsErrOf}
 use Rattle.std.specs.Ordering.{nat_cmp}
 use Rattle.std.specs.BTreeMap.{is_at}
 use Rattle.std.proofs.lemmas.Bool.Decides.{nat_tests}
+use Rattle.snap_path.specs.Memory.{no_memory}
 use Rattle.snap_path.specs.Text.{Names, IsPath}
 use Rattle.snap_layer.specs.declared.error.LayerError.{LayerError}
 use Rattle.snap_layer.specs.declared.error.LayerError.TheVariants.{LayerFull, OutOfMemory}
@@ -51,7 +52,7 @@ SaysFull r u = (IsErrOf r LayerFull → is_within u ≡ false) × (is_within u �
 pub full_said : {A : Type 0} (u : Tree) → is_within u ≡ false → SaysFull {A = A} (Err LayerFull) u
 full_said u full = (λ e. full, λ e. refl)
 
-pub memory_said : {A : Type 0} (r : Result A LayerError) (x : LayerError) (u : Tree) → r ≡ Err x → x ≡ OutOfMemory → is_within u ≡ true → SaysFull r u
+pub memory_said : {A : Type 0} (r : Result A LayerError) (x : LayerError) (u : Tree) → r ≡ Err x → x ≡ OutOfMemory no_memory → is_within u ≡ true → SaysFull r u
 memory_said r x u is memory within = (λ e. absurd (cc), λ f. absurd (no_bool (sym within ∙ f)))
 
 pub ok_said : {A : Type 0} (a : A) (u : Tree) → is_within u ≡ true → SaysFull (Ok a) u

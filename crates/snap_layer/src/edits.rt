@@ -1,5 +1,6 @@
 // The edits of a layer.
 ghost use Rattle.std.specs.Prelude.{◌≡◌, ◌↔◌, ◌<◌, ◌≤◌, ◌+◌, ◌-◌, ℕ, List, Some, None, is_none, if◌then◌else◌, IfOk, IfSome, IfNone, OnOk, OnErr, IsErrOf, IsSome, length, true, false};
+ghost use Rattle.snap_path.specs.Memory.{no_memory};
 ghost use Rattle.snap_layer.specs.Tree.{at, body, number_at, IsDirAt, leaf_node};
 ghost use Rattle.snap_layer.specs.Counts.{inode_count, block_count, body_blocks, is_within};
 ghost use Rattle.snap_layer.specs.Totals.{path_count};
@@ -9,9 +10,9 @@ ghost use Rattle.snap_layer.specs.Edits.{with_body, with_entry, with_node, with_
 use super::error::LayerError;
 use super::layer::Layer;
 use super::node::{Body, Bytes, Node};
-use super::totals::Totals;
-use snap_path::Path;
+use super::totals::{Totals, more_paths};
 use snap_path::limits::MAX_INODES;
+use snap_path::{NoMemory, Path};
 use std::alloc::AllocError;
 
 impl Layer {
@@ -143,7 +144,7 @@ impl Layer {
         requires { HasPlace self.old path.now }
         ensures ok { OnOk result (self.new ≡ with_node self.old path.now Node.Whiteout) }
         ensures full { IsErrOf result LayerError.LayerFull ↔ (is_within (with_node self.old path.now Node.Whiteout) ≡ false) }
-        ensures sure { IsErrOf result LayerError.OutOfMemory → at self.old path.now ≡ None }
+        ensures sure { IsErrOf result (LayerError.OutOfMemory no_memory) → at self.old path.now ≡ None }
         ensures err { OnErr result (self.new ≡ self.old) }
     {
         let (rest, blocks) = self.left(path);
@@ -251,16 +252,16 @@ impl Layer {
         self.table.set_file_mode(number, mode);
     }
 
-    /// A bound on the number of paths once something stands at the path: nothing where there is no such number.
-    fn paths_at(&self, path: &Path) -> Option<usize>
-        ensures paths { IfSome result (λ n. path_count self.now + (if is_none (at self.now path.now) then 1 else 0) < n) }
-        ensures sure { IfNone result (at self.now path.now ≡ None) }
+    /// A bound on the number of paths once something stands at the path.
+    fn paths_at(&self, path: &Path) -> Result<usize, NoMemory>
+        ensures paths { IfOk result (λ n. path_count self.now + (if is_none (at self.now path.now) then 1 else 0) < n) }
+        ensures sure { OnErr result (at self.now path.now ≡ None) }
         ensures layer { IsLayer self.now }
     {
         self.show_is_layer();
         match self.at(path) {
-            Some(_) => Some(self.totals.paths),
-            None => self.totals.paths.checked_add(1),
+            Some(_) => Ok(self.totals.paths),
+            None => more_paths(self.totals.paths, 1),
         }
     }
 
@@ -280,9 +281,7 @@ impl Layer {
         ensures ok { OnOk result (self.new ≡ with_node self.old path.now (Node.Dir mode opaque)) }
         ensures err { OnErr result (self.new ≡ self.old) }
     {
-        let Some(paths) = self.paths_at(path) else {
-            return Err(AllocError);
-        };
+        let paths = self.paths_at(path)?;
         let blocks = blocks + 1;
         self.table.put_dir(path, mode, opaque)?;
         self.totals = Totals {
@@ -303,9 +302,7 @@ impl Layer {
         ensures sure { OnErr result (at self.old path.now ≡ None) }
         ensures err { OnErr result (self.new ≡ self.old) }
     {
-        let Some(paths) = self.paths_at(path) else {
-            return Err(AllocError);
-        };
+        let paths = self.paths_at(path)?;
         self.table.whiteout(path)?;
         self.totals = Totals {
             inodes,
@@ -333,9 +330,7 @@ impl Layer {
         ensures err { OnErr result (self.new ≡ self.old) }
     {
         let _ = path.names();
-        let Some(paths) = self.paths_at(path) else {
-            return Err(AllocError);
-        };
+        let paths = self.paths_at(path)?;
         self.table.put_name(path, number)?;
         self.totals = Totals {
             inodes,
@@ -361,9 +356,7 @@ impl Layer {
         ensures ok { OnOk result (self.new ≡ with_new self.old path.now (leaf_node self.old.next body) body) }
         ensures err { OnErr result (self.new ≡ self.old) }
     {
-        let Some(paths) = self.paths_at(path) else {
-            return Err(AllocError);
-        };
+        let paths = self.paths_at(path)?;
         let blocks = blocks + body.blocks();
         self.table.put_leaf(path, body)?;
         self.totals = Totals {
@@ -393,9 +386,7 @@ impl Layer {
     {
         self.show_is_layer();
         let blocks = blocks + body.blocks();
-        let Some(paths) = self.totals.paths.checked_add(2) else {
-            return Err(AllocError);
-        };
+        let paths = more_paths(self.totals.paths, 2)?;
         self.table.put_linked(path, link, body)?;
         self.totals = Totals {
             inodes,
@@ -439,9 +430,7 @@ impl Layer {
         ensures ok { OnOk result (self.new ≡ with_moved self.old from.now to.now leaves) }
         ensures err { OnErr result (self.new ≡ self.old) }
     {
-        let Some(paths) = self.paths_at(to) else {
-            return Err(AllocError);
-        };
+        let paths = self.paths_at(to)?;
         self.table.relocate(from, to, leaves)?;
         self.totals = Totals {
             inodes,

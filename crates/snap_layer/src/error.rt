@@ -1,5 +1,7 @@
 ghost use Rattle.std.specs.Prelude.{◌≡◌};
+ghost use Rattle.snap_path.specs.Memory.{no_memory};
 
+use snap_path::NoMemory;
 use std::alloc::{AllocError, AllocFailed};
 use thiserror::Error;
 
@@ -11,25 +13,25 @@ pub enum LayerError {
     LayerFull,
     /// A growth was refused.
     #[error("out of memory")]
-    OutOfMemory,
+    OutOfMemory(NoMemory),
 }
 
 impl From<AllocError> for LayerError {
     ghost use Rattle.snap_layer.specs.declared.error.LayerError.TheVariants.{OutOfMemory};
 
-    ghost from_gives = { λ _ e. e ≡ OutOfMemory };
+    ghost from_gives = { λ _ e. e ≡ OutOfMemory no_memory };
 
-    fn from(_error: AllocError) -> LayerError {
-        LayerError::OutOfMemory
+    fn from(refused: AllocError) -> LayerError {
+        LayerError::OutOfMemory(refused.into())
     }
 }
 
 impl<T: Drop> From<AllocFailed<T>> for LayerError {
     ghost use Rattle.snap_layer.specs.declared.error.LayerError.TheVariants.{OutOfMemory};
 
-    ghost from_gives = { λ _ e. e ≡ OutOfMemory };
+    ghost from_gives = { λ _ e. e ≡ OutOfMemory no_memory };
 
-    fn from(_error: AllocFailed<T>) -> LayerError {
-        LayerError::OutOfMemory
+    fn from(failed: AllocFailed<T>) -> LayerError {
+        LayerError::OutOfMemory(failed.into())
     }
 }

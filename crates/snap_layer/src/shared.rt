@@ -2,6 +2,7 @@ ghost use Rattle.std.specs.Prelude.{◌≡◌, IfOk, IfErr};
 ghost use Rattle.snap_layer.specs.Layers.{IsLayer};
 
 use super::layer::Layer;
+use snap_path::NoMemory;
 use std::alloc::{AllocError, Global};
 use std::marker::Model;
 use std::sync::Arc;
@@ -23,13 +24,13 @@ impl Model for Shared {
 
 impl Shared {
     /// The layer, to be shared. Where memory is refused it comes back unchanged. The cost is constant.
-    pub fn new(alloc: Global, layer: Layer) -> Result<Shared, Layer>
+    pub fn new(alloc: Global, layer: Layer) -> Result<Shared, (NoMemory, Layer)>
         ensures ok { IfOk result (λ s. s ≡ layer) }
-        ensures err { IfErr result (λ l. l ≡ layer) }
+        ensures err { IfErr result (λ back. back.1 ≡ layer) }
     {
         match Arc::new(alloc, layer) {
             Ok(layer) => Ok(Shared { layer }),
-            Err(failed) => Err(failed.value),
+            Err(failed) => Err(NoMemory::with_value(failed)),
         }
     }
 

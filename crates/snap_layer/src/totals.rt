@@ -1,3 +1,7 @@
+ghost use Rattle.std.specs.Prelude.{◌≡◌, ◌≤◌, ◌+◌, IfOk};
+
+use snap_path::NoMemory;
+
 /// What a layer takes, and a bound on the number of its paths, which only rises.
 #[derive(Clone, Copy)]
 pub(crate) struct Totals {
@@ -7,4 +11,15 @@ pub(crate) struct Totals {
     pub(crate) blocks: u64,
     /// It has fewer paths.
     pub(crate) paths: usize,
+}
+
+/// A bound on the number of paths, with so many more.
+pub(crate) fn more_paths(paths: usize, more: usize) -> Result<usize, NoMemory>
+    requires { more ≤ 2 }
+    ensures { IfOk result (λ n. n ≡ paths + more) }
+{
+    match paths.checked_add(more) {
+        Some(sum) => Ok(sum),
+        None => Err(NoMemory::of_last_address(paths)),
+    }
 }

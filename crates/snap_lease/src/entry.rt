@@ -1,5 +1,6 @@
 //! One lease, over texts that it owns.
-ghost use Rattle.std.specs.Prelude.{◌≡◌, ◌||◌, false, List, ℕ, map, string_bytes, IsTrue, IsOk, IfOk, OnOk, OnErr};
+ghost use Rattle.std.specs.Prelude.{◌≡◌, ◌<◌, ◌+◌, ◌^◌, ◌||◌, false, List, ℕ, map, string_bytes, IsTrue, IsOk, IfOk, OnOk, OnErr};
+ghost use Rattle.snap_counts.specs.Counts.{count_within};
 ghost use Rattle.snap_lease.specs.Lease.{is_of, is_lease, does_name, is_live, empty_lease, with_lease_name, NamesOnce};
 ghost use Rattle.snap_lease.specs.Index.{IsSame, IsRecounted, IsUncounted};
 ghost use Rattle.snap_lease.specs.Live.{is_among};
@@ -96,6 +97,7 @@ impl LeaseEntry {
         name: &str,
         counts: &mut NamespaceCounts,
     ) -> Result<(), AllocError>
+        requires { count_within self.old.namespace name.now counts.old + 1 < 2 ^ 64 }
         ensures ok { OnOk result (self.new ≡ with_lease_name name.now self.old) }
         ensures counted { OnOk result (IsRecounted self.old self.new counts.old counts.new) }
         ensures there { IsTrue (does_name name.now self.old) → IsOk result }

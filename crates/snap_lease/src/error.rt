@@ -1,7 +1,9 @@
 //! Why a call on leases fails.
 ghost use Rattle.std.specs.Prelude.{◌≡◌};
+ghost use Rattle.snap_path.specs.Memory.{no_memory};
 ghost use Rattle.snap_lease.specs.declared.error.LeaseError.TheVariants.{OutOfMemory};
 
+use snap_path::NoMemory;
 use std::alloc::{AllocError, AllocFailed};
 use thiserror::Error;
 
@@ -16,21 +18,21 @@ pub enum LeaseError {
     LeaseExists,
     /// A growth was refused.
     #[error("out of memory")]
-    OutOfMemory,
+    OutOfMemory(NoMemory),
 }
 
 impl From<AllocError> for LeaseError {
-    ghost from_gives = { λ _ e. e ≡ OutOfMemory };
+    ghost from_gives = { λ _ e. e ≡ OutOfMemory no_memory };
 
-    fn from(_e: AllocError) -> LeaseError {
-        LeaseError::OutOfMemory
+    fn from(refused: AllocError) -> LeaseError {
+        LeaseError::OutOfMemory(refused.into())
     }
 }
 
 impl<T: Drop> From<AllocFailed<T>> for LeaseError {
-    ghost from_gives = { λ _ e. e ≡ OutOfMemory };
+    ghost from_gives = { λ _ e. e ≡ OutOfMemory no_memory };
 
-    fn from(_e: AllocFailed<T>) -> LeaseError {
-        LeaseError::OutOfMemory
+    fn from(failed: AllocFailed<T>) -> LeaseError {
+        LeaseError::OutOfMemory(failed.into())
     }
 }

@@ -1,6 +1,7 @@
 //! The leases of all namespaces.
 ghost use Rattle.std.specs.Prelude.{◌≡◌, ◌≢◌, ◌↔◌, ◌<◌, ℕ, List, [], ◌∷◌, ◌++◌, map, false, count_by, position, string_bytes, Some, IsTrue, IfOk, OnOk, OnErr, IsErrOf, IsOkUnless};
 ghost use Rattle.std.specs.List.{AllByRecursion};
+ghost use Rattle.snap_path.specs.Memory.{no_memory};
 ghost use Rattle.snap_lease.specs.Lease.{empty_lease, is_lease, NamesOnce};
 ghost use Rattle.snap_lease.specs.Leases.{AreDistinct, has_lease, names_in_lease, lease_names, naming_count, is_guarded, is_guarded_at, has_ended, with_name_added, without_lease, without_ended, CountsAdded, CountsReleased, CountsLive};
 ghost use Rattle.snap_lease.specs.Index.{AreUncounted};
@@ -110,13 +111,15 @@ impl Leases {
 
         // Without the lease it is refused. Want of memory comes only for a name that is new.
         ensures no_lease { IsErrOf result LeaseError.NoLease ↔ (has_lease self.old namespace.now lease.now ≡ false) }
-        ensures memory { IsErrOf result LeaseError.OutOfMemory → lease_names self.old namespace.now lease.now name.now ≡ false }
+        ensures memory { IsErrOf result (LeaseError.OutOfMemory no_memory) → lease_names self.old namespace.now lease.now name.now ≡ false }
         ensures exists { result ≢ Err LeaseError.LeaseExists }
         ensures err { OnErr result (self.new ≡ self.old) }
     {
         let Some(place) = self.place_of(namespace, lease) else {
             return Err(LeaseError::NoLease);
         };
+        // With the length read, the proof knows that a count has room.
+        let _ = self.list.as_slice().len();
         let entry = &mut self.list[place];
         entry.add(self.alloc, name, &mut self.counts)?;
         Ok(())

@@ -8,6 +8,7 @@ use Rattle.snap_lines.specs.Effects.{Effects}
 use Rattle.snap_lines.specs.Lines.{lines_of, feeds}
 use Rattle.snap_lines.specs.Transcripts.{Place, Transcript, transcript, transcript_from, first_lines, prepended, effect_at, goes_on, place_after, start, Tells, TellsPart, Stops}
 use Rattle.snap_lines.specs.Runs.{Run, nothing, within, transcript_on, Goes, StopsIn, StopsAtEnd}
+use Rattle.snap_script.specs.declared.fault.Shortage.{Shortage}
 use Rattle.snap_lines.specs.declared.stop.LineFault.{LineFault}
 use Rattle.snap_lines.specs.declared.stop.Stop.{Stop}
 use Rattle.snap_lines.specs.declared.stop.Stop.TheVariants.{Line, InputFailed, OutputFailed, OutOfMemory}
@@ -111,7 +112,7 @@ stopped effect v xs b c d x y z s bytes OutputFailed r h e =
     let all = whole xs b c bytes r.read r.consumed h in
     tells_part (transcript effect v xs) (transcript_on effect s (bytes ++ all.0)) r.goes.written x y z
     (transcript_is effect v xs ∙ ap (transcript_on effect (within nothing v)) all.1 ∙ goes_leads effect (within nothing v) s r.read x y r.goes (bytes ++ all.0)) r.goes.appended (e all.0)
-stopped effect v xs b c d x y z s bytes OutOfMemory r h e =
+stopped effect v xs b c d x y z s bytes (OutOfMemory want) r h e =
     let all = whole xs b c bytes r.read r.consumed h in
     lines_first effect v xs (r.read ++ e.part) (e.more ++ all.0) e.place x z
     (all.1 ∙ ap (λ l. r.read ++ (l ++ all.0)) e.is ∙ ap (λ l. r.read ++ l) (append_assoc e.part e.more all.0) ∙ sym (append_assoc r.read e.part (e.more ++ all.0)))
@@ -127,7 +128,7 @@ stopped_at_end : {A : Type 0} (effect : Effects A) (v : A) (xs : List ℕ) (b c 
 stopped_at_end effect v xs b c d x y z s (Line f) r h e t = told (transcript effect v xs) (transcript_on effect s []) x y z r.goes.written (Some f) (end_of effect v xs b c x y s r h e) r.goes.appended t
 stopped_at_end effect v xs b c d x y z s InputFailed r h e t = absurd t
 stopped_at_end effect v xs b c d x y z s OutputFailed r h e t = tells_part (transcript effect v xs) (transcript_on effect s []) r.goes.written x y z (end_of effect v xs b c x y s r h e) r.goes.appended t
-stopped_at_end effect v xs b c d x y z s OutOfMemory r h e t =
+stopped_at_end effect v xs b c d x y z s (OutOfMemory want) r h e t =
     let rest = unread xs b r.read r.consumed in
     lines_first effect v xs r.read rest.0 s x z rest.1 (subst (λ u. Goes effect (within nothing v) r.read s x u) (sym t) r.goes)
 
@@ -137,9 +138,9 @@ reading_stopped_at_end effect v None b c d x y z s stop r h e t = tt
 reading_stopped_at_end effect v (Some xs) b c d x y z s stop r h e t = stopped_at_end effect v xs b c d x y z s stop r h e t
 
 -- nothing was read
-pub reading_not_begun : {A : Type 0} (effect : Effects A) (v : A) (a d x : Option (List ℕ)) → IfSome a (λ bytes. Stops effect v bytes d OutOfMemory x x)
-reading_not_begun effect v None d x = tt
-reading_not_begun effect v (Some xs) d x = lines_first effect v xs [] xs (within nothing v) x x refl (goes_none effect (within nothing v) x)
+pub reading_not_begun : {A : Type 0} (effect : Effects A) (v : A) (want : Shortage) (a d x : Option (List ℕ)) → IfSome a (λ bytes. Stops effect v bytes d (OutOfMemory want) x x)
+reading_not_begun effect v want None d x = tt
+reading_not_begun effect v want (Some xs) d x = lines_first effect v xs [] xs (within nothing v) x x refl (goes_none effect (within nothing v) x)
 
 -- ---- the last flush
 
@@ -167,7 +168,7 @@ part_of : {A : Type 0} (effect : Effects A) (v : A) (xs : List ℕ) (d : Option 
 part_of effect v xs d (Line f) x y h = tells_all (transcript effect v xs) (Some f) x y h
 part_of effect v xs d InputFailed x y h = first_part effect v xs (feeds h.0) x y h.2
 part_of effect v xs d OutputFailed x y h = h
-part_of effect v xs d OutOfMemory x y h = first_part effect v xs h.0 x y h.1
+part_of effect v xs d (OutOfMemory want) x y h = first_part effect v xs h.0 x y h.1
 
 part_kept : {A : Type 0} (s : Transcript A) (x y z : Option (List ℕ)) → TellsPart s x y → Keeps y z → TellsPart s x z
 part_kept s x y z h k = (h.0, h.1, h.2, Appends-kept x y z h.0 h.3 k)
@@ -183,7 +184,7 @@ kept : {A : Type 0} (effect : Effects A) (v : A) (xs : List ℕ) (d : Option (Li
 kept effect v xs d (Line f) x y z h k = (h.0, Appends-kept x y z (transcript effect v xs).text h.1 k)
 kept effect v xs d InputFailed x y z h k = (h.0, h.1, (h.2.0, Appends-kept x y z (first_lines effect v xs (feeds h.0)).text h.2.1 k))
 kept effect v xs d OutputFailed x y z h k = part_kept (transcript effect v xs) x y z h k
-kept effect v xs d OutOfMemory x y z h k = (h.0, (h.1.0, Appends-kept x y z (first_lines effect v xs h.0).text h.1.1 k))
+kept effect v xs d (OutOfMemory want) x y z h k = (h.0, (h.1.0, Appends-kept x y z (first_lines effect v xs h.0).text h.1.1 k))
 
 pub stops_kept : {A : Type 0} (effect : Effects A) (v : A) (a d x y z : Option (List ℕ)) (r : Result Unit Stop) → IfErr r (λ stop. IfSome a (λ bytes. Stops effect v bytes d stop x y)) → Keeps y z
     → IfErr r (λ stop. IfSome a (λ bytes. Stops effect v bytes d stop x z))

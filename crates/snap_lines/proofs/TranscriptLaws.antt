@@ -8,6 +8,7 @@ use Rattle.std.specs.Io.KnownBytes.{Appends, Keeps}
 use mir.Val.{bool_byte}
 use Rattle.snap_script.specs.declared.fault.Fault.{Fault}
 use Rattle.snap_script.specs.declared.fault.Fault.TheVariants.{TooLong}
+use Rattle.snap_script.specs.declared.fault.Shortage.{Shortage}
 use Rattle.snap_lines.proofs.KnownLaws.{Appends-trans, Appends-kept, Appends-nil}
 use Rattle.snap_lines.proofs.LineLaws.{line_split, line_last, line_begins, Begins, feed_ended, feed_open, feed_long, open_more}
 use Rattle.snap_lines.specs.Effects.{Effect, Effects}
@@ -91,7 +92,7 @@ goes_stops effect r q a b more InputFailed x y z g e = absurd e
 goes_stops effect r q a b more OutputFailed x y z g e = λ rest.
     tells_part (transcript_on effect r ((a ++ (b ++ more)) ++ rest)) (transcript_on effect q (b ++ (more ++ rest))) g.written x y z
     (ap (transcript_on effect r) (three a b more rest) ∙ goes_leads effect r q a x y g (b ++ (more ++ rest))) g.appended (e (more ++ rest))
-goes_stops effect r q a b more OutOfMemory x y z g e = record {
+goes_stops effect r q a b more (OutOfMemory want) x y z g e = record {
   part = a ++ e.part;
   more = e.more ++ more;
   place = e.place;
@@ -147,13 +148,13 @@ pub leaves_refused : {A : Type 0} (effect : Effects A) (r : Run A) (line : List 
 leaves_refused effect r line reading lines (Line f) x e n h = ((e ∙ h.0, h.1 ∙ ap (λ k. k + 1) n), refl)
 leaves_refused effect r line reading lines InputFailed x e n h = absurd h
 leaves_refused effect r line reading lines OutputFailed x e n h = absurd h
-leaves_refused effect r line reading lines OutOfMemory x e n h = (tt, refl)
+leaves_refused effect r line reading lines (OutOfMemory want) x e n h = (tt, refl)
 
 pub leaves_broken : {A : Type 0} (effect : Effects A) (r : Run A) (line : List ℕ) (e : Effect A) (stop : Stop) (x y : Option (List ℕ)) → effect_at effect r.place line ≡ Ok e → Breaks e.text stop x y → Leaves effect r line stop x y
 leaves_broken effect r line e (Line f) x y is b = absurd b
 leaves_broken effect r line e InputFailed x y is b = absurd b
 leaves_broken effect r line e OutputFailed x y is b = (e, is, b)
-leaves_broken effect r line e OutOfMemory x y is b = absurd b
+leaves_broken effect r line e (OutOfMemory want) x y is b = absurd b
 
 -- ---- what a line does to the transcript
 
@@ -218,15 +219,15 @@ byte_run effect v n k p q s e b x no_feed h =
     subst (λ z. Goes effect (within s v) (b ∷ []) z x x) is (byte_goes effect (within s v) b x no_feed)
 
 -- memory was refused before any of the bytes was taken
-pub stops_before : {A : Type 0} (effect : Effects A) (r : Run A) (bytes : List ℕ) (x y : Option (List ℕ)) → y ≡ x → StopsIn effect r bytes OutOfMemory x y
-stops_before effect r bytes x y e = record { part = []; more = bytes; place = r; is = refl; goes = subst (λ z. Goes effect r [] r x z) (sym e) (goes_none effect r x) }
+pub stops_before : {A : Type 0} (effect : Effects A) (r : Run A) (bytes : List ℕ) (want : Shortage) (x y : Option (List ℕ)) → y ≡ x → StopsIn effect r bytes (OutOfMemory want) x y
+stops_before effect r bytes want x y e = record { part = []; more = bytes; place = r; is = refl; goes = subst (λ z. Goes effect r [] r x z) (sym e) (goes_none effect r x) }
 
 -- a line feed, where its line was not taken
 pub newline_stops : {A : Type 0} (effect : Effects A) (r : Run A) (stop : Stop) (x y : Option (List ℕ)) → is_open r.pending ≡ true → Leaves effect r (line_in r.pending true) stop x y → StopsIn effect r (10 ∷ []) stop x y
 newline_stops effect r (Line f) x y o h = subst (λ z. Ends effect r (10 ∷ []) f x z) (sym h.1) (newline_ends effect r f x o h.0.0 h.0.1)
 newline_stops effect r InputFailed x y o h = absurd h.0
 newline_stops effect r OutputFailed x y o h = newline_breaks effect r h.0 x y o h.1 h.2
-newline_stops effect r OutOfMemory x y o h = stops_before effect r (10 ∷ []) x y h.1
+newline_stops effect r (OutOfMemory want) x y o h = stops_before effect r (10 ∷ []) want x y h.1
 
 begins_any : (p rest : List ℕ) → is_open p ≡ true → 0 < length p → Begins p rest
 begins_any [] rest o h = absurd (omega arith)
@@ -315,7 +316,7 @@ pub end_stops : {A : Type 0} (effect : Effects A) (r : Run A) (stop : Stop) (x y
 end_stops effect r (Line f) x y o more h = subst (λ z. Tells (transcript_on effect r []) (Some f) x z) (sym h.1) (end_err effect r f x o more h.0.0 h.0.1)
 end_stops effect r InputFailed x y o more h = absurd h.0
 end_stops effect r OutputFailed x y o more h = end_breaks effect r h.0 x y o more h.1 h.2
-end_stops effect r OutOfMemory x y o more h = h.1
+end_stops effect r (OutOfMemory want) x y o more h = h.1
 
 -- ---- bytes that come one by one
 

@@ -63,14 +63,14 @@ abbrev pub StopsIn : {A : Type 0} → Effects A → Run A → List ℕ → Stop 
 StopsIn effect r bytes (Line f) before behind = Ends effect r bytes f before behind
 StopsIn effect r bytes InputFailed before behind = ⊥
 StopsIn effect r bytes OutputFailed before behind = (rest : List ℕ) → TellsPart (transcript_on effect r (bytes ++ rest)) before behind
-StopsIn effect r bytes OutOfMemory before behind = GoesPart effect r bytes before behind
+StopsIn effect r bytes (OutOfMemory want) before behind = GoesPart effect r bytes before behind
 
 -- what went to the output where the run stops at the end of the input
 abbrev pub StopsAtEnd : {A : Type 0} → Effects A → Run A → Stop → Option (List ℕ) → Option (List ℕ) → Type 0
 StopsAtEnd effect r (Line f) before behind = Tells (transcript_on effect r []) (Some f) before behind
 StopsAtEnd effect r InputFailed before behind = ⊥
 StopsAtEnd effect r OutputFailed before behind = TellsPart (transcript_on effect r []) before behind
-StopsAtEnd effect r OutOfMemory before behind = behind ≡ before
+StopsAtEnd effect r (OutOfMemory want) before behind = behind ≡ before
 
 -- the line that has come, with its line feed where that ended it
 abbrev pub line_in : List ℕ → Bool → List ℕ
@@ -84,7 +84,7 @@ Takes effect r line q before behind = (text : List ℕ) × (effect_at effect r.p
 -- the line after so many has this fault, or memory was refused
 abbrev pub Refuses : {A : Type 0} → Result (Effect A) Fault → ℕ → Stop → Type 0
 Refuses reading lines (Line f) = (reading ≡ Err f.cause) × (f.line ≡ lines + 1)
-Refuses reading lines OutOfMemory = Unit {0}
+Refuses reading lines (OutOfMemory want) = Unit {0}
 Refuses reading lines stop = ⊥
 
 -- a write failed after a first part of the text

@@ -83,4 +83,4 @@ abbrev pub Stops : {A : Type 0} → Effects A → A → List ℕ → Option (Lis
 Stops effect value bytes left (Line f) before after = Tells (transcript effect value bytes) (Some f) before after
 Stops effect value bytes left InputFailed before after = (read : List ℕ) × Consumes (Some bytes) left read × Tells (first_lines effect value bytes (feeds read)) None before after
 Stops effect value bytes left OutputFailed before after = TellsPart (transcript effect value bytes) before after
-Stops effect value bytes left OutOfMemory before after = (n : ℕ) × Tells (first_lines effect value bytes n) None before after
+Stops effect value bytes left (OutOfMemory want) before after = (n : ℕ) × Tells (first_lines effect value bytes n) None before after

@@ -14,10 +14,10 @@ abbrev pub stop_words : Stop → List ℕ
 stop_words (Line f) = line_words f
 stop_words InputFailed = codes "input failed"
 stop_words OutputFailed = codes "output failed"
-stop_words OutOfMemory = codes "want of memory"
+stop_words (OutOfMemory want) = codes "want of memory"
 
 abbrev pub status_of : Stop → ℕ
 status_of (Line f) = 2
 status_of InputFailed = 3
 status_of OutputFailed = 3
-status_of OutOfMemory = 4
+status_of (OutOfMemory want) = 4

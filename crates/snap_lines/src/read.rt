@@ -60,9 +60,7 @@ fn read_all<T: TakeLine, R: Read, W: Write>(
         Stops T.effect taker.old bytes (R.remaining input.new) stop (W.contents output.old) (W.contents output.new))) }
 {
     let mut reader = Reader::new(alloc);
-    let Ok(mut chunk) = chunk(alloc) else {
-        return Err(Stop::OutOfMemory);
-    };
+    let mut chunk = chunk(alloc)?;
     let buffer = chunk.as_mut_slice();
     'reads: for _ in 0..reads {
         match input.read(buffer) {

@@ -1,6 +1,7 @@
 // Where a run stands within an input, and the step of one line.
 ghost use Rattle.std.specs.Prelude.{None, ◌≡◌, ◌<◌, ◌≤◌, ◌+◌, [], ◌∷◌, length, false, Ok, Err, OnOk, IfOk, IfErr};
 ghost use Rattle.std.specs.Io.KnownBytes.{Appends};
+ghost use Rattle.snap_script.specs.declared.fault.Shortage.{Shortage};
 ghost use Rattle.snap_lines.specs.Effects.{effect_with, text_bytes};
 ghost use Rattle.snap_lines.specs.Transcripts.{Tells, max_bytes};
 ghost use Rattle.snap_lines.specs.Runs.{nothing, within, transcript_on, line_in, Takes, Goes, Refuses, Breaks, Leaves, StopsIn, StopsAtEnd};
@@ -36,12 +37,12 @@ fn text_of<T: TakeLine>(
     requires { lines ≤ max_bytes }
     ensures ok { IfOk result (λ text. T.effect taker.old line.now ≡ Ok (effect_with taker.new text)) }
     ensures err { IfErr result (λ stop. Refuses (T.effect taker.old line.now) lines stop) }
-    ensures memory { result ≡ Err Stop.OutOfMemory → T.wanting taker.new }
+    ensures memory { (want : Shortage) → result ≡ Err (Stop.OutOfMemory want) → T.wanting taker.new }
 {
     match taker.take_line(alloc, line) {
         Ok(text) => Ok(text),
         Err(ReadError::Fault(cause)) => Err(fault(lines, cause)),
-        Err(ReadError::OutOfMemory) => Err(Stop::OutOfMemory),
+        Err(ReadError::OutOfMemory(shortage)) => Err(Stop::OutOfMemory(shortage)),
     }
 }
 
@@ -126,7 +127,7 @@ impl Reader {
             (within self.new taker.new) (W.contents output.old) (W.contents output.new)) }
         ensures err { IfErr result (λ stop. Leaves T.effect (within self.old taker.old) (line_in self.old.pending ended) stop
             (W.contents output.old) (W.contents output.new)) }
-        ensures memory { result ≡ Err Stop.OutOfMemory → T.wanting taker.new }
+        ensures memory { (want : Shortage) → result ≡ Err (Stop.OutOfMemory want) → T.wanting taker.new }
     {
         let line = self.pending.as_slice();
         let len = line.len() + usize::from(ended);

@@ -1,8 +1,9 @@
 ghost use Rattle.std.specs.Prelude.{◌≡◌, Some};
+ghost use Rattle.snap_path.specs.Memory.{no_memory};
 ghost use Rattle.snap_lines.specs.Words.{status_of};
 
-use snap_script::Fault;
-use std::alloc::AllocFailed;
+use snap_script::{Fault, Shortage};
+use std::alloc::{AllocError, AllocFailed};
 use std::fmt;
 
 /// The line, counted from 1 with the empty ones, and what is wrong with it.
@@ -22,17 +23,30 @@ pub enum Stop {
     /// A write failed.
     OutputFailed,
     /// Memory was refused.
-    OutOfMemory,
+    OutOfMemory(Shortage),
+}
+
+impl From<AllocError> for Stop {
+    ghost use Rattle.std.specs.Prelude.{◌≡◌};
+    ghost use Rattle.snap_script.specs.declared.fault.Shortage.TheVariants.{Allocator};
+    ghost use Rattle.snap_lines.specs.declared.stop.Stop.TheVariants.{OutOfMemory};
+
+    ghost from_gives = { λ _ e. e ≡ OutOfMemory (Allocator no_memory) };
+
+    fn from(refused: AllocError) -> Stop {
+        Stop::OutOfMemory(Shortage::Allocator(refused.into()))
+    }
 }
 
 impl<T: Drop> From<AllocFailed<T>> for Stop {
     ghost use Rattle.std.specs.Prelude.{◌≡◌};
+    ghost use Rattle.snap_script.specs.declared.fault.Shortage.TheVariants.{Allocator};
     ghost use Rattle.snap_lines.specs.declared.stop.Stop.TheVariants.{OutOfMemory};
 
-    ghost from_gives = { λ _ e. e ≡ OutOfMemory };
+    ghost from_gives = { λ _ e. e ≡ OutOfMemory (Allocator no_memory) };
 
-    fn from(_e: AllocFailed<T>) -> Stop {
-        Stop::OutOfMemory
+    fn from(failed: AllocFailed<T>) -> Stop {
+        Stop::OutOfMemory(Shortage::Allocator(failed.into()))
     }
 }
 
@@ -44,7 +58,7 @@ impl Stop {
         match self {
             Stop::Line(_) => 2,
             Stop::InputFailed | Stop::OutputFailed => 3,
-            Stop::OutOfMemory => 4,
+            Stop::OutOfMemory(_) => 4,
         }
     }
 }
@@ -61,7 +75,7 @@ impl fmt::Display for Stop {
             Stop::Line(fault) => write!(f, "{}", fault),
             Stop::InputFailed => f.write_str("input failed"),
             Stop::OutputFailed => f.write_str("output failed"),
-            Stop::OutOfMemory => f.write_str("want of memory"),
+            Stop::OutOfMemory(_) => f.write_str("want of memory"),
         }
     }
 }

@@ -1,6 +1,7 @@
 -- How far a way was gone.
 -- Cited by invariants and private clauses alone.
 use Rattle.std.specs.Prelude.{◌≡◌, ◌⊎◌, [], ◌++◌, List, Result, Ok, Err}
+use Rattle.snap_path.specs.Memory.{no_memory}
 use Rattle.snap_path.specs.Text.{Names}
 use Rattle.snap_layer.specs.Tree.{Tree}
 use Rattle.snap_merge.specs.declared.error.FsError.{FsError}
@@ -13,7 +14,7 @@ use Rattle.snap_merge.specs.Resolving.{Answer, start_of, words_of, way}
 abbrev pub Leads : (Names → Names → Answer) → List Tree → Names → Answer → Result Arrival FsError → Type 0
 Leads follow s ws due (Ok (Place p)) = due ≡ way follow s p ws
 Leads follow s ws due (Ok (Link directory target)) = due ≡ follow (start_of directory target.now) (words_of target.now ++ ws)
-Leads follow s ws due (Err e) = (e ≡ OutOfMemory) ⊎ (due ≡ Err e)
+Leads follow s ws due (Err e) = (e ≡ OutOfMemory no_memory) ⊎ (due ≡ Err e)
 
 -- at a place no words are left
 abbrev pub Ends : Names → Result Arrival FsError → Type 0

@@ -1,6 +1,7 @@
 -- The walk to a path: each directory above it has to be seen (path_resolution(7)). No symlink is followed.
 -- Cited by `Stack::walk`, `Stack::walk_to`, `Stack::read` and others.
 use Rattle.std.specs.Prelude.{◌≡◌, ◌⊎◌, List, [], ◌∷◌, ◌++◌, Option, Some, None, Result, Ok, Err}
+use Rattle.snap_path.specs.Memory.{no_memory}
 use Rattle.snap_path.specs.Text.{Names}
 use Rattle.snap_layer.specs.Tree.{Tree}
 use Rattle.snap_merge.specs.declared.error.FsError.{FsError}
@@ -30,4 +31,4 @@ unless (Some e) later = Err e
 -- the call answers what is to be answered, or that memory was refused
 abbrev pub Answers : {A : Type 0} → Result A FsError → Result A FsError → Type 0
 Answers due (Ok a) = due ≡ Ok a
-Answers due (Err e) = (e ≡ OutOfMemory) ⊎ (due ≡ Err e)
+Answers due (Err e) = (e ≡ OutOfMemory no_memory) ⊎ (due ≡ Err e)

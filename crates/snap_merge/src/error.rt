@@ -1,9 +1,10 @@
 ghost use Rattle.std.specs.Prelude.{◌≡◌};
+ghost use Rattle.snap_path.specs.Memory.{no_memory};
 ghost use Rattle.snap_merge.specs.declared.error.FsError.TheVariants.{OutOfMemory};
 ghost use Rattle.snap_merge.specs.Errors.{OfLayer, OfPath};
 
 use snap_layer::LayerError;
-use snap_path::PathError;
+use snap_path::{NoMemory, PathError};
 use snap_usage::Usage;
 use std::alloc::{AllocError, AllocFailed};
 use thiserror::Error;
@@ -52,22 +53,22 @@ pub enum FsError {
     TooManyLinks,
     /// The allocator refused memory (ENOMEM).
     #[error("out of memory")]
-    OutOfMemory,
+    OutOfMemory(NoMemory),
 }
 
 impl From<AllocError> for FsError {
-    ghost from_gives = { λ _ e. e ≡ OutOfMemory };
+    ghost from_gives = { λ _ e. e ≡ OutOfMemory no_memory };
 
-    fn from(_error: AllocError) -> FsError {
-        FsError::OutOfMemory
+    fn from(refused: AllocError) -> FsError {
+        FsError::OutOfMemory(refused.into())
     }
 }
 
 impl<T: Drop> From<AllocFailed<T>> for FsError {
-    ghost from_gives = { λ _ e. e ≡ OutOfMemory };
+    ghost from_gives = { λ _ e. e ≡ OutOfMemory no_memory };
 
-    fn from(_error: AllocFailed<T>) -> FsError {
-        FsError::OutOfMemory
+    fn from(failed: AllocFailed<T>) -> FsError {
+        FsError::OutOfMemory(failed.into())
     }
 }
 
@@ -77,7 +78,7 @@ impl From<LayerError> for FsError {
     fn from(error: LayerError) -> FsError {
         match error {
             LayerError::LayerFull => FsError::LayerFull,
-            LayerError::OutOfMemory => FsError::OutOfMemory,
+            LayerError::OutOfMemory(no_memory) => FsError::OutOfMemory(no_memory),
         }
     }
 }
@@ -88,7 +89,7 @@ impl From<PathError> for FsError {
     fn from(error: PathError) -> FsError {
         match error {
             PathError::BadPath => FsError::BadPath,
-            PathError::OutOfMemory => FsError::OutOfMemory,
+            PathError::OutOfMemory(no_memory) => FsError::OutOfMemory(no_memory),
         }
     }
 }

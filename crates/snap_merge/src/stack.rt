@@ -1,5 +1,6 @@
 ghost use Rattle.std.specs.Prelude.{◌≡◌, ◌⊎◌, [], ◌∷◌, ◌++◌, ◌≤◌, is_some, false, MatchOption, length, take, IsSome, OnOk, IfOk, IfErr, IfSome, Ok, Err, Some, None};
 ghost use Rattle.std.specs.Option.{option_map};
+ghost use Rattle.snap_path.specs.Memory.{no_memory};
 ghost use Rattle.snap_merge.specs.Objects.{object, seen, is_shown_dir, AreLayers};
 ghost use Rattle.snap_merge.specs.Walk.{walk, Answers};
 ghost use Rattle.snap_merge.specs.Reach.{Reached};
@@ -182,7 +183,7 @@ impl<'a> Stack<'a> {
     /// that is looked at, is refused. Cost: for each name that a layer has in the directory that of a look.
     pub fn list(&self, alloc: Global, path: &Path) -> Result<Vec<Name>, FsError>
         ensures ok { IfOk result (λ v. listing self.now path.now ≡ Ok v.items) }
-        ensures err { IfErr result (λ e. (e ≡ FsError.OutOfMemory) ⊎ (listing self.now path.now ≡ Err e)) }
+        ensures err { IfErr result (λ e. (e ≡ FsError.OutOfMemory no_memory) ⊎ (listing self.now path.now ≡ Err e)) }
         // Any other error comes before memory is taken.
         ensures first { IfErr (listing self.now path.now) (λ e. result ≡ Err e) }
         // A list has exactly the names at which something is seen, in order.
@@ -199,7 +200,7 @@ impl<'a> Stack<'a> {
     /// The names in the directory at which something is seen.
     fn names(&self, alloc: Global, path: &Path) -> Result<Vec<Name>, FsError>
         ensures ok { IfOk result (λ v. v.items ≡ names self.now path.now) }
-        ensures err { IfErr result (λ e. e ≡ FsError.OutOfMemory) }
+        ensures err { IfErr result (λ e. e ≡ FsError.OutOfMemory no_memory) }
     {
         self.show_are_layers();
         let mut names = Vec::new(alloc);
@@ -227,7 +228,7 @@ impl<'a> Stack<'a> {
     fn is_seen_in(&self, directory: &Path, name: &Name) -> Result<bool, FsError>
         requires { IsPath (directory.now ++ name.now ∷ []) }
         ensures ok { IfOk result (λ b. b ≡ is_some (seen self.now (directory.now ++ name.now ∷ []))) }
-        ensures err { IfErr result (λ e. e ≡ FsError.OutOfMemory) }
+        ensures err { IfErr result (λ e. e ≡ FsError.OutOfMemory no_memory) }
     {
         Ok(self.look(&directory.join(name)?).is_some())
     }
@@ -273,7 +274,7 @@ impl<'a> Stack<'a> {
     ) -> Result<Option<Path>, FsError>
         requires { is_too_long directory.now word.now ≡ false }
         ensures ok { IfOk result (λ o. MatchOption o (seen self.now (directory.now ++ word.now ∷ []) ≡ None) (λ p. p ≡ directory.now ++ word.now ∷ [])) }
-        ensures err { IfErr result (λ e. e ≡ FsError.OutOfMemory) }
+        ensures err { IfErr result (λ e. e ≡ FsError.OutOfMemory no_memory) }
     {
         match str::from_utf8(word) {
             Ok(text) => self.entry_named(alloc, directory, text),
@@ -291,13 +292,13 @@ impl<'a> Stack<'a> {
     ) -> Result<Option<Path>, FsError>
         requires { is_too_long directory.now name.now ≡ false }
         ensures ok { IfOk result (λ o. MatchOption o (seen self.now (directory.now ++ name.now ∷ []) ≡ None) (λ p. p ≡ directory.now ++ name.now ∷ [])) }
-        ensures err { IfErr result (λ e. e ≡ FsError.OutOfMemory) }
+        ensures err { IfErr result (λ e. e ≡ FsError.OutOfMemory no_memory) }
     {
         self.show_are_layers();
         match Name::parse(alloc, name) {
             Ok(name) => Ok(Some(directory.join(&name)?)),
             Err(PathError::BadPath) => Ok(None),
-            Err(PathError::OutOfMemory) => Err(FsError::OutOfMemory),
+            Err(PathError::OutOfMemory(no_memory)) => Err(FsError::OutOfMemory(no_memory)),
         }
     }
 
@@ -310,7 +311,7 @@ impl<'a> Stack<'a> {
     ) -> Result<Option<Path>, FsError>
         requires { is_too_long directory.now word.now ≡ false }
         ensures ok { IfOk result (λ o. MatchOption o (seen self.now (directory.now ++ word.now ∷ []) ≡ None) (λ p. p ≡ directory.now ++ word.now ∷ [])) }
-        ensures err { IfErr result (λ e. e ≡ FsError.OutOfMemory) }
+        ensures err { IfErr result (λ e. e ≡ FsError.OutOfMemory no_memory) }
     {
         for name in self.gathered(alloc, directory)? {
             if name.as_str().as_bytes() == word {

@@ -11,8 +11,10 @@
 #![tactic(auto)]
 
 pub mod limits;
+mod memory;
 mod name;
 mod path;
 
+pub use memory::NoMemory;
 pub use name::{Name, PathError};
 pub use path::Path;

@@ -2,9 +2,11 @@ ghost use Rattle.std.specs.Prelude.{◌≡◌, ◌↔◌, IfOk, IsErrOf, ℕ, Li
 ghost use Rattle.std.specs.Fmt.{padded};
 ghost use Rattle.std.specs.String.{string_bytes};
 ghost use Rattle.std.specs.List.{list_all};
+ghost use Rattle.snap_path.specs.Memory.{no_memory};
 ghost use Rattle.snap_path.specs.Text.{is_name, is_name_byte};
 
 use super::limits::MAX_NAME_BYTES;
+use super::memory::NoMemory;
 use std::alloc::{AllocError, AllocFailed, Global};
 use std::cmp::Ordering;
 use std::fmt;
@@ -19,26 +21,26 @@ pub enum PathError {
     BadPath,
     /// The allocator refused memory.
     #[error("out of memory")]
-    OutOfMemory,
+    OutOfMemory(NoMemory),
 }
 
 impl From<AllocError> for PathError {
     ghost use Rattle.snap_path.specs.declared.name.PathError.TheVariants.{OutOfMemory};
 
-    ghost from_gives = { λ _ e. e ≡ OutOfMemory };
+    ghost from_gives = { λ _ e. e ≡ OutOfMemory no_memory };
 
-    fn from(_e: AllocError) -> PathError {
-        PathError::OutOfMemory
+    fn from(refused: AllocError) -> PathError {
+        PathError::OutOfMemory(refused.into())
     }
 }
 
 impl<T: Drop> From<AllocFailed<T>> for PathError {
     ghost use Rattle.snap_path.specs.declared.name.PathError.TheVariants.{OutOfMemory};
 
-    ghost from_gives = { λ _ e. e ≡ OutOfMemory };
+    ghost from_gives = { λ _ e. e ≡ OutOfMemory no_memory };
 
-    fn from(_e: AllocFailed<T>) -> PathError {
-        PathError::OutOfMemory
+    fn from(failed: AllocFailed<T>) -> PathError {
+        PathError::OutOfMemory(failed.into())
     }
 }
 

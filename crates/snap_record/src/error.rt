@@ -1,3 +1,6 @@
+ghost use Rattle.snap_path.specs.Memory.{no_memory};
+
+use snap_path::NoMemory;
 use std::alloc::{AllocError, AllocFailed};
 use thiserror::Error;
 
@@ -9,17 +12,17 @@ pub enum LabelsError {
     BadLabels,
     /// Memory was wanting.
     #[error("out of memory")]
-    OutOfMemory,
+    OutOfMemory(NoMemory),
 }
 
 impl From<AllocError> for LabelsError {
     ghost use Rattle.std.specs.Prelude.{◌≡◌};
     ghost use Rattle.snap_record.specs.declared.error.LabelsError.TheVariants.{OutOfMemory};
 
-    ghost from_gives = { λ _ e. e ≡ OutOfMemory };
+    ghost from_gives = { λ _ e. e ≡ OutOfMemory no_memory };
 
-    fn from(_e: AllocError) -> LabelsError {
-        LabelsError::OutOfMemory
+    fn from(refused: AllocError) -> LabelsError {
+        LabelsError::OutOfMemory(refused.into())
     }
 }
 
@@ -27,9 +30,9 @@ impl<T: Drop> From<AllocFailed<T>> for LabelsError {
     ghost use Rattle.std.specs.Prelude.{◌≡◌};
     ghost use Rattle.snap_record.specs.declared.error.LabelsError.TheVariants.{OutOfMemory};
 
-    ghost from_gives = { λ _ e. e ≡ OutOfMemory };
+    ghost from_gives = { λ _ e. e ≡ OutOfMemory no_memory };
 
-    fn from(_e: AllocFailed<T>) -> LabelsError {
-        LabelsError::OutOfMemory
+    fn from(failed: AllocFailed<T>) -> LabelsError {
+        LabelsError::OutOfMemory(failed.into())
     }
 }

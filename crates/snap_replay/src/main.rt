@@ -14,6 +14,7 @@ use clap::error::ErrorKind as WordsErrorKind;
 use clap::{Arg, ArgAction, ArgMatches, Command, Error, value_parser};
 use snap_jobs::{JobsStop, MAX_WORKERS, write_jobs};
 use snap_lines::Stop;
+use snap_script::Shortage;
 use snap_session::replay;
 use std::alloc::Global;
 use std::io::{BufWriter, ErrorKind, Read, Write};
@@ -25,8 +26,8 @@ use std::{env, io};
 // The status of bad words.
 const BAD_WORDS: u8 = 2;
 
-// Memory was refused.
-const WANT_OF_MEMORY: JobsStop = JobsStop::Lines(Stop::OutOfMemory);
+// Memory was refused, as `io` and `clap` tell it, which keep the allocator's error to themselves.
+const WANT_OF_MEMORY: JobsStop = JobsStop::Lines(Stop::OutOfMemory(Shortage::Library));
 
 // Replays the script of an input.
 fn replay_from<R: Read, W: Write>(
@@ -92,7 +93,7 @@ fn words_of(rt: &HostRuntime) -> Result<Vec<String>, u8> {
     };
     match args.collect::<Vec<String>>(rt.alloc()) {
         Ok(words) => Ok(words),
-        Err(_) => Err(status(rt, Err(WANT_OF_MEMORY))),
+        Err(refused) => Err(status(rt, Err(refused.into()))),
     }
 }
 

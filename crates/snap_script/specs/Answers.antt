@@ -45,7 +45,7 @@ refusal_name (refusals.OverLimit free_blocks free_inodes) = codes "OverLimit"
 refusal_name refusals.BelowCharge = codes "BelowCharge"
 refusal_name refusals.NumbersSpent = codes "NumbersSpent"
 refusal_name refusals.JournalFull = codes "JournalFull"
-refusal_name refusals.OutOfMemory = codes "OutOfMemory"
+refusal_name (refusals.OutOfMemory want) = codes "OutOfMemory"
 
 -- the name of each error of a file call
 abbrev pub error_name : FsError → List ℕ
@@ -62,7 +62,7 @@ error_name errors.TooBig = codes "TooBig"
 error_name errors.LayerFull = codes "LayerFull"
 error_name (errors.NeedsCharge after) = codes "NeedsCharge"
 error_name errors.TooManyLinks = codes "TooManyLinks"
-error_name errors.OutOfMemory = codes "OutOfMemory"
+error_name (errors.OutOfMemory want) = codes "OutOfMemory"
 
 -- a number that isn't negative
 abbrev pub number_data : ℕ → Data

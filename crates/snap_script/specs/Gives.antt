@@ -8,7 +8,7 @@ use Rattle.snap_script.specs.declared.fault.ReadError.TheVariants as errors
 
 abbrev pub Fails : {B : Type 0} → ReadError → Result B Fault → Type 0
 Fails (errors.Fault fault) reading = reading ≡ Err fault
-Fails errors.OutOfMemory reading = Unit {0}
+Fails (errors.OutOfMemory want) reading = Unit {0}
 
 -- what was answered, seen by view, is the reading; nothing is said where memory was refused
 abbrev pub Gives : {A B : Type 0} → (A → B) → Result A ReadError → Result B Fault → Type 0

@@ -1,7 +1,10 @@
 ghost use Rattle.std.specs.Prelude.{◌≡◌, Some};
+ghost use Rattle.snap_path.specs.Memory.{no_memory};
 ghost use Rattle.snap_script.specs.Faults.{field_name, fault_words};
 ghost use Rattle.snap_script.specs.declared.fault.ReadError.TheVariants as errors;
+ghost use Rattle.snap_script.specs.declared.fault.Shortage.TheVariants.{Allocator};
 
+use snap_path::NoMemory;
 use std::alloc::{AllocError, AllocFailed};
 use std::fmt;
 
@@ -74,11 +77,21 @@ pub enum Fault {
     BadField(Field),
 }
 
+/// Who tells of want of memory.
+#[derive(Clone, Copy, Debug, PartialEq, Eq)]
+pub enum Shortage {
+    /// An allocator, whose refusal it is.
+    Allocator(NoMemory),
+    /// A library that keeps the allocator's error to itself: `serde_json` of a value, `io` and `clap` of the
+    /// words of a command line.
+    Library,
+}
+
 /// Why no line was read.
 #[derive(Clone, Copy, Debug, PartialEq, Eq)]
 pub enum ReadError {
     Fault(Fault),
-    OutOfMemory,
+    OutOfMemory(Shortage),
 }
 
 impl Field {
@@ -153,18 +166,26 @@ impl From<Fault> for ReadError {
     }
 }
 
-impl From<AllocError> for ReadError {
-    ghost from_gives = { λ _ e. e ≡ errors.OutOfMemory };
+impl From<NoMemory> for ReadError {
+    ghost from_gives = { λ _ e. e ≡ errors.OutOfMemory (Allocator no_memory) };
 
-    fn from(_e: AllocError) -> ReadError {
-        ReadError::OutOfMemory
+    fn from(no_memory: NoMemory) -> ReadError {
+        ReadError::OutOfMemory(Shortage::Allocator(no_memory))
+    }
+}
+
+impl From<AllocError> for ReadError {
+    ghost from_gives = { λ _ e. e ≡ errors.OutOfMemory (Allocator no_memory) };
+
+    fn from(refused: AllocError) -> ReadError {
+        ReadError::OutOfMemory(Shortage::Allocator(refused.into()))
     }
 }
 
 impl<T: Drop> From<AllocFailed<T>> for ReadError {
-    ghost from_gives = { λ _ e. e ≡ errors.OutOfMemory };
+    ghost from_gives = { λ _ e. e ≡ errors.OutOfMemory (Allocator no_memory) };
 
-    fn from(_e: AllocFailed<T>) -> ReadError {
-        ReadError::OutOfMemory
+    fn from(failed: AllocFailed<T>) -> ReadError {
+        ReadError::OutOfMemory(Shortage::Allocator(failed.into()))
     }
 }

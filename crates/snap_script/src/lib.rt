@@ -17,7 +17,7 @@ mod verb;
 
 pub use answer::{Answer, Shown, TreeNode};
 pub use command::{Command, FileCommand, Lookup, names_of, path_of};
-pub use fault::{Fault, Field, ReadError};
+pub use fault::{Fault, Field, ReadError, Shortage};
 pub use line::{Line, MAX_LINE_BYTES, is_empty, read_line, read_object, read_open};
 pub use operation::operations;
 pub use parse::named;

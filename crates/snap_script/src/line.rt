@@ -4,7 +4,7 @@ ghost use Rattle.snap_script.specs.Lines.{is_empty, json_of, object_of, object_i
 ghost use Rattle.snap_script.specs.Gives.{Gives, GivesAll};
 
 use crate::command::Command;
-use crate::fault::{Fault, Field, ReadError};
+use crate::fault::{Fault, Field, ReadError, Shortage};
 use crate::fields::{lent_text, number_or};
 use crate::parse::{command_of, config_of};
 use crate::verb::{Verb, verb_of};
@@ -43,7 +43,7 @@ fn value_of(alloc: Global, bytes: &[u8]) -> Result<Value, ReadError>
     };
     match Value::from_str(alloc, text) {
         Ok(value) => Ok(value),
-        Err(e) if e.is_memory() => Err(ReadError::OutOfMemory),
+        Err(e) if e.is_memory() => Err(ReadError::OutOfMemory(Shortage::Library)),
         Err(_) => Err(ReadError::Fault(Fault::NotJson)),
     }
 }

@@ -28,7 +28,7 @@ fn path(alloc: Global, field: Field, line: &Value) -> Result<Path, ReadError>
     match Path::parse(alloc, text) {
         Ok(path) => Ok(path),
         Err(PathError::BadPath) => Err(ReadError::Fault(Fault::BadField(field))),
-        Err(PathError::OutOfMemory) => Err(ReadError::OutOfMemory),
+        Err(PathError::OutOfMemory(no_memory)) => Err(no_memory.into()),
     }
 }
 

@@ -460,7 +460,7 @@ fn refusal_name(refusal: Refusal) -> &'static str
         Refusal::BelowCharge => "BelowCharge",
         Refusal::NumbersSpent => "NumbersSpent",
         Refusal::JournalFull => "JournalFull",
-        Refusal::OutOfMemory => "OutOfMemory",
+        Refusal::OutOfMemory(_) => "OutOfMemory",
     }
 }
 
@@ -482,7 +482,7 @@ pub(crate) fn error_name(error: FsError) -> &'static str
         FsError::LayerFull => "LayerFull",
         FsError::NeedsCharge(_) => "NeedsCharge",
         FsError::TooManyLinks => "TooManyLinks",
-        FsError::OutOfMemory => "OutOfMemory",
+        FsError::OutOfMemory(_) => "OutOfMemory",
     }
 }
 

@@ -11,7 +11,7 @@ use Rattle.snap_world.specs.declared.step.Answer.{Answer}
 use Rattle.snap_world.specs.declared.step.Answer.TheVariants as answers
 
 abbrev pub is_memory : Refusal → Bool
-is_memory refusals.OutOfMemory = true
+is_memory (refusals.OutOfMemory want) = true
 is_memory why = false
 
 abbrev pub is_reply_want : Reply → Bool
@@ -19,7 +19,7 @@ is_reply_want (replies.Refused why) = is_memory why
 is_reply_want reply = false
 
 abbrev pub is_error_want : FsError → Bool
-is_error_want errors.OutOfMemory = true
+is_error_want (errors.OutOfMemory want) = true
 is_error_want e = false
 
 abbrev pub is_outcome_want : Result Unit FsError → Bool

@@ -108,7 +108,7 @@ fn performed<N: StoreName>(
 {
     match operation.into_operation(alloc) {
         Ok(op) => operated(world, n, slot, id, op, extra),
-        Err(FsError::OutOfMemory) => Err(NoMemory),
+        Err(FsError::OutOfMemory(no_memory)) => Err(no_memory),
         Err(error) => Ok(Answer::Failed(error)),
     }
 }

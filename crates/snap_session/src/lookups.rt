@@ -49,7 +49,7 @@ fn list(alloc: Global, stack: &Stack<'_>, path: &Path) -> Result<Answer, NoMemor
 {
     match stack.list(alloc, path) {
         Ok(names) => Ok(Answer::Names(Sequence::from(names))),
-        Err(FsError::OutOfMemory) => Err(NoMemory),
+        Err(FsError::OutOfMemory(no_memory)) => Err(no_memory),
         Err(error) => Ok(Answer::Failed(error)),
     }
 }
@@ -79,7 +79,7 @@ fn resolve(alloc: Global, stack: &Stack<'_>, path: &Path) -> Result<Answer, NoMe
 {
     match stack.resolve(alloc, path) {
         Ok(found) => Ok(Answer::Path(found)),
-        Err(FsError::OutOfMemory) => Err(NoMemory),
+        Err(FsError::OutOfMemory(no_memory)) => Err(no_memory),
         Err(error) => Ok(Answer::Failed(error)),
     }
 }
@@ -116,7 +116,7 @@ pub(crate) fn lookup<N: StoreName>(
     };
     match path_of(alloc, &path) {
         Ok(path) => looked_up(alloc, asked, &stack, &path),
-        Err(FsError::OutOfMemory) => Err(NoMemory),
+        Err(FsError::OutOfMemory(no_memory)) => Err(no_memory),
         Err(error) => Ok(Answer::Failed(error)),
     }
 }

@@ -23,9 +23,7 @@ impl<N: StoreName> TakeLine for Script<N> {
         let Line::Command { session, command } = read_line(alloc, line, self.is_open())? else {
             return Ok(None);
         };
-        let Ok(answer) = self.act(session, command) else {
-            return Err(ReadError::OutOfMemory);
-        };
+        let answer = self.act(session, command)?;
         Ok(Some(answer.line(alloc)?))
     }
 }
@@ -73,9 +71,7 @@ pub fn replay_within<R: Read, W: Write>(
     ensures stopped { IfErr result (λ stop. IfSome (R.remaining input.old) (λ bytes.
         Stops effect_of unopened bytes (R.remaining input.new) stop (W.contents output.old) (W.contents output.new))) }
 {
-    let Ok(table) = NewTable::new(alloc) else {
-        return Err(Stop::OutOfMemory);
-    };
+    let table = NewTable::new(alloc)?;
     run::<Brand, R, W>(alloc, table, input, output, reads)
 }
 

@@ -1,14 +1,15 @@
-ghost use Rattle.std.specs.Prelude.{◌≡◌, ◌≤◌, IfOk, OnOk, None, true, false, not, is_some};
+ghost use Rattle.std.specs.Prelude.{◌≡◌, ◌≤◌, IfOk, OnOk, None, true, is_some};
 ghost use Rattle.snap_call.specs.Forms.{is_config};
 ghost use Rattle.snap_call.specs.declared.call.Call.TheVariants as calls;
+ghost use Rattle.snap_world.specs.declared.step.Answer.{Answer as StepAnswer};
 ghost use Rattle.snap_world.specs.declared.step.Step.TheVariants.{Locked};
 ghost use Rattle.snap_world.specs.Move.{move};
-ghost use Rattle.snap_session.specs.Commands.{started, store_opened, done};
+ghost use Rattle.snap_session.specs.Commands.{is_started, store_opened, done};
 ghost use Rattle.snap_session.specs.Opened.{new_world, unopened};
 
 use crate::opened::Opened;
 use crate::round::is_started;
-use crate::step::{take_step, told};
+use crate::step::take_step;
 use snap_call::{Call, Config, Refusal};
 use snap_ledger::{NewTable, StoreName};
 use snap_record::{Sequence, Text};
@@ -20,24 +21,49 @@ use std::marker::Model;
 /// Runs the commands of a script, and keeps the store that it has opened. Contracts see that store, or none, and
 /// whether the name of a store is spent without one.
 ///
-/// The table names the store, and goes to the first one that is opened. Only want of memory spends it without
-/// a store.
+/// The table names the store, and goes to the first one that is opened. Where that is refused memory, the name is
+/// spent, and the refusal is kept for a later `Open`.
 #[derive(Drop)]
 pub struct Script<N: StoreName> {
     alloc: Global,
     table: Option<NewTable>,
+    refused: Option<NoMemory>,
     store: Option<Opened<N>>,
 }
 
 impl<N: StoreName> Model for Script<N> {
-    ghost use Rattle.std.specs.Prelude.{◌≡◌, ◌&&◌, not, is_some, IfSome};
+    ghost use Rattle.std.specs.Prelude.{◌≡◌, ◌||◌, true, is_some, IfSome};
     ghost use Rattle.snap_session.specs.Opened.{ScriptValue};
 
     ghost Value = { ScriptValue };
 
-    ghost view = { λ s. record { store = s.store; spent = not (is_some s.table) && not (is_some s.store) } };
+    ghost view = { λ s. record { store = s.store; spent = is_some s.refused } };
 
-    ghost invariant = { λ s. IfSome s.table (λ t. t ≡ N.table) };
+    // The table is there until a store is opened with it or memory is refused.
+    ghost invariant = { λ s. IfSome s.table (λ t. t ≡ N.table) × ((is_some s.table || (is_some s.refused || is_some s.store)) ≡ true) };
+}
+
+// A world of the configuration, which has its form and room for an entry, with its session 0.
+fn begun<N: StoreName>(
+    alloc: Global,
+    table: NewTable,
+    config: Config,
+) -> Result<World<N>, NoMemory>
+    requires table { table ≡ N.table }
+    requires valid { is_config config ≡ true }
+    requires room { 1 ≤ config.journal }
+    ensures { IfOk result (λ world. (first : StepAnswer) × (is_started first ≡ true) × (move (new_world config) (Locked 0 calls.Session) ≡ (world, first))) }
+{
+    let mut world = match World::open(alloc, table, config) {
+        Ok(world) => world,
+        Err(Refusal::OutOfMemory(no_memory)) => return Err(no_memory),
+        Err(_) => unreachable!(),
+    };
+    let answer = take_step(&mut world, &Step::Locked(0, Call::Session))?;
+    if !is_started(&answer) {
+        unreachable!()
+    }
+    Ok(world)
 }
 
 impl<N: StoreName> Script<N> {
@@ -49,6 +75,7 @@ impl<N: StoreName> Script<N> {
         Script {
             alloc,
             table: Some(table),
+            refused: None,
             store: None,
         }
     }
@@ -60,39 +87,6 @@ impl<N: StoreName> Script<N> {
         self.store.is_some()
     }
 
-    // A world of the configuration, which has its form. The table goes to it.
-    fn open_world(&mut self, config: Config) -> Result<World<N>, NoMemory>
-        requires valid { is_config config ≡ true }
-        requires none { self.old.store ≡ None }
-        ensures world { IfOk result (λ world. world ≡ new_world config) }
-        ensures named { OnOk result (self.old.spent ≡ false) }
-        ensures spent { OnOk result (self.new ≡ record { store = None; spent = true }) }
-    {
-        let table = self.table.take().ok_or(NoMemory)?;
-        match World::open(self.alloc, table, config) {
-            Ok(world) => Ok(world),
-            Err(_) => Err(NoMemory),
-        }
-    }
-
-    // Session 0 of the world, which is kept where the session was opened.
-    fn open_session(
-        &mut self,
-        mut world: World<N>,
-        names: Sequence<Text>,
-    ) -> Result<Answer, NoMemory>
-        requires spent { self.old ≡ record { store = None; spent = true } }
-        ensures store { IfOk result (λ answer. started names (move world (Locked 0 calls.Session)) ≡ (self.new.store, answer)) }
-        ensures spent { OnOk result (self.new.spent ≡ not (is_some self.new.store)) }
-    {
-        let answer = take_step(&mut world, &Step::Locked(0, Call::Session))?;
-        if is_started(&answer) {
-            self.store = Some(Opened { world, names });
-            return Ok(Answer::Done);
-        }
-        Ok(told(0, 0, &world, answer))
-    }
-
     // A world of the configuration, which has its form and room for an entry, and its session 0.
     fn start(&mut self, config: Config) -> Result<Answer, NoMemory>
         requires valid { is_config config ≡ true }
@@ -102,8 +96,22 @@ impl<N: StoreName> Script<N> {
         ensures spent { OnOk result (self.new.spent ≡ self.old.spent) }
     {
         let names = names_of(self.alloc, config.namespaces.as_slice())?;
-        let world = self.open_world(config)?;
-        self.open_session(world, names)
+        if let Some(no_memory) = self.refused {
+            return Err(no_memory);
+        }
+        let Some(table) = self.table.take() else {
+            unreachable!()
+        };
+        match begun(self.alloc, table, config) {
+            Ok(world) => {
+                self.store = Some(Opened { world, names });
+                Ok(Answer::Done)
+            }
+            Err(no_memory) => {
+                self.refused = Some(no_memory);
+                Err(no_memory)
+            }
+        }
     }
 
     // The first command.

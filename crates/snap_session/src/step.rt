@@ -1,5 +1,5 @@
 // One step of the world, and what a script says of it.
-ghost use Rattle.std.specs.Prelude.{◌≡◌, IfOk};
+ghost use Rattle.std.specs.Prelude.{◌≡◌, IfOk, is_some};
 ghost use Rattle.snap_world.specs.declared.step.Step.TheVariants.{Locked};
 ghost use Rattle.snap_world.specs.declared.step.Answer.TheVariants as step_answers;
 ghost use Rattle.snap_world.specs.Move.{move};
@@ -34,31 +34,32 @@ pub(crate) fn count_at<N: StoreName>(world: &World<N>, slot: u64) -> Usage
     }
 }
 
-fn is_memory(why: Refusal) -> bool
-    ensures { result ≡ is_memory why }
+fn memory_of(why: Refusal) -> Option<NoMemory>
+    ensures { is_some result ≡ is_memory why }
 {
     match why {
-        Refusal::OutOfMemory => true,
-        _ => false,
+        Refusal::OutOfMemory(no_memory) => Some(no_memory),
+        _ => None,
     }
 }
 
-fn is_error_want(error: FsError) -> bool
-    ensures { result ≡ is_error_want error }
+fn error_want(error: FsError) -> Option<NoMemory>
+    ensures { is_some result ≡ is_error_want error }
 {
     match error {
-        FsError::OutOfMemory => true,
-        _ => false,
+        FsError::OutOfMemory(no_memory) => Some(no_memory),
+        _ => None,
     }
 }
 
-fn is_want(answer: &StepAnswer) -> bool
-    ensures { result ≡ is_want answer.now }
+// The want of memory that a step's answer tells of.
+fn want_of(answer: &StepAnswer) -> Option<NoMemory>
+    ensures { is_some result ≡ is_want answer.now }
 {
     match answer {
-        StepAnswer::Reply(Reply::Refused(why)) => is_memory(*why),
-        StepAnswer::File(Err(error)) => is_error_want(*error),
-        _ => false,
+        StepAnswer::Reply(Reply::Refused(why)) => memory_of(*why),
+        StepAnswer::File(Err(error)) => error_want(*error),
+        _ => None,
     }
 }
 
@@ -70,10 +71,10 @@ pub(crate) fn take_step<N: StoreName>(
     ensures { IfOk result (λ answer. move world.old step.now ≡ (world.new, answer)) }
 {
     let answer = world.take_step(step);
-    if is_want(&answer) {
-        return Err(NoMemory);
+    match want_of(&answer) {
+        Some(no_memory) => Err(no_memory),
+        None => Ok(answer),
     }
-    Ok(answer)
 }
 
 fn told_reply<N: StoreName>(session: u64, slot: u64, world: &World<N>, reply: Reply) -> Answer

@@ -29,7 +29,7 @@ untaped old mid e same is = subst (λ o. Untaped old (with_entry mid o)) (sym is
 refused_on : (old mid : SessionValue) (b after : BookValue) (call : Call) (given : Given) (why : Refusal) (e : Option Entry) → Untaped old mid → 0 < mid.spare → RefusedBy b after mid.number call given why
     → e ≡ (if is_recorded why then after.copy else None) → RefusedOn old (with_entry mid e) call given why
 refused_on old mid b after call given JournalFull e same room by is = untaped old mid e same is
-refused_on old mid b after call given OutOfMemory e same room by is = untaped old mid e same is
+refused_on old mid b after call given (OutOfMemory want) e same room by is = untaped old mid e same is
 refused_on old mid b after call given why e same room by is = taped old mid b after call given (Refused why) e same room by is
 
 pub answered_on : (old mid : SessionValue) (b after : BookValue) (call : Call) (given : Given) (reply : Reply) (e : Option Entry) → Untaped old mid → 0 < mid.spare → AnsweredBy b after mid.number call given reply

@@ -28,7 +28,7 @@ IsCause b sessions None = (open_count b.state.records ≡ 0) × IsCheck b.journa
 IsCause b sessions (Some (StillOut keys)) = (0 < open_count b.state.records) × (keys ≡ open_keys b.state)
 IsCause b sessions (Some SessionsMissing) = (open_count b.state.records ≡ 0) × IsCheck b.journal sessions (Err faults.Missing)
 IsCause b sessions (Some (TapeMismatch m)) = (open_count b.state.records ≡ 0) × IsCheck b.journal sessions (Err (faults.Mismatch m))
-IsCause b sessions (Some OutOfMemory) = ⊥
+IsCause b sessions (Some (OutOfMemory want)) = ⊥
 
 -- ---- what holds of every book
 
@@ -42,7 +42,7 @@ pub record IsKept (b : BookValue) : Type 0 where
 
 -- why a book was not closed: its cause; or a snapshot is open, and memory was refused for the list of those that are
 abbrev pub IsRefusal : BookValue → List SessionValue → Cause → Type 0
-IsRefusal b sessions OutOfMemory = 0 < open_count b.state.records
+IsRefusal b sessions (OutOfMemory want) = 0 < open_count b.state.records
 IsRefusal b sessions cause = IsCause b sessions (Some cause)
 
 -- it is the cause of a book that is kept

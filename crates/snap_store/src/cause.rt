@@ -9,9 +9,10 @@ ghost use Rattle.snap_store.specs.Closing.{IsCause, open_keys};
 
 use snap_book::Book;
 use snap_ledger::StoreName;
+use snap_path::NoMemory;
 use snap_record::{Content, Record, Sequence, Text};
 use snap_tape::{Mismatch, Session, SessionsFault, check_sessions};
-use std::alloc::{AllocError, AllocFailed, Global};
+use std::alloc::{AllocError, Global};
 use thiserror::Error;
 
 /// The namespace and the key of a snapshot that is open.
@@ -37,28 +38,7 @@ pub enum Cause {
     TapeMismatch(Mismatch),
     /// Memory was refused for the list of what is open.
     #[error("out of memory")]
-    OutOfMemory,
-}
-
-/// Memory was refused.
-#[derive(Clone, Copy, Debug, PartialEq, Eq, Error)]
-#[error("out of memory")]
-pub struct NoMemory;
-
-impl From<AllocError> for NoMemory {
-    ghost from_gives = { λ _ _. Unit {0} };
-
-    fn from(_error: AllocError) -> NoMemory {
-        NoMemory
-    }
-}
-
-impl<T: Drop> From<AllocFailed<T>> for NoMemory {
-    ghost from_gives = { λ _ _. Unit {0} };
-
-    fn from(_error: AllocFailed<T>) -> NoMemory {
-        NoMemory
-    }
+    OutOfMemory(NoMemory),
 }
 
 fn is_active(snapshot: &Record) -> bool

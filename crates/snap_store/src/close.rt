@@ -70,7 +70,12 @@ impl<N: StoreName> Store<N> {
         match close_cause(alloc, &book, sessions.as_slice()) {
             Ok(None) => Ok(Closed::of(alloc, book)),
             Ok(Some(cause)) => Err(NotClosed::of(alloc, book, sessions, cause)),
-            Err(_) => Err(NotClosed::of(alloc, book, sessions, Cause::OutOfMemory)),
+            Err(no_memory) => Err(NotClosed::of(
+                alloc,
+                book,
+                sessions,
+                Cause::OutOfMemory(no_memory),
+            )),
         }
     }
 

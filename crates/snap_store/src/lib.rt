@@ -14,8 +14,9 @@ mod note;
 mod plain;
 mod store;
 
-pub use cause::{Cause, NoMemory, OpenKey, close_cause};
+pub use cause::{Cause, OpenKey, close_cause};
 pub use close::{Closed, NotClosed, NotOpened};
 pub use plain::Swept;
+pub use snap_path::NoMemory;
 pub use snap_tape::{Mismatch, Session, first_mismatch};
 pub use store::Store;

@@ -10,7 +10,7 @@ pub(crate) fn is_recorded(why: Refusal) -> bool
     ensures { result ≡ is_recorded why }
 {
     match why {
-        Refusal::JournalFull | Refusal::OutOfMemory => false,
+        Refusal::JournalFull | Refusal::OutOfMemory(_) => false,
         _ => true,
     }
 }

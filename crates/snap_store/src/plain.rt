@@ -186,9 +186,9 @@ impl<N: StoreName> Store<N> {
         ensures room { session.old.spare ≤ session.new.spare + 1 }
         ensures reply { IsReplyTo call result }
     {
-        let Ok(()) = session.reserve(1) else {
-            return Reply::Refused(Refusal::OutOfMemory);
-        };
+        if let Err(refused) = session.reserve(1) {
+            return Reply::Refused(refused.into());
+        }
         let mut book = self.book.lock(rt);
         let reply = book.do_call(session.number(), call);
         session.note(entry_of(&mut book, is_noted(&reply)));

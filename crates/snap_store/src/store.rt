@@ -1,5 +1,6 @@
 // A store: its book behind the lock, and the calls that hand snapshots out and take them back.
 ghost use Rattle.std.specs.Prelude.{◌≡◌, ◌≤◌, ◌+◌, ◌⊎◌, ◌∷◌, ◌<◌, [], false, IfOk, IfErr, OnOk, IsErrOf, ◌↔◌};
+ghost use Rattle.snap_path.specs.Memory.{no_memory};
 ghost use Rattle.snap_usage.specs.Counted.{count_of};
 ghost use Rattle.snap_call.specs.Forms.{is_config};
 ghost use Rattle.snap_call.specs.Journal.{entry};
@@ -59,7 +60,7 @@ impl<N: StoreName> Store<N> {
     pub fn open(alloc: Global, table: NewTable, config: Config) -> Result<Store<N>, Refusal>
         requires { table ≡ N.table }
         ensures bad { IsErrOf result BadArgument ↔ (is_config config ≡ false) }
-        ensures err { IfErr result (λ why. (why ≡ BadArgument) ⊎ (why ≡ OutOfMemory)) }
+        ensures err { IfErr result (λ why. (why ≡ BadArgument) ⊎ (why ≡ OutOfMemory no_memory)) }
     {
         let book = Book::open(alloc, table, config)?;
         Ok(Store::of(alloc, book))
@@ -71,7 +72,7 @@ impl<N: StoreName> Store<N> {
     /// None of them is recorded, and no session is opened.
     pub fn session<R: Wait>(&self, rt: &R) -> Result<Session, Refusal>
         ensures opened { IfOk result (λ s. s.tape ≡ entry s.number calls.Session Nothing replies.Opened ∷ []) }
-        ensures err { IfErr result (λ why. (why ≡ JournalFull) ⊎ ((why ≡ OutOfMemory) ⊎ (why ≡ NumbersSpent))) }
+        ensures err { IfErr result (λ why. (why ≡ JournalFull) ⊎ ((why ≡ OutOfMemory no_memory) ⊎ (why ≡ NumbersSpent))) }
     {
         let mut tape = Vec::new(self.alloc);
         tape.reserve(1)?;
@@ -231,8 +232,8 @@ impl<N: StoreName> Store<N> {
         ensures room { session.old.spare ≤ session.new.spare + 1 }
         ensures same { IfErr result (λ back. back.1 ≡ sealed) }
     {
-        if session.reserve(1).is_err() {
-            return Err((Refusal::OutOfMemory, sealed));
+        if let Err(refused) = session.reserve(1) {
+            return Err((refused.into(), sealed));
         }
         let mut book = self.book.lock(rt);
         match book.commit(session.number(), name, lease, sealed) {

@@ -31,7 +31,7 @@ pub record Untaped (old new : SessionValue) : Type 0 where
 -- a refused call leaves its entry, but where the journal is full or memory is refused
 abbrev pub RefusedOn : SessionValue → SessionValue → Call → Given → Refusal → Type 0
 RefusedOn old new call given JournalFull = Untaped old new
-RefusedOn old new call given OutOfMemory = Untaped old new
+RefusedOn old new call given (OutOfMemory want) = Untaped old new
 RefusedOn old new call given why = Taped old new call given (Refused why)
 
 -- a call by its reply: a refusal as above, and any other reply is an entry's
@@ -47,7 +47,7 @@ with_entry s (Some e) = record { number = s.number; tape = s.tape ++ e ∷ []; s
 -- whether a refused call leaves an entry
 abbrev pub is_recorded : Refusal → Bool
 is_recorded JournalFull = false
-is_recorded OutOfMemory = false
+is_recorded (OutOfMemory want) = false
 is_recorded why = true
 
 -- whether a call with this reply does

@@ -10,6 +10,7 @@ use Rattle.std.specs.Str.{bytes_eq}
 use Rattle.std.proofs.lemmas.Bool.{cond-true, cond-false}
 use Rattle.std.proofs.lemmas.Bool.Decides.{nat_tests}
 use Rattle.std.proofs.lemmas.Slice.Eq.{bytes_eq-Decides}
+use Rattle.snap_path.specs.Memory.{no_memory}
 use Rattle.snap_path.specs.Text.{Names, text_below, begins}
 use Rattle.snap_layer.specs.declared.node.Node.{Node}
 use Rattle.snap_layer.specs.Tree.{Tree, Entries, path_cmp, at, number_at}
@@ -57,7 +58,7 @@ abbrev ends : List Tree → Names → Names → List (Option FsError)
 ends s from to = walk s from ∷ walk s to ∷ error_if (is_root from || is_root to) Invalid ∷ error_if (not (is_some (seen s from))) NotFound ∷ []
 
 -- an error is want of memory, or another's
-pub or_memory : {A : Type 0} (P : FsError → Type 0) (r : Result A FsError) → IfErr r P → IfErr r (λ e. (e ≡ OutOfMemory) ⊎ P e)
+pub or_memory : {A : Type 0} (P : FsError → Type 0) (r : Result A FsError) → IfErr r P → IfErr r (λ e. (e ≡ OutOfMemory no_memory) ⊎ P e)
 or_memory P (Ok x) holds = holds
 or_memory P (Err e) holds = inr holds
 
@@ -82,11 +83,11 @@ module _ (u : Tree) (ls : List Tree) (from to : Names) where
         by (Ok b) same = absurd same
         by (Err e) same = move_decides s is passes other ∙ fails ∙ ap (λ (y : FsError). Some y) (sym same)
 
-    pub move_fails_or : (x ≡ OutOfMemory) ⊎ (first_error (move_tests u ls from to) ≡ Some x) → IfErr r (λ e. (e ≡ OutOfMemory) ⊎ (first_error (tests (op.Rename from to) (u ∷ ls)) ≡ Some e))
+    pub move_fails_or : (x ≡ OutOfMemory no_memory) ⊎ (first_error (move_tests u ls from to) ≡ Some x) → IfErr r (λ e. (e ≡ OutOfMemory no_memory) ⊎ (first_error (tests (op.Rename from to) (u ∷ ls)) ≡ Some e))
     move_fails_or (inr fails) = or_memory (λ e. first_error (tests (op.Rename from to) (u ∷ ls)) ≡ Some e) r (move_fails fails)
     move_fails_or (inl memory) = by r same
       where
-        by : (r : Result A FsError) → IsErrAnd r (λ e. e ≡ x) → IfErr r (λ e. (e ≡ OutOfMemory) ⊎ (first_error (tests (op.Rename from to) (u ∷ ls)) ≡ Some e))
+        by : (r : Result A FsError) → IsErrAnd r (λ e. e ≡ x) → IfErr r (λ e. (e ≡ OutOfMemory no_memory) ⊎ (first_error (tests (op.Rename from to) (u ∷ ls)) ≡ Some e))
         by (Ok b) same = absurd same
         by (Err e) same = inl (same ∙ memory)
 

@@ -2,6 +2,7 @@
 use Rattle.std.proofs.Common.{◌≡◌, ◌⊎◌, ℕ, ◌+◌, ◌<◌, ◌≤◌, Bool, true, false, arith, List, ◌∷◌, Option, Some, None, Result, Ok, Err, refl, sym, ap, ◌∙◌, inl, inr}
 use Rattle.std.specs.Prelude.{if◌then◌else◌}
 use Rattle.std.proofs.lemmas.Bool.Decides.{nat_tests}
+use Rattle.snap_path.specs.Memory.{no_memory}
 use Rattle.snap_layer.specs.declared.error.LayerError.{LayerError}
 use Rattle.snap_layer.specs.declared.error.LayerError.TheVariants as layer_errors
 use Rattle.snap_merge.specs.Walk.{unless}
@@ -81,7 +82,7 @@ module _ (u t : Tree) (usage : Usage) (numbered : Bool) (next : IsNext u t usage
       by false below = omega (arith, low)
 
 -- why a layer was not made is its outcome's error
-pub refused : (t : Tree) (e : FsError) → IsRefusal t e → (e ≡ OutOfMemory) ⊎ (limited t ≡ Err e)
+pub refused : (t : Tree) (e : FsError) → IsRefusal t e → (e ≡ OutOfMemory no_memory) ⊎ (limited t ≡ Err e)
 refused t e (inl memory) = inl memory
 refused t e (inr full) = inr (limited_full t full.1 ∙ ap (λ (y : FsError). Err y) (sym full.0))
 
@@ -90,6 +91,6 @@ pub stack_passes : (op : Op) (s z : List Tree) → s ≡ z → None ≡ first_er
 stack_passes op s z is passes = sym (passes ∙ ap (λ (x : List Tree). first_error (tests op x)) is)
 
 -- why an edit was not made is its outcome's error
-pub edit_refused : (x : LayerError) (e : FsError) (t : Tree) → OfLayer x e → (x ≡ layer_errors.LayerFull → is_within t ≡ false) → (e ≡ OutOfMemory) ⊎ (limited t ≡ Err e)
+pub edit_refused : (x : LayerError) (e : FsError) (t : Tree) → OfLayer x e → (x ≡ layer_errors.LayerFull → is_within t ≡ false) → (e ≡ OutOfMemory no_memory) ⊎ (limited t ≡ Err e)
 edit_refused layer_errors.LayerFull e t of full = inr (limited_full t (full refl) ∙ ap (λ (y : FsError). Err y) (sym of))
-edit_refused layer_errors.OutOfMemory e t of full = inl of
+edit_refused (layer_errors.OutOfMemory want) e t of full = inl of

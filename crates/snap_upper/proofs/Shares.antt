@@ -2,6 +2,7 @@
 use Rattle.std.proofs.Common.{◌≡◌, ◌⊎◌, inl, inr, ◌↔◌, ◌≤◌, ℕ, Bool, true, false, Result, Ok, Err, IfErr, IsErrOf, refl, sym, ap, subst, ◌∙◌, arith}
 use Rattle.std.specs.Prelude.{nat_le, ◌&&◌, if◌then◌else◌}
 use Rattle.std.proofs.lemmas.Bool.Decides.{nat_tests}
+use Rattle.snap_path.specs.Memory.{no_memory}
 use Rattle.snap_layer.specs.Tree.{Tree}
 use Rattle.snap_usage.specs.declared.usage.Usage.{Usage}
 use Rattle.snap_usage.specs.Counted.{count_of, Covers, covers}
@@ -65,18 +66,18 @@ needed share (Ok t) need never e = by (covers share (count_of t)) refl e
         (ap (λ (x : Usage). Ok (record { after = x })) same, λ h. not_both (covers share (count_of t)) (covers_is share (count_of t) (subst (Covers share) (sym same) h)) is)
 needed share (Err x) need never e = absurd (never e)
 
-pub needs_exactly : {A : Type 0} (share : Usage) (o : Outcome) (r : Result A FsError) (need : Usage) → (o ≡ Err (NeedsCharge need) → ⊥) → IfErr r (λ e. (e ≡ OutOfMemory) ⊎ (within_share share o ≡ Err e)) → IfErr (within_share share o) (λ e. r ≡ Err e) → IsErrOf r (NeedsCharge need) ↔ ((planned o ≡ Ok (record { after = need })) × (Covers share need → ⊥))
+pub needs_exactly : {A : Type 0} (share : Usage) (o : Outcome) (r : Result A FsError) (need : Usage) → (o ≡ Err (NeedsCharge need) → ⊥) → IfErr r (λ e. (e ≡ OutOfMemory no_memory) ⊎ (within_share share o ≡ Err e)) → IfErr (within_share share o) (λ e. r ≡ Err e) → IsErrOf r (NeedsCharge need) ↔ ((planned o ≡ Ok (record { after = need })) × (Covers share need → ⊥))
 needs_exactly share o r need never error first = (λ asks. needed share o need never (is r error asks), λ h. asked (within_share share o) first (share_needs share o need h.0 h.1))
   where
     asks_for : {A : Type 0} (x : FsError) → ◌≡◌ {A = Result A FsError} (Err x) (Err (NeedsCharge need)) → x ≡ NeedsCharge need
     asks_for x e = cc
 
-    no_memory : (x : FsError) → x ≡ OutOfMemory → x ≡ NeedsCharge need → ⊥
-    no_memory x e f = cc
+    not_memory : (x : FsError) → x ≡ OutOfMemory no_memory → x ≡ NeedsCharge need → ⊥
+    not_memory x e f = cc
 
-    is : {A : Type 0} (r : Result A FsError) → IfErr r (λ e. (e ≡ OutOfMemory) ⊎ (within_share share o ≡ Err e)) → IsErrOf r (NeedsCharge need) → within_share share o ≡ Err (NeedsCharge need)
+    is : {A : Type 0} (r : Result A FsError) → IfErr r (λ e. (e ≡ OutOfMemory no_memory) ⊎ (within_share share o ≡ Err e)) → IsErrOf r (NeedsCharge need) → within_share share o ≡ Err (NeedsCharge need)
     is (Ok a) error asks = absurd (cc)
-    is (Err x) (inl memory) asks = absurd (no_memory x memory (asks_for x asks))
+    is (Err x) (inl memory) asks = absurd (not_memory x memory (asks_for x asks))
     is (Err x) (inr within) asks = within ∙ ap (λ (z : FsError). Err z) (asks_for x asks)
 
     asked : (w : Outcome) → IfErr w (λ e. r ≡ Err e) → w ≡ Err (NeedsCharge need) → IsErrOf r (NeedsCharge need)

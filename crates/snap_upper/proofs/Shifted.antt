@@ -9,6 +9,7 @@ use Rattle.std.specs.BTreeMap.{is_at}
 use Rattle.std.specs.Ordering.{nat_cmp}
 use Rattle.std.proofs.lemmas.Bool.{cond-true, cond-false}
 use Rattle.std.proofs.lemmas.Bool.Decides.{nat_tests}
+use Rattle.snap_path.specs.Memory.{no_memory}
 use Rattle.snap_path.specs.Text.{Names, begins}
 use Rattle.snap_layer.specs.declared.node.Node.{Node}
 use Rattle.snap_layer.specs.declared.node.Node.TheVariants.{Dir, File, Symlink, Whiteout}
@@ -136,10 +137,10 @@ full_more t f more next full = by (is_within f) refl
 pub move_refused : {A : Type 0} (r : Result A FsError) (x : LayerError) (v f : Tree) → IsErrAnd r (λ e. OfLayer x e) → (x ≡ layer_errors.LayerFull → is_within v ≡ false) → (is_within v ≡ false → is_within f ≡ false) → IfErr r (λ e. IsRefusal f e)
 move_refused (Ok y) x v f of full same = absurd of
 move_refused (Err e) layer_errors.LayerFull v f of full same = inr (of, same (full refl))
-move_refused (Err e) layer_errors.OutOfMemory v f of full same = inl of
+move_refused (Err e) (layer_errors.OutOfMemory want) v f of full same = inl of
 
 -- why a layer was not made is the outcome's error, where that is the layer
-pub refused_same : {A : Type 0} (r : Result A FsError) (x : FsError) (t f : Tree) → IsErrAnd r (λ e. e ≡ x) → t ≡ f → IsRefusal t x → IfErr r (λ e. (e ≡ OutOfMemory) ⊎ (limited f ≡ Err e))
+pub refused_same : {A : Type 0} (r : Result A FsError) (x : FsError) (t f : Tree) → IsErrAnd r (λ e. e ≡ x) → t ≡ f → IsRefusal t x → IfErr r (λ e. (e ≡ OutOfMemory no_memory) ⊎ (limited f ≡ Err e))
 refused_same (Ok y) x t f is same refusal = absurd is
 refused_same (Err e) x t f is same refusal = refused f e (subst (λ (z : Tree). IsRefusal z e) same (subst (λ (y : FsError). IsRefusal t y) (sym is) refusal))
 

@@ -3,6 +3,7 @@ ghost use Rattle.std.specs.Prelude.{◌≡◌, ◌⊎◌, ◌==◌, [], ◌∷�
 ghost use Rattle.std.specs.Option.{option_map};
 ghost use Rattle.std.specs.Result.{result_err};
 ghost use Rattle.std.specs.List.{list_any};
+ghost use Rattle.snap_path.specs.Memory.{no_memory};
 ghost use Rattle.snap_path.specs.Text.{begins};
 ghost use Rattle.snap_merge.specs.declared.error.FsError.{FsError};
 ghost use Rattle.snap_merge.specs.Objects.{object, seen, is_shown_dir, AreLayers};
@@ -195,7 +196,7 @@ pub(crate) fn check_rmdir<'a>(
 ) -> Result<Option<Seen<'a>>, FsError>
     ensures ok { OnOk result (first_error (tests (op.Rmdir path.now) stack.now) ≡ None) }
     ensures seen { IfOk result (λ o. option_map object o ≡ seen stack.now path.now) }
-    ensures error { IfErr result (λ e. (e ≡ FsError.OutOfMemory) ⊎ (first_error (tests (op.Rmdir path.now) stack.now) ≡ Some e)) }
+    ensures error { IfErr result (λ e. (e ≡ FsError.OutOfMemory no_memory) ⊎ (first_error (tests (op.Rmdir path.now) stack.now) ≡ Some e)) }
     ensures sure { lists_names (op.Rmdir path.now) stack.now ≡ false → IfErr result (λ e. first_error (tests (op.Rmdir path.now) stack.now) ≡ Some e) }
     ensures layers { AreLayers stack.now }
 {
@@ -219,7 +220,7 @@ fn check_empty(
     requires way { walk stack.now path.now ≡ None }
     requires layers { AreLayers stack.now }
     ensures ok { OnOk result (has_names stack.now path.now ≡ false) }
-    ensures error { IfErr result (λ e. (e ≡ FsError.OutOfMemory) ⊎ ((e ≡ FsError.NotEmpty) × (has_names stack.now path.now ≡ true))) }
+    ensures error { IfErr result (λ e. (e ≡ FsError.OutOfMemory no_memory) ⊎ ((e ≡ FsError.NotEmpty) × (has_names stack.now path.now ≡ true))) }
     ensures sure { is_shown_dir (seen stack.now path.now) ≡ false → result_err result ≡ None }
 {
     if !is_dir(found) {
@@ -270,7 +271,7 @@ pub(crate) fn check_rename(
 ) -> Result<Option<Sides>, FsError>
     ensures ok { OnOk result (first_error (tests (op.Rename from.now to.now) (layer.now ∷ lowers.now)) ≡ None) }
     ensures moves { IfOk result (λ o. MatchOption o (is_same_name layer.now from.now to.now ≡ true) (λ sides. (is_same_name layer.now from.now to.now ≡ false) × (sides.leaves ≡ is_some (below layer.now lowers.now from.now)) × (sides.covers ≡ is_some (below layer.now lowers.now to.now)))) }
-    ensures error { IfErr result (λ e. (e ≡ FsError.OutOfMemory) ⊎ (first_error (tests (op.Rename from.now to.now) (layer.now ∷ lowers.now)) ≡ Some e)) }
+    ensures error { IfErr result (λ e. (e ≡ FsError.OutOfMemory no_memory) ⊎ (first_error (tests (op.Rename from.now to.now) (layer.now ∷ lowers.now)) ≡ Some e)) }
     // Memory is taken for the names of a directory that is seen at `to`.
     ensures sure { lists_names (op.Rename from.now to.now) (layer.now ∷ lowers.now) ≡ false → IfErr result (λ e. first_error (tests (op.Rename from.now to.now) (layer.now ∷ lowers.now)) ≡ Some e) }
     ensures layers { AreLayers (layer.now ∷ lowers.now) }
@@ -374,7 +375,7 @@ fn check_move(
     requires roots { (is_root from.now || is_root to.now) ≡ false }
     requires layers { AreLayers (layer.now ∷ lowers.now) }
     ensures ok { OnOk result (first_error (move_tests layer.now lowers.now from.now to.now) ≡ None) }
-    ensures error { IfErr result (λ e. (e ≡ FsError.OutOfMemory) ⊎ (first_error (move_tests layer.now lowers.now from.now to.now) ≡ Some e)) }
+    ensures error { IfErr result (λ e. (e ≡ FsError.OutOfMemory no_memory) ⊎ (first_error (move_tests layer.now lowers.now from.now to.now) ≡ Some e)) }
     ensures sure { (is_shown_dir (seen (layer.now ∷ lowers.now) to.now) && is_late (first_error (move_tests layer.now lowers.now from.now to.now))) ≡ false → IfErr result (λ e. first_error (move_tests layer.now lowers.now from.now to.now) ≡ Some e) }
 {
     let Ends { moved, target } = ends;

@@ -1,5 +1,6 @@
 // Names in the upper layer: one more for a file or a symlink, and a rename.
 ghost use Rattle.std.specs.Prelude.{◌≡◌, ◌⊎◌, ◌∷◌, OnOk, OnErr, IfErr, Ok, Err, Some, None, IsSome, ◌↔◌, IsTrue, is_some, false};
+ghost use Rattle.snap_path.specs.Memory.{no_memory};
 ghost use Rattle.snap_path.specs.Text.{begins};
 ghost use Rattle.snap_layer.specs.Tree.{at, body, leaf_node, number_at, IsDirAt};
 ghost use Rattle.snap_layer.specs.Layers.{IsBody, IsLayer};
@@ -30,7 +31,7 @@ pub(crate) fn link(
 ) -> Result<(), FsError>
     requires { first_error (tests (op.Link from.now to.now) (layer.old ∷ lowers.now)) ≡ None }
     ensures ok { OnOk result (limited (next_layer (op.Link from.now to.now) layer.old lowers.now) ≡ Ok layer.new) }
-    ensures error { IfErr result (λ e. (e ≡ FsError.OutOfMemory) ⊎ (limited (next_layer (op.Link from.now to.now) layer.old lowers.now) ≡ Err e)) }
+    ensures error { IfErr result (λ e. (e ≡ FsError.OutOfMemory no_memory) ⊎ (limited (next_layer (op.Link from.now to.now) layer.old lowers.now) ≡ Err e)) }
     ensures unchanged { OnErr result (layer.new ≡ layer.old) }
 {
     if let Err(error) = add_link(layer, lowers, from, to) {
@@ -132,7 +133,7 @@ pub(crate) fn shift(
     requires leaves { leaves ≡ is_some (below layer.old lowers.now from.now) }
     requires covers { covers ≡ is_some (below layer.old lowers.now to.now) }
     ensures ok { OnOk result (limited (renamed layer.old lowers.now from.now to.now) ≡ Ok layer.new) }
-    ensures error { IfErr result (λ e. (e ≡ FsError.OutOfMemory) ⊎ (limited (renamed layer.old lowers.now from.now to.now) ≡ Err e)) }
+    ensures error { IfErr result (λ e. (e ≡ FsError.OutOfMemory no_memory) ⊎ (limited (renamed layer.old lowers.now from.now to.now) ≡ Err e)) }
     ensures unchanged { OnErr result (layer.new ≡ layer.old) }
 {
     show_are_layers(lowers);

@@ -1,5 +1,6 @@
 // The rule of each operation: its tests, and the change that it makes where they pass.
 ghost use Rattle.std.specs.Prelude.{◌≡◌, ◌⊎◌, ◌∷◌, ℕ, List, Some, None, IfOk, IfErr, Err, false, is_some};
+ghost use Rattle.snap_path.specs.Memory.{no_memory};
 ghost use Rattle.snap_layer.specs.Tree.{at, number_at};
 ghost use Rattle.snap_merge.specs.declared.error.FsError.{FsError};
 ghost use Rattle.snap_merge.specs.Objects.{file, seen, AreLayers};
@@ -27,7 +28,7 @@ pub(crate) fn rule<'a>(
     op: &'a Op,
 ) -> Result<Change<'a>, FsError>
     ensures ok { IfOk result (λ c. IsChange c op.now layer.now lowers.now) }
-    ensures error { IfErr result (λ e. (e ≡ FsError.OutOfMemory) ⊎ (after op.now layer.now lowers.now ≡ Err e)) }
+    ensures error { IfErr result (λ e. (e ≡ FsError.OutOfMemory no_memory) ⊎ (after op.now layer.now lowers.now ≡ Err e)) }
     ensures sure { lists_names op.now (layer.now ∷ lowers.now) ≡ false → IfErr result (λ e. after op.now layer.now lowers.now ≡ Err e) }
 {
     match op {
@@ -229,7 +230,7 @@ fn unlink<'a>(layer: &Layer, lowers: &'a [Shared], path: &'a Path) -> Result<Cha
 
 fn rmdir<'a>(layer: &Layer, lowers: &'a [Shared], path: &'a Path) -> Result<Change<'a>, FsError>
     ensures ok { IfOk result (λ c. IsChange c (op.Rmdir path.now) layer.now lowers.now) }
-    ensures error { IfErr result (λ e. (e ≡ FsError.OutOfMemory) ⊎ (after (op.Rmdir path.now) layer.now lowers.now ≡ Err e)) }
+    ensures error { IfErr result (λ e. (e ≡ FsError.OutOfMemory no_memory) ⊎ (after (op.Rmdir path.now) layer.now lowers.now ≡ Err e)) }
     ensures sure { lists_names (op.Rmdir path.now) (layer.now ∷ lowers.now) ≡ false → IfErr result (λ e. after (op.Rmdir path.now) layer.now lowers.now ≡ Err e) }
 {
     let found = check_rmdir(&Stack::over(layer, lowers), layer.alloc(), path)?;
@@ -245,7 +246,7 @@ fn rename<'a>(
     to: &'a Path,
 ) -> Result<Change<'a>, FsError>
     ensures ok { IfOk result (λ c. IsChange c (op.Rename from.now to.now) layer.now lowers.now) }
-    ensures error { IfErr result (λ e. (e ≡ FsError.OutOfMemory) ⊎ (after (op.Rename from.now to.now) layer.now lowers.now ≡ Err e)) }
+    ensures error { IfErr result (λ e. (e ≡ FsError.OutOfMemory no_memory) ⊎ (after (op.Rename from.now to.now) layer.now lowers.now ≡ Err e)) }
     ensures sure { lists_names (op.Rename from.now to.now) (layer.now ∷ lowers.now) ≡ false → IfErr result (λ e. after (op.Rename from.now to.now) layer.now lowers.now ≡ Err e) }
 {
     layer.show_is_layer();

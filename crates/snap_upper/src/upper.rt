@@ -1,5 +1,6 @@
 // The upper layer, on which an operation is done.
 ghost use Rattle.std.specs.Prelude.{◌≡◌, ◌⊎◌, ◌∷◌, OnOk, OnErr, IfErr, Ok, Err, false, ◌≤◌, ℕ, List, IfOk, Some, None, length, [], ◌++◌, is_some, true};
+ghost use Rattle.snap_path.specs.Memory.{no_memory};
 ghost use Rattle.snap_layer.specs.Tree.{body};
 ghost use Rattle.snap_layer.specs.declared.node.Body.TheVariants as body_kinds;
 ghost use Rattle.snap_usage.specs.Counted.{count_of, Covers};
@@ -56,7 +57,7 @@ use std::alloc::AllocError;
 /// the paths of the directories that it adds.
 pub fn apply(layer: &mut Layer, lowers: &[Shared], op: &Op) -> Result<(), FsError>
     ensures ok { OnOk result (after op.now layer.old lowers.now ≡ Ok layer.new) }
-    ensures error { IfErr result (λ e. (e ≡ FsError.OutOfMemory) ⊎ (after op.now layer.old lowers.now ≡ Err e)) }
+    ensures error { IfErr result (λ e. (e ≡ FsError.OutOfMemory no_memory) ⊎ (after op.now layer.old lowers.now ≡ Err e)) }
     ensures unchanged { OnErr result (layer.new ≡ layer.old) }
     // Each error but `LayerFull` comes before any memory is taken, but for a list of names.
     ensures first { lists_names op.now (layer.old ∷ lowers.now) ≡ false → IfErr (after op.now layer.old lowers.now) (λ e. (e ≡ FsError.LayerFull) ⊎ (result ≡ Err e)) }
@@ -86,7 +87,7 @@ pub fn apply_within(
 ) -> Result<(), FsError>
     ensures ok { OnOk result (within_share share (after op.now layer.old lowers.now) ≡ Ok layer.new) }
     ensures covers { OnOk result (Covers share (count_of layer.new)) }
-    ensures error { IfErr result (λ e. (e ≡ FsError.OutOfMemory) ⊎ (within_share share (after op.now layer.old lowers.now) ≡ Err e)) }
+    ensures error { IfErr result (λ e. (e ≡ FsError.OutOfMemory no_memory) ⊎ (within_share share (after op.now layer.old lowers.now) ≡ Err e)) }
     ensures unchanged { OnErr result (layer.new ≡ layer.old) }
     // An error comes before any memory is taken, but for a list of names.
     ensures first { lists_names op.now (layer.old ∷ lowers.now) ≡ false → IfErr (within_share share (after op.now layer.old lowers.now)) (λ e. result ≡ Err e) }
@@ -103,7 +104,7 @@ pub fn apply_within(
 fn perform(layer: &mut Layer, lowers: &[Shared], change: Change<'_>) -> Result<(), FsError>
     requires ready { IsReady change layer.old lowers.now }
     ensures ok { OnOk result (outcome change.entry layer.old lowers.now ≡ Ok layer.new) }
-    ensures error { IfErr result (λ e. (e ≡ FsError.OutOfMemory) ⊎ (outcome change.entry layer.old lowers.now ≡ Err e)) }
+    ensures error { IfErr result (λ e. (e ≡ FsError.OutOfMemory no_memory) ⊎ (outcome change.entry layer.old lowers.now ≡ Err e)) }
     ensures unchanged { OnErr result (layer.new ≡ layer.old) }
 {
     layer.show_is_layer();
@@ -132,7 +133,7 @@ fn grow(layer: &mut Layer, lowers: &[Shared], path: &Path, last: Last) -> Result
     requires way { walk (layer.old ∷ lowers.now) path.now ≡ None }
     requires fit { CanStand last layer.old path.now }
     ensures ok { OnOk result (limited (with_last last (with_parents layer.old lowers.now path.now) path.now) ≡ Ok layer.new) }
-    ensures error { IfErr result (λ e. (e ≡ FsError.OutOfMemory) ⊎ (limited (with_last last (with_parents layer.old lowers.now path.now) path.now) ≡ Err e)) }
+    ensures error { IfErr result (λ e. (e ≡ FsError.OutOfMemory no_memory) ⊎ (limited (with_last last (with_parents layer.old lowers.now path.now) path.now) ≡ Err e)) }
     ensures unchanged { OnErr result (layer.new ≡ layer.old) }
 {
     if let Err(error) = put(layer, lowers, path, last) {
@@ -148,7 +149,7 @@ fn put_new(layer: &mut Layer, lowers: &[Shared], path: &Path, new: New<'_>) -> R
     requires fit { CanStand (as_last new) layer.old path.now }
     requires sound { IsSound new }
     ensures ok { OnOk result (limited (with_last (as_last new.entry) (with_parents layer.old lowers.now path.now) path.now) ≡ Ok layer.new) }
-    ensures error { IfErr result (λ e. (e ≡ FsError.OutOfMemory) ⊎ (limited (with_last (as_last new.entry) (with_parents layer.old lowers.now path.now) path.now) ≡ Err e)) }
+    ensures error { IfErr result (λ e. (e ≡ FsError.OutOfMemory no_memory) ⊎ (limited (with_last (as_last new.entry) (with_parents layer.old lowers.now path.now) path.now) ≡ Err e)) }
     ensures unchanged { OnErr result (layer.new ≡ layer.old) }
 {
     let last = new.last(layer.alloc())?;
@@ -159,7 +160,7 @@ fn put_new(layer: &mut Layer, lowers: &[Shared], path: &Path, new: New<'_>) -> R
 fn fill(layer: &mut Layer, number: u32, edit: Edit<'_>) -> Result<(), FsError>
     requires there { (m : ℕ) × (old : List ℕ) × (body layer.old number ≡ Some (body_kinds.File m old)) × IsShort edit × (length (edited edit old) ≤ 1048576) }
     ensures ok { OnOk result (limited (with_content layer.old (Some number) (edited edit.entry)) ≡ Ok layer.new) }
-    ensures error { IfErr result (λ e. e ≡ FsError.OutOfMemory) }
+    ensures error { IfErr result (λ e. e ≡ FsError.OutOfMemory no_memory) }
     ensures unchanged { OnErr result (layer.new ≡ layer.old) }
 {
     let content = edited_bytes(layer, number, edit)?;
@@ -190,7 +191,7 @@ fn erase(layer: &mut Layer, lowers: &[Shared], path: &Path, covers: bool) -> Res
     requires clear { (n : List ℕ) → is_some (seen (layer.old ∷ lowers.now) (path.now ++ n ∷ [])) ≡ false }
     requires covers { covers ≡ is_some (below layer.old lowers.now path.now) }
     ensures ok { OnOk result (limited (erased layer.old lowers.now path.now) ≡ Ok layer.new) }
-    ensures error { IfErr result (λ e. (e ≡ FsError.OutOfMemory) ⊎ (limited (erased layer.old lowers.now path.now) ≡ Err e)) }
+    ensures error { IfErr result (λ e. (e ≡ FsError.OutOfMemory no_memory) ⊎ (limited (erased layer.old lowers.now path.now) ≡ Err e)) }
     ensures unchanged { OnErr result (layer.new ≡ layer.old) }
 {
     layer.show_is_layer();

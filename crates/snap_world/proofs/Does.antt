@@ -3,6 +3,7 @@ use Rattle.std.proofs.Common.{◌≡◌, ◌⊎◌, inl, inr, ℕ, ◌+◌, ◌�
 use Rattle.std.specs.Prelude.{◌↔◌, if◌then◌else◌, Result, Ok, Err, OnOk, OnErr, IfErr}
 use Rattle.std.specs.Option.{option_map}
 use Rattle.std.proofs.lemmas.Bool.{lt-ltb}
+use Rattle.snap_path.specs.Memory.{no_memory}
 use Rattle.snap_usage.specs.declared.usage.Usage.{Usage}
 use Rattle.snap_usage.specs.Counted.{count_of}
 use Rattle.snap_record.specs.Labels.{Bytes, Label}
@@ -219,7 +220,7 @@ file_errs b hands after slot op a e at err left =
     inl (found w slot is_unsealed (λ g. with_outcome w slot g (worked op g.snapshot.share.usage g.snapshot.layer g.snapshot.lowers)) h at refl
     ∙ (ap (with_outcome w slot h) err ∙ (λ i. (world_of b (sym left i), answers.File (Err e)))))
 
-file_wants : (b : BookValue) (hands after : List (Option HandValue)) (slot : ℕ) (op : Op) (a : ActiveValue) (e : FsError) → hand_at slot hands ≡ Some (record { snapshot = a; sealed = false }) → e ≡ errors.OutOfMemory
+file_wants : (b : BookValue) (hands after : List (Option HandValue)) (slot : ℕ) (op : Op) (a : ActiveValue) (e : FsError) → hand_at slot hands ≡ Some (record { snapshot = a; sealed = false }) → e ≡ errors.OutOfMemory no_memory
     → (lists_names op (a.layer ∷ a.lowers) ≡ false → IfErr (worked op a.share.usage a.layer a.lowers) (λ x. ◌≡◌ {A = Result (Unit {0}) FsError} (Err e) (Err x)))
     → after ≡ hands → Moves (world_of b hands) (steps.Hand slot op) (answers.File (Err e)) (world_of b after)
 file_wants b hands after slot op a e at want first left =
@@ -231,7 +232,7 @@ file_wants b hands after slot op a e at want first left =
 -- an operation on the hand that was taken out
 pub file_moves : (b : BookValue) (hands out after : List (Option HandValue)) (slot : ℕ) (op : Op) (a v : ActiveValue) (outcome : Result (Unit {0}) FsError)
     → hand_at slot hands ≡ Some (record { snapshot = a; sealed = false }) → OnOk outcome (worked op a.share.usage a.layer a.lowers ≡ Ok v.layer) → OnOk outcome (v ≡ record a { layer = v.layer })
-    → IfErr outcome (λ e. (e ≡ errors.OutOfMemory) ⊎ (worked op a.share.usage a.layer a.lowers ≡ Err e)) → OnErr outcome (v ≡ a)
+    → IfErr outcome (λ e. (e ≡ errors.OutOfMemory no_memory) ⊎ (worked op a.share.usage a.layer a.lowers ≡ Err e)) → OnErr outcome (v ≡ a)
     → (lists_names op (a.layer ∷ a.lowers) ≡ false → IfErr (worked op a.share.usage a.layer a.lowers) (λ x. outcome ≡ Err x))
     → out ≡ with_hand slot None hands → after ≡ with_hand slot (Some (record { snapshot = v; sealed = false })) out
     → Moves (world_of b hands) (steps.Hand slot op) (answers.File outcome) (world_of b after)

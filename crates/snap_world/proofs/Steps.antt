@@ -3,6 +3,7 @@ use Rattle.std.proofs.Common.{◌≡◌, ◌⊎◌, inl, inr, ℕ, ◌+◌, ◌�
 use Rattle.std.specs.Option.{option_map_or}
 use Rattle.std.specs.Prelude.{◌↔◌, ◌&&◌, nat_lt, if◌then◌else◌}
 use Rattle.std.proofs.lemmas.Bool.{lt-ltb, le-ltb}
+use Rattle.snap_path.specs.Memory.{no_memory}
 use Rattle.snap_call.specs.declared.call.Call.{Call}
 use Rattle.snap_call.specs.declared.call.Given.{Given}
 use Rattle.snap_call.specs.declared.refusal.Refusal.{Refusal}
@@ -49,13 +50,13 @@ records old new hands after n call given f reply r is =
     let left : f (step old.state call given).1 ≡ after = ap f (sym r.answer) ∙ sym is in
     λ i. (record { state = sym r.state i; journal = journal i; opening = sym r.opening i; limit = sym r.limit i; hands = left i }, answers.Reply (sym r.answer i))
 
-no_want : Refused OutOfMemory ≡ Refused JournalFull → ⊥
+no_want : Refused (OutOfMemory no_memory) ≡ Refused JournalFull → ⊥
 no_want e = cc
 
 -- the call is let in or not, is recorded, or wants memory
 pub admits : (old new : BookValue) (hands after left : List (Option HandValue)) (more n : ℕ) (call : Call) (given : Given) (f : Reply → List (Option HandValue)) (reply : Reply) → Ends old new n call given reply
     → (reply ≡ Refused JournalFull) ↔ (old.limit < length old.journal + open_count old.state.records + more) → after ≡ f reply → f (Refused JournalFull) ≡ left
-    → (admitted (world_of old hands) more left (recorded (world_of old hands) n call given f) ≡ (world_of new after, answers.Reply reply)) ⊎ ((reply ≡ Refused OutOfMemory) × (is_full (world_of old hands) more ≡ false) × (new ≡ old))
+    → (admitted (world_of old hands) more left (recorded (world_of old hands) n call given f) ≡ (world_of new after, answers.Reply reply)) ⊎ ((reply ≡ Refused (OutOfMemory no_memory)) × (is_full (world_of old hands) more ≡ false) × (new ≡ old))
 admits old new hands after left more n call given f reply (inl h) full is stays =
     inr (h.0, not_lt old.limit (length old.journal + open_count old.state.records + more) (λ lt. no_want (sym h.0 ∙ full.1 lt)), h.1)
 admits old new hands after left more n call given f reply (inr (inl h)) full is stays =
@@ -80,7 +81,7 @@ pub charges : (old new : BookValue) (hands out after : List (Option HandValue)) 
     → AnsweredBy old new n call (given (record { snapshot = a; sealed = false })) reply → b ≡ charged a reply → (reply ≡ Refused JournalFull) ↔ (old.limit ≤ length old.journal + open_count old.state.records)
     → out ≡ with_hand slot None hands → after ≡ with_hand slot (Some (record { snapshot = b; sealed = false })) out
     → (on_hand (world_of old hands) slot (is_working id) (λ h. admitted (world_of old hands) 1 hands (recorded (world_of old hands) n call (given h) (λ r. with_hand slot (charged_hand h r) hands))) ≡ (world_of new after, answers.Reply reply))
-    ⊎ ((answers.Reply reply ≡ answers.Reply (Refused OutOfMemory)) × ((meets (is_working id) (hand_at slot hands) ≡ true) × (is_full (world_of old hands) 1 ≡ false) × (world_of new after ≡ world_of old hands)))
+    ⊎ ((answers.Reply reply ≡ answers.Reply (Refused (OutOfMemory no_memory))) × ((meets (is_working id) (hand_at slot hands) ≡ true) × (is_full (world_of old hands) 1 ≡ false) × (world_of new after ≡ world_of old hands)))
 charges old new hands out after slot n id call given a b reply at under answered is full gone back =
     let h : HandValue = record { snapshot = a; sealed = false } in
     let f : Reply → List (Option HandValue) = λ r. with_hand slot (charged_hand h r) hands in
@@ -90,5 +91,5 @@ charges old new hands out after slot n id call given a b reply at under answered
     let full_here : (reply ≡ Refused JournalFull) ↔ (old.limit < length old.journal + open_count old.state.records + 1) = (λ e. (let p = full.0 e in omega arith), λ lt. full.1 (omega (arith, lt))) in
     ⊎_elim
     (λ e. inl (found (world_of old hands) slot (is_working id) _ h at (ap (λ (t : Bool). t && true) under) ∙ e))
-    (λ e. inr (ap answers.Reply e.0, (ap (meets (is_working id)) at ∙ ap (λ (t : Bool). t && true) under, e.1, λ i. world_of (e.2 i) ((left ∙ (ap f e.0 ∙ same OutOfMemory)) i))))
+    (λ e. inr (ap answers.Reply e.0, (ap (meets (is_working id)) at ∙ ap (λ (t : Bool). t && true) under, e.1, λ i. world_of (e.2 i) ((left ∙ (ap f e.0 ∙ same (OutOfMemory no_memory))) i))))
     (admits old new hands after hands 1 n call (given h) f reply (ends old new n call (given h) reply answered) full_here left (same JournalFull))

@@ -2,6 +2,7 @@
 -- Cited by `World::take_step`, `World::run`.
 use Rattle.std.specs.Prelude.{◌≡◌, ◌⊎◌, ℕ, true, false, List, [], ◌∷◌, Option, None, Some, Err, IfErr}
 use Rattle.std.specs.Option.{option_map}
+use Rattle.snap_path.specs.Memory.{no_memory}
 use Rattle.snap_merge.specs.declared.error.FsError.TheVariants as errors
 use Rattle.snap_call.specs.declared.call.Call.{Call}
 use Rattle.snap_call.specs.declared.call.Call.TheVariants as calls
@@ -34,7 +35,7 @@ IsLeft old call new = (is_full old 1 ≡ false) × (new ≡ old)
 
 -- a call in its session: its answer and the world after it, or want of memory
 abbrev pub DoesCall : WorldValue → ℕ → Call → Answer → WorldValue → Type 0
-DoesCall old n call answer new = (called old n call ≡ (new, answer)) ⊎ ((answer ≡ answers.Reply (Refused OutOfMemory)) × IsLeft old call new)
+DoesCall old n call answer new = (called old n call ≡ (new, answer)) ⊎ ((answer ≡ answers.Reply (Refused (OutOfMemory no_memory))) × IsLeft old call new)
 
 -- an operation on a hand wants memory only where it has a next layer that the share covers, or where it lists the names of a directory; else its error is certain before
 abbrev pub CanWant : Op → Option HandValue → Type 0
@@ -43,8 +44,8 @@ CanWant op (Some h) = IfErr (worked op h.snapshot.share.usage h.snapshot.layer h
 
 -- want of memory, and what it leaves; a call in a session that isn't its own wants none, and an operation only on a hand that isn't sealed
 abbrev pub IsWant : WorldValue → Step → Answer → WorldValue → Type 0
-IsWant old (steps.Locked n call) answer new = (answer ≡ answers.Reply (Refused OutOfMemory)) × (is_its_session old.state.sessions n call ≡ true) × IsLeft old call new
-IsWant old (steps.Hand slot op) answer new = (answer ≡ answers.File (Err errors.OutOfMemory)) × (meets is_unsealed (hand_at slot old.hands) ≡ true) × CanWant op (hand_at slot old.hands) × (new ≡ old)
+IsWant old (steps.Locked n call) answer new = (answer ≡ answers.Reply (Refused (OutOfMemory no_memory))) × (is_its_session old.state.sessions n call ≡ true) × IsLeft old call new
+IsWant old (steps.Hand slot op) answer new = (answer ≡ answers.File (Err (errors.OutOfMemory no_memory))) × (meets is_unsealed (hand_at slot old.hands) ≡ true) × CanWant op (hand_at slot old.hands) × (new ≡ old)
 
 -- one step: the answer and the world after it are the definition's, or memory was wanting
 abbrev pub Moves : WorldValue → Step → Answer → WorldValue → Type 0

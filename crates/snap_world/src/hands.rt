@@ -9,6 +9,7 @@ ghost use Rattle.snap_world.specs.Stacks.{layers_in};
 use snap_book::{Active, Book, Held, Sealed};
 use snap_ledger::{MAX_SLOTS, StoreName};
 use snap_merge::Stack;
+use snap_path::NoMemory;
 use snap_usage::Usage;
 use std::alloc::{AllocError, Global};
 use std::marker::Model;
@@ -122,19 +123,19 @@ impl<N: StoreName> Hand<N> {
     }
 
     // Its layer does not change any more. Where memory is refused it comes back as it was.
-    pub(crate) fn seal(self) -> Result<Sealed<N>, Hand<N>>
+    pub(crate) fn seal(self) -> Result<Sealed<N>, (NoMemory, Hand<N>)>
         ensures ok { IfOk result (λ s. s ≡ self.snapshot) }
-        ensures err { IfErr result (λ h. h ≡ self) }
+        ensures err { IfErr result (λ back. back.1 ≡ self) }
         ensures unsealed { OnErr result (self.sealed ≡ false) }
     {
         let Hand { id, held } = self;
         match held {
             Held::Active(active) => match active.seal() {
                 Ok(sealed) => Ok(sealed),
-                Err(active) => Err(Hand {
-                    id,
-                    held: Held::Active(active),
-                }),
+                Err((no_memory, active)) => {
+                    let held = Held::Active(active);
+                    Err((no_memory, Hand { id, held }))
+                }
             },
             Held::Sealed(sealed) => Ok(sealed),
         }

@@ -113,10 +113,10 @@ impl<N: StoreName> Hands<N> {
         if book.is_full() {
             return Answer::Reply(Reply::Refused(Refusal::JournalFull));
         }
-        let Ok(call) = call.clone() else {
-            return Answer::Reply(Reply::Refused(Refusal::OutOfMemory));
-        };
-        Answer::Reply(book.do_call(session, call))
+        match call.clone() {
+            Ok(call) => Answer::Reply(book.do_call(session, call)),
+            Err(refused) => Answer::Reply(Reply::Refused(refused.into())),
+        }
     }
 
     // A new snapshot goes into the hand of its slot. The reply is that of its entry.
@@ -243,9 +243,9 @@ impl<N: StoreName> Hands<N> {
         };
         match hand.seal() {
             Ok(sealed) => Answer::Reply(self.settle(book, session, slot, id, name, lease, sealed)),
-            Err(hand) => {
+            Err((no_memory, hand)) => {
                 self.put(slot, hand);
-                Answer::Reply(Reply::Refused(Refusal::OutOfMemory))
+                Answer::Reply(Reply::Refused(Refusal::OutOfMemory(no_memory)))
             }
         }
     }

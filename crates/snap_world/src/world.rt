@@ -1,5 +1,6 @@
 ghost use Rattle.std.specs.Prelude.{◌≡◌, ◌↔◌, ◌⊎◌, [], Err, None, IfOk, IfErr, OnErr, IsErrOf, false, replicate};
 ghost use Rattle.std.specs.Option.{option_map};
+ghost use Rattle.snap_path.specs.Memory.{no_memory};
 ghost use Rattle.snap_usage.specs.Counted.{count_of};
 ghost use Rattle.snap_call.specs.Forms.{is_config};
 ghost use Rattle.snap_call.specs.Journal.{Replays};
@@ -19,32 +20,11 @@ use snap_book::Book;
 use snap_call::{Config, Records, Refusal, SharedEntry};
 use snap_ledger::{NewTable, StoreName};
 use snap_merge::Stack;
+use snap_path::NoMemory;
 use snap_record::Content;
 use snap_usage::Usage;
-use std::alloc::{AllocError, AllocFailed, Global};
+use std::alloc::Global;
 use std::marker::Model;
-use thiserror::Error;
-
-/// Memory was refused.
-#[derive(Clone, Copy, Debug, PartialEq, Eq, Error)]
-#[error("out of memory")]
-pub struct NoMemory;
-
-impl From<AllocError> for NoMemory {
-    ghost from_gives = { λ _ _. Unit {0} };
-
-    fn from(_error: AllocError) -> NoMemory {
-        NoMemory
-    }
-}
-
-impl<T: Drop> From<AllocFailed<T>> for NoMemory {
-    ghost from_gives = { λ _ _. Unit {0} };
-
-    fn from(_error: AllocFailed<T>) -> NoMemory {
-        NoMemory
-    }
-}
 
 /// A store of snapshots and the hands of all its writers, in one thread.
 ///
@@ -81,7 +61,7 @@ impl<N: StoreName> World<N> {
         requires { table ≡ N.table }
         ensures opened { IfOk result (λ w. w ≡ record { state = opening config; journal = []; opening = opening config; limit = config.journal; hands = replicate 64 None }) }
         ensures bad { IsErrOf result BadArgument ↔ (is_config config ≡ false) }
-        ensures err { IfErr result (λ why. (why ≡ BadArgument) ⊎ (why ≡ OutOfMemory)) }
+        ensures err { IfErr result (λ why. (why ≡ BadArgument) ⊎ (why ≡ OutOfMemory no_memory)) }
     {
         let book = Book::open(alloc, table, config)?;
         let hands = Hands::open(alloc)?;

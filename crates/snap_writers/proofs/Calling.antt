@@ -98,7 +98,7 @@ module _ (j : Job) where
 
   pub refused : (old new : SessionValue) (call : Call) (given : Given) (why : Refusal) → RefusedOn old new call given why → IsWorkFor j call → GoesOn j old new []
   refused old new call given JournalFull by work = untaped old new by
-  refused old new call given OutOfMemory by work = untaped old new by
+  refused old new call given (OutOfMemory want) by work = untaped old new by
   refused old new call given why by work = subst (GoesOn j old new) (commit_of_refused call given why) (taped old new call given (replies.Refused why) by work)
 
   pub stays : (old new : SessionValue) → new ≡ old → GoesOn j old new []

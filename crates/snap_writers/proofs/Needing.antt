@@ -2,6 +2,7 @@
 use Rattle.std.specs.Prelude.{◌&&◌, nat_le, max, if◌then◌else◌, IfErr}
 use Rattle.std.proofs.Common.{◌≡◌, ◌≢◌, ◌⊎◌, inl, inr, ◌≤◌, ℕ, Bool, true, false, Some, List, Result, Ok, Err, refl, sym, ap, ◌∙◌, subst, arith}
 use Rattle.std.proofs.lemmas.Bool.Decides.{nat_tests}
+use Rattle.snap_path.specs.Memory.{no_memory}
 use Rattle.snap_layer.specs.Tree.{Tree}
 use Rattle.snap_usage.specs.declared.usage.Usage.{Usage}
 use Rattle.snap_usage.specs.Counted.{count_of, covers}
@@ -54,7 +55,7 @@ done_charged share need want now op layer lowers needs amount =
 
 -- and can fail for want of memory alone
 pub only_memory : (share need want now : Usage) (op : Op) (layer : Tree) (lowers : List Tree) (e : FsError) → worked op share layer lowers ≡ Err (NeedsCharge need) → IsChargedTo share need want now
-    → (e ≡ OutOfMemory) ⊎ (worked op now layer lowers ≡ Err e) → e ≡ OutOfMemory
+    → (e ≡ OutOfMemory no_memory) ⊎ (worked op now layer lowers ≡ Err e) → e ≡ OutOfMemory no_memory
 only_memory share need want now op layer lowers e needs amount (inl memory) = memory
 only_memory share need want now op layer lowers e needs amount (inr failed) =
     let next = done_charged share need want now op layer lowers needs amount in
@@ -67,15 +68,15 @@ asks_for (NeedsCharge other) need e = ap (λ (u : Usage). NeedsCharge u) (cc)
 asks_for e need asked = absurd (cc)
 
 -- an operation that needs a charge needs it within the share
-pub is_needed : (op : Op) (share need : Usage) (layer : Tree) (lowers : List Tree) (e : FsError) → needed_by e ≡ Some need → (e ≡ OutOfMemory) ⊎ (worked op share layer lowers ≡ Err e) → worked op share layer lowers ≡ Err (NeedsCharge need)
+pub is_needed : (op : Op) (share need : Usage) (layer : Tree) (lowers : List Tree) (e : FsError) → needed_by e ≡ Some need → (e ≡ OutOfMemory no_memory) ⊎ (worked op share layer lowers ≡ Err e) → worked op share layer lowers ≡ Err (NeedsCharge need)
 is_needed op share need layer lowers e asked (inl memory) =
-    let both : NeedsCharge need ≡ OutOfMemory = sym (asks_for e need asked) ∙ memory in
+    let both : NeedsCharge need ≡ OutOfMemory no_memory = sym (asks_for e need asked) ∙ memory in
     absurd (cc)
 is_needed op share need layer lowers e asked (inr failed) = failed ∙ ap (λ (x : FsError). Err x) (asks_for e need asked)
 
 -- ---- the first answer, as an outcome
 
-pub as_outcome : (e : FsError) (o : Outcome) → (e ≡ OutOfMemory) ⊎ (o ≡ Err e) → (◌≡◌ {A = Outcome} (Err e) (Err OutOfMemory)) ⊎ (◌≡◌ {A = Outcome} (Err e) o)
+pub as_outcome : (e : FsError) (o : Outcome) → (e ≡ OutOfMemory no_memory) ⊎ (o ≡ Err e) → (◌≡◌ {A = Outcome} (Err e) (Err (OutOfMemory no_memory))) ⊎ (◌≡◌ {A = Outcome} (Err e) o)
 as_outcome e o (inl memory) = inl (ap (λ (x : FsError). Err x) memory)
 as_outcome e o (inr failed) = inr (sym failed)
 

@@ -1,7 +1,7 @@
 -- What a closed store has of the jobs of all workers.
 use Rattle.std.specs.Prelude.{◌==◌, All, cond, map, slice_get}
 use Rattle.std.specs.List.{AllByRecursion, AllZip}
-use Rattle.std.proofs.Common.{◌≡◌, ℕ, zero, suc, ◌+◌, ◌-◌, ◌<◌, ◌≤◌, Bool, true, false, List, [], ◌∷◌, length, Option, None, Some, refl, sym, ap, ◌∙◌, subst, arith}
+use Rattle.std.proofs.Common.{◌≡◌, ℕ, zero, suc, ◌+◌, ◌-◌, ◌<◌, ◌≤◌, Bool, true, false, List, [], ◌∷◌, length, Option, None, Some, inl, inr, refl, sym, ap, ◌∙◌, subst, arith}
 use Rattle.std.proofs.lemmas.Bool.{eqb-true, eq-eqb}
 use Rattle.std.proofs.lemmas.List.Elements.{All-head, All-tail}
 use Rattle.snap_call.specs.declared.entry.Entry.{Entry}
@@ -16,6 +16,7 @@ use Rattle.snap_grants.proofs.Tapes.{own_origins, tapes_law}
 use Rattle.snap_store.specs.Closing.{IsClosed}
 use Rattle.snap_writers.specs.declared.job.Job.{Job}
 use Rattle.snap_writers.specs.declared.job.Ended.{Ended}
+use Rattle.snap_writers.specs.declared.job.Ended.TheVariants as ended
 use Rattle.snap_writers.specs.declared.job.Worked.{Worked}
 use Rattle.snap_writers.specs.Jobs.{HaveWorked, IsStoredOf, IsWorked, commits, done, every, total}
 use Rattle.snap_writers.specs.Starting.{AreInOrder, AreWorked, Each, ends_at, sessions_of, with_session}
@@ -102,7 +103,8 @@ by_workers h origin journal (w ∷ ws) are = omega (
 )
 
 stored_here : (origin : ℕ → Origin) (journal : List Entry) (jobs : List Job) (es : List Ended) (o : Option SessionValue) (rest : List SessionValue) → AreOrigins origin journal → AllByRecursion (IsOwn journal) (with_session o rest) → HaveWorked jobs es o → AllZip IsStoredOf (done jobs es) (stored_by origin o)
-stored_here origin journal jobs es None rest are own_are (why, is) = subst (λ l. AllZip IsStoredOf l []) (sym (ap (done jobs) is ∙ done_unprepared why jobs jobs)) tt
+stored_here origin journal jobs es None rest are own_are (inl is) = subst (λ l. AllZip IsStoredOf l []) (sym (ap (done jobs) is ∙ done_unprepared ended.NoThread (λ j others. refl) jobs jobs)) tt
+stored_here origin journal jobs es None rest are own_are (inr (why, is)) = subst (λ l. AllZip IsStoredOf l []) (sym (ap (done jobs) is ∙ done_unprepared (ended.NotPrepared why) (λ j others. refl) jobs jobs)) tt
 stored_here origin journal jobs es (Some s) rest are own_are worked = stored_all origin jobs es s (subst (AreOrigins origin) (sym own_are.0) (own_origins origin journal are s.number)) worked
 
 stored_at : (origin : ℕ → Origin) (journal : List Entry) (jobs : List Job) (n m k : ℕ) (ws : List Worked) → AreOrigins origin journal → AllByRecursion (IsOwn journal) (sessions_of ws) → Each (λ k w. IsWorked jobs (k + 1) n w) m ws → k < length ws → AllZip IsStoredOf (done (every n (m + k) jobs) (ends_at ws k)) (lists_at origin ws k)

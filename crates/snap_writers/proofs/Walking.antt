@@ -9,7 +9,6 @@ use Rattle.std.proofs.Math.ListN.{set}
 use Rattle.snap_call.specs.declared.call.Call.TheVariants as calls
 use Rattle.snap_call.specs.declared.call.Given.TheVariants.{Nothing}
 use Rattle.snap_call.specs.declared.entry.Entry.{Entry}
-use Rattle.snap_call.specs.declared.refusal.Refusal.{Refusal}
 use Rattle.snap_call.specs.declared.reply.Reply.TheVariants as replies
 use Rattle.snap_call.specs.Journal.{entry}
 use Rattle.snap_tape.specs.Tapes.{SessionValue}
@@ -26,15 +25,16 @@ done_none [] xs = refl
 done_none (j ∷ js) [] = refl
 done_none (j ∷ js) (x ∷ xs) = done_none js xs
 
-pub done_unprepared : {X : Type 0} (why : Refusal) (js : List Job) (xs : List X) → done js (unprepared why xs) ≡ []
-done_unprepared why [] xs = refl
-done_unprepared why (j ∷ js) [] = refl
-done_unprepared why (j ∷ js) (x ∷ xs) = done_unprepared why js xs
+-- an end that isn't Committed
+pub done_unprepared : {X : Type 0} (end : Ended) (none : (j : Job) (rest : List Done) → with_end j end rest ≡ rest) (js : List Job) (xs : List X) → done js (unprepared end xs) ≡ []
+done_unprepared end none [] xs = refl
+done_unprepared end none (j ∷ js) [] = refl
+done_unprepared end none (j ∷ js) (x ∷ xs) = none j (done js (unprepared end xs)) ∙ done_unprepared end none js xs
 
 -- no job was prepared, of so many that were not run
-pub unprepared-none : {X : Type 0} (why : Refusal) (xs : List X) → unprepared why (none_run xs) ≡ unprepared why xs
-unprepared-none why [] = refl
-unprepared-none why (x ∷ xs) = ap (λ (es : List Ended). ended.NotPrepared why ∷ es) (unprepared-none why xs)
+pub unprepared-none : {X : Type 0} (end : Ended) (xs : List X) → unprepared end (none_run xs) ≡ unprepared end xs
+unprepared-none end [] = refl
+unprepared-none end (x ∷ xs) = ap (λ (es : List Ended). end ∷ es) (unprepared-none end xs)
 
 pub length_none : (js : List Job) → length (none_run js) ≡ length js
 length_none js = length-map js (λ _. ended.NotRun)
@@ -132,13 +132,13 @@ pub room : (all left : List Job) (j : Job) (s : SessionValue) (ends : List Ended
 room all left j s ends place was = omega (arith, ap length was.are, length-append was.front (none_run (j ∷ left)), was.behind, length_none (j ∷ left), was.count)
 
 -- no job was prepared, of one more
-pub unprepared-more : (why : Refusal) (es was : List Ended) (k : ℕ) → k < length was → length es ≡ length was → take k es ≡ unprepared why (take k was)
-    → take (k + 1) (set es k (ended.NotPrepared why)) ≡ unprepared why (take (k + 1) was)
-unprepared-more why es was k low same before =
+pub unprepared-more : (end : Ended) (es was : List Ended) (k : ℕ) → k < length was → length es ≡ length was → take k es ≡ unprepared end (take k was)
+    → take (k + 1) (set es k end) ≡ unprepared end (take (k + 1) was)
+unprepared-more end es was k low same before =
     let grown : take (k + 1) was ≡ take k was ++ get_or was k ended.NotRun ∷ [] = rw add-one (take-suc was k ended.NotRun low) in
-    take-set_at es k (k + 1) (ended.NotPrepared why) refl (omega (arith, low, same))
-    ∙ (ap (λ (l : List Ended). l ++ ended.NotPrepared why ∷ []) before
-    ∙ (sym (map-append (λ (_ : Ended). ended.NotPrepared why) (take k was) (get_or was k ended.NotRun ∷ [])) ∙ ap (λ (l : List Ended). unprepared why l) (sym grown)))
+    take-set_at es k (k + 1) end refl (omega (arith, low, same))
+    ∙ (ap (λ (l : List Ended). l ++ end ∷ []) before
+    ∙ (sym (map-append (λ (_ : Ended). end) (take k was) (get_or was k ended.NotRun ∷ [])) ∙ ap (λ (l : List Ended). unprepared end l) (sym grown)))
 
 -- what is owed by what is promised
 pub owed : (jobs jobs' : List Job) (worker worker' workers workers' : ℕ) (w : Worked) → jobs ≡ jobs' → worker ≡ worker' → workers ≡ workers' → IsWorked jobs worker workers w → IsWorked jobs' worker' workers' w

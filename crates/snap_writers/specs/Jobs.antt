@@ -1,6 +1,6 @@
 -- Jobs, and what is owed by a worker and by a run of all workers.
 -- Cited by `run_worker`, `run_jobs`, `write_jobs_within` and others.
-use Rattle.std.specs.Prelude.{◌≡◌, ℕ, zero, suc, ◌+◌, ◌-◌, List, [], ◌∷◌, length, map, Any, Option, None, Some, Ok, Err}
+use Rattle.std.specs.Prelude.{◌≡◌, ◌⊎◌, ℕ, zero, suc, ◌+◌, ◌-◌, List, [], ◌∷◌, length, map, Any, Option, None, Some, Ok, Err}
 use Rattle.std.specs.List.{AllByRecursion, AllZip}
 use Rattle.snap_layer.specs.Edits.{root_only}
 use Rattle.snap_layer.specs.Tree.{Tree}
@@ -136,13 +136,13 @@ pub record HasWorked (jobs : List Job) (es : List Ended) (s : SessionValue) : Ty
   pub calls : AllByRecursion (λ e. IsWork jobs e.call) rest
   pub commits : AllZip (IsCommitOf s.tape) (done jobs es) (commits s.tape)
 
--- no job was prepared, for this reason
-abbrev pub unprepared : {X : Type 0} → Refusal → List X → List Ended
-unprepared why js = map (λ _. ended.NotPrepared why) js
+-- no job was prepared, and each has this end
+abbrev pub unprepared : {X : Type 0} → Ended → List X → List Ended
+unprepared end js = map (λ _. end) js
 
--- a worker without a session has prepared no job, for one reason
+-- a worker without a session has prepared no job: it got no thread, or its session was refused for one reason
 abbrev pub HaveWorked : List Job → List Ended → Option SessionValue → Type 0
-HaveWorked jobs es None = (why : Refusal) × (es ≡ unprepared why jobs)
+HaveWorked jobs es None = (es ≡ unprepared ended.NoThread jobs) ⊎ ((why : Refusal) × (es ≡ unprepared (ended.NotPrepared why) jobs))
 HaveWorked jobs es (Some s) = HasWorked jobs es s
 
 -- what a worker gives back: one end for each job of its own, and its session

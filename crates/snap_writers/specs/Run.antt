@@ -1,6 +1,7 @@
 -- An operation on an active snapshot of a store, with the charge that it needs.
 -- Cited by `run`.
 use Rattle.std.specs.Prelude.{◌≡◌, ◌⊎◌, ◌∷◌, false, Option, Some, None, Result, Ok, Err, IfErr}
+use Rattle.snap_path.specs.Memory.{no_memory}
 use Rattle.snap_layer.specs.Tree.{Tree}
 use Rattle.snap_usage.specs.declared.usage.Usage.{Usage}
 use Rattle.snap_merge.specs.declared.error.FsError.{FsError}
@@ -30,7 +31,7 @@ pub record IsCharged (s t : SessionValue) (a : ActiveValue) (need want now : Usa
 -- where a charge is needed: it is made, and the operation done; or memory for that is refused, and the charge stays as spare; or the charge is refused, and the snapshot is as it was
 abbrev pub HasCharged : SessionValue → SessionValue → ActiveValue → ActiveValue → Op → Usage → Usage → Result Unit RunError → Type 0
 HasCharged s t old new op need want (Ok done) = IsCharged s t old need want new.share.usage × (after op old.layer old.lowers ≡ Ok new.layer) × (new ≡ with_share old new.layer new.share.usage)
-HasCharged s t old new op need want (Err (File e)) = (e ≡ OutOfMemory) × IsCharged s t old need want new.share.usage × (new ≡ with_share old old.layer new.share.usage)
+HasCharged s t old new op need want (Err (File e)) = (e ≡ OutOfMemory no_memory) × IsCharged s t old need want new.share.usage × (new ≡ with_share old old.layer new.share.usage)
 HasCharged s t old new op need want (Err (Book why)) = RefusedOn s t (Charge old.share.slot old.share.id need want) Nothing why × (new ≡ old)
 
 -- what comes of an error: the charge that it asks for, or it is the answer, no call is made, and all is as it was
@@ -46,7 +47,7 @@ Follows s t old new op extra (Err e) result = HasFailed s t old new op extra e (
 -- the first answer is the operation's within the share, or want of memory; where no names of a directory are listed, an error comes before memory is asked for
 pub record HasRun (s t : SessionValue) (old new : ActiveValue) (op : Op) (extra : Usage) (result : Result Unit RunError) : Type 0 where
   pub first : Outcome
-  pub answer : (first ≡ Err OutOfMemory) ⊎ (first ≡ worked op old.share.usage old.layer old.lowers)
+  pub answer : (first ≡ Err (OutOfMemory no_memory)) ⊎ (first ≡ worked op old.share.usage old.layer old.lowers)
   pub sure : lists_names op (old.layer ∷ old.lowers) ≡ false → IfErr (worked op old.share.usage old.layer old.lowers) (λ e. first ≡ Err e)
   pub follows : Follows s t old new op extra first result
 

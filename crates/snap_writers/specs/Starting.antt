@@ -1,11 +1,11 @@
 -- What workers start with, and what they give back once all have ended.
 -- Cited by `run_jobs`.
 use Rattle.std.specs.Prelude.{◌≡◌, ◌⊎◌, ℕ, zero, suc, ◌+◌, ◌<◌, ◌≤◌, List, [], ◌∷◌, length, Option, None, Some}
-use Rattle.snap_call.specs.declared.refusal.Refusal.TheVariants.{OutOfMemory}
 use Rattle.snap_tape.specs.Tapes.{SessionValue}
 use Rattle.snap_writers.specs.declared.assignment.Assignment.{Assignment}
 use Rattle.snap_writers.specs.declared.job.Job.{Job}
 use Rattle.snap_writers.specs.declared.job.Ended.{Ended}
+use Rattle.snap_writers.specs.declared.job.Ended.TheVariants as ended
 use Rattle.snap_writers.specs.declared.job.RunFault.{RunFault}
 use Rattle.snap_writers.specs.declared.job.RunFault.TheVariants as faults
 use Rattle.snap_writers.specs.declared.job.Worked.{Worked}
@@ -24,7 +24,7 @@ Each P k (x ∷ xs) = P k x × Each P (k + 1) xs
 pub record IsAssigned (jobs : List Job) (worker workers : ℕ) (a : Assignment) : Type 0 where
   pub number : a.worker ≡ worker
   pub ends : a.ends ≡ none_run (jobs_of jobs worker workers)
-  pub threadless : a.threadless ≡ unprepared OutOfMemory (jobs_of jobs worker workers)
+  pub threadless : a.threadless ≡ unprepared ended.NoThread (jobs_of jobs worker workers)
 
 pub record AreAssigned (jobs : List Job) (workers : ℕ) (all : List Assignment) : Type 0 where
   pub count : length all ≡ workers
@@ -79,6 +79,6 @@ pub record AreBack (jobs : List Job) (workers : ℕ) (sessions : List SessionVal
 -- there are not 1 to 16 workers; or there are, and: nothing was run; or the gate stopped a worker, and this is the report; or the sessions of all workers are back, and the close of the store failed for the cause
 abbrev pub IsFault : {N : Type 0} → List Job → ℕ → RunFault N → Type 0
 IsFault jobs workers (faults.BadWorkers store) = (workers ≡ 0) ⊎ (16 < workers)
-IsFault jobs workers (faults.OutOfMemory store) = IsCount workers
+IsFault jobs workers (faults.OutOfMemory store want) = IsCount workers
 IsFault jobs workers (faults.GateClosed worker report) = IsCount workers × IsReport jobs report.ends report.closed × (1 ≤ worker) × (worker ≤ workers)
 IsFault jobs workers (faults.NotClosed back) = IsCount workers × AreBack jobs workers back.sessions.items × HasCause back.sessions.items back.cause

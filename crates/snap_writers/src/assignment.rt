@@ -4,7 +4,6 @@ ghost use Rattle.snap_writers.specs.Jobs.{jobs_of};
 ghost use Rattle.snap_writers.specs.Starting.{AreAssigned, IsAssigned};
 
 use crate::job::{Ended, Ends, Job};
-use snap_book::Refusal;
 use snap_record::Sequence;
 use std::alloc::{AllocError, Global};
 
@@ -45,11 +44,10 @@ impl Assignment {
         requires { (1 ≤ worker) × (worker ≤ workers) }
         ensures { IfOk result (λ a. IsAssigned jobs.now worker workers a) }
     {
-        let threadless = Ended::NotPrepared(Refusal::OutOfMemory);
         Ok(Assignment {
             worker,
             ends: ends_of(alloc, jobs, worker, workers, Ended::NotRun)?,
-            threadless: ends_of(alloc, jobs, worker, workers, threadless)?,
+            threadless: ends_of(alloc, jobs, worker, workers, Ended::NoThread)?,
         })
     }
 }

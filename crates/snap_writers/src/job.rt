@@ -4,6 +4,7 @@ ghost use Rattle.snap_writers.specs.Jobs.{IsWorked};
 use crate::running::RunError;
 use snap_book::Refusal;
 use snap_ledger::StoreName;
+use snap_path::NoMemory;
 use snap_record::{Sequence, Text};
 use snap_store::{Closed, NotClosed, Session, Store};
 use snap_upper::Op;
@@ -42,8 +43,10 @@ pub enum Ended {
     Committed(Usage),
     /// Its end was to discard, and it was discarded.
     Discarded,
-    /// It was not prepared; or its worker had no session, or no thread, which is `OutOfMemory`.
+    /// It was not prepared; or its worker had no session.
     NotPrepared(Refusal),
+    /// Its worker had no thread.
+    NoThread,
     /// An operation was not done. It was discarded.
     Failed(RunError),
     /// It was not committed. It was discarded.
@@ -99,7 +102,7 @@ pub enum RunFault<N: StoreName> {
     /// The number of workers is not 1 to 16. Nothing was run, and the store is as it was.
     BadWorkers(Store<N>),
     /// Memory was refused before a thread was started. The store is as it was.
-    OutOfMemory(Store<N>),
+    OutOfMemory(Store<N>, NoMemory),
     /// The gate stopped a worker, this one and perhaps later ones. The store is closed.
     GateClosed { worker: u32, report: Report<N> },
     /// All workers have ended, and the store could not be closed: it comes back with their sessions.

@@ -1,6 +1,6 @@
 // The workers, each on a thread of its own.
 ghost use Rattle.std.specs.Prelude.{◌≡◌, ◌≤◌, [], IfOk, vec_len, vec_capacity};
-ghost use Rattle.snap_call.specs.declared.refusal.Refusal.TheVariants.{OutOfMemory};
+ghost use Rattle.snap_writers.specs.declared.job.Ended.TheVariants.{NoThread};
 ghost use Rattle.snap_writers.specs.Jobs.{IsWorked, jobs_of, unprepared};
 ghost use Rattle.snap_writers.specs.Going.{none_run};
 ghost use Rattle.snap_writers.specs.Starting.{AreAssigned, AreStarted, AreWorked};
@@ -24,7 +24,7 @@ enum Started<'a> {
 
 // What a worker gives back that got no thread.
 fn without_thread(jobs: &[Job], worker: u32, workers: u32, ends: Ends) -> Worked
-    requires { ends ≡ unprepared OutOfMemory (jobs_of jobs.now worker workers) }
+    requires { ends ≡ unprepared NoThread (jobs_of jobs.now worker workers) }
     ensures { IsWorked jobs.now worker workers result }
 {
     Worked {

@@ -9,6 +9,7 @@ ghost use Rattle.snap_call.specs.declared.call.Given.TheVariants.{Nothing};
 ghost use Rattle.snap_call.specs.declared.reply.Reply.TheVariants as replies;
 ghost use Rattle.snap_writers.specs.declared.job.Job.{Job as JobValue};
 ghost use Rattle.snap_writers.specs.declared.job.End.TheVariants.{Commit};
+ghost use Rattle.snap_writers.specs.declared.job.Ended.TheVariants as ended;
 ghost use Rattle.snap_writers.specs.Jobs.{IsWorked, all_after, jobs_of, unprepared};
 ghost use Rattle.snap_writers.specs.Going.{GoesOn, HasRunJob, IsFresh, IsReady, end_or, granted, none_run};
 
@@ -91,8 +92,8 @@ impl<'a, N: StoreName, R: Wait, G: Gate> Worker<'a, N, R, G> {
         ensures room { 0 < self.new.session.spare }
     {
         self.may_step = false;
-        if self.session.reserve(2).is_err() {
-            return Err(RunError::Book(Refusal::OutOfMemory));
+        if let Err(refused) = self.session.reserve(2) {
+            return Err(RunError::Book(refused.into()));
         }
         run(
             self.store,
@@ -145,14 +146,14 @@ impl<'a, N: StoreName, R: Wait, G: Gate> Worker<'a, N, R, G> {
     {
         let sealed = match active.seal() {
             Ok(sealed) => sealed,
-            Err(active) => {
+            Err((no_memory, active)) => {
                 self.discard(Held::Active(active));
-                return Err(Refusal::OutOfMemory);
+                return Err(Refusal::OutOfMemory(no_memory));
             }
         };
-        if self.session.reserve(2).is_err() {
+        if let Err(refused) = self.session.reserve(2) {
             self.discard(Held::Sealed(sealed));
-            return Err(Refusal::OutOfMemory);
+            return Err(refused.into());
         }
         match self
             .store
@@ -264,7 +265,7 @@ impl<'a, N: StoreName, R: Wait, G: Gate> Worker<'a, N, R, G> {
 
 // All jobs of a worker without a session ended so.
 fn unstarted(ends: Ends, why: Refusal) -> Ends
-    ensures { result ≡ unprepared why ends }
+    ensures { result ≡ unprepared (ended.NotPrepared why) ends }
 {
     let mut ends = ends;
     for place in 0..ends.len() {

@@ -40,7 +40,7 @@ pub const MAX_WORKERS: u32 = 16;
 
 /// Runs the jobs by so many workers, each on a thread of its own and with a session of its own, and closes the
 /// store once all have ended. Each worker goes through its jobs as [`run_worker`](crate::run_worker) does; one
-/// that gets no thread ends each of its jobs [`Ended::NotPrepared`] with `OutOfMemory`.
+/// that gets no thread ends each of its jobs [`Ended::NoThread`].
 ///
 /// The first of these that holds: `BadWorkers` where there are not 1 to 16 of them; `OutOfMemory` where memory
 /// is refused before a thread is started; `NotClosed` where the store can't be closed, as where a session is
@@ -66,16 +66,18 @@ pub fn run_jobs<N: StoreName + Send + Sync, R: Threads + Wait + Sync, G: Gate>(
     if workers == 0 || workers > MAX_WORKERS {
         return Err(RunFault::BadWorkers(store));
     }
-    let Ok(room) = Room::of(alloc, jobs, workers) else {
-        return Err(RunFault::OutOfMemory(store));
+    let room = match Room::of(alloc, jobs, workers) {
+        Ok(room) => room,
+        Err(refused) => return Err(RunFault::OutOfMemory(store, refused.into())),
     };
     let Room {
         assignments,
         sessions,
         ends,
     } = room;
-    let Ok(all) = all_worked(rt, alloc, &store, jobs, workers, gate, assignments) else {
-        return Err(RunFault::OutOfMemory(store));
+    let all = match all_worked(rt, alloc, &store, jobs, workers, gate, assignments) {
+        Ok(all) => all,
+        Err(refused) => return Err(RunFault::OutOfMemory(store, refused.into())),
     };
     let ends = in_order(jobs, workers, all.as_slice(), ends);
     let stopped = first_refused(all.as_slice());

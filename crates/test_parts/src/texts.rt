@@ -3,7 +3,8 @@ use crate::setup::{equal, usage};
 use snap_layer::LayerError;
 use snap_lease::LeaseError;
 use snap_merge::FsError;
-use snap_path::PathError;
+use snap_path::{NoMemory, PathError};
+use std::alloc::AllocError;
 
 #[test]
 fn texts_of_file_calls(rt: HostRuntime) {
@@ -24,7 +25,7 @@ fn texts_of_file_calls(rt: HostRuntime) {
             "a charge of 4/3 is needed",
         ),
         (FsError::TooManyLinks, "too many levels of symbolic links"),
-        (FsError::OutOfMemory, "out of memory"),
+        (FsError::OutOfMemory(AllocError.into()), "out of memory"),
     ] {
         let found = format!(in rt.alloc(); "{error}").expect(&rt, "memory for a text");
         equal(&rt, found.as_str(), text);
@@ -33,10 +34,11 @@ fn texts_of_file_calls(rt: HostRuntime) {
 
 #[test]
 fn other_texts(rt: HostRuntime) {
-    let (bad, no_path) = (PathError::BadPath, PathError::OutOfMemory);
-    let (full, no_layer) = (LayerError::LayerFull, LayerError::OutOfMemory);
+    let no_memory = NoMemory::from(AllocError);
+    let (bad, no_path) = (PathError::BadPath, PathError::OutOfMemory(no_memory));
+    let (full, no_layer) = (LayerError::LayerFull, LayerError::OutOfMemory(no_memory));
     let (none, there) = (LeaseError::NoLease, LeaseError::LeaseExists);
-    let (no_lease, usage) = (LeaseError::OutOfMemory, usage(4, 3));
+    let (no_lease, usage) = (LeaseError::OutOfMemory(no_memory), usage(4, 3));
     let found = format!(in rt.alloc();
         "{bad}, {no_path}; {full}, {no_layer}; {none}, {there}, {no_lease}; {usage}"
     ).expect(&rt, "memory for a text");

@@ -4,6 +4,7 @@ ghost use Rattle.std.specs.Prelude.{◌<◌};
 use crate::known::Key;
 use snap_book::{Held, Refusal, Sealed};
 use snap_ledger::StoreName;
+use snap_path::NoMemory;
 use snap_record::Text;
 use snap_script::Answer;
 use snap_store::{Session, Store};
@@ -53,11 +54,11 @@ impl<'a, N: StoreName, R: Wait> Drop for Hand<'a, N, R> {
 }
 
 // The snapshot, sealed. Where memory is refused it comes back as it was.
-fn seal<N: StoreName>(held: Held<N>) -> Result<Sealed<N>, Held<N>> {
+fn seal<N: StoreName>(held: Held<N>) -> Result<Sealed<N>, (NoMemory, Held<N>)> {
     match held {
         Held::Active(active) => match active.seal() {
             Ok(sealed) => Ok(sealed),
-            Err(active) => Err(Held::Active(active)),
+            Err((no_memory, active)) => Err((no_memory, Held::Active(active))),
         },
         Held::Sealed(sealed) => Ok(sealed),
     }
@@ -84,7 +85,7 @@ impl<'a, N: StoreName, R: Wait> Hand<'a, N, R> {
                 Ok(usage) => return Ok(Answer::Committed { id, usage }),
                 Err((why, sealed)) => (why, Held::Sealed(sealed)),
             },
-            Err(held) => (Refusal::OutOfMemory, held),
+            Err((no_memory, held)) => (Refusal::OutOfMemory(no_memory), held),
         };
         let hand = Hand {
             rt,

@@ -27,9 +27,9 @@ impl Refused {
             Refused::NoSession => Ok(Answer::NoSession),
             Refused::NoHand => Ok(Answer::NoHand),
             Refused::StillOut => Ok(Answer::StillOut),
-            Refused::Book(Refusal::OutOfMemory) => Err(Stop::NoMemory),
+            Refused::Book(Refusal::OutOfMemory(_)) => Err(Stop::NoMemory),
             Refused::Book(why) => Ok(Answer::Refused(why)),
-            Refused::File(FsError::OutOfMemory) => Err(Stop::NoMemory),
+            Refused::File(FsError::OutOfMemory(_)) => Err(Stop::NoMemory),
             Refused::File(error) => Ok(Answer::Failed(error)),
         }
     }
@@ -65,15 +65,15 @@ impl From<RunError> for Refused {
 impl From<AllocError> for Refused {
     ghost from_gives = { λ _ _. Unit {0} };
 
-    fn from(_error: AllocError) -> Refused {
-        Refused::Book(Refusal::OutOfMemory)
+    fn from(refused: AllocError) -> Refused {
+        Refused::Book(Refusal::OutOfMemory(refused.into()))
     }
 }
 
 impl<T: Drop> From<AllocFailed<T>> for Refused {
     ghost from_gives = { λ _ _. Unit {0} };
 
-    fn from(_error: AllocFailed<T>) -> Refused {
-        Refused::Book(Refusal::OutOfMemory)
+    fn from(failed: AllocFailed<T>) -> Refused {
+        Refused::Book(Refusal::OutOfMemory(failed.into()))
     }
 }

@@ -65,7 +65,7 @@ impl<'a, N: StoreName, R: Wait> Round<'a, N, R> {
     // refused.
     pub(crate) fn first_session(&mut self) -> Result<Answer, Stop> {
         let opened = match self.open_session() {
-            Err(Refused::Book(Refusal::OutOfMemory)) => self.open_session(),
+            Err(Refused::Book(Refusal::OutOfMemory(_))) => self.open_session(),
             opened => opened,
         };
         match opened {

@@ -65,7 +65,7 @@ fn close<N: StoreName>(store: Store<N>, sessions: Vec<Session>) -> Result<Closed
             NotClosed {
                 store,
                 sessions,
-                cause: Cause::OutOfMemory,
+                cause: Cause::OutOfMemory(_),
             },
         ) => match store.close(sessions) {
             Ok(closed) => Ok(closed),

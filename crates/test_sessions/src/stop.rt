@@ -64,7 +64,7 @@ impl From<ReadError> for Stop {
     fn from(error: ReadError) -> Stop {
         match error {
             ReadError::Fault(_) => Stop::Line,
-            ReadError::OutOfMemory => Stop::NoMemory,
+            ReadError::OutOfMemory(_) => Stop::NoMemory,
         }
     }
 }

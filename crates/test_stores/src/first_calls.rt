@@ -109,7 +109,8 @@ fn removed<N: StoreName, R: Abort>(rt: &R, alloc: Global, book: &mut Book<N>)
             prove!(found == Err(Refusal::NotFound));
         }
         Reply::Refused(why) => {
-            prove!(why == Refusal::OutOfMemory);
+            let memory = matches!(why, Refusal::OutOfMemory(_));
+            prove!(memory);
         }
         _ => {}
     }

@@ -63,9 +63,9 @@ fn unpack_layer<N: StoreName>(
     }
     match active.seal() {
         Ok(sealed) => Ok(commit_or_discard(book, session, "layer", sealed)?),
-        Err(active) => {
+        Err((no_memory, active)) => {
             book.discard(session, Held::Active(active));
-            Err(Refusal::OutOfMemory.into())
+            Err(Refusal::OutOfMemory(no_memory).into())
         }
     }
 }

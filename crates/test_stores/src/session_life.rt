@@ -37,9 +37,9 @@ fn unpack<N: StoreName, R: Wait>(
                 Err(why.into())
             }
         },
-        Err(active) => {
+        Err((no_memory, active)) => {
             store.discard(rt, session, Held::Active(active));
-            Err(Cause::OutOfMemory.into())
+            Err(Cause::OutOfMemory(no_memory).into())
         }
     }
 }

@@ -2,7 +2,7 @@
 use crate::setup::{equal, text};
 use snap_jobs::{JobsStop, write_jobs_within};
 use snap_merge::FsError;
-use snap_script::{Field, path_of};
+use snap_script::{Field, Shortage, path_of};
 use snap_session::{Stop, replay, replay_within};
 use std::io;
 use std::io::BufWriter;
@@ -130,10 +130,12 @@ fn streams_without_end(rt: HostRuntime) {
 // slash.
 #[test]
 fn statuses_and_names(rt: HostRuntime) {
-    let (memory, open) = (Stop::OutOfMemory.status(), JobsStop::NotClosed.status());
+    let memory = Stop::OutOfMemory(Shortage::Library).status();
+    let open = JobsStop::NotClosed.status();
     prove!(memory == 4 && open == 5);
     let name = Field::Namespace.name();
     prove!(name == "ns");
     let path = path_of(rt.alloc(), &text(&rt, rt.alloc(), "/etc/")).err();
-    prove!(path == Some(FsError::BadPath) || path == Some(FsError::OutOfMemory));
+    let refused = matches!(path, Some(FsError::BadPath | FsError::OutOfMemory(_)));
+    prove!(refused);
 }

@@ -2,8 +2,9 @@
 use crate::setup::says;
 use snap_call::Refusal;
 use snap_jobs::JobsStop;
-use snap_script::{Fault, Field};
+use snap_script::{Fault, Field, Shortage};
 use snap_session::{LineFault, Stop};
+use std::alloc::AllocError;
 
 #[test]
 fn errors_are_printed(rt: HostRuntime) {
@@ -30,7 +31,7 @@ fn errors_are_printed(rt: HostRuntime) {
         (Refusal::BelowCharge, "below the charge"),
         (Refusal::NumbersSpent, "numbers spent"),
         (Refusal::JournalFull, "journal full"),
-        (Refusal::OutOfMemory, "out of memory"),
+        (Refusal::OutOfMemory(AllocError.into()), "out of memory"),
     ] {
         says(&rt, alloc, &refusal, words);
     }
@@ -39,6 +40,11 @@ fn errors_are_printed(rt: HostRuntime) {
         cause: Fault::BadField(Field::Namespace),
     };
     says(&rt, alloc, &Stop::Line(fault), "line 12: bad field ns");
-    says(&rt, alloc, &Stop::OutOfMemory, "want of memory");
+    says(
+        &rt,
+        alloc,
+        &Stop::OutOfMemory(Shortage::Library),
+        "want of memory",
+    );
     says(&rt, alloc, &JobsStop::NotClosed, "not closed");
 }

@@ -89,7 +89,7 @@ impl Lists {
         if let Some(layer) = self.uppers.pop() {
             match Shared::new(self.alloc, layer) {
                 Ok(shared) => self.lowers.insert(0, shared)?,
-                Err(_) => return Err(AllocError),
+                Err((no_memory, _)) => return Err(no_memory.into()),
             }
         }
         self.uppers.push(Layer::empty(self.alloc, DEFAULT_MODE)?)?;

@@ -66,7 +66,7 @@ impl Pair {
     ) -> Result<Result<Answer, LayerError>, Fault> {
         let made = edit_layer(&mut self.layer, edit);
         check(made == self.plain.edit(edit), "the answer")?;
-        if made == Err(LayerError::OutOfMemory) {
+        if let Err(LayerError::OutOfMemory(_)) = made {
             return Err(Fault::NoMemory);
         }
         let (tally, inodes) = (self.layer.tally(), self.layer.inodes());

@@ -3,8 +3,9 @@ ghost use Rattle.std.specs.Prelude.{◌≡◌, IfOk, IfErr, bytes_eq};
 ghost use Rattle.snap_call.specs.Records.{with_labels};
 ghost use Rattle.snap_call.specs.Spaces.{with_content, is_after};
 
+use snap_path::NoMemory;
 use snap_record::{Content, Labels, Record};
-use std::alloc::{AllocFailed, Global};
+use std::alloc::Global;
 use std::marker::Model;
 
 /// A record in memory of its own, which no map moves. Contracts see the record.
@@ -29,12 +30,14 @@ impl Model for BoxedRecord {
 impl BoxedRecord {
     /// Takes memory for the record without its texts. Where it is wanting, the error gives the record
     /// back.
-    pub(super) fn new(alloc: Global, value: Record) -> Result<BoxedRecord, AllocFailed<Record>>
+    pub(super) fn new(alloc: Global, value: Record) -> Result<BoxedRecord, (NoMemory, Record)>
         ensures ok { IfOk result (λ b. b ≡ value) }
-        ensures value_returned { IfErr result (λ e. e.value ≡ value) }
+        ensures value_returned { IfErr result (λ back. back.1 ≡ value) }
     {
-        let boxed = Box::new(alloc, value)?;
-        Ok(BoxedRecord { boxed })
+        match Box::new(alloc, value) {
+            Ok(boxed) => Ok(BoxedRecord { boxed }),
+            Err(failed) => Err(NoMemory::with_value(failed)),
+        }
     }
 
     pub(super) fn record(&self) -> &Record

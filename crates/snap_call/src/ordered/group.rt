@@ -5,8 +5,9 @@ ghost use Rattle.snap_call.specs.Spaces.{IsOf, page_after};
 
 use super::boxed_record::BoxedRecord;
 use super::keyed::Keyed;
+use snap_path::NoMemory;
 use snap_record::{Content, Filter, Info, Labels, Record, Sequence};
-use std::alloc::{AllocError, AllocFailed, Global};
+use std::alloc::{AllocError, Global};
 use std::marker::Model;
 
 /// Records of one namespace whose keys begin alike, most often one. Contracts see the list, in the
@@ -81,17 +82,17 @@ impl Group {
         &mut self,
         alloc: Global,
         added: BoxedRecord,
-    ) -> Result<(), AllocFailed<BoxedRecord>>
+    ) -> Result<(), (NoMemory, BoxedRecord)>
         requires of { IsOf added.namespace self.old }
         requires absent { has_key added.namespace added.key self.old ≡ false }
         ensures ok { OnOk result (self.new ≡ with_record added self.old) }
         ensures err { OnErr result (self.new ≡ self.old) }
-        ensures value_returned { IfErr result (λ e. e.value ≡ added) }
+        ensures value_returned { IfErr result (λ back. back.1 ≡ added) }
     {
         if let Some(alone) = self.alone.take() {
-            if let Err(failed) = self.others.insert(alloc, alone) {
-                self.alone = Some(failed.value);
-                return Err(AllocFailed { value: added });
+            if let Err((no_memory, alone)) = self.others.insert(alloc, alone) {
+                self.alone = Some(alone);
+                return Err((no_memory, added));
             }
         }
         self.others.insert(alloc, added)

@@ -6,8 +6,9 @@ ghost use Rattle.snap_call.specs.Spaces.{IsOf, beginning};
 use super::boxed_record::BoxedRecord;
 use super::group::Group;
 use arrayvec::ArrayVec;
+use snap_path::NoMemory;
 use snap_record::{Content, Filter, Info, Labels, Record, Sequence};
-use std::alloc::{AllocError, AllocFailed, Global};
+use std::alloc::{AllocError, Global};
 use std::collections::BTreeMap;
 use std::marker::Model;
 use std::ops::Bound;
@@ -74,12 +75,12 @@ impl Groups {
 
     /// Puts a record in its place. Where memory is wanting, the records are as they were and the
     /// error gives the record back.
-    pub(super) fn insert(&mut self, added: Record) -> Result<(), AllocFailed<Record>>
+    pub(super) fn insert(&mut self, added: Record) -> Result<(), (NoMemory, Record)>
         requires of { IsOf added.namespace self.old }
         requires absent { has_key added.namespace added.key self.old ≡ false }
         ensures ok { OnOk result (self.new ≡ with_record added self.old) }
         ensures err { OnErr result (self.new ≡ self.old) }
-        ensures value_returned { IfErr result (λ e. e.value ≡ added) }
+        ensures value_returned { IfErr result (λ back. back.1 ≡ added) }
     {
         let beginning = beginning_of(added.key.as_str());
         let boxed = BoxedRecord::new(self.alloc, added)?;
@@ -88,17 +89,13 @@ impl Groups {
             let Err(failed) = self.map.insert(beginning, alone) else {
                 return Ok(());
             };
-            let (_, alone) = failed.value;
-            return Err(AllocFailed {
-                value: alone.into_only().into_record(),
-            });
+            let (no_memory, (_, alone)) = NoMemory::with_value(failed);
+            return Err((no_memory, alone.into_only().into_record()));
         };
-        let Err(failed) = group.insert(self.alloc, boxed) else {
+        let Err((no_memory, boxed)) = group.insert(self.alloc, boxed) else {
             return Ok(());
         };
-        Err(AllocFailed {
-            value: failed.value.into_record(),
-        })
+        Err((no_memory, boxed.into_record()))
     }
 
     /// Takes the record of this key away. Where there is none, the records are as they were. Takes

@@ -4,8 +4,9 @@ ghost use Rattle.snap_call.specs.Records.{record_at, has_key, with_record, witho
 ghost use Rattle.snap_call.specs.Spaces.{IsOf, page_after};
 
 use super::boxed_record::BoxedRecord;
+use snap_path::NoMemory;
 use snap_record::{Content, Filter, Info, Labels, Record, Sequence};
-use std::alloc::{AllocError, AllocFailed, Global};
+use std::alloc::{AllocError, Global};
 use std::collections::BTreeMap;
 use std::marker::Model;
 use std::ops::Bound;
@@ -72,21 +73,22 @@ impl Keyed {
         &mut self,
         alloc: Global,
         added: BoxedRecord,
-    ) -> Result<(), AllocFailed<BoxedRecord>>
+    ) -> Result<(), (NoMemory, BoxedRecord)>
         requires of { IsOf added.namespace self.old }
         requires absent { has_key added.namespace added.key self.old ≡ false }
         ensures ok { OnOk result (self.new ≡ with_record added self.old) }
         ensures err { OnErr result (self.new ≡ self.old) }
-        ensures value_returned { IfErr result (λ e. e.value ≡ added) }
+        ensures value_returned { IfErr result (λ back. back.1 ≡ added) }
     {
-        let Ok(key) = String::from_str(alloc, added.record().key.as_str()) else {
-            return Err(AllocFailed { value: added });
+        let key = match String::from_str(alloc, added.record().key.as_str()) {
+            Ok(key) => key,
+            Err(refused) => return Err((refused.into(), added)),
         };
         match self.map.insert(key, added) {
             Ok(_) => Ok(()),
             Err(failed) => {
-                let (_, value) = failed.value;
-                Err(AllocFailed { value })
+                let (no_memory, (_, value)) = NoMemory::with_value(failed);
+                Err((no_memory, value))
             }
         }
     }

@@ -4,8 +4,9 @@ ghost use Rattle.snap_call.specs.Spaces.{IsOf};
 
 use super::groups::Groups;
 use snap_counts::Counts;
+use snap_path::NoMemory;
 use snap_record::{Content, Filter, Info, Labels, Record, Sequence};
-use std::alloc::{AllocError, AllocFailed, Global};
+use std::alloc::{AllocError, Global};
 use std::marker::Model;
 
 /// The records of one namespace, by their keys, and how many of them are on each parent. Contracts
@@ -63,21 +64,22 @@ impl Space {
 
     /// Puts a record in its place. Where memory is wanting, the records are as they were and the
     /// error gives the record back.
-    pub(super) fn insert(&mut self, added: Record) -> Result<(), AllocFailed<Record>>
+    pub(super) fn insert(&mut self, added: Record) -> Result<(), (NoMemory, Record)>
         requires of { IsOf added.namespace self.old }
         requires absent { has_key added.namespace added.key self.old ≡ false }
+        requires few { length self.old + 1 < 2 ^ 64 }
         ensures ok { OnOk result (self.new ≡ with_record added self.old) }
         ensures err { OnErr result (self.new ≡ self.old) }
-        ensures value_returned { IfErr result (λ e. e.value ≡ added) }
+        ensures value_returned { IfErr result (λ back. back.1 ≡ added) }
     {
-        let Ok(()) = self.parents.add(added.parent.as_str()) else {
-            return Err(AllocFailed { value: added });
-        };
+        if let Err(refused) = self.parents.add(added.parent.as_str()) {
+            return Err((refused.into(), added));
+        }
         match self.groups.insert(added) {
             Ok(()) => Ok(()),
-            Err(failed) => {
-                self.parents.take(failed.value.parent.as_str());
-                Err(failed)
+            Err((no_memory, added)) => {
+                self.parents.take(added.parent.as_str());
+                Err((no_memory, added))
             }
         }
     }

@@ -1,6 +1,9 @@
 use Rattle.std.proofs.Common.{ℕ, ◌<◌, [], length, take, None, sym, arith, subst}
 use Rattle.std.specs.Io.KnownBytes.{Consumes, IsAtEnd}
 use Rattle.std.proofs.lemmas.Result.{err_from_is_err_and}
+use Rattle.snap_path.specs.Memory.{no_memory}
+use Rattle.snap_script.specs.declared.fault.Shortage.TheVariants.{Allocator}
+use Rattle.snap_lines.specs.declared.stop.Stop.TheVariants.{OutOfMemory}
 use Rattle.snap_lines.proofs.TranscriptLaws.{on_ok, if_err, err_is}
 use Rattle.snap_lines.proofs.ReadLaws.{Reading, reading_end, reading_value, reading_none, reading_more, reading_stopped, reading_stopped_at_end, reading_failed, reading_not_begun}
 use Rattle.snap_lines.specs.Runs.{Behind, within}
@@ -40,14 +43,17 @@ reads-init g c =
     let x = g.W.Write.contents c.args.output.now in
     subst (λ (s : Behind). Reading g.T.TakeLine.effect c.args.taker.now a a x x (within s c.args.taker.now)) (sym c.new-reader.ensures) (reading_none g.T.TakeLine.effect c.args.taker.now a x)
 
-pub returns-in_default-clause-stopped : goal.returns-in_default-clause-stopped
-returns-in_default-clause-stopped g c = reading_not_begun g.T.TakeLine.effect c.args.taker.now (g.R.Read.remaining c.args.input.now) (g.R.Read.remaining c.args.input.now) (g.W.Write.contents c.args.output.now)
+pub returns-in_err-chunk-clause-stopped : goal.returns-in_err-chunk-clause-stopped
+returns-in_err-chunk-clause-stopped g c =
+    let p = err_from_is_err_and c.from_residual.result c.from_residual.ensures.1 in
+    err_is _ c.from_residual.result p.0 (OutOfMemory (Allocator no_memory)) p.1 (cc p.2)
+    (reading_not_begun g.T.TakeLine.effect c.args.taker.now _ (g.R.Read.remaining c.args.input.now) (g.R.Read.remaining c.args.input.now) (g.W.Write.contents c.args.output.now))
 
 pub returns-in_err-take_read-in-Ok-read-clause-stopped : goal.returns-in_err-take_read-in-Ok-read-clause-stopped
 returns-in_err-take_read-in-Ok-read-clause-stopped g c =
-    let p = err_from_is_err_and c.from_residual.result c.from_residual.ensures.1 in
+    let p = err_from_is_err_and c.from_residual-in_err-take_read-in-Ok-read.result c.from_residual-in_err-take_read-in-Ok-read.ensures.1 in
     let stop = c.in_err-take_read-in-Ok-read.field-0.0 in
-    err_is _ c.from_residual.result p.0 stop p.1 (cc p.2)
+    err_is _ c.from_residual-in_err-take_read-in-Ok-read.result p.0 stop p.1 (cc p.2)
     (reading_stopped g.T.TakeLine.effect c.args.taker.now _ _ _ _ _ _ _ (within c.reads.reader c.reads.taker) _ stop c.reads.invariant c.in-Ok-read.ensures.bytes.0 c.in_err-take_read-in-Ok-read.ensures.err)
 
 pub returns-in-Err-clause-stopped : goal.returns-in-Err-clause-stopped

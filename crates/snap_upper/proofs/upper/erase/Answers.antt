@@ -1,5 +1,6 @@
 use Rattle.std.proofs.Common.{◌≡◌, ◌⊎◌, true, false, Err, sym, ap, subst, ◌∙◌}
 use Rattle.std.specs.Prelude.{is_some, not}
+use Rattle.snap_path.specs.Memory.{no_memory}
 use Rattle.snap_layer.specs.declared.error.LayerError.{LayerError}
 use Rattle.snap_layer.specs.declared.node.Node.TheVariants.{Whiteout}
 use Rattle.snap_layer.specs.Tree.{Tree, at}
@@ -25,7 +26,7 @@ returns-in-Err-clause-error c =
     let p = c.args.path.now in
     let some : is_some (at u p) ≡ true = ap is_some (sym c.at.ensures) ∙ c.is_none.ensures ∙ ap not c.if-is_none.false in
     let covers : is_some (below u ls p) ≡ true = sym c.requires.covers ∙ c.if-covers.true in
-    subst (λ (t : Tree). (c.from.result ≡ OutOfMemory) ⊎ (limited t ≡ Err c.from.result)) (sym (erased_covered u ls p c.show_is_layer.ensures.layer some covers))
+    subst (λ (t : Tree). (c.from.result ≡ OutOfMemory no_memory) ⊎ (limited t ≡ Err c.from.result)) (sym (erased_covered u ls p c.show_is_layer.ensures.layer some covers))
     (edit_refused c.in-Err.error c.from.result (with_node u p Whiteout) c.from.ensures (λ full. c.in-Err.ensures.full.0 (ap (λ (x : LayerError). Err x) full)))
 
 pub returns-then-covers-clause-ok : goal.returns-then-covers-clause-ok

@@ -1,4 +1,5 @@
 use Rattle.std.proofs.Common.{◌≡◌, ◌⊎◌, Err, subst, sym, ap, ◌∙◌}
+use Rattle.snap_path.specs.Memory.{no_memory}
 use Rattle.snap_merge.specs.declared.error.FsError.TheVariants.{OutOfMemory}
 use Rattle.snap_usage.specs.declared.usage.Usage.{Usage}
 use Rattle.snap_book.specs.Active.{ActiveValue}
@@ -13,8 +14,8 @@ returns-in-Err-apply-clause-charged g c =
     let mid = c.charge.new.active in
     let e = c.in-Err-apply.error in
     let failed = c.in-Err-apply.ensures.error in
-    let at : (e ≡ OutOfMemory) ⊎ (worked c.args.op.now mid.share.usage old.layer old.lowers ≡ Err e) =
-    subst (λ (a : ActiveValue). (e ≡ OutOfMemory) ⊎ (worked c.args.op.now a.share.usage a.layer a.lowers ≡ Err e)) c.in-Ok.ensures.share failed in
+    let at : (e ≡ OutOfMemory no_memory) ⊎ (worked c.args.op.now mid.share.usage old.layer old.lowers ≡ Err e) =
+    subst (λ (a : ActiveValue). (e ≡ OutOfMemory no_memory) ⊎ (worked c.args.op.now a.share.usage a.layer a.lowers ≡ Err e)) c.in-Ok.ensures.share failed in
     let memory = only_memory old.share.usage c.args.need c.args.want mid.share.usage c.args.op.now old.layer old.lowers e c.requires c.in-Ok.ensures.amount at in
     let same = c.in-Err-apply.ensures.unchanged in
     let share = ap (λ (a : ActiveValue). a.share.usage) same in (

@@ -1,8 +1,7 @@
-use Rattle.std.proofs.Common.{length, ap, ◌∙◌}
+use Rattle.std.proofs.Common.{inl, length, ap, ◌∙◌}
 use Rattle.std.proofs.lemmas.List.{length-map}
-use Rattle.snap_call.specs.declared.refusal.Refusal.TheVariants.{OutOfMemory}
 use Rattle.snap_writers.specs.Jobs.{jobs_of}
 use Rattle.snap_writers.proofs.threads.without_thread.Goals as goal
 
 pub returns : goal.returns
-returns c = record { ends = ap length c.requires ∙ length-map (jobs_of c.args.jobs.now c.args.worker c.args.workers) _; session = (OutOfMemory, c.requires) }
+returns c = record { ends = ap length c.requires ∙ length-map (jobs_of c.args.jobs.now c.args.worker c.args.workers) _; session = inl c.requires }

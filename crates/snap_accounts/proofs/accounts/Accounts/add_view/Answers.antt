@@ -1,4 +1,4 @@
-use Rattle.std.proofs.Common.{◌≡◌, ◌+◌, List, refl, sym, ap, ◌∙◌, subst}
+use Rattle.std.proofs.Common.{◌≡◌, ◌+◌, List, refl, sym, ap, ◌∙◌, subst, arith}
 use Rattle.snap_record.specs.declared.record.Record.{Record}
 use Rattle.snap_call.specs.declared.state.State.{State}
 use Rattle.snap_call.specs.Good.{Good}
@@ -12,7 +12,7 @@ use Rattle.snap_accounts.proofs.accounts.Accounts.add_view.Goals as goal
 pub invariant_of-self : goal.invariant_of-self
 invariant_of-self g c =
     let s = c.self.inside.state in
-    let same : c.insert.new.self ≡ s.records = c.in_default.ensures.err in
+    let same : c.insert.new.self ≡ s.records = c.in-Err.ensures.err in
     accounts_same s (record s { records = c.insert.new.self }) c.self.inside.totals c.self.inside.slots c.self.inside.opened c.self.invariant
     (subst (λ (l : List Record). Good (record s { records = l })) (sym same) c.self.invariant.good)
     refl same
@@ -21,10 +21,14 @@ pub invariant_of-self-2 : goal.invariant_of-self-2
 invariant_of-self-2 g c =
     let s = c.self.inside.state in
     let new : IsNewView s c.args.snapshot = subst (λ (u : State). IsNewView u c.args.snapshot) (sym c.self.view_is) c.requires.possible in
-    subst (λ (l : List Record). AreAccounts (record s { records = l; next_id = s.next_id + 1; entries = s.entries + 1 }) c.self.inside.totals c.self.inside.slots c.self.inside.opened) (sym c.in-Ok.ensures.ok)
+    subst (λ (l : List Record). AreAccounts (record s { records = l; next_id = s.next_id + 1; entries = s.entries + 1 }) c.self.inside.totals c.self.inside.slots c.self.inside.opened) (sym c.in_default.ensures.ok)
     (accounts_viewed s c.self.inside.totals c.self.inside.slots c.self.inside.opened c.args.snapshot c.self.invariant new)
 
 pub returns-clause-open : goal.returns-clause-open
 returns-clause-open g c =
     let s = c.self.inside.state in
-    ap open_count c.in-Ok.ensures.ok ∙ (open_count-view c.args.snapshot _ c.requires.possible.view s.records ∙ ap (λ (u : State). open_count u.records) c.self.view_is)
+    ap open_count c.in_default.ensures.ok ∙ (open_count-view c.args.snapshot _ c.requires.possible.view s.records ∙ ap (λ (u : State). open_count u.records) c.self.view_is)
+
+pub insert-requires-clause-few : goal.insert-requires-clause-few
+insert-requires-clause-few g c =
+    omega (arith, c.self.invariant.good.fewer, ap (λ (u : State). u.next_id) c.self.view_is, c.requires.possible.site.numbers)

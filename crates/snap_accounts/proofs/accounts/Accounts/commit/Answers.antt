@@ -1,4 +1,4 @@
-use Rattle.std.proofs.Common.{◌≡◌, ◌+◌, ◌-◌, List, set, Some, true, false, refl, sym, ap, ◌∙◌, subst, arith}
+use Rattle.std.proofs.Common.{◌≡◌, ◌+◌, ◌-◌, List, set, Some, IsSome, is_some, true, false, refl, sym, ap, ◌∙◌, subst, arith}
 use Rattle.snap_usage.specs.declared.usage.Usage.{Usage}
 use Rattle.snap_usage.specs.Counted.{Covers, count_of}
 use Rattle.snap_layer.specs.Tree.{Tree}
@@ -48,7 +48,7 @@ returns-clause-open g c =
     let slot = c.args.share.slot in
     let same = c.self.view_is ∙ c.meet-held.ensures.same in
     let found = charge_at-issued slot s.records (ap (λ (u : State). (charge_at slot u.records).issued) same ∙ c.meet-held.ensures.met.0) in
-    let done = committed_from c.slot-slot.result slot c.args.name c.args.lease.now c.args.layer s c.commit.new.self found.0 c.slot-slot.ensures found.1 c.in-Ok.ensures.ok in
+    let done = committed_from c.slot-slot.result slot c.args.name c.args.lease.now c.args.layer s c.commit.new.self found.0 c.slot-slot.ensures found.1 c.in_default.ensures.ok in
     ap (λ (u : State). open_count u.records + 1) done ∙ (open_count-committed slot c.args.name c.args.layer (s.entries + 1) s.records found.0 found.1 ∙ ap (λ (u : State). open_count u.records) same)
 
 pub invariant_of-self-2 : goal.invariant_of-self-2
@@ -69,7 +69,7 @@ invariant_of-self-2 g c =
     let after : c.total_with-after.result ≡ charge_with r (count_of layer) s.records = c.total_with-after.ensures ∙ (λ i. plus (minus (charge_of (place i) (sym c.self.view_is i).records) (sym held i)) (count i)) in
     let free : has_key r.namespace name s.records ≡ false =
     ap (λ (o : Option Record). has_key (place_if o) name s.records) (sym e) ∙ (ap (λ (u : State). has_key (place_if (active_at slot u.records)) name u.records) same ∙ c.requires.free) in
-    let done = committed_from c.slot-slot.result slot name lease layer s c.commit.new.self r c.slot-slot.ensures e c.in-Ok.ensures.ok in
+    let done = committed_from c.slot-slot.result slot name lease layer s c.commit.new.self r c.slot-slot.ensures e c.in_default.ensures.ok in
     let less = open_count-committed slot name layer (s.entries + 1) s.records r e in
     let good = good_committed s slot name lease layer r c.self.invariant.good e free (subst (λ (u : Usage). Covers u (count_of layer)) (sym own) c.requires.covers) in
     subst (λ (u : State). AreAccounts (record u { entries = s.entries + 1 }) c.set.new.self c.spend.new.self (c.self.inside.opened - 1)) (sym done)
@@ -79,3 +79,14 @@ invariant_of-self-2 g c =
     (omega (arith, less, c.self.invariant.open_are))
     (c.set.ensures ∙ (λ i. set c.self.inside.totals (place i) (after i)))
     (c.spend.ensures.charges ∙ ap (λ (x : ShareState). set c.self.inside.slots x.slot (free_charge x.slot)) c.meet-held.ensures.share))
+
+pub commit-requires-clause-open : goal.commit-requires-clause-open
+commit-requires-clause-open g c =
+    let s = c.self.inside.state in
+    let slot = c.args.share.slot in
+    let same = c.self.view_is ∙ c.meet-held.ensures.same in
+    let found = charge_at-issued slot s.records (ap (λ (u : State). (charge_at slot u.records).issued) same ∙ c.meet-held.ensures.met.0) in
+    subst (λ k. IsSome (active_at k s.records)) (sym c.slot-slot.ensures) (ap is_some found.1)
+
+pub commit-requires-clause-few : goal.commit-requires-clause-few
+commit-requires-clause-few g c = omega (arith, c.self.invariant.good.fewer, c.self.ranges)

@@ -18,7 +18,7 @@ as_charge slot id u = record { slot = slot; id = id; usage = u; issued = true }
 pub invariant_of-self : goal.invariant_of-self
 invariant_of-self g c =
     let s = c.self.inside.state in
-    let same : c.insert.new.self ≡ s.records = c.in_default.ensures.err in
+    let same : c.insert.new.self ≡ s.records = c.in-Err.ensures.err in
     accounts_same s (record s { records = c.insert.new.self }) c.self.inside.totals c.self.inside.slots c.self.inside.opened c.self.invariant
     (subst (λ (l : List Record). Good (record s { records = l })) (sym same) c.self.invariant.good)
     refl same
@@ -44,7 +44,7 @@ invariant_of-self-2 g c =
     let labels = c.args.added.labels in
     let view : s ≡ c.args.self.now = c.self.view_is in
     let made : c.args.added ≡ new_active s place key parent labels slot = c.requires.added ∙ ap (λ (u : State). new_active u place key parent labels slot) (sym view) in
-    let is : c.insert.new.self ≡ with_record (new_active s place key parent labels slot) s.records = c.in-Ok.ensures.ok ∙ ap (λ (r : Record). with_record r s.records) made in
+    let is : c.insert.new.self ≡ with_record (new_active s place key parent labels slot) s.records = c.in_default.ensures.ok ∙ ap (λ (r : Record). with_record r s.records) made in
     let total : c.total.result ≡ charge_of place s.records = c.total.ensures.total ∙ ap (λ (u : State). charge_of place u.records) (sym view) in
     let after : c.sum-after.result ≡ plus (charge_of place s.records) one = c.sum-after.ensures ∙ (λ i. plus (total i) (c.one.ensures i)) in
     accounts_prepared s c.self.inside.totals c.set.new.self c.self.inside.slots c.issue.new.self c.self.inside.opened place slot key parent labels c.insert.new.self c.self.invariant
@@ -69,5 +69,9 @@ returns-clause-open g c =
     let labels = c.args.added.labels in
     let view : s ≡ c.args.self.now = c.self.view_is in
     let made : c.args.added ≡ new_active s place key parent labels slot = c.requires.added ∙ ap (λ (u : State). new_active u place key parent labels slot) (sym view) in
-    let is : c.insert.new.self ≡ with_record (new_active s place key parent labels slot) s.records = c.in-Ok.ensures.ok ∙ ap (λ (r : Record). with_record r s.records) made in
+    let is : c.insert.new.self ≡ with_record (new_active s place key parent labels slot) s.records = c.in_default.ensures.ok ∙ ap (λ (r : Record). with_record r s.records) made in
     open_count-prepared s place key parent labels slot c.insert.new.self is ∙ ap (λ (u : State). open_count u.records + 1) view
+
+pub insert-requires-clause-few : goal.insert-requires-clause-few
+insert-requires-clause-few g c =
+    omega (arith, c.self.invariant.good.fewer, ap (λ (u : State). u.next_id) c.self.view_is, c.requires.vacant.site.numbers)

@@ -1,6 +1,7 @@
 use Rattle.std.proofs.Common.{◌≡◌, ◌<◌, false, length, sym, ap, ◌∙◌, subst, arith, rules}
 use Rattle.snap_call.specs.Records.{has_key, with_record}
 use Rattle.snap_call.specs.Spaces.{AreOrdered, joined}
+use Rattle.snap_call.proofs.Lengths.{length-joined}
 use Rattle.snap_call.proofs.Spaces.{ordered-grown, added-of, added-absent, put-added, ordered-added}
 use Rattle.snap_call.proofs.ordered.Ordered.insert.Goals as goal
 
@@ -8,7 +9,7 @@ pub insert-requires-clause-of : goal.insert-requires-clause-of
 insert-requires-clause-of c =
     let rss = c.grow.new.spaces.items in
     let o : AreOrdered rss c.self.inside.count = ordered-grown c.self.inside.spaces.items rss c.self.inside.count c.self.invariant c.grow.ensures.from c.grow.ensures.same in
-    let lt : c.args.added.namespace < length rss = omega (arith, c.in-Ok.ensures.room, c.grow.new.spaces.ok.0) in
+    let lt : c.args.added.namespace < length rss = omega (arith, c.in_default.ensures.room, c.grow.new.spaces.ok.0) in
     added-of rss c.self.inside.count o c.args.added lt c.index_mut-space.result.now c.index_mut-space.ensures.value
 
 pub insert-requires-clause-absent : goal.insert-requires-clause-absent
@@ -16,17 +17,23 @@ insert-requires-clause-absent c =
     let r = c.args.added in
     let rss = c.grow.new.spaces.items in
     let o : AreOrdered rss c.self.inside.count = ordered-grown c.self.inside.spaces.items rss c.self.inside.count c.self.invariant c.grow.ensures.from c.grow.ensures.same in
-    let lt : r.namespace < length rss = omega (arith, c.in-Ok.ensures.room, c.grow.new.spaces.ok.0) in
-    let none : has_key r.namespace r.key (joined rss) ≡ false = ap (has_key r.namespace r.key) (c.grow.ensures.same ∙ c.self.view_is) ∙ c.requires in
+    let lt : r.namespace < length rss = omega (arith, c.in_default.ensures.room, c.grow.new.spaces.ok.0) in
+    let none : has_key r.namespace r.key (joined rss) ≡ false = ap (has_key r.namespace r.key) (c.grow.ensures.same ∙ c.self.view_is) ∙ c.requires.new in
     added-absent rss c.self.inside.count o r lt c.index_mut-space.result.now c.index_mut-space.ensures.value none
+
+pub insert-requires-clause-few : goal.insert-requires-clause-few
+insert-requires-clause-few c =
+    let rss = c.grow.new.spaces.items in
+    let lt : c.args.added.namespace < length rss = omega (arith, c.in_default.ensures.room, c.grow.new.spaces.ok.0) in
+    omega (arith, ap length c.index_mut-space.ensures.value, length-joined rss c.args.added.namespace c.index_mut-space.result.now lt, ap length (c.grow.ensures.same ∙ c.self.view_is), c.requires.few)
 
 pub invariant_of-self-2 : goal.invariant_of-self-2
 invariant_of-self-2 c =
     let r = c.args.added in
     let rss = c.grow.new.spaces.items in
     let o : AreOrdered rss c.self.inside.count = ordered-grown c.self.inside.spaces.items rss c.self.inside.count c.self.invariant c.grow.ensures.from c.grow.ensures.same in
-    let lt : r.namespace < length rss = omega (arith, c.in-Ok.ensures.room, c.grow.new.spaces.ok.0) in
-    let none : has_key r.namespace r.key (joined rss) ≡ false = ap (has_key r.namespace r.key) (c.grow.ensures.same ∙ c.self.view_is) ∙ c.requires in
+    let lt : r.namespace < length rss = omega (arith, c.in_default.ensures.room, c.grow.new.spaces.ok.0) in
+    let none : has_key r.namespace r.key (joined rss) ≡ false = ap (has_key r.namespace r.key) (c.grow.ensures.same ∙ c.self.view_is) ∙ c.requires.new in
     subst (AreOrdered _) (sym (search rules)) (ordered-added rss c.self.inside.count o r lt c.index_mut-space.result.now c.index_mut-space.ensures.value c.insert.new.self c.in_ok-insert.ensures.ok none)
 
 pub returns-clause-ok : goal.returns-clause-ok
@@ -34,6 +41,6 @@ returns-clause-ok c =
     let r = c.args.added in
     let rss = c.grow.new.spaces.items in
     let o : AreOrdered rss c.self.inside.count = ordered-grown c.self.inside.spaces.items rss c.self.inside.count c.self.invariant c.grow.ensures.from c.grow.ensures.same in
-    let lt : r.namespace < length rss = omega (arith, c.in-Ok.ensures.room, c.grow.new.spaces.ok.0) in
+    let lt : r.namespace < length rss = omega (arith, c.in_default.ensures.room, c.grow.new.spaces.ok.0) in
     put-added rss c.self.inside.count o r lt c.index_mut-space.result.now c.index_mut-space.ensures.value c.insert.new.self c.in_ok-insert.ensures.ok
     ∙ ap (with_record r) (c.grow.ensures.same ∙ c.self.view_is)

@@ -2,54 +2,38 @@ use Rattle.std.proofs.Common.{◌∙◌, ◌≡◌, ◌+◌, ◌<◌, ◌^◌, N
 use Rattle.std.specs.BTreeMap.{get_by_text}
 use Rattle.std.specs.Option.{option_copied_mut}
 use Rattle.snap_counts.specs.Counts.{count_in}
-use Rattle.snap_counts.proofs.Reading.{IsSound-Sets, Sets-inserted, Sets-written, count-by_bytes, counts_step, more_some, no_sum, sum_is, zero_in}
+use Rattle.snap_counts.proofs.Reading.{IsSound-Sets, Sets-inserted, Sets-written, count-by_bytes, counts_step, more_some, zero_in}
 use Rattle.snap_counts.proofs.counts.Counts.add.Goals as goal
+
+pub overflow_add-number : goal.overflow_add-number
+overflow_add-number c =
+    let read : c.in-Some.number.now ≡ unwrap_or (get_by_text c.self.inside.map c.args.text.now) 0 = ap (λ o. unwrap_or o 0) c.in-Some.ensures.value in
+    let is : c.in-Some.number.now ≡ count_in c.args.text.now c.args.self.now = read ∙ sym (count-by_bytes c.args.text.now c.self.inside.map) ∙ ap (count_in c.args.text.now) c.self.view_is in
+    omega (arith, is, c.requires)
 
 pub invariant_of-self : goal.invariant_of-self
 invariant_of-self c =
     let m = c.self.inside.map in
     let n = c.in-Some.number.now in
-    let sets = Sets-written m (c.get_mut.follows.lender n) c.args.text.now n n c.in-Some.ensures.value (c.get_mut.follows.holds n).3 in
-    IsSound-Sets m (c.get_mut.follows.lender n) c.args.text.now (Some n) sets (λ e. c.self.invariant c.args.text.now (sym c.in-Some.ensures.value ∙ e)) c.self.invariant
-
-pub returns-in_default-checked_add-clause-there : goal.returns-in_default-checked_add-clause-there
-returns-in_default-checked_add-clause-there c = λ some fits.
-    let read : c.in-Some.number.now ≡ unwrap_or (get_by_text c.self.inside.map c.args.text.now) 0 = ap (λ o. unwrap_or o 0) c.in-Some.ensures.value in
-    let is : c.in-Some.number.now ≡ count_in c.args.text.now c.args.self.now = read ∙ sym (count-by_bytes c.args.text.now c.self.inside.map) ∙ ap (count_in c.args.text.now) c.self.view_is in
-    absurd (no_sum c.checked_add.result (c.in-Some.number.now + 1 < 2 ^ 64) (c.in-Some.number.now + 1) c.checked_add.ensures c.in_default-checked_add.is (omega (arith, is, fits)))
-
-pub returns-in_default-checked_add-clause-err : goal.returns-in_default-checked_add-clause-err
-returns-in_default-checked_add-clause-err c =
-    let m = c.self.inside.map in
-    let n = c.in-Some.number.now in
-    let sets = Sets-written m (c.get_mut.follows.lender n) c.args.text.now n n c.in-Some.ensures.value (c.get_mut.follows.holds n).3 in
-    counts_step (λ a b. a) (λ a. refl) m (c.get_mut.follows.lender n) c.args.self.now c.args.text.now (Some n) c.self.view_is sets (ap (λ o. unwrap_or o 0) c.in-Some.ensures.value)
-
-pub invariant_of-self-in-Some : goal.invariant_of-self-in-Some
-invariant_of-self-in-Some c =
-    let m = c.self.inside.map in
-    let n = c.in-Some.number.now in
-    let is : c.in-Some-checked_add.more ≡ n + 1 = sum_is c.checked_add.result (n + 1 < 2 ^ 64) (n + 1) c.in-Some-checked_add.more c.checked_add.ensures c.in-Some-checked_add.is in
     IsSound-Sets m (c.get_mut.follows.lender _) c.args.text.now (Some _) (Sets-written m (c.get_mut.follows.lender _) c.args.text.now n _ c.in-Some.ensures.value (c.get_mut.follows.holds _).3)
-    (more_some n _ (omega (arith, is))) c.self.invariant
+    (more_some n (n + 1) refl) c.self.invariant
 
 pub returns-in-Some-clause-ok : goal.returns-in-Some-clause-ok
 returns-in-Some-clause-ok c =
     let m = c.self.inside.map in
     let n = c.in-Some.number.now in
-    let is : c.in-Some-checked_add.more ≡ n + 1 = sum_is c.checked_add.result (n + 1 < 2 ^ 64) (n + 1) c.in-Some-checked_add.more c.checked_add.ensures c.in-Some-checked_add.is in
     let read : n ≡ unwrap_or (get_by_text m c.args.text.now) 0 = ap (λ o. unwrap_or o 0) c.in-Some.ensures.value in
     counts_step (λ a b. a + b) (λ a. omega arith) m (c.get_mut.follows.lender _) c.args.self.now c.args.text.now (Some _) c.self.view_is
-    (Sets-written m (c.get_mut.follows.lender _) c.args.text.now n _ c.in-Some.ensures.value (c.get_mut.follows.holds _).3) (omega (arith, is, read))
+    (Sets-written m (c.get_mut.follows.lender _) c.args.text.now n _ c.in-Some.ensures.value (c.get_mut.follows.holds _).3) (omega (arith, read))
 
 pub returns-in_err-key-clause-there : goal.returns-in_err-key-clause-there
-returns-in_err-key-clause-there c = λ some fits.
+returns-in_err-key-clause-there c = λ some.
     let absent : get_by_text c.self.inside.map c.args.text.now ≡ None = sym c.get_mut.ensures.value ∙ ap option_copied_mut c.in_default.is in
     let none = zero_in c.self.inside.map c.args.self.now c.args.text.now c.self.view_is absent in
     absurd (omega (arith, none, some))
 
 pub returns-in_err-insert-clause-there : goal.returns-in_err-insert-clause-there
-returns-in_err-insert-clause-there c = λ some fits.
+returns-in_err-insert-clause-there c = λ some.
     let absent : get_by_text c.self.inside.map c.args.text.now ≡ None = sym c.get_mut.ensures.value ∙ ap option_copied_mut c.in_default.is in
     let none = zero_in c.self.inside.map c.args.self.now c.args.text.now c.self.view_is absent in
     absurd (omega (arith, none, some))

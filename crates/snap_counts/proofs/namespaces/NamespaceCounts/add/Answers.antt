@@ -23,7 +23,15 @@ returns-in-Some-clause-there c =
     let text = c.args.text.now in
     let is : count_in text c.in-Some.counts.now ≡ count_within space text c.args.self.now =
     ap (λ o. count_in text (unwrap_or o [])) c.in-Some.ensures.value ∙ sym (count_within-by_bytes space text c.self.inside.map) ∙ ap (count_within space text) c.self.view_is in
-    λ some fits. c.add.ensures.there (omega (arith, is, some)) (omega (arith, is, fits))
+    λ some. c.add.ensures.there (omega (arith, is, some))
+
+pub add-requires : goal.add-requires
+add-requires c =
+    let space = c.args.namespace.now in
+    let text = c.args.text.now in
+    let is : count_in text c.in-Some.counts.now ≡ count_within space text c.args.self.now =
+    ap (λ o. count_in text (unwrap_or o [])) c.in-Some.ensures.value ∙ sym (count_within-by_bytes space text c.self.inside.map) ∙ ap (count_within space text) c.self.view_is in
+    omega (arith, is, c.requires)
 
 pub returns-in-Some-clause-err : goal.returns-in-Some-clause-err
 returns-in-Some-clause-err c =
@@ -36,19 +44,19 @@ returns-in-Some-clause-err c =
     c.add.ensures.err
 
 pub returns-in_err-key-clause-there : goal.returns-in_err-key-clause-there
-returns-in_err-key-clause-there c = λ some fits.
+returns-in_err-key-clause-there c = λ some.
     let absent : get_by_text c.self.inside.map c.args.namespace.now ≡ None = sym c.get_mut.ensures.value ∙ ap option_copied_mut c.in_default.is in
     let none = zero_within c.self.inside.map c.args.self.now c.args.namespace.now c.args.text.now c.self.view_is absent in
     absurd (omega (arith, none, some))
 
 pub returns-in_err-add-clause-there : goal.returns-in_err-add-clause-there
-returns-in_err-add-clause-there c = λ some fits.
+returns-in_err-add-clause-there c = λ some.
     let absent : get_by_text c.self.inside.map c.args.namespace.now ≡ None = sym c.get_mut.ensures.value ∙ ap option_copied_mut c.in_default.is in
     let none = zero_within c.self.inside.map c.args.self.now c.args.namespace.now c.args.text.now c.self.view_is absent in
     absurd (omega (arith, none, some))
 
 pub returns-in_err-insert-clause-there : goal.returns-in_err-insert-clause-there
-returns-in_err-insert-clause-there c = λ some fits.
+returns-in_err-insert-clause-there c = λ some.
     let absent : get_by_text c.self.inside.map c.args.namespace.now ≡ None = sym c.get_mut.ensures.value ∙ ap option_copied_mut c.in_default.is in
     let none = zero_within c.self.inside.map c.args.self.now c.args.namespace.now c.args.text.now c.self.view_is absent in
     absurd (omega (arith, none, some))

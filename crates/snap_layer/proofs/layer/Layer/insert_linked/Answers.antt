@@ -16,7 +16,7 @@ pub invariant_of-self-2 : goal.invariant_of-self-2
 invariant_of-self-2 c =
     let is : c.put_linked.new.self ≡ with_linked c.args.self.now c.args.path.now c.args.link.now c.args.body = c.in_ok-put_linked.ensures.ok ∙ ap (λ (u : Tree). with_linked u c.args.path.now c.args.link.now c.args.body) c.self.view_is in
     let had : path_count c.args.self.now < c.self.inside.totals.paths = subst (λ (u : Tree). path_count u < c.self.inside.totals.paths) c.self.view_is c.self.invariant.paths in
-    subst (Counts _) (sym is) (linked_counts c.args.self.now c.show_is_layer.ensures.layer c.args.path.now c.args.link.now c.requires.rooms c.args.body _ c.self.inside.totals.paths had c.in-Some.ensures.1 c.requires.count (omega (arith, c.requires.blocks, c.blocks-2.ensures)))
+    subst (Counts _) (sym is) (linked_counts c.args.self.now c.show_is_layer.ensures.layer c.args.path.now c.args.link.now c.requires.rooms c.args.body _ c.self.inside.totals.paths had c.in_ok-paths.ensures c.requires.count (omega (arith, c.requires.blocks, c.blocks-2.ensures)))
 
 pub put_linked-requires-clause-rooms : goal.put_linked-requires-clause-rooms
 put_linked-requires-clause-rooms c = subst (λ u. HasRooms u c.args.path.now c.args.link.now) (sym c.self.view_is) c.requires.rooms
@@ -31,7 +31,7 @@ pub invariant_of-self : goal.invariant_of-self
 invariant_of-self c = subst (Counts c.self.inside.totals) (sym c.in_err-put_linked.ensures.err) c.self.invariant
 
 pub returns-in_err-put_linked-clause-err : goal.returns-in_err-put_linked-clause-err
-returns-in_err-put_linked-clause-err c = on_err_by c.from_residual.result (c.in_err-put_linked.ensures.err ∙ c.self.view_is)
+returns-in_err-put_linked-clause-err c = on_err_by c.from_residual-in_err-put_linked.result (c.in_err-put_linked.ensures.err ∙ c.self.view_is)
 
 pub returns-clause-ok : goal.returns-clause-ok
 returns-clause-ok c = c.in_ok-put_linked.ensures.ok ∙ ap (λ u. with_linked u c.args.path.now c.args.link.now c.args.body) c.self.view_is

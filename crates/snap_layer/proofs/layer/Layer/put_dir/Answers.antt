@@ -25,7 +25,7 @@ invariant_of-self-2 c =
     let ok : IsLayer c.args.self.now = c.paths_at.ensures.layer in
     let free = with_node-free c.args.self.now ok c.args.path.now (node.Dir c.args.mode c.args.opaque) c.requires.room.free in
     let is : c.put_dir.new.self ≡ with_node c.args.self.now c.args.path.now (node.Dir c.args.mode c.args.opaque) = c.in_ok-put_dir.ensures.ok ∙ ap (λ u. with_entry u c.args.path.now (node.Dir c.args.mode c.args.opaque)) c.self.view_is ∙ sym free in
-    subst (Counts _) (sym is) (counts_node c.args.self.now ok c.args.path.now _ c.in-Some.ensures.paths (node.Dir c.args.mode c.args.opaque) (c.requires.count) (omega (arith, c.requires.blocks)))
+    subst (Counts _) (sym is) (counts_node c.args.self.now ok c.args.path.now _ c.in_ok-paths.ensures.paths (node.Dir c.args.mode c.args.opaque) (c.requires.count) (omega (arith, c.requires.blocks)))
 
 pub returns-clause-ok : goal.returns-clause-ok
 returns-clause-ok c =
@@ -44,7 +44,7 @@ pub invariant_of-self : goal.invariant_of-self
 invariant_of-self c = subst (Counts c.self.inside.totals) (sym c.in_err-put_dir.ensures.err) c.self.invariant
 
 pub returns-in_err-put_dir-clause-err : goal.returns-in_err-put_dir-clause-err
-returns-in_err-put_dir-clause-err c = on_err_by c.from_residual.result (c.in_err-put_dir.ensures.err ∙ c.self.view_is)
+returns-in_err-put_dir-clause-err c = on_err_by c.from_residual-in_err-put_dir.result (c.in_err-put_dir.ensures.err ∙ c.self.view_is)
 
 pub returns-clause-err : goal.returns-clause-err
 returns-clause-err c = tt

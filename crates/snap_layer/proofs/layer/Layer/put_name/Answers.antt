@@ -24,7 +24,7 @@ invariant_of-self-2 c =
     let there = body_some c.args.self.now c.args.number c.requires.there in
     let b = name_becomes c.args.self.now ok c.args.path.now c.names.ensures.valid c.requires.place c.args.number there.0 c.requires.apart there.1 in
     let is : c.put_name.new.self ≡ with_node c.args.self.now c.args.path.now (leaf_node c.args.number there.0) = c.in_ok-put_name.ensures.ok there.0 (ap (λ u. body u c.args.number) c.self.view_is ∙ there.1) ∙ ap (λ u. with_node u c.args.path.now (leaf_node c.args.number there.0)) c.self.view_is in
-    subst (Counts _) (sym is) (counts_node c.args.self.now ok c.args.path.now _ c.in-Some.ensures.paths (leaf_node c.args.number there.0) (c.requires.count ∙ b.count) (omega (arith, c.requires.blocks, name_no_dir c.args.number there.0)))
+    subst (Counts _) (sym is) (counts_node c.args.self.now ok c.args.path.now _ c.in_ok-paths.ensures.paths (leaf_node c.args.number there.0) (c.requires.count ∙ b.count) (omega (arith, c.requires.blocks, name_no_dir c.args.number there.0)))
 
 pub returns-clause-ok : goal.returns-clause-ok
 returns-clause-ok c =
@@ -45,10 +45,10 @@ pub invariant_of-self : goal.invariant_of-self
 invariant_of-self c = subst (Counts c.self.inside.totals) (sym c.in_err-put_name.ensures.err) c.self.invariant
 
 pub returns-in_err-put_name-clause-sure : goal.returns-in_err-put_name-clause-sure
-returns-in_err-put_name-clause-sure c = on_err_by c.from_residual.result (ap (λ u. at u c.args.path.now) (sym c.self.view_is) ∙ c.in_err-put_name.ensures.sure)
+returns-in_err-put_name-clause-sure c = on_err_by c.from_residual-in_err-put_name.result (ap (λ u. at u c.args.path.now) (sym c.self.view_is) ∙ c.in_err-put_name.ensures.sure)
 
 pub returns-in_err-put_name-clause-err : goal.returns-in_err-put_name-clause-err
-returns-in_err-put_name-clause-err c = on_err_by c.from_residual.result (c.in_err-put_name.ensures.err ∙ c.self.view_is)
+returns-in_err-put_name-clause-err c = on_err_by c.from_residual-in_err-put_name.result (c.in_err-put_name.ensures.err ∙ c.self.view_is)
 
 pub returns-clause-sure : goal.returns-clause-sure
 returns-clause-sure c = tt

@@ -12,7 +12,7 @@ pub invariant_of-self-2 : goal.invariant_of-self-2
 invariant_of-self-2 c =
     let ok : IsLayer c.args.self.now = c.paths_at.ensures.layer in
     let is : c.whiteout.new.self ≡ with_node c.args.self.now c.args.path.now node.Whiteout = c.in_ok-whiteout.ensures.ok ∙ ap (λ u. with_node u c.args.path.now node.Whiteout) c.self.view_is in
-    subst (Counts _) (sym is) (counts_node c.args.self.now ok c.args.path.now _ c.in-Some.ensures.paths node.Whiteout (c.requires.count) (omega (arith, c.requires.blocks)))
+    subst (Counts _) (sym is) (counts_node c.args.self.now ok c.args.path.now _ c.in_ok-paths.ensures.paths node.Whiteout (c.requires.count) (omega (arith, c.requires.blocks)))
 
 pub whiteout-requires-clause-place : goal.whiteout-requires-clause-place
 whiteout-requires-clause-place c = subst (λ u. HasPlace u c.args.path.now) (sym c.self.view_is) c.requires.place
@@ -24,10 +24,10 @@ pub invariant_of-self : goal.invariant_of-self
 invariant_of-self c = subst (Counts c.self.inside.totals) (sym c.in_err-whiteout.ensures.err) c.self.invariant
 
 pub returns-in_err-whiteout-clause-sure : goal.returns-in_err-whiteout-clause-sure
-returns-in_err-whiteout-clause-sure c = on_err_by c.from_residual.result (ap (λ u. at u c.args.path.now) (sym c.self.view_is) ∙ c.in_err-whiteout.ensures.sure)
+returns-in_err-whiteout-clause-sure c = on_err_by c.from_residual-in_err-whiteout.result (ap (λ u. at u c.args.path.now) (sym c.self.view_is) ∙ c.in_err-whiteout.ensures.sure)
 
 pub returns-in_err-whiteout-clause-err : goal.returns-in_err-whiteout-clause-err
-returns-in_err-whiteout-clause-err c = on_err_by c.from_residual.result (c.in_err-whiteout.ensures.err ∙ c.self.view_is)
+returns-in_err-whiteout-clause-err c = on_err_by c.from_residual-in_err-whiteout.result (c.in_err-whiteout.ensures.err ∙ c.self.view_is)
 
 pub returns-clause-ok : goal.returns-clause-ok
 returns-clause-ok c = c.in_ok-whiteout.ensures.ok ∙ ap (λ u. with_node u c.args.path.now node.Whiteout) c.self.view_is

@@ -1,7 +1,9 @@
 use Rattle.std.proofs.Common.{◌≡◌, ℕ, ◌+◌, [], ◌∷◌, length, true, refl, sym, ap, ◌∙◌, subst}
 use Rattle.std.proofs.lemmas.Bool.{ne_eqb}
 use Rattle.std.proofs.lemmas.Result.{err_from_is_err_and}
+use Rattle.snap_path.specs.Memory.{no_memory}
 use Rattle.snap_script.specs.declared.fault.Fault.TheVariants.{TooLong}
+use Rattle.snap_script.specs.declared.fault.Shortage.TheVariants.{Allocator}
 use Rattle.snap_lines.specs.Lines.{is_open}
 use Rattle.snap_lines.specs.Runs.{Behind, within, Goes, StopsIn}
 use Rattle.snap_lines.specs.declared.stop.Stop.{Stop}
@@ -43,4 +45,4 @@ returns-then-as_slice-eq-MAX_LINE_BYTES-clause-err g c =
 pub returns-in_err-push-clause-err : goal.returns-in_err-push-clause-err
 returns-in_err-push-clause-err g c =
     let p = err_from_is_err_and c.from_residual.result c.from_residual.ensures.1 in
-    err_is _ c.from_residual.result p.0 OutOfMemory p.1 (cc p.2) (stops_before g.T.TakeLine.effect (within c.args.self.now c.args.taker.now) (c.args.b ∷ []) _ _ refl)
+    err_is _ c.from_residual.result p.0 (OutOfMemory (Allocator no_memory)) p.1 (cc p.2) (stops_before g.T.TakeLine.effect (within c.args.self.now c.args.taker.now) (c.args.b ∷ []) _ _ _ refl)

@@ -13,7 +13,7 @@ returns-clause-answered g c =
     let b = c.deref_mut.result.now in
     let after = c.do_call-reply.new.self in
     let reply = c.do_call-reply.result in
-    let room = c.in-Ok.ensures.room in
+    let room = c.in_default.ensures.room in
     let by = subst (λ (n : ℕ). AnsweredBy b after n c.args.call Nothing reply) c.number.ensures c.do_call-reply.ensures.answered in
     let e = c.entry_of.ensures
     ∙ (ap (λ (t : Bool). if t then c.deref_mut-2.result.now.copy else None) c.is_noted.ensures
