@@ -51,7 +51,7 @@ impl<N: StoreName> Active<N> {
     pub fn list(&self, path: &Path) -> Result<Vec<Name>, FsError>
         ensures ok { IfOk result (λ v. listing (self.now.layer ∷ self.now.lowers) path.now ≡ Ok v.items) }
         ensures err { IfErr result (λ e. (e ≡ OutOfMemory no_memory) ⊎ (listing (self.now.layer ∷ self.now.lowers) path.now ≡ Err e)) }
-        // Any other error comes before memory is taken.
+        // Want of memory never stands for another error.
         ensures first { IfErr (listing (self.now.layer ∷ self.now.lowers) path.now) (λ e. result ≡ Err e) }
         // A list has exactly the names at which something is seen, in order.
         ensures names { IfOk result (λ v. IsListing (self.now.layer ∷ self.now.lowers) path.now v.items) }
@@ -80,7 +80,7 @@ impl<N: StoreName> Active<N> {
     /// error before the first symlink. So is the cost.
     pub fn resolve(&self, path: &Path) -> Result<Path, FsError>
         ensures answer { Answers (resolution (self.now.layer ∷ self.now.lowers) path.now) result }
-        // An error before the first symlink comes before any memory is taken.
+        // Want of memory never stands for an error before the first symlink.
         ensures first { IfSome (plain_error (self.now.layer ∷ self.now.lowers) [] path.now) (λ e. result ≡ Err e) }
         // A path without symlinks leads to itself, and each path to what is no symlink.
         ensures rules { ResolvingRules (self.now.layer ∷ self.now.lowers) path.now }
@@ -122,8 +122,8 @@ impl<N: StoreName> Active<N> {
     ///
     /// After any of them the snapshot is as it was. The share stays, also where the layer shrinks.
     /// The cost is that of `snap_upper::apply_within`: for each name of the path a look through the
-    /// layers, the number of the layer's paths and files, and the bytes of a file that is written, or
-    /// copied up; some links and renames copy the whole layer.
+    /// layers, for each directory that is missing in the upper layer a walk to it, and the bytes of a file that
+    /// is written, cut or copied up; for a rename to a longer path also the paths that move.
     ///
     /// That a layer is charged before it is filled is our choice. A disk quota refuses a write in the
     /// same way (write(2), `EDQUOT`).
@@ -134,7 +134,7 @@ impl<N: StoreName> Active<N> {
         // Err: memory was refused, or the error is the operation's under the share; all stays.
         ensures error { IfErr result (λ e. (e ≡ OutOfMemory no_memory) ⊎ (worked op.now self.old.share.usage self.old.layer self.old.lowers ≡ Err e)) }
         ensures unchanged { OnErr result (self.new ≡ self.old) }
-        // An error of the operation under the share comes before any memory is taken.
+        // Where no names are listed, want of memory never stands for another error.
         ensures first { lists_names op.now (self.old.layer ∷ self.old.lowers) ≡ false → IfErr (worked op.now self.old.share.usage self.old.layer self.old.lowers) (λ e. result ≡ Err e) }
         // So much is asked for exactly where it is the next layer's count and the share doesn't cover it.
         ensures needs { lists_names op.now (self.old.layer ∷ self.old.lowers) ≡ false → (need : usages.Usage) → IsErrOf result (NeedsCharge need) ↔ ((planned (after op.now self.old.layer self.old.lowers) ≡ Ok (record { after = need })) × ¬ Covers self.old.share.usage need) }

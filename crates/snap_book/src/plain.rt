@@ -109,9 +109,10 @@ impl<N: StoreName> Book<N> {
     ///
     /// Its cost grows with the logarithm of the number of records, and with the texts and labels of those
     /// that are found; that of mounts and of a view with that logarithm times the ancestors, that of a walk
-    /// with the records, that of a removal with the records, the leases and the names in them, that of a call
-    /// on a lease with the leases, that of a sweep with the leases and their names, and with the records times
-    /// the logarithm of their number.
+    /// with the records that it passes over, that of a removal with the logarithm of the number of names that the
+    /// namespace's leases have too, that of a limit with the namespaces, that of a call on a lease with the
+    /// namespaces and the leases, for a release also with that logarithm times the names of the lease, that of a
+    /// sweep with the leases and their names, and with the records times the logarithm of their number.
     pub fn do_call(&mut self, session: u64, call: Call) -> Reply
         requires { IsPlain call }
         ensures answered { AnsweredBy self.old self.new session call Nothing result }

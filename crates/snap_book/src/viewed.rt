@@ -107,7 +107,7 @@ impl Viewed {
     pub fn list(&self, path: &Path) -> Result<Vec<Name>, FsError>
         ensures ok { IfOk result (λ v. listing self.now.lowers path.now ≡ Ok v.items) }
         ensures err { IfErr result (λ e. (e ≡ OutOfMemory no_memory) ⊎ (listing self.now.lowers path.now ≡ Err e)) }
-        // Any other error comes before memory is taken.
+        // Want of memory never stands for another error.
         ensures first { IfErr (listing self.now.lowers path.now) (λ e. result ≡ Err e) }
         // A list has exactly the names at which something is seen, in order.
         ensures names { IfOk result (λ v. IsListing self.now.lowers path.now v.items) }
@@ -136,7 +136,7 @@ impl Viewed {
     /// error before the first symlink. So is the cost.
     pub fn resolve(&self, path: &Path) -> Result<Path, FsError>
         ensures answer { Answers (resolution self.now.lowers path.now) result }
-        // An error before the first symlink comes before any memory is taken.
+        // Want of memory never stands for an error before the first symlink.
         ensures first { IfSome (plain_error self.now.lowers [] path.now) (λ e. result ≡ Err e) }
         // A path without symlinks leads to itself, and each path to what is no symlink.
         ensures rules { ResolvingRules self.now.lowers path.now }

@@ -114,7 +114,7 @@ impl State {
 
     /// Names the snapshot in the lease of the namespace at the place, where one is given. Takes memory
     /// for a name that is new; where that is refused, nothing changes. The cost grows with the number of
-    /// leases.
+    /// leases, and with the logarithm of the number of names that the namespace's leases have.
     fn name_in(&mut self, place: usize, name: &str, lease: &Option<Text>) -> Result<(), AllocError>
         requires place { place < length self.old.namespaces }
         requires named { has_named self.old place lease.now ≡ true }

@@ -184,7 +184,7 @@ impl<'a> Stack<'a> {
     pub fn list(&self, alloc: Global, path: &Path) -> Result<Vec<Name>, FsError>
         ensures ok { IfOk result (λ v. listing self.now path.now ≡ Ok v.items) }
         ensures err { IfErr result (λ e. (e ≡ FsError.OutOfMemory no_memory) ⊎ (listing self.now path.now ≡ Err e)) }
-        // Any other error comes before memory is taken.
+        // Want of memory never stands for another error.
         ensures first { IfErr (listing self.now path.now) (λ e. result ≡ Err e) }
         // A list has exactly the names at which something is seen, in order.
         ensures names { IfOk result (λ v. IsListing self.now path.now v.items) }
@@ -247,7 +247,7 @@ impl<'a> Stack<'a> {
     /// that the layers have in the directory.
     pub fn resolve(&self, alloc: Global, path: &Path) -> Result<Path, FsError>
         ensures answer { Answers (resolution self.now path.now) result }
-        // An error before the first symlink comes before any memory is taken.
+        // Want of memory never stands for an error before the first symlink.
         ensures first { IfSome (plain_error self.now [] path.now) (λ e. result ≡ Err e) }
         // A path without symlinks leads to itself, and each path to what is no symlink.
         ensures rules { ResolvingRules self.now path.now }

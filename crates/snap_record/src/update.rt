@@ -12,7 +12,8 @@ use std::alloc::AllocError;
 ///
 /// With no path, or with the path `labels` among them, the given labels replace all. Otherwise each
 /// path `labels.x` gives the label x its given value, or removes it where none is given: a key that
-/// is there keeps its place, a new one goes last, and a removal closes up.
+/// is there keeps its place, a new one goes last, and a removal closes up. A given value may be empty, and then
+/// stays; containerd leaves labels with an empty value out.
 ///
 /// `BadLabels`: a path of another form, an x of no bytes, or a given label without a label's form,
 /// whether a path takes it or not; or a result of more than 64 labels. `OutOfMemory`: memory was

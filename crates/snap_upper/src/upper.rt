@@ -51,15 +51,15 @@ use std::alloc::AllocError;
 ///   4,294,967,294.
 /// - `OutOfMemory`: a growth was refused, which may be found before `LayerFull` is.
 ///
-/// After any of them the layer is as it was. Cost: for each name of the path a look through the layers,
-/// and the bytes of a file that is written, cut or copied up; for a rename to a longer path also the paths that
-/// move, and for a directory that is removed or replaced the list of its names. A link or a rename also lists
+/// After any of them the layer is as it was. Cost: for each name of the path a look through the layers, for each
+/// directory that is missing in the upper layer a walk to it, and the bytes of a file that is written, cut or
+/// copied up; for a rename to a longer path also the paths that move, and for a directory that is removed or replaced the list of its names. A link or a rename also lists
 /// the paths of the directories that it adds.
 pub fn apply(layer: &mut Layer, lowers: &[Shared], op: &Op) -> Result<(), FsError>
     ensures ok { OnOk result (after op.now layer.old lowers.now ≡ Ok layer.new) }
     ensures error { IfErr result (λ e. (e ≡ FsError.OutOfMemory no_memory) ⊎ (after op.now layer.old lowers.now ≡ Err e)) }
     ensures unchanged { OnErr result (layer.new ≡ layer.old) }
-    // Each error but `LayerFull` comes before any memory is taken, but for a list of names.
+    // Where no names are listed, want of memory never stands for another error but `LayerFull`.
     ensures first { lists_names op.now (layer.old ∷ lowers.now) ≡ false → IfErr (after op.now layer.old lowers.now) (λ e. (e ≡ FsError.LayerFull) ⊎ (result ≡ Err e)) }
 
     // What `after` means for what is seen: here, and for the operation over any lower layers.
@@ -77,8 +77,8 @@ pub fn apply(layer: &mut Layer, lowers: &[Shared], op: &Op) -> Result<(), FsErro
 ///
 /// The errors are those of `apply` in the same order, `LayerFull` last; then `NeedsCharge`, with that count,
 /// where the share doesn't cover it in both quantities; then `OutOfMemory`, as `plan` may answer it, or for a
-/// growth that was refused. After any of them the layer is as it was. The cost is that of `apply`, and the
-/// number of the layer's paths and files.
+/// growth that was refused. After any of them the layer is as it was. The cost is that of `apply`: the count is
+/// kept beside the layer.
 pub fn apply_within(
     layer: &mut Layer,
     lowers: &[Shared],
@@ -89,7 +89,7 @@ pub fn apply_within(
     ensures covers { OnOk result (Covers share (count_of layer.new)) }
     ensures error { IfErr result (λ e. (e ≡ FsError.OutOfMemory no_memory) ⊎ (within_share share (after op.now layer.old lowers.now) ≡ Err e)) }
     ensures unchanged { OnErr result (layer.new ≡ layer.old) }
-    // An error comes before any memory is taken, but for a list of names.
+    // Where no names are listed, want of memory never stands for another error.
     ensures first { lists_names op.now (layer.old ∷ lowers.now) ≡ false → IfErr (within_share share (after op.now layer.old lowers.now)) (λ e. result ≡ Err e) }
 {
     let change = rule(layer, lowers, op)?;

@@ -44,7 +44,7 @@ abbrev pub Follows : SessionValue → SessionValue → ActiveValue → ActiveVal
 Follows s t old new op extra (Ok next) result = (result ≡ Ok tt) × (t ≡ s) × (new ≡ with_share old next old.share.usage)
 Follows s t old new op extra (Err e) result = HasFailed s t old new op extra e (needed_by e) result
 
--- the first answer is the operation's within the share, or want of memory; where no names of a directory are listed, an error comes before memory is asked for
+-- the first answer is the operation's within the share, or want of memory; where no names of a directory are listed, it is the operation's error where there is one, and never want of memory in its place
 pub record HasRun (s t : SessionValue) (old new : ActiveValue) (op : Op) (extra : Usage) (result : Result Unit RunError) : Type 0 where
   pub first : Outcome
   pub answer : (first ≡ Err (OutOfMemory no_memory)) ⊎ (first ≡ worked op old.share.usage old.layer old.lowers)
