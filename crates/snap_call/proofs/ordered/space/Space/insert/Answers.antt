@@ -9,8 +9,8 @@ use Rattle.snap_call.proofs.Entries.{parents-added}
 use Rattle.snap_call.proofs.Groups.{one-of}
 use Rattle.snap_call.proofs.ordered.space.Space.insert.Goals as goal
 
-pub invariant_of-self-in-Ok-insert : goal.invariant_of-self-in-Ok-insert
-invariant_of-self-in-Ok-insert c =
+pub invariant_of-self-in-Ok : goal.invariant_of-self-in-Ok
+invariant_of-self-in-Ok c =
     let r = c.args.added in
     let rs = c.self.inside.groups in
     let counts = c.self.inside.parents in
