@@ -7,3 +7,4 @@ pub mod Ways
 pub mod Ends
 pub mod Reaching
 pub mod Named
+pub mod Sharing

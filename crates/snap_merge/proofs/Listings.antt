@@ -69,10 +69,10 @@ nothing_sorted = tt
 abbrev has : List ℕ → Names → Bool
 has n ns = list_any (bytes_eq n) ns
 
-same_bytes : (n m : List ℕ) → bytes_eq n m ≡ true → n ≡ m
+pub same_bytes : (n m : List ℕ) → bytes_eq n m ≡ true → n ≡ m
 same_bytes n m e = (bytes_eq-Decides n m).0 e
 
-its_bytes : (n : List ℕ) → bytes_eq n n ≡ true
+pub its_bytes : (n : List ℕ) → bytes_eq n n ≡ true
 its_bytes n = (bytes_eq-Decides n n).1 refl
 
 swapped : (a b c : Bool) → (a || (b || c)) ≡ (b || (a || c))
@@ -93,7 +93,7 @@ one_or : (a b : Bool) → b ≡ true → (a || b) ≡ true
 one_or true b e = refl
 one_or false b e = e
 
-has_insert_key : (n : List ℕ) (ns : Names) (k : List ℕ) → has n (insert_key name_cmp ns k) ≡ (bytes_eq n k || has n ns)
+pub has_insert_key : (n : List ℕ) (ns : Names) (k : List ℕ) → has n (insert_key name_cmp ns k) ≡ (bytes_eq n k || has n ns)
 has_insert_key n [] k = refl
 has_insert_key n (x ∷ ns) k = by (name_cmp k x) refl (has_insert_key n ns k)
   where

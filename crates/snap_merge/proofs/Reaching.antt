@@ -33,7 +33,7 @@ longer : (m j : ℕ) (p : Names) → m ≤ j → take j p ≡ take m p ++ drop m
 longer m j p le = sym (take-append-drop m (take j p)) ∙ ap (λ (q : Names). q ++ drop m (take j p)) (take-take m j p le)
 
 -- and has one name more at least
-much_longer : (m k : ℕ) (p : Names) → m < k → k ≤ length p → (n : List ℕ) × (r : Names) × (take k p ≡ take m p ++ n ∷ r)
+pub much_longer : (m k : ℕ) (p : Names) → m < k → k ≤ length p → (n : List ℕ) × (r : Names) × (take k p ≡ take m p ++ n ∷ r)
 much_longer m k p lt within =
     let some : m < length (take k p) = omega (arith, length-take-le k p within) in
     (get_or (take k p) m [], drop (m + 1) (take k p), longer m k p (omega arith) ∙ at_drop_more (λ (q : Names). take m p ++ q) (take k p) m [] some)
@@ -417,6 +417,9 @@ traced_end t p i v b same here kind covered above =
       stops = λ le. absurd (omega arith);
       hidden = covered ∙ ap (hides t) (sym whole);
     }
+
+pub dir_whole : (t : Tree) (p : Names) (i : ℕ) (d : Directory) → ◌≡◌ {A = Directory} d (record { layer = t; path = take i p }) → i ≡ length p → ◌≡◌ {A = Directory} d (record { layer = t; path = p })
+dir_whole t p i d spot same = spot ∙ ap {B = Directory} (λ (q : Names). record { layer = t; path = q }) (take_all i p (omega arith))
 
 -- ---- whether a layer hides a path
 

@@ -2,6 +2,7 @@ pub mod Errors
 pub mod Objects
 pub mod Walk
 pub mod Reach
+pub mod Shares
 pub mod Reading
 pub mod Rules
 pub mod Listing

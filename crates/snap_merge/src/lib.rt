@@ -7,6 +7,7 @@
 
 mod error;
 mod look;
+mod names;
 mod resolve;
 mod stack;
 

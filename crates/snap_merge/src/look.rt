@@ -1,12 +1,13 @@
 // What is seen at a path: what one layer says of it, and the lower layers one after another.
-ghost use Rattle.std.specs.Prelude.{◌≡◌, ◌≤◌, List, length};
+ghost use Rattle.std.specs.Prelude.{◌≡◌, ◌≤◌, ◌+◌, List, length, MatchOption};
 ghost use Rattle.std.specs.Option.{option_map};
 ghost use Rattle.snap_layer.specs.Tree.{Tree, body, hides, node_hides};
 ghost use Rattle.snap_merge.specs.Objects.{object, shown, shown_body, is_shown_dir, AreLayers};
 ghost use Rattle.snap_merge.specs.Reach.{Begun, Reached, Steps, Traced};
+ghost use Rattle.snap_merge.specs.Shares.{Shares};
 ghost use Rattle.snap_merge.specs.Rules.{LayerRules};
 
-use snap_layer::{Body, Layer, Node, Shared};
+use snap_layer::{Body, Dir, Layer, Node, Shared};
 use snap_path::{Name, Path};
 
 /// What is seen at a path. Bytes and targets are lent by the layer that has them.
@@ -38,15 +39,26 @@ pub(crate) enum Step<'a> {
     GoesOn(usize),
 }
 
+/// What one layer has of a directory.
+#[derive(Drop)]
+pub(crate) struct Share<'a> {
+    /// The directory, where the layer has one at the path.
+    pub(crate) dir: Option<Dir<'a>>,
+    /// Whether the layer hides what the layers below have in the directory.
+    pub(crate) hides: bool,
+}
+
 /// How far a path leads in one layer.
-#[derive(Clone, Copy)]
-struct Trace {
+#[derive(Drop)]
+struct Trace<'a> {
     /// How many of the path's prefixes are directories, from the root on.
     dirs: usize,
     /// What stands at the next prefix, or at the path itself where all of them are directories.
     node: Option<Node>,
     /// Whether an opaque directory stands above that.
     hidden: bool,
+    /// The directory at the path, where all of them are directories.
+    dir: Option<Dir<'a>>,
 }
 
 /// How far the names lead in the lower layers, after so many directories that the layers above have. A layer is
@@ -92,8 +104,9 @@ pub(crate) fn step_through<'a>(layer: &'a Layer, names: &[Name], dirs: usize) ->
 }
 
 /// How far the names lead in the layer: one look-up in one directory for each name.
-fn trace_in(layer: &Layer, names: &[Name]) -> Trace
-    ensures { Traced layer.now names.now result.dirs result.node result.hidden }
+fn trace_in<'a>(layer: &'a Layer, names: &[Name]) -> Trace<'a>
+    ensures traced { Traced layer.now names.now result.dirs result.node result.hidden }
+    ensures dir { MatchOption result.dir (result.dirs ≤ length names.now) (λ d. (d ≡ record { layer = layer.now; path = names.now }) × (result.dirs ≡ length names.now + 1)) }
 {
     let mut dir = layer.root_dir();
     let mut node = dir.node();
@@ -110,6 +123,7 @@ fn trace_in(layer: &Layer, names: &[Name]) -> Trace
                     dirs: dirs + 1,
                     node: Some(entry),
                     hidden,
+                    dir: None,
                 };
             }
             None => {
@@ -117,6 +131,7 @@ fn trace_in(layer: &Layer, names: &[Name]) -> Trace
                     dirs: dirs + 1,
                     node: None,
                     hidden,
+                    dir: None,
                 };
             }
         }
@@ -125,6 +140,20 @@ fn trace_in(layer: &Layer, names: &[Name]) -> Trace
         dirs: names.len() + 1,
         node: Some(node),
         hidden,
+        dir: Some(dir),
+    }
+}
+
+/// What the layer has of the directory at the path of the names: one walk of the layer.
+pub(crate) fn share_in<'a>(layer: &'a Layer, names: &[Name]) -> Share<'a>
+    ensures { Shares layer.now names.now result.dir result.hides }
+{
+    layer.show_is_layer();
+    let trace = trace_in(layer, names);
+    let hides = trace.hidden | node_hides(trace.node);
+    Share {
+        dir: trace.dir,
+        hides,
     }
 }
 

@@ -1,7 +1,8 @@
-ghost use Rattle.std.specs.Prelude.{◌≡◌, ◌⊎◌, [], ◌∷◌, ◌++◌, ◌≤◌, is_some, false, MatchOption, length, take, IsSome, OnOk, IfOk, IfErr, IfSome, Ok, Err, Some, None};
+ghost use Rattle.std.specs.Prelude.{◌≡◌, ◌⊎◌, [], ◌∷◌, ◌++◌, ◌≤◌, is_some, false, MatchOption, List, ℕ, nat_lt, length, take, IsSome, OnOk, IfOk, IfErr, IfSome, Ok, Err, Some, None};
 ghost use Rattle.std.specs.Option.{option_map};
 ghost use Rattle.snap_path.specs.Memory.{no_memory};
 ghost use Rattle.snap_merge.specs.Objects.{object, seen, is_shown_dir, AreLayers};
+ghost use Rattle.snap_merge.specs.Shares.{has};
 ghost use Rattle.snap_merge.specs.Walk.{walk, Answers};
 ghost use Rattle.snap_merge.specs.Reach.{Reached};
 ghost use Rattle.snap_merge.specs.Reading.{reading};
@@ -12,6 +13,7 @@ ghost use Rattle.snap_path.specs.Text.{IsPath};
 
 use super::error::FsError;
 use super::look::{Reach, Seen, Step, is_dir, reach_below, show_are_layers, step_through};
+use super::names::{put_layer, put_layers, put_some};
 use super::resolve::{check_plain, resolve};
 use snap_layer::{Layer, Shared};
 use snap_path::{Name, Path, PathError};
@@ -179,8 +181,9 @@ impl<'a> Stack<'a> {
     /// order.
     ///
     /// The errors of the walk come first; then `NotFound` where nothing is seen, `NotDir` where
-    /// something else than a directory is. `OutOfMemory` where memory for the names, or for a path
-    /// that is looked at, is refused. Cost: for each name that a layer has in the directory that of a look.
+    /// something else than a directory is. `OutOfMemory` where memory for the names is refused. Cost: that of a
+    /// look, and for each name that a layer has in the directory the logarithm of the number of names, however many
+    /// layers there are.
     pub fn list(&self, alloc: Global, path: &Path) -> Result<Vec<Name>, FsError>
         ensures ok { IfOk result (λ v. listing self.now path.now ≡ Ok v.items) }
         ensures err { IfErr result (λ e. (e ≡ FsError.OutOfMemory no_memory) ⊎ (listing self.now path.now ≡ Err e)) }
@@ -202,14 +205,28 @@ impl<'a> Stack<'a> {
         ensures ok { IfOk result (λ v. v.items ≡ names self.now path.now) }
         ensures err { IfErr result (λ e. e ≡ FsError.OutOfMemory no_memory) }
     {
-        self.show_are_layers();
-        let mut names = Vec::new(alloc);
-        for name in self.gathered(alloc, path)? {
-            if self.is_seen_in(path, &name)? {
-                names.push(name)?;
-            }
+        let shown = self.shown_names(alloc, path)?;
+        let mut names = Vec::with_capacity(alloc, shown.len())?;
+        for name in shown {
+            names.push(name)?;
         }
         Ok(names)
+    }
+
+    /// The same as a set: each layer that shares in the directory is gone through once, the top one first, and
+    /// the first that has a name decides.
+    fn shown_names(&self, alloc: Global, path: &Path) -> Result<BTreeSet<Name>, AllocError>
+        ensures { IfOk result (λ shown. (n : List ℕ) → has n shown.keys ≡ is_some (seen self.now (path.now ++ n ∷ []))) }
+    {
+        let mut shown = BTreeSet::new(alloc);
+        let mut gone = BTreeSet::new(alloc);
+        if let Some(top) = self.top {
+            if !put_layer(&mut shown, &mut gone, top, path)? {
+                return Ok(shown);
+            }
+        }
+        put_layers(&mut shown, &mut gone, self.lowers, path)?;
+        Ok(shown)
     }
 
     /// The names that the layers have in the directory, whiteouts among them.
@@ -224,13 +241,27 @@ impl<'a> Stack<'a> {
         Ok(all)
     }
 
-    /// Whether something is seen in the directory under the name.
-    fn is_seen_in(&self, directory: &Path, name: &Name) -> Result<bool, FsError>
-        requires { IsPath (directory.now ++ name.now ∷ []) }
-        ensures ok { IfOk result (λ b. b ≡ is_some (seen self.now (directory.now ++ name.now ∷ []))) }
-        ensures err { IfErr result (λ e. e ≡ FsError.OutOfMemory no_memory) }
+    /// Whether something is seen in the directory at the path under some name: `false` where the directory is empty,
+    /// and where none is seen.
+    ///
+    /// It fails only where memory is refused. Cost: the entries of the layers that share in the directory, down to
+    /// the first that shows one.
+    pub fn has_names(&self, alloc: Global, path: &Path) -> Result<bool, AllocError>
+        ensures { IfOk result (λ b. b ≡ nat_lt 0 (length (names self.now path.now))) }
     {
-        Ok(self.look(&directory.join(name)?).is_some())
+        let mut shown = BTreeSet::new(alloc);
+        let mut gone = BTreeSet::new(alloc);
+        if let Some(top) = self.top {
+            let goes_on = put_layer(&mut shown, &mut gone, top, path)?;
+            if !goes_on {
+                return Ok(!shown.is_empty());
+            }
+            if !shown.is_empty() {
+                return Ok(true);
+            }
+        }
+        put_some(&mut shown, &mut gone, self.lowers, path)?;
+        Ok(!shown.is_empty())
     }
 
     /// Where the path leads when the symlinks on it are followed, the last one too: a path at which no

@@ -226,8 +226,7 @@ fn check_empty(
     if !is_dir(found) {
         return Ok(());
     }
-    let names = stack.list(alloc, path)?;
-    if !names.is_empty() {
+    if stack.has_names(alloc, path)? {
         return Err(FsError::NotEmpty);
     }
     Ok(())

@@ -1,15 +1,16 @@
-use Rattle.std.proofs.Common.{◌≡◌, [], ◌∷◌, ◌++◌, sym, subst, ◌∙◌}
-use Rattle.std.specs.Prelude.{filter, is_some}
-use Rattle.std.specs.List.{AllByRecursion}
-use Rattle.snap_path.specs.Text.{Names, IsPath}
-use Rattle.snap_merge.specs.Objects.{seen}
-use Rattle.snap_merge.specs.Listing.{gathered}
-use Rattle.snap_merge.proofs.Listings.{gathered_paths}
+use Rattle.std.proofs.Common.{◌≡◌, ◌++◌, [], sym, ap, ◌∙◌, append-nil}
+use Rattle.std.proofs.lemmas.Map.Iter.{rest_all}
+use Rattle.snap_path.specs.Text.{Names}
+use Rattle.snap_merge.specs.Listing.{names, IsListing}
+use Rattle.snap_merge.proofs.Listings.{listing_is}
+use Rattle.snap_merge.proofs.Sharing.{same_names}
 use Rattle.snap_merge.proofs.stack.Stack.names.Goals as goal
 
-pub loop-name-init : goal.loop-name-init
-loop-name-init c =
-    let all : c.into_iter-name-iterator.result ≡ gathered c.args.self.now c.args.path.now [] = c.into_iter-name-iterator.ensures.into_iter_gives.0 ∙ c.in_ok-name-items.ensures in (
-      λ i. c.new-names.ensures.items i ++ filter (λ n. is_some (seen c.args.self.now (c.args.path.now ++ n ∷ []))) (all i),
-      subst (λ (ns : Names). AllByRecursion (λ n. IsPath (c.args.path.now ++ n ∷ [])) ns) (sym all) (gathered_paths c.args.self.now c.show_are_layers.ensures c.args.path.now),
-    )
+pub returns-clause-ok : goal.returns-clause-ok
+returns-clause-ok c =
+    let s = c.args.self.now in
+    let p = c.args.path.now in
+    let none : c.loop-name.name-iterator ≡ [] = rest_all (λ n. n) _ _ _ c.in-None.is c.next.ensures.steps in
+    let all : c.loop-name.names.items ≡ c.in_ok-shown.shown.keys = sym (append-nil c.loop-name.names.items) ∙ ap (λ (r : Names). c.loop-name.names.items ++ r) (sym none) ∙ c.loop-name.invariant ∙ c.into_iter-name-iterator.ensures.into_iter_gives.0 in
+    let is : IsListing s p (names s p) = listing_is s p in
+    all ∙ same_names c.in_ok-shown.shown.keys (names s p) c.len.ensures.ordered is.in_order (λ n. c.in_ok-shown.ensures n ∙ sym (is.exactly n))

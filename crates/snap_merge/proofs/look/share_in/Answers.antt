@@ -1,0 +1,6 @@
+use Rattle.snap_merge.proofs.Sharing.{shares}
+use Rattle.snap_merge.proofs.look.share_in.Goals as goal
+
+pub returns : goal.returns
+returns c =
+    shares c.args.layer.now c.args.names.now c.show_is_layer.ensures.layer c.trace_in-trace.result.dirs c.trace_in-trace.result.node c.trace_in-trace.result.hidden c.trace_in-trace.ensures.traced c.node_hides.result c.node_hides.ensures c.trace_in-trace.result.dir c.trace_in-trace.ensures.dir
