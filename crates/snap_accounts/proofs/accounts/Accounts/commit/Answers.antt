@@ -1,4 +1,4 @@
-use Rattle.std.proofs.Common.{◌≡◌, ◌+◌, ◌-◌, List, set, Some, IsSome, is_some, true, false, refl, sym, ap, ◌∙◌, subst, arith}
+use Rattle.std.proofs.Common.{◌≡◌, ◌+◌, ◌-◌, set, Some, IsSome, is_some, false, refl, sym, ap, ◌∙◌, subst, arith}
 use Rattle.snap_usage.specs.declared.usage.Usage.{Usage}
 use Rattle.snap_usage.specs.Counted.{Covers, count_of}
 use Rattle.snap_layer.specs.Tree.{Tree}
@@ -9,7 +9,7 @@ use Rattle.snap_record.specs.declared.record.Record.{Record}
 use Rattle.std.specs.Prelude.{Option}
 use Rattle.snap_call.specs.declared.state.State.{State}
 use Rattle.snap_call.specs.Records.{charge_of, charge_at, active_at, has_key, with_record, without_slot, committed_as, open_count}
-use Rattle.snap_call.specs.Step.{has_named, leases_after}
+use Rattle.snap_call.specs.Step.{leases_after}
 use Rattle.snap_call.proofs.Sums.{charge_with}
 use Rattle.snap_call.proofs.Slots.{charge_at-issued}
 use Rattle.snap_call.proofs.Counts.{open_count-committed, open_count-some}
@@ -89,4 +89,4 @@ commit-requires-clause-open g c =
     subst (λ k. IsSome (active_at k s.records)) (sym c.slot-slot.ensures) (ap is_some found.1)
 
 pub commit-requires-clause-few : goal.commit-requires-clause-few
-commit-requires-clause-few g c = omega (arith, c.self.invariant.good.fewer, c.self.ranges)
+commit-requires-clause-few g c = omega (arith, c.self.invariant.good.fewer, c.next_id.ensures, ap (λ (u : State). u.next_id) c.self.view_is, ap (λ (u : State). u.next_id) c.meet-held.ensures.same)
