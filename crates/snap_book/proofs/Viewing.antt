@@ -111,7 +111,7 @@ adds_view : (s : State) (change : Change) → CanChange s change → (changed s 
 adds_view s (View r) can next = subst IsView (sym can.view) tt
 adds_view s change can next = absurd (omega (arith, next))
 
-IsNoRefusal : Reply → Type 0
+abbrev IsNoRefusal : Reply → Type 0
 IsNoRefusal reply = (why : Refusal) → reply ≡ replies.Refused why → ⊥
 
 refuses : (s t : State) (why : Refusal) (reply : Reply) → refused s why ≡ (t, reply) → IsNoRefusal reply → ⊥
