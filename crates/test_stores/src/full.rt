@@ -1,12 +1,13 @@
 // What is full or spent: the 64 slots of a store, its journal, the ids and the numbers of sessions.
 ghost use Rattle.std.specs.Prelude.{◌≡◌};
 
-use crate::setup::{config, equal, usage};
+use crate::setup::{config, equal, text, usage};
 use crate::stores::{
     closed, commit, discard, discard_all, listed, new_session, not_closed, prepare, prepare_all,
     stat,
 };
 use snap_book::{Active, Book, Held, Refusal};
+use snap_call::{Call, Reply};
 use snap_ledger::{NewTable, StoreName};
 use snap_record::Labels;
 use snap_store::{Closed, Session, Store};
@@ -96,4 +97,35 @@ pub fn spend_numbers<N: StoreName, R: Abort>(rt: &R, alloc: Global, table: NewTa
     }
     let answer = book.open_session();
     equal(rt, "no number is left", answer, Err(Refusal::NumbersSpent));
+}
+
+/// A book's journal of four entries, of which the last is kept for a discard: it refuses a commit, which gives the
+/// snapshot back, and then a session.
+pub fn fill_a_book<N: StoreName, R: Abort>(rt: &R, alloc: Global, table: NewTable)
+    requires { table ≡ N.table }
+{
+    let config = config(rt, alloc, usage(100, 100), 4);
+    let mut book = Book::<N>::open(alloc, table, config).expect(rt, "a book");
+    equal(rt, "the first entry", book.open_session(), Ok(0));
+    let prepared = book.prepare(0, "a", "k", "", &Labels::new(alloc));
+    let active = prepared.expect(rt, "room for an entry");
+    for is_full in [false, true] {
+        let (namespace, key) = (text(rt, alloc, "a"), text(rt, alloc, "k"));
+        let reply = book.do_call(0, Call::Stat { namespace, key });
+        let refused = reply == Reply::Refused(Refusal::JournalFull);
+        equal(rt, "room for one more", refused, is_full);
+    }
+    let held = match active.seal() {
+        Ok(sealed) => {
+            let back = book.commit(0, "c", &None, sealed).err();
+            let (why, sealed) = back.expect(rt, "a refusal");
+            equal(rt, "a commit", why, Refusal::JournalFull);
+            Held::Sealed(sealed)
+        }
+        Err((_, active)) => Held::Active(active),
+    };
+    equal(rt, "what is freed", book.discard(0, held), usage(1, 1));
+    equal(rt, "the entries", book.journal().len(), 4);
+    let session = book.open_session();
+    equal(rt, "a session", session, Err(Refusal::JournalFull));
 }

@@ -4,7 +4,7 @@ ghost use Rattle.std.specs.Prelude.{◌≡◌};
 use crate::closes::{
     alter_a_reply, close_with_one_of_two, close_with_strangers, drop_a_session, strangers,
 };
-use crate::full::{fill_by_two, spend_numbers, take_all_slots};
+use crate::full::{fill_a_book, fill_by_two, spend_numbers, take_all_slots};
 use crate::setup::{equal, new_table, usage};
 use crate::stores::{closed, commit, listed, new_session, not_closed, opened, prepare, reopened};
 use crate::threads::{sixteen_sessions, two_sessions};
@@ -57,5 +57,6 @@ fn rounds_of_stores(rt: HostRuntime) {
     first_round::<Brand, HostRuntime>(&rt, alloc, new_table(&rt, alloc));
     let strangers = strangers::<Brand, HostRuntime>(&rt, alloc, new_table(&rt, alloc));
     eight_rounds::<Brand, HostRuntime>(&rt, alloc, new_table(&rt, alloc), strangers);
+    fill_a_book::<Brand, HostRuntime>(&rt, alloc, new_table(&rt, alloc));
     spend_numbers::<Brand, HostRuntime>(&rt, alloc, new_table(&rt, alloc));
 }
