@@ -13,13 +13,15 @@ use Rattle.snap_record.specs.declared.info.Info.{Info}
 use Rattle.snap_mount.specs.declared.mount.Mount.{Mount}
 use Rattle.snap_call.specs.declared.refusal.Refusal.{Refusal}
 use Rattle.snap_call.specs.declared.refusal.Refusal.TheVariants as refusals
+use Rattle.snap_call.specs.declared.reply.Reply.{Reply}
+use Rattle.snap_call.specs.declared.reply.Reply.TheVariants as replies
 use Rattle.snap_history.specs.declared.info.EntryInfo.{EntryInfo}
 use Rattle.snap_script.specs.declared.answer.Shown.{Shown}
 use Rattle.snap_script.specs.declared.answer.Shown.TheVariants as shown
 use Rattle.snap_script.specs.declared.answer.TreeNode.{TreeNode}
 use Rattle.snap_script.specs.declared.answer.Answer.{Answer}
 use Rattle.snap_script.specs.declared.answer.Answer.TheVariants as answers
-use Rattle.snap_script.specs.Answers.{number_data, usage_data, members_with, maybe, refusal_name, shown_data, answer_data, entry_data, info_data, mount_data, node_data}
+use Rattle.snap_script.specs.Answers.{number_data, usage_data, members_with, maybe, refusal_name, shown_data, answer_data, entry_data, info_data, mount_data, node_data, reply_data}
 
 first_is : (a b : Bool) → a || b ≡ false → a ≡ false
 first_is false b h = refl
@@ -52,7 +54,7 @@ members_have_none : {A : Type 0} (value : A → Data) → ((a : A) → has_float
 members_have_none value f [] found h = h
 members_have_none value f (entry ∷ entries) found h = members_have_none value f entries _ (put_has_none entry.0 (value entry.1) found (f entry.1) h)
 
-refusal_has_none : (refusal : Refusal) → has_float (answer_data (answers.Refused refusal)) ≡ false
+refusal_has_none : (refusal : Refusal) → has_float (reply_data (replies.Refused refusal)) ≡ false
 refusal_has_none (refusals.OverLimit free_blocks free_inodes) = refl
 refusal_has_none refusal = refl
 
@@ -99,19 +101,24 @@ shown_has_none (Some (shown.Dir mode)) = refl
 shown_has_none (Some (shown.File mode size)) = refl
 shown_has_none (Some (shown.Symlink target)) = both_are _ _ (text_or_null (is_utf8 target) target) refl
 
--- an answer that has a list, labels or totals by the facts above; any other computes
+-- a reply that has a list or labels by the facts above; any other computes
+reply_has_none : (reply : Reply) → has_float (reply_data reply) ≡ false
+reply_has_none (replies.Prepared id slot chain) = both_are _ _ (ids_have_none chain) refl
+reply_has_none (replies.Viewed id chain) = both_are _ _ (ids_have_none chain) refl
+reply_has_none (replies.Info info) = both_are _ _ (info_has_none info) refl
+reply_has_none (replies.Mounts mounts) = both_are _ _ (mounts_have_none mounts) refl
+reply_has_none (replies.Page infos) = both_are _ _ (infos_have_none infos) refl
+reply_has_none (replies.Swept removed leases freed) = both_are _ _ (texts_have_none removed) refl
+reply_has_none (replies.Refused refusal) = refusal_has_none refusal
+reply_has_none reply = refl
+
+-- an answer that is a reply, or has a list or totals, by the facts above; any other computes
 pub no_float : (answer : Answer) → has_float (answer_data answer) ≡ false
-no_float (answers.Prepared id slot chain) = both_are _ _ (ids_have_none chain) refl
-no_float (answers.Viewed id chain) = both_are _ _ (ids_have_none chain) refl
-no_float (answers.Info info) = both_are _ _ (info_has_none info) refl
-no_float (answers.Infos infos) = both_are _ _ (infos_have_none infos) refl
-no_float (answers.Mounts mounts) = both_are _ _ (mounts_have_none mounts) refl
+no_float (answers.Reply reply) = reply_has_none reply
 no_float (answers.Seen seen) = both_are _ _ (shown_has_none seen) refl
 no_float (answers.Names names) = both_are _ _ (texts_have_none names) refl
-no_float (answers.Swept removed leases freed) = both_are _ _ (texts_have_none removed) refl
 no_float (answers.Tree nodes) = both_are _ _ (nodes_have_none nodes) refl
 no_float (answers.Journal entries) = both_are _ _ (entries_have_none entries) refl
 no_float (answers.Report entries actives records totals) = both_are _ _ (members_have_none usage_data (λ usage. refl) totals no_members refl) refl
 no_float (answers.Jobs committed discarded refused totals) = both_are _ _ (members_have_none usage_data (λ usage. refl) totals no_members refl) refl
-no_float (answers.Refused refusal) = refusal_has_none refusal
 no_float answer = refl

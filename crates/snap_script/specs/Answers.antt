@@ -16,6 +16,8 @@ use Rattle.snap_mount.specs.declared.mount.Mount.{Mount}
 use Rattle.snap_mount.specs.Mounts.{mount_kind_word}
 use Rattle.snap_call.specs.declared.refusal.Refusal.{Refusal}
 use Rattle.snap_call.specs.declared.refusal.Refusal.TheVariants as refusals
+use Rattle.snap_call.specs.declared.reply.Reply.{Reply}
+use Rattle.snap_call.specs.declared.reply.Reply.TheVariants as replies
 use Rattle.snap_history.specs.Entries.{call_word}
 use Rattle.snap_history.specs.declared.info.EntryInfo.{EntryInfo}
 use Rattle.snap_merge.specs.declared.error.FsError.{FsError}
@@ -139,25 +141,42 @@ entry_data entry = object
     (maybe (codes "refused") (option_map (λ why. string (refusal_name why)) entry.refused)
     (only (codes "session") (number_data entry.session))))))))
 
--- an answer: the first bytes of a file are in lower hexadecimal, and a refusal over the limit has what is free
-abbrev pub answer_data : Answer → Data
-answer_data answers.Done = object (only (codes "ok") (boolean true))
-answer_data (answers.Session session) = object (only (codes "session") (number_data session))
-answer_data (answers.Prepared id slot chain) = object
+-- nothing is to be told but that it was done
+abbrev pub ok_data : Data
+ok_data = object (only (codes "ok") (boolean true))
+
+-- what the store replies to a call: a refusal over the limit has what is free
+abbrev pub reply_data : Reply → Data
+reply_data replies.Opened = ok_data
+reply_data replies.Trimmed = ok_data
+reply_data replies.Done = ok_data
+reply_data (replies.Prepared id slot chain) = object
     (member (codes "chain") (array (items_of (map number_data chain)))
     (member (codes "id") (number_data id) (only (codes "slot") (number_data slot))))
-answer_data (answers.Viewed id chain) = object (member (codes "chain") (array (items_of (map number_data chain))) (only (codes "id") (number_data id)))
-answer_data (answers.Share share) = object (only (codes "share") (usage_data share))
-answer_data (answers.Committed id usage) = object (member (codes "id") (number_data id) (only (codes "usage") (usage_data usage)))
-answer_data (answers.Freed freed) = object (only (codes "freed") (usage_data freed))
-answer_data (answers.Info info) = object (only (codes "info") (info_data info))
-answer_data (answers.Usage usage) = object (only (codes "usage") (usage_data usage))
-answer_data (answers.Mounts mounts) = object (only (codes "mounts") (array (items_of (map mount_data mounts))))
-answer_data (answers.Infos infos) = object (only (codes "infos") (array (items_of (map info_data infos))))
-answer_data (answers.Swept removed leases freed) = object
+reply_data (replies.Viewed id chain) = object (member (codes "chain") (array (items_of (map number_data chain))) (only (codes "id") (number_data id)))
+reply_data (replies.Charged now) = object (only (codes "share") (usage_data now))
+reply_data (replies.Committed id usage) = object (member (codes "id") (number_data id) (only (codes "usage") (usage_data usage)))
+reply_data (replies.Discarded freed) = object (only (codes "freed") (usage_data freed))
+reply_data (replies.Removed freed) = object (only (codes "freed") (usage_data freed))
+reply_data (replies.Info info) = object (only (codes "info") (info_data info))
+reply_data (replies.Usage usage) = object (only (codes "usage") (usage_data usage))
+reply_data (replies.Mounts mounts) = object (only (codes "mounts") (array (items_of (map mount_data mounts))))
+reply_data (replies.Page infos) = object (only (codes "infos") (array (items_of (map info_data infos))))
+reply_data (replies.Swept removed leases freed) = object
     (member (codes "freed") (usage_data freed)
     (member (codes "leases") (number_data leases)
     (only (codes "removed") (array (items_of (map string removed))))))
+reply_data (replies.Refused (refusals.OverLimit free_blocks free_inodes)) = object
+    (member (codes "error") (string (codes "OverLimit"))
+    (member (codes "free") (usage_data (record { blocks = free_blocks; inodes = free_inodes }))
+    (only (codes "from") (string (codes "book")))))
+reply_data (replies.Refused refusal) = error_data (refusal_name refusal) (codes "book")
+
+-- an answer: a reply has its own data, and the first bytes of a file are in lower hexadecimal
+abbrev pub answer_data : Answer → Data
+answer_data (answers.Reply reply) = reply_data reply
+answer_data (answers.Session session) = object (only (codes "session") (number_data session))
+answer_data (answers.Share share) = object (only (codes "share") (usage_data share))
 answer_data (answers.Changed count share) = object (member (codes "count") (usage_data count) (only (codes "share") (usage_data share)))
 answer_data (answers.Seen seen) = object (only (codes "seen") (shown_data seen))
 answer_data (answers.Names names) = object (only (codes "names") (array (items_of (map string names))))
@@ -175,11 +194,6 @@ answer_data (answers.Jobs committed discarded refused totals) = object
     (member (codes "discarded") (number_data discarded)
     (member (codes "refused") (number_data refused)
     (only (codes "totals") (object (members_with usage_data totals no_members))))))
-answer_data (answers.Refused (refusals.OverLimit free_blocks free_inodes)) = object
-    (member (codes "error") (string (codes "OverLimit"))
-    (member (codes "free") (usage_data (record { blocks = free_blocks; inodes = free_inodes }))
-    (only (codes "from") (string (codes "book")))))
-answer_data (answers.Refused refusal) = error_data (refusal_name refusal) (codes "book")
 answer_data (answers.Failed error) = error_data (error_name error) (codes "file")
 answer_data answers.NoSession = error_data (codes "NoSession") (codes "world")
 answer_data answers.NoHand = error_data (codes "NoHand") (codes "world")

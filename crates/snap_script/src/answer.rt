@@ -1,19 +1,20 @@
 ghost use Rattle.std.specs.Prelude.{◌≡◌, IfOk, string_bytes};
 ghost use Rattle.serde_json.specs.View.{view};
+ghost use Rattle.snap_call.specs.declared.reply.Reply.TheVariants as replies;
 ghost use Rattle.snap_script.specs.Answers.{answer_data, answer_line};
+ghost use Rattle.snap_script.specs.declared.answer.Answer.TheVariants as answers;
 
 use crate::values::{
-    changed, committed, done, error, error_name, freed, head, info, infos, jobs, journal, mounts,
-    names, path, prepared, refused, report, seen, session, share, swept, tree, usage, viewed,
+    changed, error, error_name, head, jobs, journal, names, path, reply, report, seen, session,
+    share, tree,
 };
 use serde_json::Value;
-use snap_call::Refusal;
+use snap_call::{Refusal, Reply};
 use snap_history::EntryInfo;
 use snap_layer::Bytes;
 use snap_merge::FsError;
-use snap_mount::Mount;
 use snap_path::{Name, Path};
-use snap_record::{Info, Kind, Sequence, Text};
+use snap_record::{Kind, Sequence, Text};
 use snap_usage::Usage;
 use std::alloc::{AllocError, Global};
 
@@ -45,48 +46,28 @@ pub struct TreeNode {
 /// What a line of a script is answered, and the lines of a script of jobs together.
 #[derive(Debug)]
 pub enum Answer {
-    /// A store was opened, its next round was begun, a limit was set, or a lease was made, added to or
-    /// released: `{"ok":true}`.
-    Done,
+    /// What the store replies to a call, each reply with members of its own:
+    ///
+    /// - `Prepared` and `Viewed`: the snapshot's id, for the first its slot, and its ancestors' ids, nearest
+    ///   first: `{"chain":[],"id":1,"slot":0}`, `{"chain":[1],"id":2}`
+    /// - `Charged`: what the snapshot is charged afterwards: `{"share":[2,2]}`
+    /// - `Committed`: the snapshot's id and usage: `{"id":1,"usage":[4,3]}`
+    /// - `Discarded` and `Removed`: what the snapshot was charged: `{"freed":[1,1]}`
+    /// - `Info`: a snapshot's info: `{"info":{..}}`
+    /// - `Usage`: what a snapshot is charged: `{"usage":[4,3]}`
+    /// - `Mounts`: the mounts that show a snapshot:
+    ///   `{"mounts":[{"options":["rw","rbind"],"source":"/r/snapshots/1/fs","type":"bind"}]}`
+    /// - `Page`: the infos of the snapshots that a walk gives: `{"infos":[{..},{..}]}`
+    /// - `Swept`: what the snapshots were charged that a sweep took away, how many leases went, and the keys of
+    ///   these snapshots in byte order: `{"freed":[2,2],"leases":1,"removed":["c"]}`
+    /// - `Refused`: `{"error":"NotFound","from":"book"}`, over the limit with what is free,
+    ///   `{"error":"OverLimit","free":[5,0],"from":"book"}`
+    /// - any other: `{"ok":true}`. `Done` also stands for a store that was opened and a round that was begun.
+    Reply(Reply),
     /// The number of the session that was opened: `{"session":1}`.
     Session(u64),
-    /// The new snapshot's id and slot, and its ancestors' ids, nearest first:
-    /// `{"chain":[],"id":1,"slot":0}`.
-    Prepared {
-        id: u32,
-        slot: u64,
-        chain: Sequence<u32>,
-    },
-    /// The view's id, and its ancestors' ids, nearest first: `{"chain":[1],"id":2}`.
-    Viewed {
-        id: u32,
-        chain: Sequence<u32>,
-    },
-    /// What the snapshot is charged after a charge or a trim: `{"share":[2,2]}`.
+    /// What the snapshot is charged after a trim: `{"share":[2,2]}`.
     Share(Usage),
-    /// The committed snapshot's id and usage: `{"id":1,"usage":[4,3]}`.
-    Committed {
-        id: u32,
-        usage: Usage,
-    },
-    /// What a discarded snapshot was charged: `{"freed":[1,1]}`.
-    Freed(Usage),
-    /// A snapshot's info: `{"info":{..}}`.
-    Info(Info),
-    /// What a snapshot is charged: `{"usage":[4,3]}`.
-    Usage(Usage),
-    /// The mounts that show a snapshot:
-    /// `{"mounts":[{"options":["rw","rbind"],"source":"/r/snapshots/1/fs","type":"bind"}]}`.
-    Mounts(Sequence<Mount>),
-    /// The infos of the snapshots that a walk gives: `{"infos":[{..},{..}]}`.
-    Infos(Sequence<Info>),
-    /// What a sweep took away: what the snapshots were charged, how many leases went, and the keys of the
-    /// snapshots in byte order: `{"freed":[2,2],"leases":1,"removed":["c"]}`.
-    Swept {
-        removed: Sequence<Text>,
-        leases: u64,
-        freed: Usage,
-    },
     /// The layer's count and the snapshot's charge after a file command:
     /// `{"count":[2,2],"share":[2,2]}`.
     Changed {
@@ -128,9 +109,6 @@ pub enum Answer {
         refused: u64,
         totals: Sequence<(Text, Usage)>,
     },
-    /// A call was refused: `{"error":"NotFound","from":"book"}`, over the limit with what is free,
-    /// `{"error":"OverLimit","free":[5,0],"from":"book"}`.
-    Refused(Refusal),
     /// A file operation failed: `{"error":"Exists","from":"file"}`.
     Failed(FsError),
     /// No such session was opened: `{"error":"NoSession","from":"world"}`.
@@ -144,26 +122,9 @@ pub enum Answer {
 impl Drop for Answer {
     fn drop(self) {
         match self {
-            Answer::Done => {}
+            Answer::Reply(_) => {}
             Answer::Session(_) => {}
-            Answer::Prepared {
-                id: _,
-                slot: _,
-                chain: _,
-            } => {}
-            Answer::Viewed { id: _, chain: _ } => {}
             Answer::Share(_) => {}
-            Answer::Committed { id: _, usage: _ } => {}
-            Answer::Freed(_) => {}
-            Answer::Info(_) => {}
-            Answer::Usage(_) => {}
-            Answer::Mounts(_) => {}
-            Answer::Infos(_) => {}
-            Answer::Swept {
-                removed: _,
-                leases: _,
-                freed: _,
-            } => {}
             Answer::Changed { count: _, share: _ } => {}
             Answer::Seen(_) => {}
             Answer::Names(_) => {}
@@ -183,7 +144,6 @@ impl Drop for Answer {
                 refused: _,
                 totals: _,
             } => {}
-            Answer::Refused(_) => {}
             Answer::Failed(_) => {}
             Answer::NoSession => {}
             Answer::NoHand => {}
@@ -193,26 +153,20 @@ impl Drop for Answer {
 }
 
 impl Answer {
+    /// A call was refused: the reply that says why.
+    pub fn refused(why: Refusal) -> Answer
+        ensures { result ≡ answers.Reply (replies.Refused why) }
+    {
+        Answer::Reply(Reply::Refused(why))
+    }
+
     fn value(&self, alloc: Global) -> Result<Value, AllocError>
         ensures { IfOk result (λ v. view v ≡ answer_data self.now) }
     {
         match self {
-            Answer::Done => done(alloc),
+            Answer::Reply(own) => reply(alloc, own),
             Answer::Session(number) => session(alloc, *number),
-            Answer::Prepared { id, slot, chain } => prepared(alloc, *id, *slot, chain.as_slice()),
-            Answer::Viewed { id, chain } => viewed(alloc, *id, chain.as_slice()),
             Answer::Share(amount) => share(alloc, *amount),
-            Answer::Committed { id, usage } => committed(alloc, *id, *usage),
-            Answer::Freed(amount) => freed(alloc, *amount),
-            Answer::Info(own) => info(alloc, own),
-            Answer::Usage(amount) => usage(alloc, *amount),
-            Answer::Mounts(own) => mounts(alloc, own.as_slice()),
-            Answer::Infos(own) => infos(alloc, own.as_slice()),
-            Answer::Swept {
-                removed,
-                leases,
-                freed,
-            } => swept(alloc, removed.as_slice(), *leases, *freed),
             Answer::Changed { count, share } => changed(alloc, *count, *share),
             Answer::Seen(shown) => seen(alloc, shown),
             Answer::Names(own) => names(alloc, own.as_slice()),
@@ -232,7 +186,6 @@ impl Answer {
                 refused,
                 totals,
             } => jobs(alloc, *committed, *discarded, *refused, totals.as_slice()),
-            Answer::Refused(refusal) => refused(alloc, *refusal),
             Answer::Failed(own) => error(alloc, error_name(*own), "file"),
             Answer::NoSession => error(alloc, "NoSession", "world"),
             Answer::NoHand => error(alloc, "NoHand", "world"),

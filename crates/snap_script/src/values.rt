@@ -3,12 +3,13 @@ ghost use Rattle.std.specs.Prelude.{◌≡◌, Some, IfOk, OnOk, map};
 ghost use Rattle.std.specs.Option.{option_map, option_map_or};
 ghost use Rattle.serde_json.specs.Data.{string, array, object, no_members, put};
 ghost use Rattle.serde_json.specs.View.{view, items_of, members_view};
-ghost use Rattle.snap_script.specs.Answers.{answer_data, error_data, error_name, entry_data, info_data, members_with, node_data, number_data, refusal_name, shown_data, text_data, usage_data, mount_data};
+ghost use Rattle.snap_call.specs.declared.reply.Reply.TheVariants as replies;
+ghost use Rattle.snap_script.specs.Answers.{answer_data, error_data, error_name, entry_data, info_data, members_with, node_data, number_data, refusal_name, reply_data, shown_data, text_data, usage_data, mount_data};
 ghost use Rattle.snap_script.specs.declared.answer.Answer.TheVariants as answers;
 
 use crate::answer::{Shown, TreeNode};
 use serde_json::{Map, Value, json};
-use snap_call::Refusal;
+use snap_call::{Refusal, Reply};
 use snap_history::EntryInfo;
 use snap_merge::FsError;
 use snap_mount::Mount;
@@ -136,8 +137,8 @@ fn mounts_value(alloc: Global, mounts: &[Mount]) -> Result<Value, AllocError>
     Ok(Value::Array(items))
 }
 
-pub(crate) fn done(alloc: Global) -> Result<Value, AllocError>
-    ensures { IfOk result (λ v. view v ≡ answer_data answers.Done) }
+fn done(alloc: Global) -> Result<Value, AllocError>
+    ensures { IfOk result (λ v. view v ≡ reply_data replies.Done) }
 {
     json!(in alloc; {"ok": true})
 }
@@ -148,20 +149,15 @@ pub(crate) fn session(alloc: Global, number: u64) -> Result<Value, AllocError>
     json!(in alloc; {"session": number})
 }
 
-pub(crate) fn prepared(
-    alloc: Global,
-    id: u32,
-    slot: u64,
-    chain: &[u32],
-) -> Result<Value, AllocError>
-    ensures { IfOk result (λ v. view v ≡ answer_data (answers.Prepared id slot chain.now)) }
+fn prepared(alloc: Global, id: u32, slot: u64, chain: &[u32]) -> Result<Value, AllocError>
+    ensures { IfOk result (λ v. view v ≡ reply_data (replies.Prepared id slot chain.now)) }
 {
     let chain = ids_value(alloc, chain)?;
     json!(in alloc; {"chain": chain, "id": id, "slot": slot})
 }
 
-pub(crate) fn viewed(alloc: Global, id: u32, chain: &[u32]) -> Result<Value, AllocError>
-    ensures { IfOk result (λ v. view v ≡ answer_data (answers.Viewed id chain.now)) }
+fn viewed(alloc: Global, id: u32, chain: &[u32]) -> Result<Value, AllocError>
+    ensures { IfOk result (λ v. view v ≡ reply_data (replies.Viewed id chain.now)) }
 {
     let chain = ids_value(alloc, chain)?;
     json!(in alloc; {"chain": chain, "id": id})
@@ -174,56 +170,51 @@ pub(crate) fn share(alloc: Global, share: Usage) -> Result<Value, AllocError>
     json!(in alloc; {"share": share})
 }
 
-pub(crate) fn committed(alloc: Global, id: u32, usage: Usage) -> Result<Value, AllocError>
-    ensures { IfOk result (λ v. view v ≡ answer_data (answers.Committed id usage)) }
+fn committed(alloc: Global, id: u32, usage: Usage) -> Result<Value, AllocError>
+    ensures { IfOk result (λ v. view v ≡ reply_data (replies.Committed id usage)) }
 {
     let usage = usage_value(alloc, usage)?;
     json!(in alloc; {"id": id, "usage": usage})
 }
 
-pub(crate) fn swept(
-    alloc: Global,
-    removed: &[Text],
-    leases: u64,
-    freed: Usage,
-) -> Result<Value, AllocError>
-    ensures { IfOk result (λ v. view v ≡ answer_data (answers.Swept removed.now leases freed)) }
+fn swept(alloc: Global, removed: &[Text], leases: u64, freed: Usage) -> Result<Value, AllocError>
+    ensures { IfOk result (λ v. view v ≡ reply_data (replies.Swept removed.now leases freed)) }
 {
     let freed = usage_value(alloc, freed)?;
     let removed = texts_value(alloc, removed)?;
     json!(in alloc; {"freed": freed, "leases": leases, "removed": removed})
 }
 
-pub(crate) fn freed(alloc: Global, freed: Usage) -> Result<Value, AllocError>
-    ensures { IfOk result (λ v. view v ≡ answer_data (answers.Freed freed)) }
+fn freed(alloc: Global, freed: Usage) -> Result<Value, AllocError>
+    ensures { IfOk result (λ v. view v ≡ reply_data (replies.Removed freed)) }
 {
     let freed = usage_value(alloc, freed)?;
     json!(in alloc; {"freed": freed})
 }
 
-pub(crate) fn info(alloc: Global, info: &Info) -> Result<Value, AllocError>
-    ensures { IfOk result (λ v. view v ≡ answer_data (answers.Info info.now)) }
+fn info(alloc: Global, info: &Info) -> Result<Value, AllocError>
+    ensures { IfOk result (λ v. view v ≡ reply_data (replies.Info info.now)) }
 {
     let info = info_value(alloc, info)?;
     json!(in alloc; {"info": info})
 }
 
-pub(crate) fn usage(alloc: Global, usage: Usage) -> Result<Value, AllocError>
-    ensures { IfOk result (λ v. view v ≡ answer_data (answers.Usage usage)) }
+fn usage(alloc: Global, usage: Usage) -> Result<Value, AllocError>
+    ensures { IfOk result (λ v. view v ≡ reply_data (replies.Usage usage)) }
 {
     let usage = usage_value(alloc, usage)?;
     json!(in alloc; {"usage": usage})
 }
 
-pub(crate) fn mounts(alloc: Global, mounts: &[Mount]) -> Result<Value, AllocError>
-    ensures { IfOk result (λ v. view v ≡ answer_data (answers.Mounts mounts.now)) }
+fn mounts(alloc: Global, mounts: &[Mount]) -> Result<Value, AllocError>
+    ensures { IfOk result (λ v. view v ≡ reply_data (replies.Mounts mounts.now)) }
 {
     let mounts = mounts_value(alloc, mounts)?;
     json!(in alloc; {"mounts": mounts})
 }
 
-pub(crate) fn infos(alloc: Global, infos: &[Info]) -> Result<Value, AllocError>
-    ensures { IfOk result (λ v. view v ≡ answer_data (answers.Infos infos.now)) }
+fn infos(alloc: Global, infos: &[Info]) -> Result<Value, AllocError>
+    ensures { IfOk result (λ v. view v ≡ reply_data (replies.Page infos.now)) }
 {
     let infos = infos_value(alloc, infos)?;
     json!(in alloc; {"infos": infos})
@@ -493,8 +484,8 @@ pub(crate) fn error(alloc: Global, name: &str, from: &str) -> Result<Value, Allo
     json!(in alloc; {"error": name, "from": from})
 }
 
-pub(crate) fn refused(alloc: Global, refusal: Refusal) -> Result<Value, AllocError>
-    ensures { IfOk result (λ v. view v ≡ answer_data (answers.Refused refusal)) }
+fn refused(alloc: Global, refusal: Refusal) -> Result<Value, AllocError>
+    ensures { IfOk result (λ v. view v ≡ reply_data (replies.Refused refusal)) }
 {
     match refusal {
         Refusal::OverLimit {
@@ -505,5 +496,29 @@ pub(crate) fn refused(alloc: Global, refusal: Refusal) -> Result<Value, AllocErr
             json!(in alloc; {"error": "OverLimit", "free": free, "from": "book"})
         }
         other => error(alloc, refusal_name(other), "book"),
+    }
+}
+
+/// What the store replies to a call.
+pub(crate) fn reply(alloc: Global, reply: &Reply) -> Result<Value, AllocError>
+    ensures { IfOk result (λ v. view v ≡ reply_data reply.now) }
+{
+    match reply {
+        Reply::Opened | Reply::Trimmed | Reply::Done => done(alloc),
+        Reply::Prepared { id, slot, chain } => prepared(alloc, *id, *slot, chain.as_slice()),
+        Reply::Viewed { id, chain } => viewed(alloc, *id, chain.as_slice()),
+        Reply::Charged { now } => share(alloc, *now),
+        Reply::Committed { id, usage } => committed(alloc, *id, *usage),
+        Reply::Discarded(amount) | Reply::Removed(amount) => freed(alloc, *amount),
+        Reply::Info(own) => info(alloc, own),
+        Reply::Usage(amount) => usage(alloc, *amount),
+        Reply::Mounts(own) => mounts(alloc, own.as_slice()),
+        Reply::Page(own) => infos(alloc, own.as_slice()),
+        Reply::Swept {
+            removed,
+            leases,
+            freed,
+        } => swept(alloc, removed.as_slice(), *leases, *freed),
+        Reply::Refused(refusal) => refused(alloc, *refusal),
     }
 }

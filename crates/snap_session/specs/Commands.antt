@@ -49,20 +49,8 @@ use Rattle.snap_session.specs.Tree.{tree}
 -- the script's answer for that of a step on the slot; counts and shares are those after the step, a session is the one that was asked for
 abbrev pub told : ℕ → ℕ → WorldValue → StepAnswer → Answer
 told session slot w (step_answers.Reply replies.Opened) = answers.Session session
-told session slot w (step_answers.Reply (replies.Prepared id at chain)) = answers.Prepared id at chain
-told session slot w (step_answers.Reply (replies.Viewed id chain)) = answers.Viewed id chain
-told session slot w (step_answers.Reply (replies.Charged now)) = answers.Share now
 told session slot w (step_answers.Reply replies.Trimmed) = answers.Share (share_at slot w)
-told session slot w (step_answers.Reply (replies.Committed id usage)) = answers.Committed id usage
-told session slot w (step_answers.Reply (replies.Discarded usage)) = answers.Freed usage
-told session slot w (step_answers.Reply (replies.Removed usage)) = answers.Freed usage
-told session slot w (step_answers.Reply (replies.Info info)) = answers.Info info
-told session slot w (step_answers.Reply (replies.Usage usage)) = answers.Usage usage
-told session slot w (step_answers.Reply (replies.Mounts mounts)) = answers.Mounts mounts
-told session slot w (step_answers.Reply (replies.Page infos)) = answers.Infos infos
-told session slot w (step_answers.Reply replies.Done) = answers.Done
-told session slot w (step_answers.Reply (replies.Swept removed leases freed)) = answers.Swept removed leases freed
-told session slot w (step_answers.Reply (replies.Refused why)) = answers.Refused why
+told session slot w (step_answers.Reply reply) = answers.Reply reply
 told session slot w (step_answers.File (Ok done)) = answers.Changed (count_at slot w) (share_at slot w)
 told session slot w (step_answers.File (Err e)) = answers.Failed e
 told session slot w step_answers.NoSession = answers.NoSession
@@ -81,7 +69,7 @@ stepped session slot step w = telling session slot (move w step)
 -- with the slot and the id of the snapshot, or why there is none; no step is made where there is none
 abbrev pub if_found : WorldValue → (ℕ → ℕ → WorldValue × Answer) → Result (ℕ × ℕ) Refusal → WorldValue × Answer
 if_found w next (Ok found) = next found.0 found.1
-if_found w next (Err why) = (w, answers.Refused why)
+if_found w next (Err why) = (w, answers.Reply (replies.Refused why))
 
 -- the same by the key of the snapshot
 abbrev pub on_key : WorldValue → Bytes → Bytes → (ℕ → ℕ → WorldValue × Answer) → WorldValue × Answer
@@ -136,7 +124,7 @@ looked_up lookups.Resolve layers path = found_or_failed answers.Path (resolution
 -- a lookup in the layers of a snapshot, or why there are none; no step is made
 abbrev pub lookup : Lookup → Result Names FsError → Result (List Tree) Refusal → Answer
 lookup asked path (Ok layers) = found_or_failed (looked_up asked layers) path
-lookup asked path (Err why) = answers.Refused why
+lookup asked path (Err why) = answers.Reply (replies.Refused why)
 
 -- ---- the next round
 
@@ -147,13 +135,13 @@ is_started answer = false
 
 -- after the step that opens session 0: the round stands, also where the session was refused
 abbrev pub round_opened : WorldValue × StepAnswer → WorldValue × Answer
-round_opened after = (after.0, if is_started after.1 then answers.Done else told 0 0 after.0 after.1)
+round_opened after = (after.0, if is_started after.1 then answers.Reply replies.Done else told 0 0 after.0 after.1)
 
 -- the next round and its session 0, or why there is none
 abbrev pub if_reopened : WorldValue → ℕ → Result Unit ReopenFault → WorldValue × Answer
 if_reopened w journal (Ok done) = round_opened (move (reopened w journal) (Locked 0 calls.Session))
 if_reopened w journal (Err faults.StillOut) = (w, answers.StillOut)
-if_reopened w journal (Err (faults.Book why)) = (w, answers.Refused why)
+if_reopened w journal (Err (faults.Book why)) = (w, answers.Reply (replies.Refused why))
 
 abbrev pub reopen : WorldValue → ℕ → WorldValue × Answer
 reopen w journal = if_reopened w journal (reopen_answer w journal)
@@ -166,7 +154,7 @@ report s = answers.Report (length s.world.journal) (open_count s.world.state.rec
 
 -- a command by a session. A store that stands isn't opened again: no line of a script asks for that
 abbrev pub on_store : OpenedValue → ℕ → Command → WorldValue × Answer
-on_store s n (commands.Open config) = (s.world, answers.Refused BadArgument)
+on_store s n (commands.Open config) = (s.world, answers.Reply (replies.Refused BadArgument))
 on_store s n commands.Session = stepped s.world.state.sessions 0 (Locked s.world.state.sessions calls.Session) s.world
 on_store s n (commands.Reopen journal) = reopen s.world journal
 on_store s n (commands.Call call) = stepped n 0 (Locked n call) s.world
@@ -184,11 +172,11 @@ on_store s n commands.Report = (s.world, report s)
 
 -- the store stands where its first session was opened
 abbrev pub started : List Bytes → WorldValue × StepAnswer → Option OpenedValue × Answer
-started names after = if is_started after.1 then (Some (record { world = after.0; names = names }), answers.Done) else (None, told 0 0 after.0 after.1)
+started names after = if is_started after.1 then (Some (record { world = after.0; names = names }), answers.Reply replies.Done) else (None, told 0 0 after.0 after.1)
 
 -- a world of the configuration, and its session 0
 abbrev pub store_opened : Config → Option OpenedValue × Answer
-store_opened c = if is_config c then started (map (λ n. n.name) c.namespaces) (move (new_world c) (Locked 0 calls.Session)) else (None, answers.Refused BadArgument)
+store_opened c = if is_config c then started (map (λ n. n.name) c.namespaces) (move (new_world c) (Locked 0 calls.Session)) else (None, answers.Reply (replies.Refused BadArgument))
 
 -- ---- a command
 

@@ -5,6 +5,7 @@ use Rattle.snap_record.specs.Labels.{Bytes}
 use Rattle.snap_record.specs.Records.{kind_of, usage_of}
 use Rattle.snap_record.specs.declared.record.Record.{Record}
 use Rattle.snap_call.specs.Records.{child_count}
+use Rattle.snap_call.specs.declared.reply.Reply.TheVariants as replies
 use Rattle.snap_call.specs.declared.refusal.Refusal.TheVariants.{NoNamespace}
 use Rattle.snap_script.specs.declared.answer.TreeNode.{TreeNode}
 use Rattle.snap_script.specs.declared.answer.Answer.{Answer}
@@ -29,7 +30,7 @@ place_among namespace names = position (λ name. bytes_eq name namespace) names
 
 -- the forest of the namespace at the place, or that there is none
 abbrev pub forest_at : Option ℕ → List Record → Answer
-forest_at None rs = answers.Refused NoNamespace
+forest_at None rs = answers.Reply (replies.Refused NoNamespace)
 forest_at (Some place) rs = answers.Tree (forest place rs)
 
 -- the forest of the namespace of this name

@@ -53,7 +53,7 @@ pub(crate) fn charge<N: StoreName>(
                 want,
             },
         ),
-        Err(why) => Ok(Answer::Refused(why)),
+        Err(why) => Ok(Answer::refused(why)),
     }
 }
 
@@ -67,7 +67,7 @@ pub(crate) fn trim<N: StoreName>(
 {
     match found(world, namespace, key) {
         Ok((slot, id)) => called(world, n, slot, Call::Trim { slot, id }),
-        Err(why) => Ok(Answer::Refused(why)),
+        Err(why) => Ok(Answer::refused(why)),
     }
 }
 
@@ -93,7 +93,7 @@ pub(crate) fn commit<N: StoreName>(
                 lease,
             },
         ),
-        Err(why) => Ok(Answer::Refused(why)),
+        Err(why) => Ok(Answer::refused(why)),
     }
 }
 
@@ -107,6 +107,6 @@ pub(crate) fn discard<N: StoreName>(
 {
     match found(world, namespace, key) {
         Ok((slot, id)) => called(world, n, slot, Call::Discard { slot, id }),
-        Err(why) => Ok(Answer::Refused(why)),
+        Err(why) => Ok(Answer::refused(why)),
     }
 }

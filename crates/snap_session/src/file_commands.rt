@@ -126,6 +126,6 @@ pub(crate) fn file<N: StoreName>(
 {
     match found(world, namespace, key) {
         Ok((slot, id)) => performed(alloc, world, n, slot, id, operation, extra),
-        Err(why) => Ok(Answer::Refused(why)),
+        Err(why) => Ok(Answer::refused(why)),
     }
 }

@@ -21,11 +21,11 @@ pub(crate) fn journal<N: StoreName>(
     ensures { IfOk result (λ answer. answer ≡ journal_of world.now namespace after most) }
 {
     if !is_page(most) {
-        return Ok(Answer::Refused(Refusal::BadArgument));
+        return Ok(Answer::refused(Refusal::BadArgument));
     }
     let name = namespace.as_str();
     let Some(charge) = world.totals(name) else {
-        return Ok(Answer::Refused(Refusal::NoNamespace));
+        return Ok(Answer::refused(Refusal::NoNamespace));
     };
     let entries = world.journal();
     let last = world.last_entry();

@@ -112,7 +112,7 @@ pub(crate) fn lookup<N: StoreName>(
 {
     let stack = match world.stack(namespace.as_str(), key.as_str()) {
         Ok(stack) => stack,
-        Err(why) => return Ok(Answer::Refused(why)),
+        Err(why) => return Ok(Answer::refused(why)),
     };
     match path_of(alloc, &path) {
         Ok(path) => looked_up(alloc, asked, &stack, &path),

@@ -81,7 +81,7 @@ fn on_store<N: StoreName>(
     ensures { IfOk result (λ answer. on_store (record { world = world.old; names = names.now }) n command ≡ (world.new, answer)) }
 {
     match command {
-        Command::Open { config: _ } => Ok(Answer::Refused(Refusal::BadArgument)),
+        Command::Open { config: _ } => Ok(Answer::refused(Refusal::BadArgument)),
         Command::Session => session(world),
         Command::Reopen { journal } => reopen(world, journal),
         Command::Call(call) => called(world, n, 0, call),

@@ -36,7 +36,7 @@ fn open_round<N: StoreName>(world: &mut World<N>) -> Result<Answer, NoMemory>
 {
     let answer = take_step(world, &Step::Locked(0, Call::Session))?;
     if is_started(&answer) {
-        return Ok(Answer::Done);
+        return Ok(Answer::Reply(Reply::Done));
     }
     Ok(told(0, 0, world, answer))
 }
@@ -49,6 +49,6 @@ pub(crate) fn reopen<N: StoreName>(world: &mut World<N>, journal: u64) -> Result
     match world.reopen(journal) {
         Ok(()) => open_round(world),
         Err(ReopenFault::StillOut) => Ok(Answer::StillOut),
-        Err(ReopenFault::Book(why)) => Ok(Answer::Refused(why)),
+        Err(ReopenFault::Book(why)) => Ok(Answer::refused(why)),
     }
 }

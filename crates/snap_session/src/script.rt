@@ -10,7 +10,7 @@ ghost use Rattle.snap_session.specs.Opened.{new_world, unopened};
 use crate::opened::Opened;
 use crate::round::is_started;
 use crate::step::take_step;
-use snap_call::{Call, Config, Refusal};
+use snap_call::{Call, Config, Refusal, Reply};
 use snap_ledger::{NewTable, StoreName};
 use snap_record::{Sequence, Text};
 use snap_script::{Answer, Command, names_of};
@@ -44,11 +44,7 @@ impl<N: StoreName> Model for Script<N> {
 }
 
 // A world of the configuration, which has its form and room for an entry, with its session 0.
-fn begun<N: StoreName>(
-    alloc: Global,
-    table: NewTable,
-    config: Config,
-) -> Result<World<N>, NoMemory>
+fn begun<N: StoreName>(alloc: Global, table: NewTable, config: Config) -> Result<World<N>, NoMemory>
     requires table { table ≡ N.table }
     requires valid { is_config config ≡ true }
     requires room { 1 ≤ config.journal }
@@ -105,7 +101,7 @@ impl<N: StoreName> Script<N> {
         match begun(self.alloc, table, config) {
             Ok(world) => {
                 self.store = Some(Opened { world, names });
-                Ok(Answer::Done)
+                Ok(Answer::Reply(Reply::Done))
             }
             Err(no_memory) => {
                 self.refused = Some(no_memory);
@@ -121,10 +117,10 @@ impl<N: StoreName> Script<N> {
         ensures spent { OnOk result (self.new.spent ≡ self.old.spent) }
     {
         if !config.is_valid() {
-            return Ok(Answer::Refused(Refusal::BadArgument));
+            return Ok(Answer::refused(Refusal::BadArgument));
         }
         if config.journal == 0 {
-            return Ok(Answer::Refused(Refusal::JournalFull));
+            return Ok(Answer::refused(Refusal::JournalFull));
         }
         self.start(config)
     }

@@ -82,28 +82,8 @@ fn told_reply<N: StoreName>(session: u64, slot: u64, world: &World<N>, reply: Re
 {
     match reply {
         Reply::Opened => Answer::Session(session),
-        Reply::Prepared { id, slot, chain } => Answer::Prepared { id, slot, chain },
-        Reply::Viewed { id, chain } => Answer::Viewed { id, chain },
-        Reply::Charged { now } => Answer::Share(now),
         Reply::Trimmed => Answer::Share(share_at(world, slot)),
-        Reply::Committed { id, usage } => Answer::Committed { id, usage },
-        Reply::Discarded(usage) => Answer::Freed(usage),
-        Reply::Removed(usage) => Answer::Freed(usage),
-        Reply::Info(info) => Answer::Info(info),
-        Reply::Usage(usage) => Answer::Usage(usage),
-        Reply::Mounts(mounts) => Answer::Mounts(mounts),
-        Reply::Page(infos) => Answer::Infos(infos),
-        Reply::Done => Answer::Done,
-        Reply::Swept {
-            removed,
-            leases,
-            freed,
-        } => Answer::Swept {
-            removed,
-            leases,
-            freed,
-        },
-        Reply::Refused(why) => Answer::Refused(why),
+        reply => Answer::Reply(reply),
     }
 }
 

@@ -59,7 +59,7 @@ pub(crate) fn tree<N: StoreName>(
     ensures { IfOk result (λ answer. answer ≡ tree (record { world = world.now; names = names.now }) namespace) }
 {
     let Some(place) = place_among(names, namespace.as_str()) else {
-        return Ok(Answer::Refused(Refusal::NoNamespace));
+        return Ok(Answer::refused(Refusal::NoNamespace));
     };
     Ok(Answer::Tree(forest(alloc, world.records(), place)?))
 }

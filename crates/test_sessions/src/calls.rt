@@ -39,7 +39,7 @@ impl<'a, N: StoreName, R: Wait> Round<'a, N, R> {
         key: &str,
         parent: &str,
         labels: &Labels,
-    ) -> Result<Answer, Refused> {
+    ) -> Result<Reply, Refused> {
         let session = session_at(&mut self.sessions, n)?;
         let room = Room::new(self.alloc)?;
         let own_key = Key::new(self.alloc, namespace, key)?;
@@ -57,7 +57,7 @@ impl<'a, N: StoreName, R: Wait> Round<'a, N, R> {
             held: Held::Active(active),
         })?;
         let chain = chain_of(self.alloc, session)?;
-        Ok(Answer::Prepared { id, slot, chain })
+        Ok(Reply::Prepared { id, slot, chain })
     }
 
     fn view(
@@ -67,7 +67,7 @@ impl<'a, N: StoreName, R: Wait> Round<'a, N, R> {
         key: &str,
         parent: &str,
         labels: &Labels,
-    ) -> Result<Answer, Refused> {
+    ) -> Result<Reply, Refused> {
         let session = session_at(&mut self.sessions, n)?;
         self.known.kept.reserve(1)?;
         let own_key = Key::new(self.alloc, namespace, key)?;
@@ -80,17 +80,17 @@ impl<'a, N: StoreName, R: Wait> Round<'a, N, R> {
             view: Some(view),
         })?;
         let chain = chain_of(self.alloc, session)?;
-        Ok(Answer::Viewed { id, chain })
+        Ok(Reply::Viewed { id, chain })
     }
 
-    fn remove(&mut self, n: u64, namespace: &str, key: &str) -> Result<Answer, Refused> {
+    fn remove(&mut self, n: u64, namespace: &str, key: &str) -> Result<Reply, Refused> {
         let session = session_at(&mut self.sessions, n)?;
         let freed = self.store.remove(self.rt, session, namespace, key)?;
         self.known.forget(namespace, key);
-        Ok(Answer::Freed(freed))
+        Ok(Reply::Removed(freed))
     }
 
-    fn sweep(&mut self, n: u64, namespace: &str, moment: u64) -> Result<Answer, Refused> {
+    fn sweep(&mut self, n: u64, namespace: &str, moment: u64) -> Result<Reply, Refused> {
         let session = session_at(&mut self.sessions, n)?;
         let Swept {
             removed,
@@ -100,7 +100,7 @@ impl<'a, N: StoreName, R: Wait> Round<'a, N, R> {
         for key in removed.as_slice() {
             self.known.forget(namespace, key.as_str());
         }
-        Ok(Answer::Swept {
+        Ok(Reply::Swept {
             removed,
             leases,
             freed,
@@ -108,13 +108,13 @@ impl<'a, N: StoreName, R: Wait> Round<'a, N, R> {
     }
 
     // The calls on labels, and those that change nothing.
-    fn ask(&mut self, n: u64, call: &Call) -> Result<Answer, Refused> {
+    fn ask(&mut self, n: u64, call: &Call) -> Result<Reply, Refused> {
         let session = session_at(&mut self.sessions, n)?;
         let (store, rt) = (self.store, self.rt);
         match call {
             Call::Stat { namespace, key } => {
                 let info = store.stat(rt, session, namespace.as_str(), key.as_str())?;
-                Ok(Answer::Info(info))
+                Ok(Reply::Info(info))
             }
             Call::Update {
                 namespace,
@@ -124,15 +124,15 @@ impl<'a, N: StoreName, R: Wait> Round<'a, N, R> {
             } => {
                 let (namespace, key) = (namespace.as_str(), key.as_str());
                 let info = store.update(rt, session, namespace, key, labels, paths)?;
-                Ok(Answer::Info(info))
+                Ok(Reply::Info(info))
             }
             Call::Usage { namespace, key } => {
                 let usage = store.usage(rt, session, namespace.as_str(), key.as_str())?;
-                Ok(Answer::Usage(usage))
+                Ok(Reply::Usage(usage))
             }
             Call::Mounts { namespace, key } => {
                 let mounts = store.mounts(rt, session, namespace.as_str(), key.as_str())?;
-                Ok(Answer::Mounts(mounts))
+                Ok(Reply::Mounts(mounts))
             }
             Call::Walk {
                 namespace,
@@ -142,7 +142,7 @@ impl<'a, N: StoreName, R: Wait> Round<'a, N, R> {
             } => {
                 let (namespace, after) = (namespace.as_str(), after.as_str());
                 let infos = store.walk(rt, session, namespace, after, *most, asked)?;
-                Ok(Answer::Infos(infos))
+                Ok(Reply::Page(infos))
             }
             // No line has the others as calls.
             _ => Err(Refused::Book(Refusal::BadArgument)),
@@ -150,7 +150,7 @@ impl<'a, N: StoreName, R: Wait> Round<'a, N, R> {
     }
 
     // The calls on leases and limits.
-    fn set(&mut self, n: u64, call: &Call) -> Result<Answer, Refused> {
+    fn set(&mut self, n: u64, call: &Call) -> Result<Reply, Refused> {
         let session = session_at(&mut self.sessions, n)?;
         let (store, rt) = (self.store, self.rt);
         match call {
@@ -175,10 +175,10 @@ impl<'a, N: StoreName, R: Wait> Round<'a, N, R> {
             }
             _ => return Err(Refused::Book(Refusal::BadArgument)),
         }
-        Ok(Answer::Done)
+        Ok(Reply::Done)
     }
 
-    pub(crate) fn call(&mut self, n: u64, call: &Call) -> Result<Answer, Refused> {
+    fn reply(&mut self, n: u64, call: &Call) -> Result<Reply, Refused> {
         match call {
             Call::Prepare {
                 namespace,
@@ -200,5 +200,9 @@ impl<'a, N: StoreName, R: Wait> Round<'a, N, R> {
             | Call::LeaseRelease { .. } => self.set(n, call),
             _ => self.ask(n, call),
         }
+    }
+
+    pub(crate) fn call(&mut self, n: u64, call: &Call) -> Result<Answer, Refused> {
+        Ok(Answer::Reply(self.reply(n, call)?))
     }
 }

@@ -2,11 +2,10 @@
 ghost use Rattle.std.specs.Prelude.{◌<◌};
 
 use crate::known::Key;
-use snap_book::{Held, Refusal, Sealed};
+use snap_book::{Held, Refusal, Reply, Sealed};
 use snap_ledger::StoreName;
 use snap_path::NoMemory;
 use snap_record::Text;
-use snap_script::Answer;
 use snap_store::{Session, Store};
 use snap_usage::Usage;
 use std::alloc::{AllocError, Global};
@@ -71,7 +70,7 @@ impl<'a, N: StoreName, R: Wait> Hand<'a, N, R> {
         session: &mut Session,
         name: &str,
         lease: &Option<Text>,
-    ) -> Result<Answer, (Refusal, Hand<'a, N, R>)> {
+    ) -> Result<Reply, (Refusal, Hand<'a, N, R>)> {
         let Hand {
             rt,
             store,
@@ -82,7 +81,7 @@ impl<'a, N: StoreName, R: Wait> Hand<'a, N, R> {
         } = self;
         let (why, held) = match seal(held) {
             Ok(sealed) => match store.commit(rt, session, name, lease, sealed) {
-                Ok(usage) => return Ok(Answer::Committed { id, usage }),
+                Ok(usage) => return Ok(Reply::Committed { id, usage }),
                 Err((why, sealed)) => (why, Held::Sealed(sealed)),
             },
             Err((no_memory, held)) => (Refusal::OutOfMemory(no_memory), held),

@@ -3,7 +3,7 @@ use crate::hand::Hand;
 use crate::known::{Kept, Key};
 use crate::refused::Refused;
 use crate::round::{Round, session_at};
-use snap_book::Held;
+use snap_book::{Held, Reply};
 use snap_ledger::StoreName;
 use snap_merge::FsError;
 use snap_record::Text;
@@ -43,7 +43,9 @@ impl<'a, N: StoreName, R: Wait> Round<'a, N, R> {
             return Err(Refused::NoHand);
         };
         self.store.charge(self.rt, session, active, need, want)?;
-        Ok(Answer::Share(active.share()))
+        Ok(Answer::Reply(Reply::Charged {
+            now: active.share(),
+        }))
     }
 
     pub(crate) fn trim(&mut self, n: u64, namespace: &str, key: &str) -> Result<Answer, Refused> {
@@ -73,9 +75,9 @@ impl<'a, N: StoreName, R: Wait> Round<'a, N, R> {
         let key = Key::new(self.alloc, namespace, name)?;
         let hand = take(&mut self.hands, place)?;
         match hand.commit(session, name, lease) {
-            Ok(answer) => {
+            Ok(reply) => {
                 self.known.kept.push(Kept { key, view: None })?;
-                Ok(answer)
+                Ok(Answer::Reply(reply))
             }
             Err((why, hand)) => {
                 self.hands.push(hand)?;
@@ -94,7 +96,7 @@ impl<'a, N: StoreName, R: Wait> Round<'a, N, R> {
         let session = session_at(&mut self.sessions, n)?;
         session.reserve(1)?;
         let hand = take(&mut self.hands, place)?;
-        Ok(Answer::Freed(hand.discard(session)))
+        Ok(Answer::Reply(Reply::Discarded(hand.discard(session))))
     }
 
     // The operation, with the charge that it needs. A session that isn't open can't charge.

@@ -28,7 +28,7 @@ impl Refused {
             Refused::NoHand => Ok(Answer::NoHand),
             Refused::StillOut => Ok(Answer::StillOut),
             Refused::Book(Refusal::OutOfMemory(_)) => Err(Stop::NoMemory),
-            Refused::Book(why) => Ok(Answer::Refused(why)),
+            Refused::Book(why) => Ok(Answer::refused(why)),
             Refused::File(FsError::OutOfMemory(_)) => Err(Stop::NoMemory),
             Refused::File(error) => Ok(Answer::Failed(error)),
         }

@@ -5,7 +5,7 @@ use crate::hand::Hand;
 use crate::known::Known;
 use crate::refused::Refused;
 use crate::stop::Stop;
-use snap_book::Refusal;
+use snap_book::{Refusal, Reply};
 use snap_ledger::StoreName;
 use snap_script::Answer;
 use snap_store::{Session, Store};
@@ -69,7 +69,7 @@ impl<'a, N: StoreName, R: Wait> Round<'a, N, R> {
             opened => opened,
         };
         match opened {
-            Ok(_) => Ok(Answer::Done),
+            Ok(_) => Ok(Answer::Reply(Reply::Done)),
             Err(refused) => refused.answer(),
         }
     }

@@ -52,7 +52,7 @@ fn first_config<W: Write>(
         } else {
             return Ok(Some(config));
         };
-        write_answer(alloc, output, &Answer::Refused(why))?;
+        write_answer(alloc, output, &Answer::refused(why))?;
     }
     Ok(None)
 }

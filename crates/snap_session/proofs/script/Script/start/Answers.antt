@@ -4,6 +4,7 @@ use Rattle.snap_record.specs.Labels.{Bytes}
 use Rattle.snap_call.specs.declared.call.Call.TheVariants as calls
 use Rattle.snap_call.specs.declared.config.Namespace.{Namespace}
 use Rattle.snap_call.specs.declared.refusal.Refusal.TheVariants.{BadArgument}
+use Rattle.snap_call.specs.declared.reply.Reply.TheVariants as replies
 use Rattle.snap_script.specs.declared.answer.Answer.{Answer}
 use Rattle.snap_script.specs.declared.answer.Answer.TheVariants as answers
 use Rattle.snap_world.specs.declared.step.Answer.{Answer as StepAnswer}
@@ -20,8 +21,8 @@ returns-in-Ok-clause-store g c =
     let begun = c.in-Ok.ensures in
     let names : map (λ (n : Namespace). n.name) config.namespaces ≡ c.in_ok-names.names = ap (map (λ (n : Namespace). n.name)) (sym c.as_slice.ensures) ∙ sym c.in_ok-names.ensures in
     let first : store_opened config ≡ started (map (λ (n : Namespace). n.name) config.namespaces) (move (new_world config) (Locked 0 calls.Session)) =
-    ap (λ (b : Bool). if b then started (map (λ (n : Namespace). n.name) config.namespaces) (move (new_world config) (Locked 0 calls.Session)) else (None, answers.Refused BadArgument)) c.requires.valid in
+    ap (λ (b : Bool). if b then started (map (λ (n : Namespace). n.name) config.namespaces) (move (new_world config) (Locked 0 calls.Session)) else (None, answers.Reply (replies.Refused BadArgument))) c.requires.valid in
     let made : store_opened config ≡ started c.in_ok-names.names (c.in-Ok.world, begun.0) = first ∙ (λ i. started (names i) (begun.2 i)) in
-    let stands : started c.in_ok-names.names (c.in-Ok.world, begun.0) ≡ (Some (record { world = c.in-Ok.world; names = c.in_ok-names.names }), answers.Done) =
-    ap (λ (t : Bool). let z : Option OpenedValue × Answer = if t then (Some (record { world = c.in-Ok.world; names = c.in_ok-names.names }), answers.Done) else (None, told 0 0 c.in-Ok.world begun.0) in z) begun.1 in
+    let stands : started c.in_ok-names.names (c.in-Ok.world, begun.0) ≡ (Some (record { world = c.in-Ok.world; names = c.in_ok-names.names }), answers.Reply replies.Done) =
+    ap (λ (t : Bool). let z : Option OpenedValue × Answer = if t then (Some (record { world = c.in-Ok.world; names = c.in_ok-names.names }), answers.Reply replies.Done) else (None, told 0 0 c.in-Ok.world begun.0) in z) begun.1 in
     made ∙ stands
