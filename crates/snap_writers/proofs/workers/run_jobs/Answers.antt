@@ -33,11 +33,11 @@ returns-in-Some-clause-fault g c =
       omega (arith, c.in-Some.ensures.1, ap length c.as_slice-2.ensures.value, c.in-Ok-all_worked.ensures.count),
     )
 
-pub returns-in-Err-clause-fault : goal.returns-in-Err-clause-fault
-returns-in-Err-clause-fault g c =
+pub returns-in-Err-close-clause-fault : goal.returns-in-Err-close-clause-fault
+returns-in-Err-close-clause-fault g c =
     let counted : IsCount c.args.workers = (omega (arith, c.if-workers-eq0.false), omega (arith, c.if-workers-gt-MAX_WORKERS.false)) in
-    let are = ap (λ (v : Vec SessionValue Global). v.items) c.in-Err.ensures.returned ∙ c.sessions_of.ensures in (
+    let are = ap (λ (v : Vec SessionValue Global). v.items) c.in-Err-close.ensures.returned ∙ c.sessions_of.ensures in (
       counted,
       record { all = c.in-Ok-all_worked.all.items; worked = c.in-Ok-all_worked.ensures; are = are },
-      c.in-Err.ensures.cause,
+      c.in-Err-close.ensures.cause,
     )

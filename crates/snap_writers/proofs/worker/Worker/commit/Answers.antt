@@ -29,8 +29,8 @@ returns-in-Err-commit-clause-refused g c =
 pub returns-in-Err-clause-refused : goal.returns-in-Err-clause-refused
 returns-in-Err-clause-refused g c = c.discard.ensures c.args.job.now
 
-pub returns-then-is_err-clause-refused : goal.returns-then-is_err-clause-refused
-returns-then-is_err-clause-refused g c =
+pub returns-in-Err-reserve-clause-refused : goal.returns-in-Err-reserve-clause-refused
+returns-in-Err-reserve-clause-refused g c =
     let old = c.args.self.now.session in
     let j = c.args.job.now in
-    then_on j old c.reserve.new.self c.discard-then-is_err.new.self.session [] (untaped j old c.reserve.new.self c.reserve.ensures.same) (c.discard-then-is_err.ensures j)
+    then_on j old c.reserve.new.self c.discard-in-Err-reserve.new.self.session [] (untaped j old c.reserve.new.self c.reserve.ensures.same) (c.discard-in-Err-reserve.ensures j)
