@@ -35,7 +35,7 @@ returns-in-Ok-eq0-clause-stopped g c =
     if_err c.finish.result (λ stop h. reading_stopped_at_end g.T.TakeLine.effect c.args.taker.now _ _ _ _ _ _ _ (within c.reads.reader c.reads.taker) stop c.reads.invariant none at_end h) c.finish.ensures.err
 
 pub reads-preserved : goal.reads-preserved
-reads-preserved g c = reading_more g.T.TakeLine.effect c.args.taker.now _ _ _ _ _ _ _ _ _ c.reads.invariant c.in-Ok-read.ensures.bytes.0 c.in_ok-take_read-in-Ok-read.ensures.ok
+reads-preserved g c = reading_more g.T.TakeLine.effect c.args.taker.now _ _ _ _ _ _ _ _ _ c.reads.invariant c.in-Ok.ensures.bytes.0 c.in_ok-take_read-in-Ok.ensures.ok
 
 pub reads-init : goal.reads-init
 reads-init g c =
@@ -47,14 +47,14 @@ pub returns-in_err-chunk-clause-stopped : goal.returns-in_err-chunk-clause-stopp
 returns-in_err-chunk-clause-stopped g c =
     let p = err_from_is_err_and c.from_residual.result c.from_residual.ensures.1 in
     err_is _ c.from_residual.result p.0 (OutOfMemory (Allocator no_memory)) p.1 (cc p.2)
-    (reading_not_begun g.T.TakeLine.effect c.args.taker.now _ (g.R.Read.remaining c.args.input.now) (g.R.Read.remaining c.args.input.now) (g.W.Write.contents c.args.output.now))
+    (reading_not_begun g.T.TakeLine.effect c.args.taker.now (Allocator no_memory) (g.R.Read.remaining c.args.input.now) (g.R.Read.remaining c.args.input.now) (g.W.Write.contents c.args.output.now))
 
-pub returns-in_err-take_read-in-Ok-read-clause-stopped : goal.returns-in_err-take_read-in-Ok-read-clause-stopped
-returns-in_err-take_read-in-Ok-read-clause-stopped g c =
-    let p = err_from_is_err_and c.from_residual-in_err-take_read-in-Ok-read.result c.from_residual-in_err-take_read-in-Ok-read.ensures.1 in
-    let stop = c.in_err-take_read-in-Ok-read.field-0.0 in
-    err_is _ c.from_residual-in_err-take_read-in-Ok-read.result p.0 stop p.1 (cc p.2)
-    (reading_stopped g.T.TakeLine.effect c.args.taker.now _ _ _ _ _ _ _ (within c.reads.reader c.reads.taker) _ stop c.reads.invariant c.in-Ok-read.ensures.bytes.0 c.in_err-take_read-in-Ok-read.ensures.err)
+pub returns-in_err-take_read-in-Ok-clause-stopped : goal.returns-in_err-take_read-in-Ok-clause-stopped
+returns-in_err-take_read-in-Ok-clause-stopped g c =
+    let p = err_from_is_err_and c.from_residual-in_err-take_read-in-Ok.result c.from_residual-in_err-take_read-in-Ok.ensures.1 in
+    let stop = c.in_err-take_read-in-Ok.field-0.0 in
+    err_is _ c.from_residual-in_err-take_read-in-Ok.result p.0 stop p.1 (cc p.2)
+    (reading_stopped g.T.TakeLine.effect c.args.taker.now _ _ _ _ _ _ _ (within c.reads.reader c.reads.taker) _ stop c.reads.invariant c.in-Ok.ensures.bytes.0 c.in_err-take_read-in-Ok.ensures.err)
 
 pub returns-in-Err-clause-stopped : goal.returns-in-Err-clause-stopped
 returns-in-Err-clause-stopped g c = reading_failed g.T.TakeLine.effect c.args.taker.now _ _ _ _ _ (within c.reads.reader c.reads.taker) c.reads.invariant c.in-Err.ensures.bytes

@@ -45,4 +45,4 @@ returns-then-as_slice-eq-MAX_LINE_BYTES-clause-err g c =
 pub returns-in_err-push-clause-err : goal.returns-in_err-push-clause-err
 returns-in_err-push-clause-err g c =
     let p = err_from_is_err_and c.from_residual.result c.from_residual.ensures.1 in
-    err_is _ c.from_residual.result p.0 (OutOfMemory (Allocator no_memory)) p.1 (cc p.2) (stops_before g.T.TakeLine.effect (within c.args.self.now c.args.taker.now) (c.args.b ∷ []) _ _ _ refl)
+    err_is _ c.from_residual.result p.0 (OutOfMemory (Allocator no_memory)) p.1 (cc p.2) (stops_before g.T.TakeLine.effect (within c.args.self.now c.args.taker.now) (c.args.b ∷ []) (Allocator no_memory) _ _ refl)
