@@ -31,9 +31,13 @@ unfoldable pub read_with : Option ReadValue → List ℕ → Result ReadValue Fa
 read_with None bytes = do opened_as (← opening_of (← object_in bytes))
 read_with (Some read) bytes = if nat_lt (length read.jobs) 65536 then (do Ok (with_job read (← job_of (← object_in bytes)))) else Err TooLong
 
+-- what was read is there
+abbrev pub there : Result ReadValue Fault → Result (Option ReadValue) Fault
+there reading = do Ok (Some (← reading))
+
 -- the same of any line; an empty one says nothing
 unfoldable pub taken : Option ReadValue → List ℕ → Result (Option ReadValue) Fault
-taken read bytes = if is_empty bytes then Ok read else (do Ok (Some (← read_with read bytes)))
+taken read bytes = if is_empty bytes then Ok read else there (read_with read bytes)
 
 -- what a line does: nothing is written for it
 unfoldable pub jobs_effect : Effects (Option ReadValue)

@@ -1,9 +1,8 @@
 // The lines of a script of jobs, and what was read of them.
-ghost use Rattle.std.specs.Prelude.{◌≡◌, None, Some, Ok};
+ghost use Rattle.std.specs.Prelude.{◌≡◌, None, Some};
 ghost use Rattle.serde_json.specs.View.{view};
 ghost use Rattle.snap_script.specs.Gives.{Gives};
-ghost use Rattle.snap_script.specs.Results.{◌>>=◌};
-ghost use Rattle.snap_jobs.specs.Lines.{opened_as, read_with, taken};
+ghost use Rattle.snap_jobs.specs.Lines.{opened_as, read_with, taken, there};
 
 use crate::job::job_of;
 use snap_call::{Config, Refusal};
@@ -76,7 +75,7 @@ impl<N: StoreName> JobLines<N> {
     // Opens a store of the configuration.
     fn open(&mut self, alloc: Global, config: Config) -> Result<(), ReadError>
         requires { self.old ≡ None }
-        ensures { Gives (λ _. self.new) result (do Ok (Some (← opened_as config))) }
+        ensures { Gives (λ _. self.new) result (there (opened_as config)) }
     {
         if !config.is_valid() {
             return Err(ReadError::Fault(Fault::BadField(Field::Open)));
@@ -109,7 +108,7 @@ impl<N: StoreName> JobLines<N> {
     #[tactic(auto, unfolding(crate::specs::Lines::read_with))]
     fn read_first(&mut self, alloc: Global, line: &[u8]) -> Result<(), ReadError>
         requires { self.old ≡ None }
-        ensures { Gives (λ _. self.new) result (do Ok (Some (← read_with None line.now))) }
+        ensures { Gives (λ _. self.new) result (there (read_with None line.now)) }
     {
         let line = read_object(alloc, line)?;
         let config = read_open(alloc, &line)?;

@@ -1,19 +1,15 @@
-use Rattle.std.proofs.Common.{◌≡◌, Bool, true, false, sym, ap, ◌∙◌}
+use Rattle.std.proofs.Common.{◌≡◌, Bool, true, false, ap}
 use Rattle.std.specs.Prelude.{if◌then◌else◌, nat_lt}
-use Rattle.std.proofs.lemmas.Bool.{le-ltb}
 use Rattle.snap_call.specs.declared.call.Call.TheVariants as calls
 use Rattle.snap_call.specs.declared.call.Given.TheVariants.{Nothing}
 use Rattle.snap_call.specs.declared.config.Config.{Config}
 use Rattle.snap_call.specs.declared.refusal.Refusal.TheVariants.{JournalFull}
 use Rattle.snap_call.specs.declared.reply.Reply.TheVariants as replies
-use Rattle.snap_world.specs.declared.step.Answer.{Answer as StepAnswer}
 use Rattle.snap_world.specs.declared.step.Answer.TheVariants as step_answers
 use Rattle.snap_world.specs.declared.step.Step.TheVariants.{Locked}
 use Rattle.snap_world.specs.Move.{move, recorded}
-use Rattle.snap_world.specs.World.{WorldValue}
 use Rattle.snap_session.specs.Opened.{new_world}
 use Rattle.snap_session.specs.Commands.{is_started}
-use Rattle.snap_session.proofs.script.begun.Goals as goal
 
 -- a journal with room for an entry takes that of session 0
 begins : (config : Config) → nat_lt config.journal 1 ≡ false → is_started (move (new_world config) (Locked 0 calls.Session)).1 ≡ true

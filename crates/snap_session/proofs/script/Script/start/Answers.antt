@@ -1,16 +1,13 @@
-use Rattle.std.proofs.Common.{◌≡◌, List, Option, None, Some, Bool, true, sym, ap, ◌∙◌}
+use Rattle.std.proofs.Common.{◌≡◌, Option, None, Some, Bool, sym, ap, ◌∙◌}
 use Rattle.std.specs.Prelude.{if◌then◌else◌, map}
-use Rattle.snap_record.specs.Labels.{Bytes}
 use Rattle.snap_call.specs.declared.call.Call.TheVariants as calls
 use Rattle.snap_call.specs.declared.config.Namespace.{Namespace}
 use Rattle.snap_call.specs.declared.refusal.Refusal.TheVariants.{BadArgument}
 use Rattle.snap_call.specs.declared.reply.Reply.TheVariants as replies
 use Rattle.snap_script.specs.declared.answer.Answer.{Answer}
 use Rattle.snap_script.specs.declared.answer.Answer.TheVariants as answers
-use Rattle.snap_world.specs.declared.step.Answer.{Answer as StepAnswer}
 use Rattle.snap_world.specs.declared.step.Step.TheVariants.{Locked}
 use Rattle.snap_world.specs.Move.{move}
-use Rattle.snap_world.specs.World.{WorldValue}
 use Rattle.snap_session.specs.Opened.{OpenedValue, new_world}
 use Rattle.snap_session.specs.Commands.{started, store_opened, told}
 use Rattle.snap_session.proofs.script.Script.start.Goals as goal
