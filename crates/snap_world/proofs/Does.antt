@@ -2,7 +2,6 @@
 use Rattle.std.proofs.Common.{◌≡◌, ◌⊎◌, inl, inr, ℕ, ◌+◌, ◌≤◌, ◌<◌, List, ◌∷◌, length, true, false, Bool, Option, None, Some, refl, sym, ap, ◌∙◌, subst, ⊎_elim, arith}
 use Rattle.std.specs.Prelude.{◌↔◌, if◌then◌else◌, Result, Ok, Err, OnOk, OnErr, IfErr}
 use Rattle.std.specs.Option.{option_map}
-use Rattle.std.proofs.lemmas.Bool.{lt-ltb}
 use Rattle.snap_path.specs.Memory.{no_memory}
 use Rattle.snap_usage.specs.declared.usage.Usage.{Usage}
 use Rattle.snap_usage.specs.Counted.{count_of}
@@ -35,12 +34,12 @@ use Rattle.snap_world.specs.declared.step.Answer.{Answer}
 use Rattle.snap_world.specs.declared.step.Answer.TheVariants as answers
 use Rattle.snap_world.specs.declared.step.Step.TheVariants as steps
 use Rattle.snap_world.specs.World.{HandValue, WorldValue, Fits, hand_at, with_hand, world_of}
-use Rattle.snap_world.specs.Move.{called, charged, committed_hand, with_outcome, new_hand, is_full, is_its_session, is_under, is_unsealed, meets, with_prepared, recorded, sealed_hand}
-use Rattle.snap_world.specs.Runs.{CanWant, DoesCall, IsLeft, Moves}
+use Rattle.snap_world.specs.Move.{called, charged, committed_hand, with_outcome, new_hand, is_its_session, is_under, is_unsealed, meets, with_prepared, recorded, sealed_hand}
+use Rattle.snap_world.specs.Runs.{CanWant, DoesCall, Moves}
 use Rattle.snap_world.proofs.Ends.{ends}
 use Rattle.snap_world.proofs.Hold.{placed, under-id}
 use Rattle.snap_world.proofs.Places.{with_hand-twice, with_hand-again}
-use Rattle.snap_world.proofs.Steps.{admits, charges, found, in_session, missed, not_lt}
+use Rattle.snap_world.proofs.Steps.{admits, charges, found, in_session, missed}
 
 pub charge_does : (old new : BookValue) (hands out after : List (Option HandValue)) (slot n id : ℕ) (need want : Usage) (a b : ActiveValue) (reply : Reply) → Fits (world_of old hands)
     → hand_at slot hands ≡ Some (record { snapshot = a; sealed = false }) → is_under id (record { snapshot = a; sealed = false }) ≡ true → slot < 64
@@ -137,50 +136,6 @@ plain_does old new hands n call reply asks answered full = at call asks answered
         ⊎_elim (λ e. inl e) (λ e. inr (ap answers.Reply e.0, (e.1, ap (λ (b : BookValue). world_of b hands) e.2)))
         (admits old new hands hands hands 1 n (calls.Sweep namespace moment) Nothing (λ r. hands) reply (ends old new n (calls.Sweep namespace moment) Nothing reply h) full_here refl refl)
     at call a h = absurd a
-
--- a plain call, where the journal is full
-pub plain_in_vain : (w : WorldValue) (n : ℕ) (call : Call) → IsPlain call → w.limit ≤ length w.journal + open_count w.state.records → DoesCall w n call (answers.Reply (Refused JournalFull)) w
-plain_in_vain w n call asks full = at call asks
-  where
-    no_room : is_full w 1 ≡ true
-    no_room = lt-ltb w.limit (length w.journal + open_count w.state.records + 1) (omega (arith, full))
-
-    at : (call : Call) → IsPlain call → DoesCall w n call (answers.Reply (Refused JournalFull)) w
-    at (calls.Stat namespace key) a = inl (ap (λ (b : Bool). if b then (w, answers.Reply (Refused JournalFull)) else recorded w n (calls.Stat namespace key) Nothing (λ reply. w.hands)) no_room)
-    at (calls.Usage namespace key) a = inl (ap (λ (b : Bool). if b then (w, answers.Reply (Refused JournalFull)) else recorded w n (calls.Usage namespace key) Nothing (λ reply. w.hands)) no_room)
-    at (calls.Mounts namespace key) a = inl (ap (λ (b : Bool). if b then (w, answers.Reply (Refused JournalFull)) else recorded w n (calls.Mounts namespace key) Nothing (λ reply. w.hands)) no_room)
-    at (calls.View namespace key parent labels) a = inl (ap (λ (b : Bool). if b then (w, answers.Reply (Refused JournalFull)) else recorded w n (calls.View namespace key parent labels) Nothing (λ reply. w.hands)) no_room)
-    at (calls.Remove namespace key) a = inl (ap (λ (b : Bool). if b then (w, answers.Reply (Refused JournalFull)) else recorded w n (calls.Remove namespace key) Nothing (λ reply. w.hands)) no_room)
-    at (calls.Update namespace key labels paths) a = inl (ap (λ (b : Bool). if b then (w, answers.Reply (Refused JournalFull)) else recorded w n (calls.Update namespace key labels paths) Nothing (λ reply. w.hands)) no_room)
-    at (calls.Walk namespace after most asked) a = inl (ap (λ (b : Bool). if b then (w, answers.Reply (Refused JournalFull)) else recorded w n (calls.Walk namespace after most asked) Nothing (λ reply. w.hands)) no_room)
-    at (calls.SetLimit namespace limit) a = inl (ap (λ (b : Bool). if b then (w, answers.Reply (Refused JournalFull)) else recorded w n (calls.SetLimit namespace limit) Nothing (λ reply. w.hands)) no_room)
-    at (calls.LeaseCreate namespace lease until) a = inl (ap (λ (b : Bool). if b then (w, answers.Reply (Refused JournalFull)) else recorded w n (calls.LeaseCreate namespace lease until) Nothing (λ reply. w.hands)) no_room)
-    at (calls.LeaseAdd namespace lease name) a = inl (ap (λ (b : Bool). if b then (w, answers.Reply (Refused JournalFull)) else recorded w n (calls.LeaseAdd namespace lease name) Nothing (λ reply. w.hands)) no_room)
-    at (calls.LeaseRelease namespace lease) a = inl (ap (λ (b : Bool). if b then (w, answers.Reply (Refused JournalFull)) else recorded w n (calls.LeaseRelease namespace lease) Nothing (λ reply. w.hands)) no_room)
-    at (calls.Sweep namespace moment) a = inl (ap (λ (b : Bool). if b then (w, answers.Reply (Refused JournalFull)) else recorded w n (calls.Sweep namespace moment) Nothing (λ reply. w.hands)) no_room)
-    at call a = absurd a
-
--- a plain call wants memory only where the journal has room
-pub plain_left : (w : WorldValue) (call : Call) → IsPlain call → ((w.limit ≤ length w.journal + open_count w.state.records) → ⊥) → IsLeft w call w
-plain_left w call asks room = at call asks
-  where
-    free : is_full w 1 ≡ false
-    free = not_lt w.limit (length w.journal + open_count w.state.records + 1) (λ lt. room (omega (arith, lt)))
-
-    at : (call : Call) → IsPlain call → IsLeft w call w
-    at (calls.Stat namespace key) a = (free, refl)
-    at (calls.Usage namespace key) a = (free, refl)
-    at (calls.Mounts namespace key) a = (free, refl)
-    at (calls.View namespace key parent labels) a = (free, refl)
-    at (calls.Remove namespace key) a = (free, refl)
-    at (calls.Update namespace key labels paths) a = (free, refl)
-    at (calls.Walk namespace after most asked) a = (free, refl)
-    at (calls.SetLimit namespace limit) a = (free, refl)
-    at (calls.LeaseCreate namespace lease until) a = (free, refl)
-    at (calls.LeaseAdd namespace lease name) a = (free, refl)
-    at (calls.LeaseRelease namespace lease) a = (free, refl)
-    at (calls.Sweep namespace moment) a = (free, refl)
-    at call a = absurd a
 
 pub prepare_does : (old new : BookValue) (hands after : List (Option HandValue)) (n : ℕ) (namespace key parent : Bytes) (labels : List Label) (reply : Reply) → AnsweredBy old new n (calls.Prepare namespace key parent labels) Nothing reply
     → after ≡ with_prepared (place_of namespace old.state.namespaces) key parent old.state.records hands reply → (reply ≡ Refused JournalFull) ↔ (old.limit < length old.journal + open_count old.state.records + 2)

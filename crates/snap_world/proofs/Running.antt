@@ -1,6 +1,5 @@
 -- A run goes on by one step.
-use Rattle.std.proofs.Common.{◌≡◌, List, [], ◌∷◌, ◌++◌, ℕ, ◌+◌, ◌<◌, length, take, get_or, refl, subst, sym}
-use Rattle.std.proofs.lemmas.List.{take_more}
+use Rattle.std.proofs.Common.{◌≡◌, List, [], ◌∷◌, ◌++◌, refl, subst, sym}
 use Rattle.snap_world.specs.declared.step.Step.{Step}
 use Rattle.snap_world.specs.declared.step.Answer.{Answer}
 use Rattle.snap_world.specs.World.{WorldValue, Fits}
@@ -12,8 +11,5 @@ runs_push [] (r ∷ rs) old mid new s a h m fit = absurd h
 runs_push (t ∷ ts) [] old mid new s a h m fit = absurd h
 runs_push (t ∷ ts) (r ∷ rs) old mid new s a h m fit = (h.0, h.1, h.2, runs_push ts rs h.0 mid new s a h.3 m fit)
 
-pub runs_step : (steps : List Step) (i : ℕ) (d : Step) (rs more : List Answer) (old mid new : WorldValue) (a : Answer) → i < length steps → Runs old (take i steps) rs mid → Moves mid (get_or steps i d) a new → Fits new → more ≡ rs ++ a ∷ []
-    → Runs old (take (i + 1) steps) more new
-runs_step steps i d rs more old mid new a lt h m fit e =
-    subst (λ (ss : List Step). Runs old ss more new) (sym (take_more steps i d lt))
-    (subst (λ (as' : List Answer). Runs old (take i steps ++ get_or steps i d ∷ []) as' new) (sym e) (runs_push (take i steps) rs old mid new (get_or steps i d) a h m fit))
+pub runs_step : (ss : List Step) (rs more : List Answer) (old mid new : WorldValue) (s : Step) (a : Answer) → Runs old ss rs mid → Moves mid s a new → Fits new → more ≡ rs ++ a ∷ [] → Runs old (ss ++ s ∷ []) more new
+runs_step ss rs more old mid new s a h m fit e = subst (λ (as' : List Answer). Runs old (ss ++ s ∷ []) as' new) (sym e) (runs_push ss rs old mid new s a h m fit)

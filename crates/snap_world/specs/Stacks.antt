@@ -1,5 +1,5 @@
 -- What the snapshots of a world show: the layers of an active one, its own over those of its ancestors, and those of a view.
--- Cited by `World::take_step`, `World::run`, `World::stack` and others.
+-- Cited by `World::call`, `World::operate`, `World::run` and others.
 use Rattle.std.specs.Prelude.{◌≡◌, ℕ, List, ◌∷◌, Option, None, Some, Result, Ok, Err}
 use Rattle.snap_layer.specs.Tree.{Tree}
 use Rattle.snap_record.specs.Labels.{Bytes}

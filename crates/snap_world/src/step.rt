@@ -106,17 +106,11 @@ impl<N: StoreName> Hands<N> {
     }
 
     // A call that takes no snapshot out of a hand and puts none into one.
-    fn plain(&mut self, book: &mut Book<N>, session: u64, call: &Call) -> Answer
-        requires { IsPlain call.now }
-        ensures { DoesCall (world_of book.old self.old) session call.now result (world_of book.new self.new) }
+    fn plain(&mut self, book: &mut Book<N>, session: u64, call: Call) -> Answer
+        requires { IsPlain call }
+        ensures { DoesCall (world_of book.old self.old) session call result (world_of book.new self.new) }
     {
-        if book.is_full() {
-            return Answer::Reply(Reply::Refused(Refusal::JournalFull));
-        }
-        match call.clone() {
-            Ok(call) => Answer::Reply(book.do_call(session, call)),
-            Err(refused) => Answer::Reply(Reply::Refused(refused.into())),
-        }
+        Answer::Reply(book.do_call(session, call))
     }
 
     // A new snapshot goes into the hand of its slot. The reply is that of its entry.
@@ -262,12 +256,12 @@ impl<N: StoreName> Hands<N> {
     }
 
     // A call in its session.
-    fn call(&mut self, book: &mut Book<N>, session: u64, call: &Call) -> Answer
+    fn call(&mut self, book: &mut Book<N>, session: u64, call: Call) -> Answer
         requires fits { Fits (world_of book.old self.old) }
-        requires session { is_its_session book.old.state.sessions session call.now ≡ true }
-        ensures { DoesCall (world_of book.old self.old) session call.now result (world_of book.new self.new) }
+        requires session { is_its_session book.old.state.sessions session call ≡ true }
+        ensures { DoesCall (world_of book.old self.old) session call result (world_of book.new self.new) }
     {
-        match call {
+        match &call {
             Call::Session => self.open_session(book),
             Call::Prepare {
                 namespace,
@@ -294,11 +288,11 @@ impl<N: StoreName> Hands<N> {
     }
 
     // A call of the session.
-    pub(crate) fn locked(&mut self, book: &mut Book<N>, session: u64, call: &Call) -> Answer
+    pub(crate) fn locked(&mut self, book: &mut Book<N>, session: u64, call: Call) -> Answer
         requires { Fits (world_of book.old self.old) }
-        ensures { Moves (world_of book.old self.old) (Locked session call.now) result (world_of book.new self.new) }
+        ensures { Moves (world_of book.old self.old) (Locked session call) result (world_of book.new self.new) }
     {
-        if !is_its_session(book.sessions(), session, call) {
+        if !is_its_session(book.sessions(), session, &call) {
             return Answer::NoSession;
         }
         self.call(book, session, call)

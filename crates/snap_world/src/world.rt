@@ -10,6 +10,7 @@ ghost use Rattle.snap_call.specs.Totals.{counts_and_shares};
 ghost use Rattle.snap_call.specs.declared.refusal.Refusal.TheVariants.{BadArgument, OutOfMemory};
 ghost use Rattle.snap_book.specs.Book.{IsOpening};
 ghost use Rattle.snap_book.specs.Slot.{found_of, slot_of};
+ghost use Rattle.snap_world.specs.declared.step.Step.TheVariants.{Hand, Locked};
 ghost use Rattle.snap_world.specs.World.{Fits, hand_at};
 ghost use Rattle.snap_world.specs.Runs.{Moves, Runs};
 ghost use Rattle.snap_world.specs.Stacks.{IsOver, stack_of};
@@ -17,11 +18,12 @@ ghost use Rattle.snap_world.specs.Stacks.{IsOver, stack_of};
 use crate::hands::Hands;
 use crate::step::{Answer, Step};
 use snap_book::Book;
-use snap_call::{Config, Records, Refusal, SharedEntry};
+use snap_call::{Call, Config, Records, Refusal, SharedEntry};
 use snap_ledger::{NewTable, StoreName};
 use snap_merge::Stack;
 use snap_path::NoMemory;
 use snap_record::Content;
+use snap_upper::Op;
 use snap_usage::Usage;
 use std::alloc::Global;
 use std::marker::Model;
@@ -68,14 +70,40 @@ impl<N: StoreName> World<N> {
         Ok(World { book, hands })
     }
 
-    /// Takes one step: its answer, as [`World::run`] says of each of its steps. The cost is the step's.
-    pub fn take_step(&mut self, step: &Step) -> Answer
-        ensures moves { Moves self.old step.now result self.new }
+    /// A call on the store, by the session of this number: its answer, as [`World::run`] has it for
+    /// [`Step::Locked`]. The call is handed on and never copied: one that takes no snapshot out of a hand and
+    /// puts none into one goes into its entry as it is.
+    ///
+    /// `NoSession` and `NoHand` leave the world as it was, and so does `OutOfMemory`, the answer where memory
+    /// is refused, but for a commit, which may have sealed its snapshot's layer. The cost is that of the
+    /// [`Book`](snap_book::Book)'s call.
+    pub fn call(&mut self, session: u64, call: Call) -> Answer
+        ensures moves { Moves self.old (Locked session call) result self.new }
+        ensures fits { Fits self.new }
+    {
+        self.hands.locked(&mut self.book, session, call)
+    }
+
+    /// An operation on the layer of the slot's snapshot: its answer, as [`World::run`] has it for
+    /// [`Step::Hand`]. It leaves no entry.
+    ///
+    /// `NoHand` and every error of the operation leave the world as it was, `OutOfMemory` too, the error where
+    /// memory is refused. The cost is that of the operation.
+    pub fn operate(&mut self, slot: u64, op: &Op) -> Answer
+        ensures moves { Moves self.old (Hand slot op.now) result self.new }
+        ensures fits { Fits self.new }
+    {
+        self.hands.file(slot, op)
+    }
+
+    // One step.
+    fn take_step(&mut self, step: Step) -> Answer
+        ensures moves { Moves self.old step result self.new }
         ensures fits { Fits self.new }
     {
         match step {
-            Step::Locked(session, call) => self.hands.locked(&mut self.book, *session, call),
-            Step::Hand(slot, op) => self.hands.file(*slot, op),
+            Step::Locked(session, call) => self.call(session, call),
+            Step::Hand(slot, op) => self.operate(slot, &op),
         }
     }
 
@@ -84,9 +112,9 @@ impl<N: StoreName> World<N> {
     /// What a step answers, and what it leaves, are the definition `move`'s. A step for which memory is
     /// refused answers `OutOfMemory` and leaves the world as it was, but for a commit, which may have
     /// sealed its snapshot's layer. `NoMemory` where memory for the answers is refused: then no step
-    /// was taken. The cost is that of the steps.
-    pub fn run(&mut self, steps: &[Step]) -> Result<Vec<Answer>, NoMemory>
-        ensures run { IfOk result (λ answers. Runs self.old steps.now answers.items self.new) }
+    /// was taken, and the steps are dropped. The cost is that of the steps.
+    pub fn run(&mut self, steps: Vec<Step>) -> Result<Vec<Answer>, NoMemory>
+        ensures run { IfOk result (λ answers. Runs self.old steps.items answers.items self.new) }
         ensures err { OnErr result (self.new ≡ self.old) }
     {
         let mut answers = Vec::with_capacity(self.hands.alloc(), steps.len())?;

@@ -94,8 +94,8 @@ fn run_steps<N: StoreName, R: Abort>(rt: &R, alloc: Global, table: NewTable)
 {
     let config = config(rt, alloc, usage(10, 3), 100);
     let mut world = World::<N>::open(alloc, table, config).expect(rt, "a world");
-    let found = world.run(&steps(rt, alloc));
-    let found = found.expect(rt, "memory for answers");
+    let steps = Vec::from_array(alloc, steps(rt, alloc)).expect(rt, "memory for steps");
+    let found = world.run(steps).expect(rt, "memory for answers");
     let wanted = answers(alloc);
     equal(rt, "the answers", found.as_slice(), wanted.as_slice());
     equal(rt, "the charge", world.totals("a"), Some(usage(2, 2)));
