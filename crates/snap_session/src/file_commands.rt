@@ -3,10 +3,10 @@ ghost use Rattle.std.specs.Prelude.{◌≡◌, Err, IfOk};
 ghost use Rattle.snap_world.specs.declared.step.Step.TheVariants.{Hand};
 ghost use Rattle.snap_world.specs.Move.{move};
 ghost use Rattle.snap_script.specs.Operations.{operation_of};
-ghost use Rattle.snap_session.specs.Commands.{on_key, need_of, is_charged, retried, tried, performed};
+ghost use Rattle.snap_session.specs.Commands.{on_key, need_of, is_charged, tried, performed};
 
 use crate::calls::found;
-use crate::step::{stepped, take_step, told};
+use crate::step::{call, operate, told};
 use snap_book::{needed_by, wanted};
 use snap_call::{Call, Reply};
 use snap_ledger::StoreName;
@@ -15,7 +15,7 @@ use snap_record::Text;
 use snap_script::{Answer, FileCommand};
 use snap_upper::Op;
 use snap_usage::Usage;
-use snap_world::{Answer as StepAnswer, NoMemory, Step, World};
+use snap_world::{Answer as StepAnswer, NoMemory, World};
 use std::alloc::Global;
 
 // The charge that the operation needs.
@@ -37,61 +37,32 @@ fn is_charged(answer: &StepAnswer) -> bool
     }
 }
 
-// The charge, and the operation again where it was granted.
-fn retried<N: StoreName>(
-    world: &mut World<N>,
-    n: u64,
-    slot: u64,
-    charge: &Step,
-    operation: &Step,
-) -> Result<Answer, NoMemory>
-    ensures { IfOk result (λ answer. retried n slot operation.now (move world.old charge.now) ≡ (world.new, answer)) }
-{
-    let answer = take_step(world, charge)?;
-    if is_charged(&answer) {
-        return stepped(world, n, slot, operation);
-    }
-    Ok(told(n, slot, world, answer))
-}
-
-// The operation, with a charge where one is needed.
+// The operation; where it needs a charge, the charge, and where that is granted, the operation once more.
 fn tried<N: StoreName>(
     world: &mut World<N>,
     n: u64,
     slot: u64,
     id: u32,
-    operation: &Step,
+    op: &Op,
     extra: Usage,
 ) -> Result<Answer, NoMemory>
-    ensures { IfOk result (λ answer. tried n slot id operation.now extra (move world.old operation.now) ≡ (world.new, answer)) }
+    ensures { IfOk result (λ answer. tried n slot id (Hand slot op.now) extra (move world.old (Hand slot op.now)) ≡ (world.new, answer)) }
 {
-    let answer = take_step(world, operation)?;
-    let Some(need) = need_of(&answer) else {
-        return Ok(told(n, slot, world, answer));
-    };
-    let call = Call::Charge {
-        slot,
-        id,
-        need,
-        want: wanted(need, extra),
-    };
-    retried(world, n, slot, &Step::Locked(n, call), operation)
-}
-
-// The same of an operation without its step. The step is made and dropped here alone, which keeps the proof
-// of `tried` small.
-fn operated<N: StoreName>(
-    world: &mut World<N>,
-    n: u64,
-    slot: u64,
-    id: u32,
-    op: Op,
-    extra: Usage,
-) -> Result<Answer, NoMemory>
-    ensures { IfOk result (λ answer. tried n slot id (Hand slot op) extra (move world.old (Hand slot op)) ≡ (world.new, answer)) }
-{
-    let operation = Step::Hand(slot, op);
-    tried(world, n, slot, id, &operation, extra)
+    let mut answer = operate(world, slot, op)?;
+    if let Some(need) = need_of(&answer) {
+        let want = wanted(need, extra);
+        let charge = Call::Charge {
+            slot,
+            id,
+            need,
+            want,
+        };
+        answer = call(world, n, charge)?;
+        if is_charged(&answer) {
+            answer = operate(world, slot, op)?;
+        }
+    }
+    Ok(told(n, slot, world, answer))
 }
 
 #[tactic(auto, unfolding(crate::specs::Commands::performed))]
@@ -107,7 +78,7 @@ fn performed<N: StoreName>(
     ensures { IfOk result (λ answer. performed n slot id (operation_of operation) extra world.old ≡ (world.new, answer)) }
 {
     match operation.into_operation(alloc) {
-        Ok(op) => operated(world, n, slot, id, op, extra),
+        Ok(op) => tried(world, n, slot, id, &op, extra),
         Err(FsError::OutOfMemory(no_memory)) => Err(no_memory),
         Err(error) => Ok(Answer::Failed(error)),
     }

@@ -6,11 +6,11 @@ ghost use Rattle.snap_world.specs.declared.step.Step.TheVariants.{Locked};
 ghost use Rattle.snap_world.specs.Move.{move};
 ghost use Rattle.snap_session.specs.Commands.{round_opened, is_started, reopen};
 
-use crate::step::{take_step, told};
+use crate::step::{call, told};
 use snap_call::{Call, Reply};
 use snap_ledger::StoreName;
 use snap_script::Answer;
-use snap_world::{Answer as StepAnswer, NoMemory, ReopenFault, Step, World};
+use snap_world::{Answer as StepAnswer, NoMemory, ReopenFault, World};
 
 fn is_start(reply: &Reply) -> bool
     ensures { result ≡ is_started (step_answers.Reply reply.now) }
@@ -34,7 +34,7 @@ pub(crate) fn is_started(answer: &StepAnswer) -> bool
 fn open_round<N: StoreName>(world: &mut World<N>) -> Result<Answer, NoMemory>
     ensures { IfOk result (λ answer. round_opened (move world.old (Locked 0 calls.Session)) ≡ (world.new, answer)) }
 {
-    let answer = take_step(world, &Step::Locked(0, Call::Session))?;
+    let answer = call(world, 0, Call::Session)?;
     if is_started(&answer) {
         return Ok(Answer::Reply(Reply::Done));
     }

@@ -9,12 +9,12 @@ ghost use Rattle.snap_session.specs.Opened.{new_world, unopened};
 
 use crate::opened::Opened;
 use crate::round::is_started;
-use crate::step::take_step;
+use crate::step::call;
 use snap_call::{Call, Config, Refusal, Reply};
 use snap_ledger::{NewTable, StoreName};
 use snap_record::{Sequence, Text};
 use snap_script::{Answer, Command, names_of};
-use snap_world::{NoMemory, Step, World};
+use snap_world::{NoMemory, World};
 use std::alloc::Global;
 use std::marker::Model;
 
@@ -55,7 +55,7 @@ fn begun<N: StoreName>(alloc: Global, table: NewTable, config: Config) -> Result
         Err(Refusal::OutOfMemory(no_memory)) => return Err(no_memory),
         Err(_) => unreachable!(),
     };
-    let answer = take_step(&mut world, &Step::Locked(0, Call::Session))?;
+    let answer = call(&mut world, 0, Call::Session)?;
     if !is_started(&answer) {
         unreachable!()
     }

@@ -1,6 +1,6 @@
 // One step of the world, and what a script says of it.
-ghost use Rattle.std.specs.Prelude.{◌≡◌, IfOk, is_some};
-ghost use Rattle.snap_world.specs.declared.step.Step.TheVariants.{Locked};
+ghost use Rattle.std.specs.Prelude.{◌≡◌, IfOk, false, is_some};
+ghost use Rattle.snap_world.specs.declared.step.Step.TheVariants.{Hand, Locked};
 ghost use Rattle.snap_world.specs.declared.step.Answer.TheVariants as step_answers;
 ghost use Rattle.snap_world.specs.Move.{move};
 ghost use Rattle.snap_session.specs.Opened.{share_at, count_at};
@@ -11,8 +11,9 @@ use snap_call::{Call, Refusal, Reply};
 use snap_ledger::StoreName;
 use snap_merge::FsError;
 use snap_script::Answer;
+use snap_upper::Op;
 use snap_usage::Usage;
-use snap_world::{Answer as StepAnswer, NoMemory, Step, World};
+use snap_world::{Answer as StepAnswer, NoMemory, World};
 
 // What the snapshot in the slot is charged.
 pub(crate) fn share_at<N: StoreName>(world: &World<N>, slot: u64) -> Usage
@@ -63,18 +64,36 @@ fn want_of(answer: &StepAnswer) -> Option<NoMemory>
     }
 }
 
-// One step.
-pub(crate) fn take_step<N: StoreName>(
-    world: &mut World<N>,
-    step: &Step,
-) -> Result<StepAnswer, NoMemory>
-    ensures { IfOk result (λ answer. move world.old step.now ≡ (world.new, answer)) }
+// The answer of a step that had the memory that it wanted.
+fn unless_want(answer: StepAnswer) -> Result<StepAnswer, NoMemory>
+    ensures { IfOk result (λ same. (same ≡ answer) × (is_want answer ≡ false)) }
 {
-    let answer = world.take_step(step);
     match want_of(&answer) {
         Some(no_memory) => Err(no_memory),
         None => Ok(answer),
     }
+}
+
+// A call on the store.
+pub(crate) fn call<N: StoreName>(
+    world: &mut World<N>,
+    session: u64,
+    call: Call,
+) -> Result<StepAnswer, NoMemory>
+    ensures { IfOk result (λ answer. move world.old (Locked session call) ≡ (world.new, answer)) }
+{
+    unless_want(world.call(session, call))
+}
+
+// An operation on the layer of the snapshot in the slot.
+pub(crate) fn operate<N: StoreName>(
+    world: &mut World<N>,
+    slot: u64,
+    op: &Op,
+) -> Result<StepAnswer, NoMemory>
+    ensures { IfOk result (λ answer. move world.old (Hand slot op.now) ≡ (world.new, answer)) }
+{
+    unless_want(world.operate(slot, op))
 }
 
 fn told_reply<N: StoreName>(session: u64, slot: u64, world: &World<N>, reply: Reply) -> Answer
@@ -116,27 +135,15 @@ pub(crate) fn told<N: StoreName>(
     }
 }
 
-// One step, and what a script says of it.
-pub(crate) fn stepped<N: StoreName>(
-    world: &mut World<N>,
-    session: u64,
-    slot: u64,
-    step: &Step,
-) -> Result<Answer, NoMemory>
-    ensures { IfOk result (λ answer. stepped session slot step.now world.old ≡ (world.new, answer)) }
-{
-    let answer = take_step(world, step)?;
-    Ok(told(session, slot, world, answer))
-}
-
 // A call on the store, and what a script says of it.
 pub(crate) fn called<N: StoreName>(
     world: &mut World<N>,
     session: u64,
     slot: u64,
-    call: Call,
+    asked: Call,
 ) -> Result<Answer, NoMemory>
-    ensures { IfOk result (λ answer. stepped session slot (Locked session call) world.old ≡ (world.new, answer)) }
+    ensures { IfOk result (λ answer. stepped session slot (Locked session asked) world.old ≡ (world.new, answer)) }
 {
-    stepped(world, session, slot, &Step::Locked(session, call))
+    let answer = call(world, session, asked)?;
+    Ok(told(session, slot, world, answer))
 }
