@@ -11,3 +11,6 @@ ghosts-first_round g a = record { table = a.table }
 
 abbrev pub ghosts-spend_numbers : goal.ghosts-spend_numbers
 ghosts-spend_numbers g a = record { table = a.table }
+
+abbrev pub ghosts-fill_a_book : goal.ghosts-fill_a_book
+ghosts-fill_a_book g a = record { table = a.table }
