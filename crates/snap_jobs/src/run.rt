@@ -152,8 +152,10 @@ fn run<N: StoreName + Send + Sync, T: Threads + Wait + Sync, R: Input, W: Write>
 /// discarded as they asked, how many ended otherwise, and what each namespace is charged. Nothing is written
 /// before all jobs have ended, and nothing at all where the input has no line but empty ones.
 ///
-/// Where it ends well, and the input tells its bytes, no line has a fault. Where it ends with a line, and the
-/// input and the output tell their bytes, that is the first with a fault.
+/// Where it ends well, and the input and the output tell their bytes, no line has a fault, and what was written is
+/// the line of a report of the jobs that were read, with the names of their store. Where it ends at a line, that
+/// is the first with a fault. Where it doesn't end well nothing was written, but for a first part of that one
+/// line where a write failed.
 ///
 /// `Lines` with the stop of [`read_lines`], and with `OutOfMemory` where memory was refused before a worker was
 /// started, at the close, or for the answer, and with `OutputFailed` where the line was not written; a job
