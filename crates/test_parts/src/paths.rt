@@ -37,33 +37,40 @@ fn texts_of_paths(rt: HostRuntime) {
 #[test]
 fn parts_of_a_path(rt: HostRuntime) {
     let path = path(&rt, rt.alloc(), "/usr/lib/x");
-    let (names, text) = (path.names().len(), path.as_str());
-    prove!(names == 3);
-    prove!(text == "/usr/lib/x");
-    let parent = path.parent().expect(&rt, "memory for a path").unwrap();
-    let parent = parent.as_str();
-    prove!(parent == "/usr/lib");
-    let name = path.name().unwrap().as_str();
-    prove!(name == "x");
-    let front = path.front(1).expect(&rt, "memory for a path");
-    let front = front.as_str();
-    prove!(front == "/usr");
+    let (names, text, name) = (path.names().len(), path.as_str(), path.name().unwrap());
+    let name = name.as_str();
+    prove!(names == 3 && text == "/usr/lib/x" && name == "x");
 }
 
 #[test]
-fn the_root_a_join_and_the_order(rt: HostRuntime) {
+fn a_parent_and_a_front(rt: HostRuntime) {
+    let path = path(&rt, rt.alloc(), "/usr/lib/x");
+    let parent = path.parent().expect(&rt, "memory for a path").unwrap();
+    let front = path.front(1).expect(&rt, "memory for a path");
+    let (parent, front) = (parent.as_str(), front.as_str());
+    prove!(parent == "/usr/lib" && front == "/usr");
+}
+
+#[test]
+fn the_root(rt: HostRuntime) {
     let root = Path::root(rt.alloc());
-    let text = root.as_str();
-    prove!(text == "/");
-    let has_name = root.name().is_some();
     let parent = root.parent().expect(&rt, "memory for a path");
-    let has_parent = parent.is_some();
-    prove!(!has_name && !has_parent);
-    let usr = path(&rt, rt.alloc(), "/usr");
+    let (text, has_name, has_parent) = (root.as_str(), root.name().is_some(), parent.is_some());
+    prove!(text == "/" && !has_name && !has_parent);
+}
+
+#[test]
+fn a_join(rt: HostRuntime) {
     let lib = Name::parse(rt.alloc(), "lib").expect(&rt, "a name");
-    let joined = usr.join(&lib).expect(&rt, "a path");
+    let joined = path(&rt, rt.alloc(), "/usr")
+        .join(&lib)
+        .expect(&rt, "a path");
     let text = joined.as_str();
     prove!(text == "/usr/lib");
+}
+
+#[test]
+fn the_order(rt: HostRuntime) {
     let below = path(&rt, rt.alloc(), "/a/b");
     let beside = path(&rt, rt.alloc(), "/a-b");
     let order = below.cmp(&beside);

@@ -1,5 +1,5 @@
 // What the tests share. Where memory is missing, the test ends.
-ghost use Rattle.std.specs.Prelude.{◌≡◌, ◌≤◌};
+ghost use Rattle.std.specs.Prelude.{◌≡◌, ◌≤◌, IsTrue};
 ghost use Rattle.snap_layer.specs.Edits.{root_only};
 ghost use Rattle.snap_path.specs.Text.{path_names};
 ghost use Rattle.test_parts.specs.Worked.{usage};
@@ -15,6 +15,13 @@ use std::process::Abort;
 /// Ends the test where the two differ. An `assert_eq!` of its own in each place is dearer to prove.
 pub fn equal<T: PartialEq + Debug + Drop, R: Abort>(rt: &R, found: T, wanted: T) {
     assert_eq!(rt; found, wanted);
+}
+
+/// Ends the test where this does not hold.
+pub fn holds<R: Abort>(rt: &R, fact: bool)
+    ensures { IsTrue fact }
+{
+    assert!(rt; fact);
 }
 
 pub fn usage(blocks: u64, inodes: u64) -> Usage
