@@ -6,28 +6,23 @@ use crate::round::{Round, session_at};
 use snap_book::{Call, Held, Refusal, Reply};
 use snap_ledger::StoreName;
 use snap_record::{Labels, Sequence};
-use snap_script::Answer;
 use snap_store::{Session, Swept};
 use std::alloc::{AllocError, Global};
 use std::sync::Wait;
 
-// The ids of the ancestors, as the last entry of the tape has them.
-fn copied_chain(alloc: Global, session: &Session) -> Result<Sequence<u32>, AllocError> {
+// The ids of the ancestors, as the last entry of the tape has them, copied again where memory was refused.
+fn chain_of(alloc: Global, session: &Session) -> Result<Sequence<u32>, AllocError> {
     let Some(entry) = session.tape().last() else {
         return Ok(Sequence::new(alloc));
     };
-    match &entry.entry().reply {
-        Reply::Prepared { chain, .. } => chain.clone(),
-        Reply::Viewed { chain, .. } => chain.clone(),
-        _ => Ok(Sequence::new(alloc)),
-    }
-}
-
-// The same, asked for again where memory was refused.
-fn chain_of(alloc: Global, session: &Session) -> Result<Sequence<u32>, AllocError> {
-    match copied_chain(alloc, session) {
-        Ok(chain) => Ok(chain),
-        Err(_) => copied_chain(alloc, session),
+    let chain = match &entry.entry().reply {
+        Reply::Prepared { chain, .. } => chain,
+        Reply::Viewed { chain, .. } => chain,
+        _ => return Ok(Sequence::new(alloc)),
+    };
+    match chain.clone() {
+        Ok(copy) => Ok(copy),
+        Err(_) => chain.clone(),
     }
 }
 
@@ -41,9 +36,9 @@ impl<'a, N: StoreName, R: Wait> Round<'a, N, R> {
         labels: &Labels,
     ) -> Result<Reply, Refused> {
         let session = session_at(&mut self.sessions, n)?;
+        self.hands.reserve(1)?;
         let room = Room::new(self.alloc)?;
         let own_key = Key::new(self.alloc, namespace, key)?;
-        self.hands.reserve(1)?;
         let active = self
             .store
             .prepare(self.rt, session, namespace, key, parent, labels)?;
@@ -83,28 +78,35 @@ impl<'a, N: StoreName, R: Wait> Round<'a, N, R> {
         Ok(Reply::Viewed { id, chain })
     }
 
-    fn remove(&mut self, n: u64, namespace: &str, key: &str) -> Result<Reply, Refused> {
+    // The calls that take snapshots away.
+    fn take_away(&mut self, n: u64, call: &Call) -> Result<Reply, Refused> {
         let session = session_at(&mut self.sessions, n)?;
-        let freed = self.store.remove(self.rt, session, namespace, key)?;
-        self.known.forget(namespace, key);
-        Ok(Reply::Removed(freed))
-    }
-
-    fn sweep(&mut self, n: u64, namespace: &str, moment: u64) -> Result<Reply, Refused> {
-        let session = session_at(&mut self.sessions, n)?;
-        let Swept {
-            removed,
-            leases,
-            freed,
-        } = self.store.sweep(self.rt, session, namespace, moment)?;
-        for key in removed.as_slice() {
-            self.known.forget(namespace, key.as_str());
+        match call {
+            Call::Remove { namespace, key } => {
+                let (namespace, key) = (namespace.as_str(), key.as_str());
+                let freed = self.store.remove(self.rt, session, namespace, key)?;
+                self.known.forget(namespace, key);
+                Ok(Reply::Removed(freed))
+            }
+            Call::Sweep { namespace, moment } => {
+                let namespace = namespace.as_str();
+                let Swept {
+                    removed,
+                    leases,
+                    freed,
+                } = self.store.sweep(self.rt, session, namespace, *moment)?;
+                for key in removed.as_slice() {
+                    self.known.forget(namespace, key.as_str());
+                }
+                Ok(Reply::Swept {
+                    removed,
+                    leases,
+                    freed,
+                })
+            }
+            // No line has the others as calls.
+            _ => Err(Refused::Book(Refusal::BadArgument)),
         }
-        Ok(Reply::Swept {
-            removed,
-            leases,
-            freed,
-        })
     }
 
     // The calls on labels, and those that change nothing.
@@ -153,32 +155,33 @@ impl<'a, N: StoreName, R: Wait> Round<'a, N, R> {
     fn set(&mut self, n: u64, call: &Call) -> Result<Reply, Refused> {
         let session = session_at(&mut self.sessions, n)?;
         let (store, rt) = (self.store, self.rt);
-        match call {
+        let set = match call {
             Call::SetLimit { namespace, limit } => {
-                store.set_limit(rt, session, namespace.as_str(), *limit)?
+                store.set_limit(rt, session, namespace.as_str(), *limit)
             }
             Call::LeaseCreate {
                 namespace,
                 lease,
                 until,
-            } => store.lease_create(rt, session, namespace.as_str(), lease.as_str(), *until)?,
+            } => store.lease_create(rt, session, namespace.as_str(), lease.as_str(), *until),
             Call::LeaseAdd {
                 namespace,
                 lease,
                 name,
             } => {
                 let (namespace, lease) = (namespace.as_str(), lease.as_str());
-                store.lease_add(rt, session, namespace, lease, name.as_str())?
+                store.lease_add(rt, session, namespace, lease, name.as_str())
             }
             Call::LeaseRelease { namespace, lease } => {
-                store.lease_release(rt, session, namespace.as_str(), lease.as_str())?
+                store.lease_release(rt, session, namespace.as_str(), lease.as_str())
             }
-            _ => return Err(Refused::Book(Refusal::BadArgument)),
-        }
+            _ => Err(Refusal::BadArgument),
+        };
+        set?;
         Ok(Reply::Done)
     }
 
-    fn reply(&mut self, n: u64, call: &Call) -> Result<Reply, Refused> {
+    pub(crate) fn reply(&mut self, n: u64, call: &Call) -> Result<Reply, Refused> {
         match call {
             Call::Prepare {
                 namespace,
@@ -192,17 +195,12 @@ impl<'a, N: StoreName, R: Wait> Round<'a, N, R> {
                 parent,
                 labels,
             } => self.view(n, namespace.as_str(), key.as_str(), parent.as_str(), labels),
-            Call::Remove { namespace, key } => self.remove(n, namespace.as_str(), key.as_str()),
-            Call::Sweep { namespace, moment } => self.sweep(n, namespace.as_str(), *moment),
+            Call::Remove { .. } | Call::Sweep { .. } => self.take_away(n, call),
             Call::SetLimit { .. }
             | Call::LeaseCreate { .. }
             | Call::LeaseAdd { .. }
             | Call::LeaseRelease { .. } => self.set(n, call),
             _ => self.ask(n, call),
         }
-    }
-
-    pub(crate) fn call(&mut self, n: u64, call: &Call) -> Result<Answer, Refused> {
-        Ok(Answer::Reply(self.reply(n, call)?))
     }
 }

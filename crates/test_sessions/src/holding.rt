@@ -26,13 +26,13 @@ fn take<'a, N: StoreName, R: Wait>(
 }
 
 impl<'a, N: StoreName, R: Wait> Round<'a, N, R> {
+    // Charges for the wanted amount, or for the needed one; trims where there are none.
     pub(crate) fn charge(
         &mut self,
         n: u64,
         namespace: &str,
         key: &str,
-        need: Usage,
-        want: Usage,
+        amounts: Option<(Usage, Usage)>,
     ) -> Result<Answer, Refused> {
         let place = self.found(namespace, key)?;
         let session = session_at(&mut self.sessions, n)?;
@@ -42,23 +42,18 @@ impl<'a, N: StoreName, R: Wait> Round<'a, N, R> {
         let Held::Active(active) = &mut hand.held else {
             return Err(Refused::NoHand);
         };
-        self.store.charge(self.rt, session, active, need, want)?;
-        Ok(Answer::Reply(Reply::Charged {
-            now: active.share(),
-        }))
-    }
-
-    pub(crate) fn trim(&mut self, n: u64, namespace: &str, key: &str) -> Result<Answer, Refused> {
-        let place = self.found(namespace, key)?;
-        let session = session_at(&mut self.sessions, n)?;
-        let Some(hand) = self.hands.get_mut(place) else {
-            return Err(Refused::NoHand);
-        };
-        let Held::Active(active) = &mut hand.held else {
-            return Err(Refused::NoHand);
-        };
-        self.store.trim(self.rt, session, active)?;
-        Ok(Answer::Share(active.share()))
+        match amounts {
+            Some((need, want)) => {
+                self.store.charge(self.rt, session, active, need, want)?;
+                Ok(Answer::Reply(Reply::Charged {
+                    now: active.share(),
+                }))
+            }
+            None => {
+                self.store.trim(self.rt, session, active)?;
+                Ok(Answer::Share(active.share()))
+            }
+        }
     }
 
     pub(crate) fn commit(

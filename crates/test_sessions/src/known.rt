@@ -5,10 +5,18 @@ use snap_record::{Sequence, Text};
 use std::alloc::{AllocError, Global};
 
 // What names a snapshot.
-#[derive(Drop)]
 pub(crate) struct Key {
     namespace: Text,
     key: Text,
+}
+
+impl Drop for Key {
+    fn drop(self) {
+        let Key {
+            namespace: _,
+            key: _,
+        } = self;
+    }
 }
 
 impl Key {
@@ -25,34 +33,50 @@ impl Key {
 }
 
 // A committed snapshot, or a view of one.
-#[derive(Drop)]
 pub(crate) struct Kept {
     pub(crate) key: Key,
     pub(crate) view: Option<Viewed>,
 }
 
-#[derive(Drop)]
+impl Drop for Kept {
+    fn drop(self) {
+        let Kept { key: _, view: _ } = self;
+    }
+}
+
 pub(crate) struct Known {
     pub(crate) names: Sequence<Text>,
     pub(crate) kept: Vec<Kept>,
 }
 
+impl Drop for Known {
+    fn drop(self) {
+        let Known { names: _, kept: _ } = self;
+    }
+}
+
 impl Known {
     // The snapshot of this key.
     pub(crate) fn find(&self, namespace: &str, key: &str) -> Option<&Kept> {
-        self.kept.iter().find(|kept| kept.key.is(namespace, key))
+        for kept in &self.kept {
+            if kept.key.is(namespace, key) {
+                return Some(kept);
+            }
+        }
+        None
     }
 
     // Why no hand has the key.
     pub(crate) fn refusal(&self, namespace: &str, key: &str) -> Refusal {
-        let mut names = self.names.as_slice().iter();
-        if !names.any(|name| name.as_str() == namespace) {
-            return Refusal::NoNamespace;
+        for name in self.names.as_slice() {
+            if name.as_str() == namespace {
+                return match self.find(namespace, key) {
+                    Some(_) => Refusal::NotActive,
+                    None => Refusal::NotFound,
+                };
+            }
         }
-        match self.find(namespace, key) {
-            Some(_) => Refusal::NotActive,
-            None => Refusal::NotFound,
-        }
+        Refusal::NoNamespace
     }
 
     // It has gone.

@@ -13,7 +13,7 @@ use std::sync::Wait;
 
 impl<'a, N: StoreName, R: Wait> Round<'a, N, R> {
     // The round ends for one of so many entries, unless a snapshot is open.
-    fn end_for(&mut self, journal: u64) -> Result<Option<Answer>, Refused> {
+    fn end_for(&mut self, journal: u64) -> Result<(), Refused> {
         if !self.hands.is_empty() {
             return Err(Refused::StillOut);
         }
@@ -21,59 +21,64 @@ impl<'a, N: StoreName, R: Wait> Round<'a, N, R> {
             return Err(Refused::Book(Refusal::BadArgument));
         }
         self.next = Some(journal);
-        Ok(None)
+        Ok(())
     }
 
     // What a command on a snapshot or a session is answered.
-    fn do_command(&mut self, n: u64, command: Command) -> Result<Answer, Refused> {
+    fn do_command(&mut self, n: u64, command: &Command) -> Result<Answer, Refused> {
         match command {
             Command::Session => Ok(Answer::Session(self.open_session()?)),
-            Command::Call(call) => self.call(n, &call),
+            Command::Call(call) => Ok(Answer::Reply(self.reply(n, call)?)),
             Command::Charge {
                 namespace,
                 key,
                 need,
                 want,
-            } => self.charge(n, namespace.as_str(), key.as_str(), need, want),
-            Command::Trim { namespace, key } => self.trim(n, namespace.as_str(), key.as_str()),
+            } => {
+                let amounts = Some((*need, *want));
+                self.charge(n, namespace.as_str(), key.as_str(), amounts)
+            }
+            Command::Trim { namespace, key } => {
+                self.charge(n, namespace.as_str(), key.as_str(), None)
+            }
             Command::Commit {
                 namespace,
                 key,
                 name,
                 lease,
-            } => self.commit(n, namespace.as_str(), key.as_str(), name.as_str(), &lease),
+            } => self.commit(n, namespace.as_str(), key.as_str(), name.as_str(), lease),
             Command::Discard { namespace, key } => {
                 self.discard(n, namespace.as_str(), key.as_str())
             }
-            Command::File {
-                namespace,
-                key,
-                operation,
-                extra,
-            } => self.file(n, namespace.as_str(), key.as_str(), operation, extra),
             Command::Lookup {
                 namespace,
                 key,
                 lookup,
                 path,
-            } => self.lookup(namespace.as_str(), key.as_str(), lookup, &path),
+            } => self.lookup(namespace.as_str(), key.as_str(), *lookup, path),
             // `answer` takes the others, and no line of an open store opens one.
-            Command::Open { .. }
-            | Command::Reopen { .. }
-            | Command::Tree { .. }
-            | Command::Journal { .. }
-            | Command::Report => { Err(Refused::Book(Refusal::BadArgument)) }
+            _ => Err(Refused::Book(Refusal::BadArgument)),
         }
     }
 
     // What a command is answered: nothing where the round ends for the next one, nor for a report, a tree or a
     // journal.
     fn answer(&mut self, n: u64, command: Command) -> Result<Option<Answer>, Refused> {
-        match command {
-            Command::Reopen { journal } => self.end_for(journal),
-            Command::Tree { .. } | Command::Journal { .. } | Command::Report => Ok(None),
-            command => Ok(Some(self.do_command(n, command)?)),
-        }
+        let answered = match command {
+            Command::Reopen { journal } => {
+                self.end_for(journal)?;
+                return Ok(None);
+            }
+            Command::Tree { .. } | Command::Journal { .. } | Command::Report => return Ok(None),
+            Command::File {
+                namespace,
+                key,
+                operation,
+                extra,
+            } => self.file(n, namespace.as_str(), key.as_str(), operation, extra),
+            command => self.do_command(n, &command),
+        };
+        Ok(Some(answered?))
     }
 
     // What a line is answered.
@@ -87,13 +92,15 @@ impl<'a, N: StoreName, R: Wait> Round<'a, N, R> {
         }
     }
 
-    // Carries out the commands of the round, up to the end of the script or of the round. A line to which memory was
-    // refused is carried out once more.
+    // Opens session 0, and carries out the commands of the round, up to the end of the script or of the round. A line
+    // to which memory was refused is carried out once more.
     pub(crate) fn play<W: Write>(
         &mut self,
         lines: &mut Lines<'_>,
         output: &mut W,
     ) -> Result<(), Stop> {
+        let answer = self.first_session()?;
+        write_answer(self.alloc, output, &answer)?;
         for _ in 0..u64::MAX {
             let Some(line) = lines.next() else {
                 return Ok(());

@@ -13,7 +13,6 @@ use std::alloc::{AllocError, Global};
 use std::sync::Wait;
 
 // The session n is at place n.
-#[derive(Drop)]
 pub(crate) struct Round<'a, N: StoreName, R: Wait> {
     pub(crate) alloc: Global,
     pub(crate) rt: &'a R,
@@ -23,6 +22,20 @@ pub(crate) struct Round<'a, N: StoreName, R: Wait> {
     pub(crate) hands: Vec<Hand<'a, N, R>>,
     // The entries of the next round, once the script asks for it.
     pub(crate) next: Option<u64>,
+}
+
+impl<'a, N: StoreName, R: Wait> Drop for Round<'a, N, R> {
+    fn drop(self) {
+        let Round {
+            alloc: _,
+            rt: _,
+            store: _,
+            known: _,
+            sessions: _,
+            hands: _,
+            next: _,
+        } = self;
+    }
 }
 
 // What is left of a round that has ended.
@@ -76,30 +89,39 @@ impl<'a, N: StoreName, R: Wait> Round<'a, N, R> {
 
     // The place of the hand that has the key.
     pub(crate) fn found(&self, namespace: &str, key: &str) -> Result<usize, Refused> {
-        let mut hands = self.hands.iter();
-        match hands.position(|hand| hand.key.is(namespace, key)) {
-            Some(place) => Ok(place),
-            None => Err(Refused::Book(self.known.refusal(namespace, key))),
+        for (place, hand) in self.hands.iter().enumerate() {
+            if hand.key.is(namespace, key) {
+                return Ok(place);
+            }
         }
+        Err(Refused::Book(self.known.refusal(namespace, key)))
     }
 
     // Discards what is still held, by session 0.
-    pub(crate) fn end(self) -> Result<Ended, AllocError> {
+    fn discard_all(&mut self) -> Result<(), AllocError> {
+        if let Some(session) = self.sessions.first_mut() {
+            for _ in 0..self.hands.len() {
+                reserve_again(session)?;
+                if !self.hands.is_empty() {
+                    let _ = self.hands.remove(0).discard(session);
+                }
+            }
+        }
+        Ok(())
+    }
+
+    // What is left of the round, with nothing held.
+    pub(crate) fn end(mut self) -> Result<Ended, AllocError> {
+        self.discard_all()?;
         let Round {
             alloc: _,
             rt: _,
             store: _,
             known,
-            mut sessions,
-            hands,
+            sessions,
+            hands: _,
             next,
         } = self;
-        if let Some(session) = sessions.first_mut() {
-            for hand in hands {
-                reserve_again(session)?;
-                let _ = hand.discard(session);
-            }
-        }
         Ok(Ended {
             sessions,
             known,

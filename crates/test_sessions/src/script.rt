@@ -34,16 +34,13 @@ fn first_config<W: Write>(
         let Some(line) = lines.next() else {
             return Ok(None);
         };
-        let told = read_line(alloc, line.as_bytes(), false)?;
-        let Line::Command {
-            session: _,
-            command,
-        } = told
-        else {
-            continue;
-        };
-        let Command::Open { config } = command else {
-            return Err(Stop::Line);
+        let config = match read_line(alloc, line.as_bytes(), false)? {
+            Line::Empty => continue,
+            Line::Command {
+                session: _,
+                command: Command::Open { config },
+            } => config,
+            Line::Command { .. } => return Err(Stop::Line),
         };
         let why = if !config.is_valid() {
             Refusal::BadArgument
@@ -93,8 +90,6 @@ fn one_round<N: StoreName, R: Wait, W: Write>(
         hands: Vec::new(alloc),
         next: None,
     };
-    let answer = round.first_session()?;
-    write_answer(alloc, output, &answer)?;
     round.play(lines, output)?;
     let Ended {
         sessions,
