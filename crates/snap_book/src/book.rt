@@ -1,5 +1,5 @@
 // A book: its state, its journal, and what is read of both.
-ghost use Rattle.std.specs.Prelude.{◌≡◌, ◌≤◌, ◌<◌, ◌+◌, ◌↔◌, None, length, Ok, Err, OnOk, IfErr, IsErrOf, ◌⊎◌, [], IfOk, OnErr, false, IsTrue};
+ghost use Rattle.std.specs.Prelude.{◌≡◌, ◌≤◌, ◌<◌, ◌+◌, ◌↔◌, None, length, Ok, Err, OnOk, IfErr, IsErrOf, ◌⊎◌, [], IfOk, OnErr, false};
 ghost use Rattle.snap_call.specs.Good.{Good};
 ghost use Rattle.snap_call.specs.Journal.{Replays};
 ghost use Rattle.snap_call.specs.Records.{open_count, charge_of};
@@ -214,14 +214,6 @@ impl<N: StoreName> Book<N> {
             Content::Active { slot, charged: _ } => Ok((*slot, found.id)),
             _ => Err(Refusal::NotActive),
         }
-    }
-
-    /// Whether the journal has no room for an entry more beside one for the end of each open snapshot:
-    /// then each call that can answer `JournalFull` does. Takes no memory. The cost is constant.
-    pub fn is_full(&self) -> bool
-        ensures { IsTrue result ↔ (self.now.limit ≤ length self.now.journal + open_count self.now.state.records) }
-    {
-        self.journal.is_full(self.accounts.open_slots(), 1)
     }
 
     // Makes a change and records the call that makes it.

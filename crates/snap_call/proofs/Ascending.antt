@@ -13,13 +13,12 @@ use Rattle.std.specs.declared.cmp.Ordering.{Ordering}
 use Rattle.std.specs.declared.cmp.Ordering.TheVariants.{Less, Equal, Greater}
 use Rattle.std.specs.Ordering.{is_gt, is_lt, ordering_reverse}
 use Rattle.snap_record.specs.Labels.{Bytes, Label}
-use Rattle.snap_record.specs.declared.record.Content.{Content}
 use Rattle.snap_record.specs.declared.record.Record.{Record}
 use Rattle.snap_call.specs.Indexes.{IsAscending}
 use Rattle.snap_call.specs.Marked.{key_cmp}
-use Rattle.snap_call.specs.Records.{AllPairwise, record_cmp, is_later, is_named, with_record, with_content_at, without, relabelled}
+use Rattle.snap_call.specs.Records.{AllPairwise, record_cmp, is_later, is_named, with_record, without, relabelled}
 use Rattle.snap_call.proofs.CodeLemmas.{with_record_found, with_record-None}
-use Rattle.snap_call.proofs.Lists.{all-map, all-with_record, pairwise-with_content, pairwise-without}
+use Rattle.snap_call.proofs.Lists.{all-map, all-with_record, pairwise-without}
 use Rattle.snap_call.proofs.Alike.{pairwise-relabelled}
 use Rattle.snap_call.proofs.InOrder.{record_cmp_total}
 use Rattle.snap_call.proofs.Searches.{probe, named_tied, tied_named, position-absent, position-found}
@@ -98,9 +97,6 @@ ascending-without p rs up = pairwise-without p (λ r t. is_gt (record_cmp r t) �
 
 pub ascending-relabelled : (place : ℕ) (key : Bytes) (labels : List Label) (number : ℕ) (rs : List Record) → IsAscending rs → IsAscending (relabelled place key labels number rs)
 ascending-relabelled place key labels number rs up = pairwise-relabelled place key labels number (λ r t. is_gt (record_cmp r t) ≡ false) rs (λ r t h. h) (λ r t h. h) up
-
-pub ascending-with_content : (place : ℕ) (key : Bytes) (content : Content) (rs : List Record) → IsAscending rs → IsAscending (with_content_at place key content rs)
-ascending-with_content place key content rs up = pairwise-with_content place key content (λ r t. is_gt (record_cmp r t) ≡ false) rs (λ r t h. h) (λ r t h. h) up
 
 -- records that are strictly in order are in order
 pub ascending-sorted : (rs : List Record) → IsStrictlySortedBy record_cmp rs → IsAscending rs

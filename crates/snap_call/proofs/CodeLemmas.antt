@@ -5,8 +5,7 @@ use Rattle.std.proofs.lemmas.Iterator.Adapters.{position_from-zero}
 use Rattle.std.specs.List.{find, position_from, insert, remove}
 use Rattle.snap_record.specs.Labels.{Bytes, Label}
 use Rattle.snap_record.specs.declared.record.Record.{Record}
-use Rattle.snap_record.specs.declared.record.Content.{Content}
-use Rattle.snap_call.specs.Records.{is_later, is_named, is_slot, active_at, with_record, with_content_at, without, without_slot, relabelled, with_labels}
+use Rattle.snap_call.specs.Records.{is_later, is_named, is_slot, active_at, with_record, without, without_slot, relabelled, with_labels}
 
 -- an insertion before the first record that comes later
 pub with_record_found : (r : Record) (rs : List Record) (i : ℕ) (d : Record) → i < length rs → is_later r (get_or rs i d) ≡ true → ((k : ℕ) → k < i → is_later r (get_or rs k d) ≡ false) → insert rs i r ≡ with_record r rs
@@ -81,31 +80,6 @@ relabelled-Some place key labels number rs i r e at =
 
 pub relabelled-None : (place : ℕ) (key : Bytes) (labels : List Label) (number : ℕ) (rs : List Record) → position (is_named place key) rs ≡ None → rs ≡ relabelled place key labels number rs
 relabelled-None place key labels number rs e = relabelled_absent place key labels number 0 rs (sym (position_from-zero (is_named place key) rs) ∙ e)
-
--- the record at the place of a key gets the content
-with_content_found : (place : ℕ) (key : Bytes) (content : Content) (rs : List Record) (i : ℕ) (d : Record) → i < length rs → is_named place key (get_or rs i d) ≡ true → ((k : ℕ) → k < i → is_named place key (get_or rs k d) ≡ false)
-    → set rs i (record (get_or rs i d) { content = content }) ≡ with_content_at place key content rs
-with_content_found place key content [] i d lt here before = absurd (omega arith)
-with_content_found place key content (r ∷ rs) zero d lt here before = rw here refl
-with_content_found place key content (r ∷ rs) (suc i) d lt here before =
-    let no : is_named place key r ≡ false = before 0 (omega arith) in
-    rw no (ap (λ l. r ∷ l) (with_content_found place key content rs i d (omega arith) here (λ k h. before (suc k) (omega arith))))
-
-with_content_absent : (place : ℕ) (key : Bytes) (content : Content) (i : ℕ) (rs : List Record) → position_from (is_named place key) i rs ≡ None → rs ≡ with_content_at place key content rs
-with_content_absent place key content i [] e = refl
-with_content_absent place key content i (r ∷ rs) e = at (is_named place key r) refl (with_content_absent place key content (i + 1) rs)
-  where
-    at : (b : Bool) → is_named place key r ≡ b → (position_from (is_named place key) (i + 1) rs ≡ None → rs ≡ with_content_at place key content rs) → r ∷ rs ≡ with_content_at place key content (r ∷ rs)
-    at true is next = let f = rw is at e in absurd (cc)
-    at false is next = let f = rw is at e in rw is (ap (λ l. r ∷ l) (next f))
-
-pub with_content-Some : (place : ℕ) (key : Bytes) (content : Content) (rs : List Record) (i : ℕ) (r : Record) → position (is_named place key) rs ≡ Some i → r ≡ get_or rs i r → set rs i (record r { content = content }) ≡ with_content_at place key content rs
-with_content-Some place key content rs i r e at =
-    let f = position-Some (is_named place key) rs i r e in
-    ap (λ (x : Record). set rs i (record x { content = content })) at ∙ with_content_found place key content rs i r f.0 f.1 f.2
-
-pub with_content-None : (place : ℕ) (key : Bytes) (content : Content) (rs : List Record) → position (is_named place key) rs ≡ None → rs ≡ with_content_at place key content rs
-with_content-None place key content rs e = with_content_absent place key content 0 rs (sym (position_from-zero (is_named place key) rs) ∙ e)
 
 pub without_slot-free : (slot : ℕ) (rs : List Record) → active_at slot rs ≡ None → without_slot slot rs ≡ rs
 without_slot-free slot [] e = refl

@@ -24,18 +24,15 @@ use Rattle.snap_record.specs.Labels.{Bytes, Label}
 use Rattle.snap_record.specs.Records.{info_of}
 use Rattle.snap_record.specs.declared.filter.Filter.{Filter}
 use Rattle.snap_record.specs.declared.info.Info.{Info}
-use Rattle.snap_record.specs.declared.record.Content.{Content}
 use Rattle.snap_record.specs.declared.record.Record.{Record}
-use Rattle.snap_call.specs.Records.{record_cmp, is_named, record_at, has_key, is_child, has_children, child_count, with_record, without, with_labels, relabelled, with_content_at, is_walked, page}
-use Rattle.snap_call.specs.Spaces.{IsOf, IsKeyed, AreParentCounts, with_content, is_after, is_asked, infos_of}
+use Rattle.snap_call.specs.Records.{record_cmp, is_named, record_at, has_key, is_child, has_children, child_count, with_record, without, with_labels, relabelled, is_walked, page}
+use Rattle.snap_call.specs.Spaces.{IsOf, IsKeyed, AreParentCounts, amended, edited, is_after, is_asked, infos_of}
+use Rattle.snap_call.specs.declared.record_edit.RecordEdit.{RecordEdit}
+use Rattle.snap_call.specs.declared.record_edit.RecordEdit.TheVariants as edits
 use Rattle.snap_call.proofs.Lists.{some_same}
 use Rattle.snap_call.proofs.InOrder.{tied-is_named}
 
 -- ---- the first record that passes a test, changed
-
-abbrev pub amended : (Record → Bool) → (Record → Record) → List Record → List Record
-amended p f [] = []
-amended p f (r ∷ rs) = if p r then f r ∷ rs else r ∷ amended p f rs
 
 pub amended-none : (p : Record → Bool) (f : Record → Record) (rs : List Record) → find p rs ≡ None → amended p f rs ≡ rs
 amended-none p f [] none = refl
@@ -57,9 +54,27 @@ pub amended-relabelled : (place : ℕ) (key : Bytes) (labels : List Label) (numb
 amended-relabelled place key labels number [] = refl
 amended-relabelled place key labels number (r ∷ rs) = ap (λ l. if is_named place key r then with_labels labels number r ∷ rs else r ∷ l) (amended-relabelled place key labels number rs)
 
-pub amended-with_content_at : (place : ℕ) (key : Bytes) (content : Content) (rs : List Record) → with_content_at place key content rs ≡ amended (is_named place key) (with_content content) rs
-amended-with_content_at place key content [] = refl
-amended-with_content_at place key content (r ∷ rs) = ap (λ l. if is_named place key r then with_content content r ∷ rs else r ∷ l) (amended-with_content_at place key content rs)
+-- ---- an edit leaves a record where it stands
+
+pub edited-namespace : (edit : RecordEdit) (r : Record) → (edited edit r).namespace ≡ r.namespace
+edited-namespace (edits.Content content) r = refl
+edited-namespace (edits.Labels labels number) r = refl
+
+pub edited-key : (edit : RecordEdit) (r : Record) → (edited edit r).key ≡ r.key
+edited-key (edits.Content content) r = refl
+edited-key (edits.Labels labels number) r = refl
+
+pub edited-parent : (edit : RecordEdit) (r : Record) → (edited edit r).parent ≡ r.parent
+edited-parent (edits.Content content) r = refl
+edited-parent (edits.Labels labels number) r = refl
+
+pub edited-before : (edit : RecordEdit) (r t : Record) → record_cmp (edited edit r) t ≡ record_cmp r t
+edited-before (edits.Content content) r t = refl
+edited-before (edits.Labels labels number) r t = refl
+
+pub edited-after : (edit : RecordEdit) (r t : Record) → record_cmp t (edited edit r) ≡ record_cmp t r
+edited-after (edits.Content content) r t = refl
+edited-after (edits.Labels labels number) r t = refl
 
 -- ---- by key
 

@@ -13,8 +13,10 @@ use Rattle.snap_record.specs.declared.record.Content.{Content}
 use Rattle.snap_record.specs.declared.record.Content.TheVariants.{View, Active, Committed}
 use Rattle.snap_record.specs.declared.record.Record.{Record}
 use Rattle.snap_call.specs.Indexes.{AreIndexed, name_in, name_of, slot_of}
-use Rattle.snap_call.specs.Records.{is_named, record_at, has_key, has_slot, is_slot, is_active, active_at, with_record, without, without_slot, without_key, with_content_at, recharged, relabelled, AllPairwise, AreApart, HasLowSlot}
+use Rattle.snap_call.specs.Records.{is_named, record_at, has_key, has_slot, is_slot, is_active, active_at, with_record, without, without_slot, without_key, recharged, relabelled, AllPairwise, AreApart, HasLowSlot}
+use Rattle.snap_call.specs.Spaces.{edited_at}
 use Rattle.snap_call.specs.declared.open_slots.Name.{Name}
+use Rattle.snap_call.specs.declared.record_edit.RecordEdit.TheVariants as edits
 use Rattle.snap_call.proofs.Alike.{AreAlike, all-relabelled, alike-active_at, alike-active_at_None, bare, bare-relabelled, pairwise-relabelled, sorted-relabelled}
 use Rattle.snap_call.proofs.Lists.{active_at-is_slot, all-map, find-passes, same_slot, all-recharged, all-with_record, all-without, find-all, find-none, none_some, pairwise-recharged, pairwise-with_record, pairwise-without, some_same, with_charge}
 use Rattle.snap_call.proofs.Keeping.{place_anew}
@@ -89,14 +91,14 @@ without-none p (t ∷ ts) e = by (p t) e (without-none p ts)
     by false found next = ap (λ l. t ∷ l) (next found)
 
 -- a record that is found by its key gets the content that it gets where it is found by its slot
-pub content-recharged : (place : ℕ) (key : Bytes) (slot : ℕ) (to : Usage) (rs : List Record) (r : Record) → is_named place key r ≡ true → is_slot slot r ≡ true → record_at place key rs ≡ Some r → active_at slot rs ≡ Some r
-    → with_content_at place key (Active slot to) rs ≡ recharged slot to rs
-content-recharged place key slot to [] r at here e f = refl
-content-recharged place key slot to (t ∷ ts) r at here e f = by (is_named place key t) refl (is_slot slot t) refl e f (content-recharged place key slot to ts r at here)
+pub edited-recharged : (place : ℕ) (key : Bytes) (slot : ℕ) (to : Usage) (rs : List Record) (r : Record) → is_named place key r ≡ true → is_slot slot r ≡ true → record_at place key rs ≡ Some r → active_at slot rs ≡ Some r
+    → edited_at place key (edits.Content (Active slot to)) rs ≡ recharged slot to rs
+edited-recharged place key slot to [] r at here e f = refl
+edited-recharged place key slot to (t ∷ ts) r at here e f = by (is_named place key t) refl (is_slot slot t) refl e f (edited-recharged place key slot to ts r at here)
   where
     by : (b : Bool) → is_named place key t ≡ b → (c : Bool) → is_slot slot t ≡ c → cond b (Some t) (record_at place key ts) ≡ Some r → cond c (Some t) (active_at slot ts) ≡ Some r
-        → (record_at place key ts ≡ Some r → active_at slot ts ≡ Some r → with_content_at place key (Active slot to) ts ≡ recharged slot to ts)
-        → (if b then with_charge slot to t ∷ ts else t ∷ with_content_at place key (Active slot to) ts) ≡ (if c then with_charge slot to t ∷ ts else t ∷ recharged slot to ts)
+        → (record_at place key ts ≡ Some r → active_at slot ts ≡ Some r → edited_at place key (edits.Content (Active slot to)) ts ≡ recharged slot to ts)
+        → (if b then with_charge slot to t ∷ ts else t ∷ edited_at place key (edits.Content (Active slot to)) ts) ≡ (if c then with_charge slot to t ∷ ts else t ∷ recharged slot to ts)
     by true is true are found other next = refl
     by true is false are found other next = absurd (true≢false (sym here ∙ ap (is_slot slot) (sym (some_same t r found)) ∙ are))
     by false is true are found other next = absurd (true≢false (sym at ∙ ap (is_named place key) (sym (some_same t r other)) ∙ is))
@@ -163,11 +165,11 @@ module _ (rs : List Record) (names : List (Option Name)) (at : AreIndexed rs nam
       ap (λ (m : Name). without_key m.place m.key rs) h.2
       ∙ without-same (is_named h.0.namespace h.0.key) (is_slot slot) rs h.0 (own_named h.0) (active_at-is_slot slot rs h.0 h.1) (by_name slot h.0 h.1) h.1
 
-  pub recharged_at : (slot : ℕ) (n : Name) (to : Usage) → name_in slot names ≡ Some n → with_content_at n.place n.key (Active slot to) rs ≡ recharged slot to rs
+  pub recharged_at : (slot : ℕ) (n : Name) (to : Usage) → name_in slot names ≡ Some n → edited_at n.place n.key (edits.Content (Active slot to)) rs ≡ recharged slot to rs
   recharged_at slot n to e =
       let h = named slot n e in
-      ap (λ (m : Name). with_content_at m.place m.key (Active slot to) rs) h.2
-      ∙ content-recharged h.0.namespace h.0.key slot to rs h.0 (own_named h.0) (active_at-is_slot slot rs h.0 h.1) (by_name slot h.0 h.1) h.1
+      ap (λ (m : Name). edited_at m.place m.key (edits.Content (Active slot to)) rs) h.2
+      ∙ edited-recharged h.0.namespace h.0.key slot to rs h.0 (own_named h.0) (active_at-is_slot slot rs h.0 h.1) (by_name slot h.0 h.1) h.1
 
 -- ---- the changes
 

@@ -11,7 +11,7 @@ use Rattle.snap_record.specs.Labels.{Bytes}
 use Rattle.snap_record.specs.declared.record.Content.{Content}
 use Rattle.snap_record.specs.declared.record.Content.TheVariants.{View, Active, Committed}
 use Rattle.snap_record.specs.declared.record.Record.{Record}
-use Rattle.snap_call.specs.Records.{record_cmp, is_named, record_at, has_slot, is_slot, active_at, is_committed, committed_at, with_record, with_content_at, without, recharged, AllPairwise}
+use Rattle.snap_call.specs.Records.{record_cmp, is_named, record_at, has_slot, is_slot, active_at, is_committed, committed_at, with_record, without, recharged, AllPairwise}
 
 -- ---- any list
 
@@ -304,22 +304,3 @@ module _ (slot : ℕ) (to : Usage) where
             | true ↦ ap (λ c. cond c (Some (with_charge slot to t)) (find p ts)) (same t ∙ is) ∙ found
             | false ↦ ap (λ c. cond c (Some t) (find p (recharged slot to ts))) is ∙ next found
           ]
-
--- ---- the record of a key with another content
-
-module _ (place : ℕ) (key : Bytes) (content : Content) where
-  all-with_content : (P : Record → Type 0) (rs : List Record) → ((r : Record) → P r → P (record r { content = content })) → AllByRecursion P rs → AllByRecursion P (with_content_at place key content rs)
-  all-with_content P [] f all = tt
-  all-with_content P (r ∷ rs) f all =
-      elim (is_named place key r) as (λ b. AllByRecursion P (if b then (record r { content = content }) ∷ rs else r ∷ with_content_at place key content rs)) [ true ↦ (f r all.0, all.1) | false ↦ (all.0, all-with_content P rs f all.1) ]
-
-  pub pairwise-with_content : (R : Record → Record → Type 0) (rs : List Record)
-      → ((r t : Record) → R r t → R (record r { content = content }) t)
-      → ((r t : Record) → R r t → R r (record t { content = content }))
-      → AllPairwise R rs → AllPairwise R (with_content_at place key content rs)
-  pairwise-with_content R [] f g all = tt
-  pairwise-with_content R (r ∷ rs) f g all =
-      elim (is_named place key r) as (λ b. AllPairwise R (if b then (record r { content = content }) ∷ rs else r ∷ with_content_at place key content rs)) [
-        | true ↦ (all-map (R r) (R (record r { content = content })) (λ t. f r t) rs all.0, all.1)
-        | false ↦ (all-with_content (R r) rs (λ t. g r t) all.0, pairwise-with_content R rs f g all.1)
-      ]

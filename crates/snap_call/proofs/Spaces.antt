@@ -13,18 +13,18 @@ use Rattle.std.specs.Ordering.{is_lt, nat_cmp, ordering_then, MatchOrdering}
 use Rattle.std.specs.Cmp.Lexicographic.{slice_cmp}
 use Rattle.std.proofs.lemmas.Bool.{false_from_ne_true, or_parts}
 use Rattle.std.proofs.lemmas.Cmp.{ranked}
-use Rattle.snap_record.specs.Labels.{Bytes, Label}
-use Rattle.snap_record.specs.declared.record.Content.{Content}
+use Rattle.snap_record.specs.Labels.{Bytes}
 use Rattle.snap_record.specs.declared.record.Record.{Record}
 use Rattle.snap_record.specs.declared.filter.Filter.{Filter}
 use Rattle.snap_record.specs.Filters.{is_match}
 use Rattle.snap_record.specs.Records.{info_of}
-use Rattle.snap_call.specs.Records.{record_cmp, is_named, record_at, has_key, is_child, has_children, child_count, with_record, without, without_key, with_labels, relabelled, with_content_at, is_walked, page}
-use Rattle.snap_call.specs.Spaces.{IsOf, AreFrom, AreOrdered, joined, with_content}
+use Rattle.snap_call.specs.Records.{record_cmp, is_named, record_at, has_key, is_child, has_children, child_count, with_record, without, without_key, is_walked, page}
+use Rattle.snap_call.specs.Spaces.{IsOf, AreFrom, AreOrdered, joined, amended, edited, edited_at}
+use Rattle.snap_call.specs.declared.record_edit.RecordEdit.{RecordEdit}
 use Rattle.snap_call.proofs.Lists.{all-map, all-with_record, all-without}
 use Rattle.snap_call.proofs.InOrder.{sorted-with_record, sorted-without}
 use Rattle.snap_lease.proofs.CountLemmas.{is_positive-count_by}
-use Rattle.snap_call.proofs.Entries.{ones, take-nil, without-none, amended, amended-relabelled, amended-with_content_at}
+use Rattle.snap_call.proofs.Entries.{ones, take-nil, without-none, edited-namespace, edited-before, edited-after}
 
 -- ---- the namespaces' places
 
@@ -397,43 +397,19 @@ module _ (rss : List (List Record)) (count : ℕ) (o : AreOrdered rss count) (pl
           let same : without_key place key (joined rss) ≡ joined rss = without-none (is_named place key) (joined rss) (sym lent-found ∙ none) in
           record { from = put-from ts put-of; sorted = put-sorted; counted = o.counted ∙ sym (ap length (put-without ∙ same)) }
 
-    module _ (f : Record → Record) (ts : List Record) (is : ts ≡ amended (is_named place key) f rs) where
-      pub put-amended : joined (set rss place ts) ≡ amended (is_named place key) f (joined rss)
-      put-amended = ap (λ l. joined (set rss place l)) (is ∙ ap (amended (is_named place key) f) at) ∙ joined-amended place key f rss rs o.from lt
+    module _ (edit : RecordEdit) (ts : List Record) (changed : (p : ℕ) → IsOf p rs → ts ≡ edited_at p key edit rs) where
+      is-edited : ts ≡ edited_at place key edit rs
+      is-edited = changed place lent-of
 
-      pub ordered-amended : ((r : Record) → (f r).namespace ≡ r.namespace) → ((r t : Record) → record_cmp (f r) t ≡ record_cmp r t) → ((r t : Record) → record_cmp t (f r) ≡ record_cmp t r) → AreOrdered (set rss place ts) count
-      ordered-amended stays before after = record {
-        from = put-from ts (subst (IsOf place) (sym is) (all-amended (is_named place key) f (λ r. r.namespace ≡ place) rs (λ r e. stays r ∙ e) lent-of));
-        sorted = subst (IsStrictlySortedBy record_cmp) (sym put-amended) (sorted-amended (is_named place key) f (joined rss) before after o.sorted);
-        counted = o.counted ∙ sym (ap length put-amended ∙ length-amended (is_named place key) f (joined rss));
+      pub put-edited : joined (set rss place ts) ≡ edited_at place key edit (joined rss)
+      put-edited = ap (λ l. joined (set rss place l)) (is-edited ∙ ap (edited_at place key edit) at) ∙ joined-amended place key (edited edit) rss rs o.from lt
+
+      pub ordered-edited : AreOrdered (set rss place ts) count
+      ordered-edited = record {
+        from = put-from ts (subst (IsOf place) (sym is-edited) (all-amended (is_named place key) (edited edit) (λ r. r.namespace ≡ place) rs (λ r e. edited-namespace edit r ∙ e) lent-of));
+        sorted = subst (IsStrictlySortedBy record_cmp) (sym put-edited) (sorted-amended (is_named place key) (edited edit) (joined rss) (edited-before edit) (edited-after edit) o.sorted);
+        counted = o.counted ∙ sym (ap length put-edited ∙ length-amended (is_named place key) (edited edit) (joined rss));
       }
-
-  module _ (content : Content) (key : Bytes) (ts : List Record) (is : (p : ℕ) → IsOf p rs → ts ≡ with_content_at p key content rs) where
-    content-amended : ts ≡ amended (is_named place key) (with_content content) rs
-    content-amended = is place lent-of ∙ amended-with_content_at place key content rs
-
-    pub put-content : joined (set rss place ts) ≡ with_content_at place key content (joined rss)
-    put-content = put-amended key (with_content content) ts content-amended ∙ sym (amended-with_content_at place key content (joined rss))
-
-    pub ordered-content : AreOrdered (set rss place ts) count
-    ordered-content = ordered-amended key (with_content content) ts content-amended (λ r. refl) (λ r t. refl) (λ r t. refl)
-
-  module _ (labels : List Label) (number : ℕ) (key : Bytes) (ts : List Record) (is : (p : ℕ) → IsOf p rs → ts ≡ relabelled p key labels number rs) where
-    labels-amended : ts ≡ amended (is_named place key) (with_labels labels number) rs
-    labels-amended = is place lent-of ∙ amended-relabelled place key labels number rs
-
-    pub put-labels : joined (set rss place ts) ≡ relabelled place key labels number (joined rss)
-    put-labels = put-amended key (with_labels labels number) ts labels-amended ∙ sym (amended-relabelled place key labels number (joined rss))
-
-    pub ordered-labels : AreOrdered (set rss place ts) count
-    ordered-labels = ordered-amended key (with_labels labels number) ts labels-amended (λ r. refl) (λ r t. refl) (λ r t. refl)
-
--- where there is no room for the namespace
-pub past-content : (rss : List (List Record)) (count place : ℕ) (key : Bytes) (content : Content) → AreOrdered rss count → length rss ≤ place → with_content_at place key content (joined rss) ≡ joined rss
-past-content rss count place key content o le = amended-with_content_at place key content (joined rss) ∙ joined-amended-past place key (with_content content) rss o.from le
-
-pub past-labels : (rss : List (List Record)) (count place : ℕ) (key : Bytes) (labels : List Label) (number : ℕ) → AreOrdered rss count → length rss ≤ place → relabelled place key labels number (joined rss) ≡ joined rss
-past-labels rss count place key labels number o le = amended-relabelled place key labels number (joined rss) ∙ joined-amended-past place key (with_labels labels number) rss o.from le
 
 -- one record more, where there is room for its namespace
 module _ (rss : List (List Record)) (count : ℕ) (o : AreOrdered rss count) (r : Record) (lt : r.namespace < length rss) (rs : List Record) (at : rs ≡ get_or rss r.namespace rs) where

@@ -136,11 +136,6 @@ abbrev pub relabelled : ℕ → Bytes → List Label → ℕ → List Record →
 relabelled place key labels number [] = []
 relabelled place key labels number (r ∷ rs) = if is_named place key r then with_labels labels number r ∷ rs else r ∷ relabelled place key labels number rs
 
--- the records after that of the key in the namespace has this content
-abbrev pub with_content_at : ℕ → Bytes → Content → List Record → List Record
-with_content_at place key content [] = []
-with_content_at place key content (r ∷ rs) = if is_named place key r then record r { content = content } ∷ rs else r ∷ with_content_at place key content rs
-
 -- a record of the namespace at the place, whose key comes after this text, and that has every part of the filter
 abbrev pub is_walked : ℕ → Bytes → Filter → Record → Bool
 is_walked place after asked r = (r.namespace == place) && is_lt (slice_cmp nat_cmp after r.key) && is_match (info_of r) asked

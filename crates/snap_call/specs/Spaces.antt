@@ -1,6 +1,6 @@
 -- Records by their namespaces: a list for each place, in the order of the places.
 -- Cited by invariants and private clauses alone.
-use Rattle.std.specs.Prelude.{◌≡◌, ◌≢◌, ℕ, suc, ◌-◌, Bool, List, [], ◌∷◌, ◌++◌, length, map, filter, take, count_by, bytes_eq, string_bytes}
+use Rattle.std.specs.Prelude.{◌≡◌, ◌≢◌, ℕ, suc, ◌-◌, Bool, if◌then◌else◌, List, [], ◌∷◌, ◌++◌, length, map, filter, take, count_by, bytes_eq, string_bytes}
 use Rattle.std.specs.Cmp.Lexicographic.{slice_cmp}
 use Rattle.std.specs.List.{AllByRecursion}
 use Rattle.std.specs.List.Sorted.{IsStrictlySortedBy}
@@ -15,9 +15,10 @@ use Rattle.snap_record.specs.Labels.{Bytes}
 use Rattle.snap_record.specs.Records.{info_of}
 use Rattle.snap_record.specs.declared.filter.Filter.{Filter}
 use Rattle.snap_record.specs.declared.info.Info.{Info}
-use Rattle.snap_record.specs.declared.record.Content.{Content}
 use Rattle.snap_record.specs.declared.record.Record.{Record}
-use Rattle.snap_call.specs.Records.{record_cmp}
+use Rattle.snap_call.specs.Records.{record_cmp, is_named, with_labels}
+use Rattle.snap_call.specs.declared.record_edit.RecordEdit.{RecordEdit}
+use Rattle.snap_call.specs.declared.record_edit.RecordEdit.TheVariants as edits
 
 -- the records are of the namespace at the place
 abbrev pub IsOf : ℕ → List Record → Type 0
@@ -71,9 +72,19 @@ IsKeyed es = AllByRecursion (λ e. string_bytes e.0 ≡ e.1.key) es
 abbrev pub AreParentCounts : List Record → List (Bytes × ℕ) → Type 0
 AreParentCounts rs counts = (q : Bytes) → count_in q counts ≡ count_by (λ r. bytes_eq q r.parent) rs
 
--- the record with this content
-abbrev pub with_content : Content → Record → Record
-with_content content r = record r { content = content }
+-- the record after the edit
+abbrev pub edited : RecordEdit → Record → Record
+edited (edits.Content content) r = record r { content = content }
+edited (edits.Labels labels number) r = with_labels labels number r
+
+-- the records after the first that passes a test is changed
+abbrev pub amended : (Record → Bool) → (Record → Record) → List Record → List Record
+amended p f [] = []
+amended p f (r ∷ rs) = if p r then f r ∷ rs else r ∷ amended p f rs
+
+-- the records after the edit of that of the key in the namespace
+abbrev pub edited_at : ℕ → Bytes → RecordEdit → List Record → List Record
+edited_at place key edit rs = amended (is_named place key) (edited edit) rs
 
 -- the record's key comes after the text
 abbrev pub is_after : Bytes → Record → Bool

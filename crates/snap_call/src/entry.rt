@@ -3,7 +3,6 @@ ghost use Rattle.std.specs.Prelude.{◌≡◌, IsTrue, ◌↔◌};
 use crate::call::{Call, Given};
 use crate::reply::Reply;
 use crate::same::{is_same_call, is_same_given, is_same_reply};
-use std::alloc::AllocError;
 
 /// An entry of the journal: a call of a session, what was handed in with it, and the reply.
 #[derive(Debug, PartialEq, Eq)]
@@ -34,19 +33,5 @@ impl Entry {
             && is_same_call(&self.call, &other.call)
             && is_same_given(&self.given, &other.given)
             && is_same_reply(&self.reply, &other.reply)
-    }
-}
-
-/// A copy of all parts. Its cost and its memory grow with their texts and labels.
-impl Clone for Entry {
-    ghost is_clone = { λ a b. b ≡ a };
-
-    fn clone(&self) -> Result<Entry, AllocError> {
-        Ok(Entry {
-            session: self.session,
-            call: self.call.clone()?,
-            given: self.given.clone()?,
-            reply: self.reply.clone()?,
-        })
     }
 }

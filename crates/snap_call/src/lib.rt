@@ -14,6 +14,7 @@ mod forms;
 pub mod limits;
 mod open_slots;
 mod ordered;
+mod record_edit;
 mod records;
 mod refusal;
 mod reply;

@@ -1,9 +1,10 @@
 ghost use Rattle.std.specs.Prelude.{◌≡◌, ◌<◌, ◌+◌, ◌^◌, [], false, map, length, option_copied, OnOk, OnErr, IfErr, IfOk, vec_len};
-ghost use Rattle.snap_call.specs.Records.{record_at, has_key, has_children, child_count, with_record, without_key, with_content_at, relabelled, page};
-ghost use Rattle.snap_call.specs.Spaces.{AreFrom, joined};
+ghost use Rattle.snap_call.specs.Records.{record_at, has_key, has_children, child_count, with_record, without_key, page};
+ghost use Rattle.snap_call.specs.Spaces.{AreFrom, joined, edited_at};
 
+use crate::record_edit::RecordEdit;
 use snap_path::NoMemory;
-use snap_record::{Content, Filter, Info, Labels, Record, Sequence};
+use snap_record::{Filter, Info, Record, Sequence};
 use std::alloc::{AllocError, Global};
 use std::marker::Model;
 
@@ -127,28 +128,16 @@ impl Ordered {
         Some(removed)
     }
 
-    /// Gives the record of the key in the namespace at the place this content. Where there is none,
-    /// the records are as they were. Takes no memory.
-    pub(crate) fn set_content(&mut self, place: usize, key: &str, content: Content)
-        ensures { self.new ≡ with_content_at place key.now content self.old }
+    /// Edits the record of the key in the namespace at the place. Where there is none, the records are
+    /// as they were. Takes no memory.
+    pub(crate) fn edit(&mut self, place: usize, key: &str, edit: RecordEdit)
+        ensures { self.new ≡ edited_at place key.now edit self.old }
     {
         if place >= self.spaces.len() {
             return;
         }
         let space = &mut self.spaces[place];
-        space.set_content(key, content);
-    }
-
-    /// Gives the record of the key in the namespace at the place these labels, as the journal entry
-    /// of this number leaves it. Where there is none, the records are as they were. Takes no memory.
-    pub(crate) fn relabel(&mut self, place: usize, key: &str, labels: Labels, number: u64)
-        ensures { self.new ≡ relabelled place key.now labels number self.old }
-    {
-        if place >= self.spaces.len() {
-            return;
-        }
-        let space = &mut self.spaces[place];
-        space.relabel(key, labels, number);
+        space.edit(key, edit);
     }
 
     /// The infos of the records of the namespace at the place whose keys come after the text and

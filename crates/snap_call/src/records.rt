@@ -5,6 +5,7 @@ ghost use Rattle.snap_call.specs.Indexes.{slot_of};
 
 use crate::open_slots::{Name, OpenSlots};
 use crate::ordered::Ordered;
+use crate::record_edit::RecordEdit;
 use snap_ledger::MAX_SLOTS;
 use snap_path::NoMemory;
 use snap_record::{Content, Filter, Info, Labels, Record, Sequence, Text};
@@ -215,8 +216,8 @@ impl Records {
             return;
         };
         let content = Content::Active { slot, charged: to };
-        self.rows
-            .set_content(name.place, name.key.as_str(), content);
+        let edit = RecordEdit::Content(content);
+        self.rows.edit(name.place, name.key.as_str(), edit);
     }
 
     /// Gives the record of the key in the namespace at the place these labels, as the journal entry of
@@ -224,7 +225,8 @@ impl Records {
     pub fn relabel(&mut self, place: usize, key: &str, labels: Labels, number: u64)
         ensures { self.new ≡ relabelled place key.now labels number self.old }
     {
-        self.rows.relabel(place, key, labels, number);
+        let edit = RecordEdit::Labels { labels, number };
+        self.rows.edit(place, key, edit);
     }
 
     /// The infos of the records of the namespace at the place whose keys come after the text and that

@@ -1,4 +1,4 @@
-ghost use Rattle.std.specs.Prelude.{◌≡◌, ◌⊎◌, [], ◌∷◌, ◌++◌, ◌≤◌, is_some, false, MatchOption, List, ℕ, nat_lt, length, take, IsSome, OnOk, IfOk, IfErr, IfSome, Ok, Err, Some, None};
+ghost use Rattle.std.specs.Prelude.{◌≡◌, ◌⊎◌, [], ◌∷◌, ◌++◌, is_some, false, MatchOption, List, ℕ, nat_lt, length, IsSome, OnOk, IfOk, IfErr, IfSome, Ok, Err, Some, None};
 ghost use Rattle.std.specs.Option.{option_map};
 ghost use Rattle.snap_path.specs.Memory.{no_memory};
 ghost use Rattle.snap_merge.specs.Objects.{object, seen, is_shown_dir, AreLayers};
@@ -70,17 +70,6 @@ impl<'a> Stack<'a> {
         ensures { option_map object result ≡ seen self.now path.now }
     {
         self.look_at(path.names())
-    }
-
-    /// What is seen at the path of the first so many names of a path: at a directory above it, without
-    /// a path of its own.
-    ///
-    /// The condition is that the path has as many. Takes no memory. Cost: that of a look.
-    pub fn look_front(&self, path: &Path, names: usize) -> Option<Seen<'a>>
-        requires { names ≤ length path.now }
-        ensures { option_map object result ≡ seen self.now (take names path.now) }
-    {
-        self.look_at(&path.names()[..names])
     }
 
     /// What is seen at the path of the names.

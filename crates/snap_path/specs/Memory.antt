@@ -1,5 +1,5 @@
 -- Want of memory.
--- Cited by `From` for `NoMemory`, and by the clauses of each error that carries one.
+-- Cited by `NoMemory as From<AllocError>`, `NoMemory as From<AllocFailed<T>>`, `PathError as From<AllocError>` and others.
 use Rattle.std.specs.Prelude.{alloc_error}
 use Rattle.snap_path.specs.declared.memory.NoMemory.{NoMemory}
 

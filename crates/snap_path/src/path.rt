@@ -168,22 +168,6 @@ impl Path {
         Ok(path)
     }
 
-    /// The path of these names, below this path.
-    ///
-    /// The condition is that the names and this path's make a path: they are names, and its text has
-    /// at most 4095 bytes. It fails only where memory is refused. Cost: that of the new path's text.
-    pub fn extended(&self, names: &[Name]) -> Result<Path, AllocError>
-        requires { IsPath (self.now ++ names.now) }
-        ensures { IfOk result (λ p. p ≡ self.now ++ names.now) }
-    {
-        let mut text = self.text.clone()?;
-        let mut all = Vec::new(*self.names.allocator());
-        append_names(&mut all, &self.names)?;
-        append_names(&mut all, names)?;
-        append_text(&mut text, names)?;
-        Ok(Path { text, names: all })
-    }
-
     /// The path of the names.
     fn from_names(alloc: Global, names: &[Name]) -> Result<Path, AllocError>
         requires { IsPath names.now }

@@ -1,10 +1,10 @@
 // A record in memory of its own.
 ghost use Rattle.std.specs.Prelude.{◌≡◌, IfOk, IfErr, bytes_eq};
-ghost use Rattle.snap_call.specs.Records.{with_labels};
-ghost use Rattle.snap_call.specs.Spaces.{with_content, is_after};
+ghost use Rattle.snap_call.specs.Spaces.{edited, is_after};
 
+use crate::record_edit::RecordEdit;
 use snap_path::NoMemory;
-use snap_record::{Content, Labels, Record};
+use snap_record::Record;
 use std::alloc::Global;
 use std::marker::Model;
 
@@ -67,17 +67,15 @@ impl BoxedRecord {
         Box::into_inner(boxed)
     }
 
-    pub(super) fn set_content(&mut self, content: Content)
-        ensures { self.new ≡ with_content content self.old }
+    pub(super) fn edit(&mut self, edit: RecordEdit)
+        ensures { self.new ≡ edited edit self.old }
     {
-        self.boxed.content = content;
-    }
-
-    /// Gives it the labels, as the journal entry of this number leaves it.
-    pub(super) fn relabel(&mut self, labels: Labels, number: u64)
-        ensures { self.new ≡ with_labels labels number self.old }
-    {
-        self.boxed.labels = labels;
-        self.boxed.updated = number;
+        match edit {
+            RecordEdit::Content(content) => self.boxed.content = content,
+            RecordEdit::Labels { labels, number } => {
+                self.boxed.labels = labels;
+                self.boxed.updated = number;
+            }
+        }
     }
 }

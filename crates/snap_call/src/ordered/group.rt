@@ -1,12 +1,13 @@
 // Records of one namespace whose keys begin alike.
 ghost use Rattle.std.specs.Prelude.{◌≡◌, ℕ, [], ◌∷◌, ◌++◌, length, false, map, option_copied, OnOk, OnErr, IfErr, IfOk, IsTrue, ◌↔◌};
-ghost use Rattle.snap_call.specs.Records.{record_at, has_key, with_record, without_key, with_content_at, relabelled};
-ghost use Rattle.snap_call.specs.Spaces.{IsOf, page_after};
+ghost use Rattle.snap_call.specs.Records.{record_at, has_key, with_record, without_key};
+ghost use Rattle.snap_call.specs.Spaces.{IsOf, page_after, edited_at};
 
 use super::boxed_record::BoxedRecord;
 use super::keyed::Keyed;
+use crate::record_edit::RecordEdit;
 use snap_path::NoMemory;
-use snap_record::{Content, Filter, Info, Labels, Record, Sequence};
+use snap_record::{Filter, Info, Record, Sequence};
 use std::alloc::{AllocError, Global};
 use std::marker::Model;
 
@@ -114,31 +115,16 @@ impl Group {
         }
     }
 
-    /// Gives the record of this key the content. Where there is none, the records are as they were.
-    /// Takes no memory.
-    pub(super) fn set_content(&mut self, key: &str, content: Content)
-        ensures { (place : ℕ) → IsOf place self.old → self.new ≡ with_content_at place key.now content self.old }
+    /// Edits the record of this key. Where there is none, the records are as they were. Takes no memory.
+    pub(super) fn edit(&mut self, key: &str, edit: RecordEdit)
+        ensures { (place : ℕ) → IsOf place self.old → self.new ≡ edited_at place key.now edit self.old }
     {
         let Some(alone) = &mut self.alone else {
-            self.others.set_content(key, content);
+            self.others.edit(key, edit);
             return;
         };
         if alone.has_key(key) {
-            alone.set_content(content);
-        }
-    }
-
-    /// Gives the record of this key the labels, as the journal entry of this number leaves it. Where
-    /// there is none, the records are as they were. Takes no memory.
-    pub(super) fn relabel(&mut self, key: &str, labels: Labels, number: u64)
-        ensures { (place : ℕ) → IsOf place self.old → self.new ≡ relabelled place key.now labels number self.old }
-    {
-        let Some(alone) = &mut self.alone else {
-            self.others.relabel(key, labels, number);
-            return;
-        };
-        if alone.has_key(key) {
-            alone.relabel(labels, number);
+            alone.edit(edit);
         }
     }
 

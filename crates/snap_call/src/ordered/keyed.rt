@@ -1,11 +1,12 @@
 // Records of one namespace in a map by their keys.
 ghost use Rattle.std.specs.Prelude.{◌≡◌, ℕ, [], ◌∷◌, ◌++◌, length, false, map, option_copied, OnOk, OnErr, IfErr, IfOk, IsTrue, ◌↔◌};
-ghost use Rattle.snap_call.specs.Records.{record_at, has_key, with_record, without_key, with_content_at, relabelled};
-ghost use Rattle.snap_call.specs.Spaces.{IsOf, page_after};
+ghost use Rattle.snap_call.specs.Records.{record_at, has_key, with_record, without_key};
+ghost use Rattle.snap_call.specs.Spaces.{IsOf, page_after, edited_at};
 
 use super::boxed_record::BoxedRecord;
+use crate::record_edit::RecordEdit;
 use snap_path::NoMemory;
-use snap_record::{Content, Filter, Info, Labels, Record, Sequence};
+use snap_record::{Filter, Info, Record, Sequence};
 use std::alloc::{AllocError, Global};
 use std::collections::BTreeMap;
 use std::marker::Model;
@@ -102,26 +103,14 @@ impl Keyed {
         self.map.remove(key)
     }
 
-    /// Gives the record of this key the content. Where there is none, the records are as they were.
-    /// Takes no memory.
-    pub(super) fn set_content(&mut self, key: &str, content: Content)
-        ensures { (place : ℕ) → IsOf place self.old → self.new ≡ with_content_at place key.now content self.old }
+    /// Edits the record of this key. Where there is none, the records are as they were. Takes no memory.
+    pub(super) fn edit(&mut self, key: &str, edit: RecordEdit)
+        ensures { (place : ℕ) → IsOf place self.old → self.new ≡ edited_at place key.now edit self.old }
     {
         let Some(boxed) = self.map.get_mut(key) else {
             return;
         };
-        boxed.set_content(content);
-    }
-
-    /// Gives the record of this key the labels, as the journal entry of this number leaves it. Where
-    /// there is none, the records are as they were. Takes no memory.
-    pub(super) fn relabel(&mut self, key: &str, labels: Labels, number: u64)
-        ensures { (place : ℕ) → IsOf place self.old → self.new ≡ relabelled place key.now labels number self.old }
-    {
-        let Some(boxed) = self.map.get_mut(key) else {
-            return;
-        };
-        boxed.relabel(labels, number);
+        boxed.edit(edit);
     }
 
     /// The infos with those of the records whose keys come after the text and that have every part of

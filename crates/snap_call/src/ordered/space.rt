@@ -1,11 +1,12 @@
 ghost use Rattle.std.specs.Prelude.{◌≡◌, ◌<◌, ◌+◌, ◌^◌, ℕ, [], ◌++◌, length, false, map, option_copied, OnOk, OnErr, IfErr, IfOk};
-ghost use Rattle.snap_call.specs.Records.{record_at, has_key, has_children, child_count, with_record, without_key, with_content_at, relabelled, page};
-ghost use Rattle.snap_call.specs.Spaces.{IsOf};
+ghost use Rattle.snap_call.specs.Records.{record_at, has_key, has_children, child_count, with_record, without_key, page};
+ghost use Rattle.snap_call.specs.Spaces.{IsOf, edited_at};
 
 use super::groups::Groups;
+use crate::record_edit::RecordEdit;
 use snap_counts::Counts;
 use snap_path::NoMemory;
-use snap_record::{Content, Filter, Info, Labels, Record, Sequence};
+use snap_record::{Filter, Info, Record, Sequence};
 use std::alloc::{AllocError, Global};
 use std::marker::Model;
 
@@ -95,20 +96,11 @@ impl Space {
         Some(removed)
     }
 
-    /// Gives the record of this key the content. Where there is none, the records are as they were.
-    /// Takes no memory.
-    pub(super) fn set_content(&mut self, key: &str, content: Content)
-        ensures { (place : ℕ) → IsOf place self.old → self.new ≡ with_content_at place key.now content self.old }
+    /// Edits the record of this key. Where there is none, the records are as they were. Takes no memory.
+    pub(super) fn edit(&mut self, key: &str, edit: RecordEdit)
+        ensures { (place : ℕ) → IsOf place self.old → self.new ≡ edited_at place key.now edit self.old }
     {
-        self.groups.set_content(key, content);
-    }
-
-    /// Gives the record of this key the labels, as the journal entry of this number leaves it. Where
-    /// there is none, the records are as they were. Takes no memory.
-    pub(super) fn relabel(&mut self, key: &str, labels: Labels, number: u64)
-        ensures { (place : ℕ) → IsOf place self.old → self.new ≡ relabelled place key.now labels number self.old }
-    {
-        self.groups.relabel(key, labels, number);
+        self.groups.edit(key, edit);
     }
 
     /// The infos of the records whose keys come after the text and that have every part of the

@@ -4,7 +4,9 @@ use Rattle.snap_record.specs.declared.record.Record.{Record}
 use Rattle.snap_record.specs.declared.record.Content.TheVariants.{Active}
 use Rattle.snap_record.specs.Labels.{Bytes}
 use Rattle.snap_call.specs.Indexes.{AreIndexed, name_in}
-use Rattle.snap_call.specs.Records.{active_at, recharged, with_content_at}
+use Rattle.snap_call.specs.Records.{active_at, recharged}
+use Rattle.snap_call.specs.Spaces.{edited_at}
+use Rattle.snap_call.specs.declared.record_edit.RecordEdit.TheVariants.{Content}
 use Rattle.snap_call.proofs.Indexed.{indexed-recharged, recharged-none, recharged_at, unnamed}
 use Rattle.snap_call.proofs.records.Records.recharge.Goals as goal
 
@@ -18,14 +20,14 @@ pub returns : goal.returns
 returns c =
     let n = c.in-Some.name.now in
     let some : name_in c.args.slot c.self.inside.slots ≡ Some n = sym c.get.ensures ∙ ap option_copied c.in-Some.is in
-    c.set_content.ensures ∙ ap (λ (k : Bytes). with_content_at n.place k (Active c.args.slot c.args.to) c.self.inside.rows) c.as_str.ensures
+    c.edit.ensures ∙ ap (λ (k : Bytes). edited_at n.place k (Content (Active c.args.slot c.args.to)) c.self.inside.rows) c.as_str.ensures
     ∙ recharged_at c.self.inside.rows c.self.inside.slots c.self.invariant c.args.slot n c.args.to some ∙ ap (λ (l : List Record). recharged c.args.slot c.args.to l) c.self.view_is
 
 pub invariant_of-self : goal.invariant_of-self
 invariant_of-self c =
     let n = c.in-Some.name.now in
     let some : name_in c.args.slot c.self.inside.slots ≡ Some n = sym c.get.ensures ∙ ap option_copied c.in-Some.is in
-    let is : c.set_content.new.self ≡ recharged c.args.slot c.args.to c.self.inside.rows =
-    c.set_content.ensures ∙ ap (λ (k : Bytes). with_content_at n.place k (Active c.args.slot c.args.to) c.self.inside.rows) c.as_str.ensures
+    let is : c.edit.new.self ≡ recharged c.args.slot c.args.to c.self.inside.rows =
+    c.edit.ensures ∙ ap (λ (k : Bytes). edited_at n.place k (Content (Active c.args.slot c.args.to)) c.self.inside.rows) c.as_str.ensures
     ∙ recharged_at c.self.inside.rows c.self.inside.slots c.self.invariant c.args.slot n c.args.to some in
     subst (λ (l : List Record). AreIndexed l c.self.inside.slots) (sym is) (indexed-recharged c.self.inside.rows c.self.inside.slots c.self.invariant c.args.slot c.args.to n some)
