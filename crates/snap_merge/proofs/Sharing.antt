@@ -26,7 +26,7 @@ use Rattle.snap_layer.proofs.Kept.{nothing_below}
 use Rattle.snap_merge.specs.Objects.{Object, seen, seen_over, shown, shown_body}
 use Rattle.snap_merge.specs.Reach.{Traced}
 use Rattle.snap_merge.specs.Listing.{name_cmp, names}
-use Rattle.snap_merge.specs.Shares.{has, told, is_there, is_shown, Shares}
+use Rattle.snap_merge.specs.Shares.{has, seen_so_far, is_there, is_shown, Shares}
 use Rattle.snap_merge.proofs.Hiding.{hides_snoc}
 use Rattle.snap_merge.proofs.Reaching.{hides_covered, hides_stop, much_longer}
 use Rattle.snap_merge.proofs.Listings.{has_insert_key, same_bytes, its_bytes, listing_is}
@@ -57,28 +57,28 @@ has_at : (n m : List ℕ) (ns : Names) (b : Bool) → bytes_eq n m ≡ true → 
 has_at n m ns b e is = ap (λ (k : List ℕ). has k ns) (same_bytes n m e) ∙ sym (contains_is m ns) ∙ is
 
 module _ (m : List ℕ) (shown gone : Names) (b : Bool) where
-  pub put_shown : b ≡ true → false ≡ list_any (is_at (name_cmp m)) gone → (n : List ℕ) (under : Bool) → told (insert_key name_cmp shown m) gone n under ≡ told shown gone n (cond (bytes_eq n m) b under)
+  pub put_shown : b ≡ true → false ≡ list_any (is_at (name_cmp m)) gone → (n : List ℕ) (under : Bool) → seen_so_far (insert_key name_cmp shown m) gone n under ≡ seen_so_far shown gone n (cond (bytes_eq n m) b under)
   put_shown is absent n under = ap (λ x. x || (not (has n gone) && under)) (has_insert_key n shown m) ∙ by (bytes_eq n m) refl
     where
       by : (e : Bool) → bytes_eq n m ≡ e → ((e || has n shown) || (not (has n gone) && under)) ≡ (has n shown || (not (has n gone) && cond e b under))
       by true p = sym (ap (λ g. has n shown || (not g && b)) (has_at n m gone false p (sym absent)) ∙ ap (λ x. has n shown || x) is ∙ or_true (has n shown))
       by false p = refl
 
-  pub put_covered : true ≡ list_any (is_at (name_cmp m)) gone → (n : List ℕ) (under : Bool) → told shown gone n under ≡ told shown gone n (cond (bytes_eq n m) b under)
+  pub put_covered : true ≡ list_any (is_at (name_cmp m)) gone → (n : List ℕ) (under : Bool) → seen_so_far shown gone n under ≡ seen_so_far shown gone n (cond (bytes_eq n m) b under)
   put_covered there n under = by (bytes_eq n m) refl
     where
       by : (e : Bool) → bytes_eq n m ≡ e → (has n shown || (not (has n gone) && under)) ≡ (has n shown || (not (has n gone) && cond e b under))
       by true p = let g = has_at n m gone true p (sym there) in ap (λ g. has n shown || (not g && under)) g ∙ sym (ap (λ g. has n shown || (not g && b)) g)
       by false p = refl
 
-  pub put_gone : b ≡ false → (n : List ℕ) (under : Bool) → told shown (insert_key name_cmp gone m) n under ≡ told shown gone n (cond (bytes_eq n m) b under)
+  pub put_gone : b ≡ false → (n : List ℕ) (under : Bool) → seen_so_far shown (insert_key name_cmp gone m) n under ≡ seen_so_far shown gone n (cond (bytes_eq n m) b under)
   put_gone is n under = ap (λ x. has n shown || (not x && under)) (has_insert_key n gone m) ∙ by (bytes_eq n m)
     where
       by : (e : Bool) → (has n shown || (not (e || has n gone) && under)) ≡ (has n shown || (not (has n gone) && cond e b under))
       by true = sym (ap (λ x. has n shown || (not (has n gone) && x)) is ∙ ap (λ x. has n shown || x) (and_false (not (has n gone))))
       by false = refl
 
-  pub put_kept : true ≡ list_any (is_at (name_cmp m)) shown → (n : List ℕ) (under : Bool) → told shown gone n under ≡ told shown gone n (cond (bytes_eq n m) b under)
+  pub put_kept : true ≡ list_any (is_at (name_cmp m)) shown → (n : List ℕ) (under : Bool) → seen_so_far shown gone n under ≡ seen_so_far shown gone n (cond (bytes_eq n m) b under)
   put_kept there n under = by (bytes_eq n m) refl
     where
       by : (e : Bool) → bytes_eq n m ≡ e → (has n shown || (not (has n gone) && under)) ≡ (has n shown || (not (has n gone) && cond e b under))
@@ -190,7 +190,7 @@ layer_told t ok p ns d h spot all n is under =
     ∙ sym (over_told t ok (p ++ n ∷ []) h is under)
 
 -- nothing is below
-pub told_last : (shown gone : Names) (n : List ℕ) → told shown gone n false ≡ has n shown
+pub told_last : (shown gone : Names) (n : List ℕ) → seen_so_far shown gone n false ≡ has n shown
 told_last shown gone n = ap (λ b. has n shown || b) (and_false (not (has n gone))) ∙ or_false (has n shown)
 
 pub shares_some : (t : Tree) (p : Names) (o : Option Directory) (h : Bool) → Shares t p o h → (d : Directory) → o ≡ Some d → ◌≡◌ {A = Directory} d (record { layer = t; path = p })
@@ -256,7 +256,7 @@ empty_of true ks e = sym (ap (nat_lt 0) (e.0 refl))
 empty_of false [] e = absurd (no_bool (sym (e.1 refl)))
 empty_of false (x ∷ ks) e = sym (some_length x ks)
 
-pub told_some : (shown gone : Names) (n : List ℕ) (under : Bool) → has n shown ≡ true → told shown gone n under ≡ true
+pub told_some : (shown gone : Names) (n : List ℕ) (under : Bool) → has n shown ≡ true → seen_so_far shown gone n under ≡ true
 told_some shown gone n under e = ap (λ b. b || (not (has n gone) && under)) e
 
 length_of : (n : List ℕ) (ns : Names) → has n ns ≡ true → nat_lt 0 (length ns) ≡ true

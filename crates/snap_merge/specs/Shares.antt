@@ -13,8 +13,8 @@ abbrev pub has : List ℕ → Names → Bool
 has n ns = list_any (bytes_eq n) ns
 
 -- a name is seen: it is among the shown, or it is not among those that are gone and the layers below show it
-abbrev pub told : Names → Names → List ℕ → Bool → Bool
-told shown gone n under = has n shown || (not (has n gone) && under)
+abbrev pub seen_so_far : Names → Names → List ℕ → Bool → Bool
+seen_so_far shown gone n under = has n shown || (not (has n gone) && under)
 
 -- something stands there, and it is no whiteout
 abbrev pub is_there : Option Node → Bool

@@ -3,7 +3,7 @@ ghost use Rattle.std.specs.Prelude.{◌≡◌, ◌&&◌, Bool, List, ℕ, [], �
 ghost use Rattle.std.specs.Str.{bytes_eq};
 ghost use Rattle.snap_layer.specs.Tree.{at};
 ghost use Rattle.snap_merge.specs.Objects.{Object, seen, seen_over};
-ghost use Rattle.snap_merge.specs.Shares.{has, told, is_shown};
+ghost use Rattle.snap_merge.specs.Shares.{has, seen_so_far, is_shown};
 
 use super::look::share_in;
 use snap_layer::{Dir, Layer, Node, Shared};
@@ -19,7 +19,7 @@ pub(crate) fn put_layer(
     layer: &Layer,
     path: &Path,
 ) -> Result<bool, AllocError>
-    ensures { IfOk result (λ on. (n : List ℕ) (under : Option Object) → told shown.new.keys gone.new.keys n (on && is_some under) ≡ told shown.old.keys gone.old.keys n (is_some (seen_over layer.now (at layer.now (path.now ++ n ∷ [])) (path.now ++ n ∷ []) under))) }
+    ensures { IfOk result (λ on. (n : List ℕ) (under : Option Object) → seen_so_far shown.new.keys gone.new.keys n (on && is_some under) ≡ seen_so_far shown.old.keys gone.old.keys n (is_some (seen_over layer.now (at layer.now (path.now ++ n ∷ [])) (path.now ++ n ∷ []) under))) }
 {
     layer.show_is_layer();
     let share = share_in(layer, path.names());
@@ -36,7 +36,7 @@ pub(crate) fn put_layers(
     lowers: &[Shared],
     path: &Path,
 ) -> Result<(), AllocError>
-    ensures { OnOk result ((n : List ℕ) → has n shown.new.keys ≡ told shown.old.keys gone.old.keys n (is_some (seen lowers.now (path.now ++ n ∷ [])))) }
+    ensures { OnOk result ((n : List ℕ) → has n shown.new.keys ≡ seen_so_far shown.old.keys gone.old.keys n (is_some (seen lowers.now (path.now ++ n ∷ [])))) }
 {
     for shared in lowers {
         if !put_layer(shown, gone, shared.layer(), path)? {
@@ -55,8 +55,8 @@ pub(crate) fn put_some(
     path: &Path,
 ) -> Result<(), AllocError>
     requires { shown.old.keys ≡ [] }
-    ensures some { OnOk result ((n : List ℕ) → has n shown.new.keys ≡ true → told [] gone.old.keys n (is_some (seen lowers.now (path.now ++ n ∷ []))) ≡ true) }
-    ensures none { OnOk result (shown.new.keys ≡ [] → (n : List ℕ) → told [] gone.old.keys n (is_some (seen lowers.now (path.now ++ n ∷ []))) ≡ false) }
+    ensures some { OnOk result ((n : List ℕ) → has n shown.new.keys ≡ true → seen_so_far [] gone.old.keys n (is_some (seen lowers.now (path.now ++ n ∷ []))) ≡ true) }
+    ensures none { OnOk result (shown.new.keys ≡ [] → (n : List ℕ) → seen_so_far [] gone.old.keys n (is_some (seen lowers.now (path.now ++ n ∷ []))) ≡ false) }
 {
     for shared in lowers {
         let goes_on = put_layer(shown, gone, shared.layer(), path)?;
@@ -77,7 +77,7 @@ fn put_dir(
     dir: &Dir<'_>,
     names: Vec<Name>,
 ) -> Result<(), AllocError>
-    ensures { OnOk result ((n : List ℕ) (under : Bool) → told shown.new.keys gone.new.keys n under ≡ told shown.old.keys gone.old.keys n (if has n names.items then is_shown dir.now n else under)) }
+    ensures { OnOk result ((n : List ℕ) (under : Bool) → seen_so_far shown.new.keys gone.new.keys n under ≡ seen_so_far shown.old.keys gone.old.keys n (if has n names.items then is_shown dir.now n else under)) }
 {
     for name in names {
         let is_there = is_shown_in(dir, &name);
@@ -93,7 +93,7 @@ fn put_name(
     name: Name,
     is_there: bool,
 ) -> Result<(), AllocError>
-    ensures { OnOk result ((n : List ℕ) (under : Bool) → told shown.new.keys gone.new.keys n under ≡ told shown.old.keys gone.old.keys n (if bytes_eq n name then is_there else under)) }
+    ensures { OnOk result ((n : List ℕ) (under : Bool) → seen_so_far shown.new.keys gone.new.keys n under ≡ seen_so_far shown.old.keys gone.old.keys n (if bytes_eq n name then is_there else under)) }
 {
     if is_there {
         if !gone.contains(&name) {

@@ -44,6 +44,7 @@ impl NoMemory {
     /// no allocator's refusal, and stands where a count can't be bounded otherwise.
     pub fn of_last_address(count: usize) -> NoMemory
         requires { 2 ^ 64 ≤ count + 2 }
+        ensures { result ≡ no_memory }
     {
         let _ = count;
         NoMemory {

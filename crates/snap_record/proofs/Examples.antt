@@ -1,5 +1,5 @@
 -- Updates of labels, computed.
-use Rattle.std.proofs.Common.{◌≡◌, ℕ, true, false, List, [], ◌∷◌, codes, refl}
+use Rattle.std.proofs.Common.{◌≡◌, false, [], ◌∷◌, codes, refl}
 use Rattle.snap_record.specs.Labels.{Label}
 use Rattle.snap_record.specs.Updates.{updated, is_well_formed}
 

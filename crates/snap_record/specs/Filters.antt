@@ -1,6 +1,6 @@
 -- Which snapshots a filter asks for.
 -- Cited by `Record::matches`, `matches`, `Accounts::plan` and others.
-use Rattle.std.specs.Prelude.{Bool, true, false, ◌&&◌, Option, Some, None, List, bytes_eq}
+use Rattle.std.specs.Prelude.{Bool, true, false, ◌&&◌, Option, List, bytes_eq}
 use Rattle.std.specs.List.{list_all}
 use Rattle.std.specs.Option.{option_map_or}
 use Rattle.snap_record.specs.Labels.{Bytes, Label, value_of}

@@ -5,7 +5,7 @@ use Rattle.std.specs.Borrow.{Bor}
 use Rattle.snap_path.specs.Text.{Names}
 use Rattle.snap_layer.specs.Tree.{Tree}
 use Rattle.snap_merge.specs.Objects.{seen}
-use Rattle.snap_merge.specs.Shares.{told}
+use Rattle.snap_merge.specs.Shares.{seen_so_far}
 use Rattle.snap_merge.proofs.Sharing.{told_last}
 use Rattle.snap_merge.proofs.stack.Stack.shown_names.Goals as goal
 
@@ -14,8 +14,8 @@ returns-then-not-branch c = λ n.
     let layers : c.args.self.now ≡ c.in-Some.top.now ∷ c.self.inside.lowers.now = sym c.self.view_is ∙ ap (λ (o : Option (Bor Tree)). option_to_list (option_copied o) ++ c.self.inside.lowers.now) c.in-Some.is in
     let q = c.args.path.now ++ n ∷ [] in
     sym (told_last c.put_layer.new.shown.keys c.put_layer.new.gone.keys n)
-    ∙ ap (λ b. told c.put_layer.new.shown.keys c.put_layer.new.gone.keys n (b && is_some (seen c.self.inside.lowers.now q))) (sym c.if-not-branch.true)
+    ∙ ap (λ b. seen_so_far c.put_layer.new.shown.keys c.put_layer.new.gone.keys n (b && is_some (seen c.self.inside.lowers.now q))) (sym c.if-not-branch.true)
     ∙ c.in_ok-put_layer.ensures n (seen c.self.inside.lowers.now q)
-    ∙ ap (λ (ks : Names). told ks c.new-gone.result.keys n (is_some (seen (c.in-Some.top.now ∷ c.self.inside.lowers.now) q))) c.new-shown.ensures.empty
-    ∙ ap (λ (ks : Names). told [] ks n (is_some (seen (c.in-Some.top.now ∷ c.self.inside.lowers.now) q))) c.new-gone.ensures.empty
+    ∙ ap (λ (ks : Names). seen_so_far ks c.new-gone.result.keys n (is_some (seen (c.in-Some.top.now ∷ c.self.inside.lowers.now) q))) c.new-shown.ensures.empty
+    ∙ ap (λ (ks : Names). seen_so_far [] ks n (is_some (seen (c.in-Some.top.now ∷ c.self.inside.lowers.now) q))) c.new-gone.ensures.empty
     ∙ ap (λ (s : List Tree). is_some (seen s q)) (sym layers)
