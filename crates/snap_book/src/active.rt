@@ -113,7 +113,7 @@ impl<N: StoreName> Active<N> {
         ensures count { result ≡ count_of self.now.layer }
         ensures one { CoversOne result }
     {
-        self.layer.show_is_layer();
+        let _ = &self.layer.is_layer;
         count(&self.layer)
     }
 

@@ -79,7 +79,7 @@ fn mode_at_root(layer: &Layer, root: &Path) -> u32
     ensures mode { result ≡ mode_of (at layer.now []) }
     ensures low { result ≤ 4095 }
 {
-    layer.show_is_layer();
+    let _ = &layer.is_layer;
     match layer.at(root) {
         Some(node) => mode_of(node),
         None => DEFAULT_MODE,

@@ -74,7 +74,7 @@ pub fn copy_up(layer: &mut Layer, lowers: &[Shared], path: &Path) -> Result<(), 
     ensures view { OnOk result ((q : Names) → seen (layer.new ∷ lowers.now) q ≡ seen (layer.old ∷ lowers.now) q) }
 {
     show_are_layers(lowers);
-    layer.show_is_layer();
+    let _ = &layer.is_layer;
     let last = copy_below(layer, lowers, path)?;
     put(layer, lowers, path, last)
 }

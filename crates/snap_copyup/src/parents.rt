@@ -62,11 +62,11 @@ pub fn put(layer: &mut Layer, lowers: &[Shared], path: &Path, last: Last) -> Res
     ensures error { IfErr result (λ e. IsRefusal (with_last last (with_parents layer.old lowers.now path.now) path.now) e) }
     ensures unchanged { OnErr result (layer.new ≡ layer.old) }
 {
-    show_are_layers(lowers);
-    layer.show_is_layer();
+    let _ = &layer.is_layer;
     if layer.has_parent(path) {
         return put_last(layer, path, last);
     }
+    show_are_layers(lowers);
     put_from(layer, lowers, path, 0, last)
 }
 
@@ -95,7 +95,7 @@ fn put_from(
         return put_from(layer, lowers, path, names + 1, last);
     }
     let front = path.front(names)?;
-    layer.show_is_layer();
+    let _ = &layer.is_layer;
     put_parent(layer, lowers, &front)?;
     match put_from(layer, lowers, path, names + 1, last) {
         Ok(()) => return Ok(()),
@@ -114,7 +114,7 @@ pub(crate) fn put_last(layer: &mut Layer, path: &Path, last: Last) -> Result<(),
     ensures error { IfErr result (λ e. IsRefusal (with_last last layer.old path.now) e) }
     ensures unchanged { OnErr result (layer.new ≡ layer.old) }
 {
-    layer.show_is_layer();
+    let _ = &layer.is_layer;
     match last {
         Last::Nothing => {}
         Last::Dir { mode, opaque } => layer.add_dir(path, mode, opaque)?,
@@ -139,7 +139,7 @@ pub(crate) fn put_parent(layer: &mut Layer, lowers: &[Shared], path: &Path) -> R
     ensures error { IfErr result (λ e. IsRefusal (copied layer.old lowers.now path.now) e) }
     ensures unchanged { OnErr result (layer.new ≡ layer.old) }
 {
-    layer.show_is_layer();
+    let _ = &layer.is_layer;
     match below(layer, lowers, path) {
         Some(Seen::Dir { mode }) => {
             let opaque = false;
@@ -159,7 +159,7 @@ pub fn missing_dirs(layer: &Layer, path: &Path) -> usize
     ensures count { (lowers : List Tree) → walk (layer.now ∷ lowers) path.now ≡ None → TakesMore result layer.now (with_parents layer.now lowers path.now) }
     ensures few { result ≤ length path.now }
 {
-    layer.show_is_layer();
+    let _ = &layer.is_layer;
     missing_after(layer, path, 0)
 }
 
@@ -171,7 +171,7 @@ pub fn missing_dirs_of_both(layer: &Layer, one: &Path, other: &Path) -> usize
     ensures count { (lowers : List Tree) → walk (layer.now ∷ lowers) one.now ≡ None → walk (layer.now ∷ lowers) other.now ≡ None → TakesMore result layer.now (with_parents (with_parents layer.now lowers one.now) lowers other.now) }
     ensures few { result ≤ length one.now + length other.now }
 {
-    layer.show_is_layer();
+    let _ = &layer.is_layer;
     let shared = shared_names(one.names(), other.names());
     let first = one.names().len().min(shared + 1);
     missing_after(layer, one, 0) + missing_after(layer, other, first)

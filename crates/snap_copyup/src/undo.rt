@@ -17,7 +17,7 @@ use std::alloc::AllocError;
 fn missing_paths(layer: &Layer, path: &Path) -> Result<Vec<Path>, AllocError>
     ensures { IfOk result (λ dirs. (lowers : List Tree) → walk (layer.now ∷ lowers) path.now ≡ None → Undoes dirs.items (with_parents layer.now lowers path.now) layer.now) }
 {
-    layer.show_is_layer();
+    let _ = &layer.is_layer;
     let mut missing = Vec::new(layer.alloc());
     for names in (0..path.names().len()).rev() {
         if layer.at_front(path, names).is_none() {
@@ -39,7 +39,7 @@ pub fn add_dirs(layer: &mut Layer, lowers: &[Shared], path: &Path) -> Result<Vec
     ensures error { IfErr result (λ e. IsRefusal (with_parents layer.old lowers.now path.now) e) }
     ensures unchanged { OnErr result (layer.new ≡ layer.old) }
 {
-    layer.show_is_layer();
+    let _ = &layer.is_layer;
     if layer.has_parent(path) {
         return Ok(Vec::new(layer.alloc()));
     }
@@ -68,7 +68,7 @@ pub fn add_dirs_of_both(
     ensures error { IfErr result (λ e. IsRefusal (with_parents (with_parents layer.old lowers.now one.now) lowers.now other.now) e) }
     ensures unchanged { OnErr result (layer.new ≡ layer.old) }
 {
-    layer.show_is_layer();
+    let _ = &layer.is_layer;
     let first = add_dirs(layer, lowers, one)?;
     match add_dirs(layer, lowers, other) {
         Ok(others) => Ok((first, others)),

@@ -7,6 +7,7 @@ use Rattle.snap_layer.specs.declared.node.Node.{Node}
 use Rattle.snap_layer.specs.declared.totals.Totals.{Totals}
 use Rattle.snap_layer.specs.Tree.{Tree}
 use Rattle.snap_layer.specs.Counts.{inode_count, block_count}
+use Rattle.snap_layer.specs.Layers.{IsLayer}
 
 -- one for each path
 abbrev pub path_count : Tree → ℕ
@@ -17,3 +18,7 @@ pub record Counts (v : Totals) (t : Tree) : Type 0 where
   pub inodes : v.inodes ≡ inode_count t
   pub blocks : v.blocks ≡ block_count t
   pub paths : path_count t < v.paths
+
+-- so it is, of a table that is a layer
+abbrev pub IsCounted : Totals → Tree → Type 0
+IsCounted v t = Counts v t × IsLayer t

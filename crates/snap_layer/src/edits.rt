@@ -217,7 +217,7 @@ impl Layer {
         requires { IsDirAt (at self.old path.now) }
         ensures { self.new ≡ with_opaque self.old path.now (at self.old path.now) opaque }
     {
-        self.show_is_layer();
+        let _ = &self.is_layer;
         if let Some(Node::Dir { mode, .. }) = self.at(path) {
             self.set_dir(path, mode, opaque);
         }
@@ -232,7 +232,7 @@ impl Layer {
         requires mode { mode ≤ 4095 }
         ensures { self.new ≡ with_mode self.old path.now (at self.old path.now) mode }
     {
-        self.show_is_layer();
+        let _ = &self.is_layer;
         match self.at(path) {
             Some(Node::Dir { opaque, .. }) => self.set_dir(path, mode, opaque),
             Some(Node::File { number }) => self.set_file_mode(number, mode),
@@ -248,7 +248,7 @@ impl Layer {
         requires mode { mode ≤ 4095 }
         ensures { self.new ≡ with_file_mode self.old number (body self.old number) mode }
     {
-        self.show_is_layer();
+        let _ = &self.is_layer;
         self.table.set_file_mode(number, mode);
     }
 
@@ -258,7 +258,7 @@ impl Layer {
         ensures sure { OnErr result (at self.now path.now ≡ None) }
         ensures layer { IsLayer self.now }
     {
-        self.show_is_layer();
+        let _ = &self.is_layer;
         match self.at(path) {
             Some(_) => Ok(self.totals.paths),
             None => more_paths(self.totals.paths, 1),
@@ -384,7 +384,7 @@ impl Layer {
         ensures ok { OnOk result (self.new ≡ with_linked self.old path.now link.now body) }
         ensures err { OnErr result (self.new ≡ self.old) }
     {
-        self.show_is_layer();
+        let _ = &self.is_layer;
         let blocks = blocks + body.blocks();
         let paths = more_paths(self.totals.paths, 2)?;
         self.table.put_linked(path, link, body)?;
@@ -403,7 +403,7 @@ impl Layer {
         requires blocks { blocks ≡ block_count (without self.old path.now) }
         ensures { self.new ≡ without self.old path.now }
     {
-        self.show_is_layer();
+        let _ = &self.is_layer;
         let _ = path.names();
         self.table.take(path);
         let paths = self.totals.paths;
@@ -446,7 +446,7 @@ impl Layer {
         requires mode { mode ≤ 4095 }
         ensures { self.new ≡ with_entry self.old path.now (Node.Dir mode opaque) }
     {
-        self.show_is_layer();
+        let _ = &self.is_layer;
         self.table.set_dir(path, mode, opaque);
     }
 
@@ -456,7 +456,7 @@ impl Layer {
         requires size { length bytes ≤ 1048576 }
         ensures { self.new ≡ with_body self.old number (Body.File mode bytes) }
     {
-        self.show_is_layer();
+        let _ = &self.is_layer;
         let new = Body::File { mode, bytes };
         let blocks = self.totals.blocks - freed + new.blocks();
         self.table.set_body(number, new);

@@ -27,17 +27,20 @@ use std::marker::Model;
 pub struct Layer {
     pub(crate) table: Table,
     pub(crate) totals: Totals,
+    /// Nothing. `let _ = &layer.is_layer;` tells a proof that the layer is one by `IsLayer`, and nothing runs for
+    /// it.
+    pub is_layer: (),
 }
 
 impl Model for Layer {
     ghost use Rattle.snap_layer.specs.Tree.{Tree};
-    ghost use Rattle.snap_layer.specs.Totals.{Counts};
+    ghost use Rattle.snap_layer.specs.Totals.{IsCounted};
 
     ghost Value = { Tree };
 
     ghost view = { λ l. l.table };
 
-    ghost invariant = { λ l. Counts l.totals l.table };
+    ghost invariant = { λ l. IsCounted l.totals l.table };
 }
 
 /// Shows what the layer takes.
@@ -78,6 +81,7 @@ impl Layer {
                 blocks: 1,
                 paths: 2,
             },
+            is_layer: (),
         })
     }
 
@@ -91,6 +95,7 @@ impl Layer {
         Ok(Layer {
             table: self.table.copy()?,
             totals: self.totals,
+            is_layer: (),
         })
     }
 
@@ -183,7 +188,7 @@ impl Layer {
         ensures path { IsPath path.now }
         ensures layer { IsLayer self.now }
     {
-        self.show_is_layer();
+        let _ = &self.is_layer;
         let node = self.at(path);
         let (dirs, whiteouts) = self.table.tally_inside(path.names(), node);
         let (files, freed) = self.last_body(path, node);
@@ -200,7 +205,7 @@ impl Layer {
         ensures inodes { length (without self.now path.now).bodies + result.0 ≡ length self.now.bodies }
         ensures blocks { sum_by body_blocks (values_of (without self.now path.now).bodies) + result.1 ≡ sum_by body_blocks (values_of self.now.bodies) }
     {
-        self.show_is_layer();
+        let _ = &self.is_layer;
         let Some(number) = number_in(node) else {
             return (0, 0);
         };
@@ -231,13 +236,6 @@ impl Layer {
         ensures layer { IsLayer self.now }
     {
         self.table.next_number()
-    }
-
-    /// Shows a proof that the layer is one by `IsLayer`. When it runs it does nothing.
-    pub fn show_is_layer(&self)
-        ensures layer { IsLayer self.now }
-    {
-        let _ = self.table.next_number();
     }
 
     /// The allocator that the layer keeps. The cost is constant.
@@ -345,7 +343,7 @@ impl Layer {
     pub fn can_move(&self, from: &Path, to: &Path) -> bool
         ensures { IsTrue result ↔ IsMovable self.now from.now to.now }
     {
-        self.show_is_layer();
+        let _ = &self.is_layer;
         if self.at(from).is_none() || !self.has_place(to) {
             return false;
         }

@@ -11,15 +11,20 @@ use std::sync::Arc;
 #[derive(Debug, Drop)]
 pub struct Shared {
     layer: Arc<Layer>,
+    /// Nothing, as `Layer::is_layer`: it tells a proof that the shared layer is one by `IsLayer`.
+    pub is_layer: (),
 }
 
 impl Model for Shared {
     ghost use Rattle.std.specs.Arc.{arc_value};
     ghost use Rattle.snap_layer.specs.Tree.{Tree};
+    ghost use Rattle.snap_layer.specs.Layers.{IsLayer};
 
     ghost Value = { Tree };
 
     ghost view = { λ s. arc_value s.layer };
+
+    ghost invariant = { λ s. IsLayer (arc_value s.layer) };
 }
 
 impl Shared {
@@ -28,8 +33,12 @@ impl Shared {
         ensures ok { IfOk result (λ s. s ≡ layer) }
         ensures err { IfErr result (λ back. back.1 ≡ layer) }
     {
+        let _ = &layer.is_layer;
         match Arc::new(alloc, layer) {
-            Ok(layer) => Ok(Shared { layer }),
+            Ok(layer) => Ok(Shared {
+                layer,
+                is_layer: (),
+            }),
             Err(failed) => Err(NoMemory::with_value(failed)),
         }
     }
@@ -40,6 +49,7 @@ impl Shared {
     {
         Ok(Shared {
             layer: self.layer.clone()?,
+            is_layer: (),
         })
     }
 
@@ -48,9 +58,7 @@ impl Shared {
         ensures value { result.now ≡ self.now }
         ensures layer { IsLayer self.now }
     {
-        let layer: &Layer = &self.layer;
-        layer.show_is_layer();
-        layer
+        &self.layer
     }
 }
 

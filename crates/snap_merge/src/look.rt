@@ -82,7 +82,7 @@ pub(crate) fn step_through<'a>(layer: &'a Layer, names: &[Name], dirs: usize) ->
     requires { dirs ≤ length names.now }
     ensures { Steps layer.now names.now dirs result }
 {
-    layer.show_is_layer();
+    let _ = &layer.is_layer;
     let trace = trace_in(layer, names);
     if trace.dirs < dirs {
         if trace.hidden || node_hides(trace.node) {
@@ -148,7 +148,7 @@ fn trace_in<'a>(layer: &'a Layer, names: &[Name]) -> Trace<'a>
 pub(crate) fn share_in<'a>(layer: &'a Layer, names: &[Name]) -> Share<'a>
     ensures { Shares layer.now names.now result.dir result.hides }
 {
-    layer.show_is_layer();
+    let _ = &layer.is_layer;
     let trace = trace_in(layer, names);
     let hides = trace.hidden | node_hides(trace.node);
     Share {
@@ -157,13 +157,13 @@ pub(crate) fn share_in<'a>(layer: &'a Layer, names: &[Name]) -> Share<'a>
     }
 }
 
-/// Shows a proof that each of the layers is one by `IsLayer`. It changes nothing, and its cost grows with
-/// their number.
+/// Shows a proof that each of the layers is one by `IsLayer`. Nothing is left of it in a program: its loop does
+/// nothing.
 pub fn show_are_layers(lowers: &[Shared])
     ensures { AreLayers lowers.now }
 {
     for shared in lowers {
-        let _ = shared.layer();
+        let _ = &shared.is_layer;
     }
 }
 
@@ -191,7 +191,7 @@ pub fn hides(layer: &Layer, path: &Path) -> bool
 fn hides_names(layer: &Layer, names: &[Name]) -> bool
     ensures { result ≡ hides layer.now names.now }
 {
-    layer.show_is_layer();
+    let _ = &layer.is_layer;
     let trace = trace_in(layer, names);
     if trace.hidden {
         return true;

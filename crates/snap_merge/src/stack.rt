@@ -103,7 +103,7 @@ impl<'a> Stack<'a> {
         ensures { AreLayers self.now }
     {
         if let Some(top) = self.top {
-            top.show_is_layer();
+            let _ = &top.is_layer;
         }
         show_are_layers(self.lowers);
     }
@@ -123,7 +123,6 @@ impl<'a> Stack<'a> {
         // Each layer is one by `IsLayer`, and this call says so to a caller.
         ensures layers { AreLayers self.now }
     {
-        self.show_are_layers();
         let _ = self.walk_to(path)?;
         Ok(())
     }

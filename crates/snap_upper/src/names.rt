@@ -8,6 +8,7 @@ ghost use Rattle.snap_layer.specs.Edits.{with_linked, with_name, with_new, with_
 ghost use Rattle.snap_layer.specs.declared.node.Body.{Body};
 ghost use Rattle.snap_layer.specs.declared.node.Node.TheVariants as Node;
 ghost use Rattle.snap_merge.specs.declared.error.FsError.{FsError};
+ghost use Rattle.snap_merge.specs.Objects.{AreLayers};
 ghost use Rattle.snap_merge.specs.Walk.{walk};
 ghost use Rattle.snap_copyup.specs.Copying.{below, object_body, with_parents};
 ghost use Rattle.snap_copyup.specs.Places.{IsRefusal};
@@ -18,7 +19,7 @@ ghost use Rattle.snap_upper.specs.declared.op.Op.TheVariants as op;
 use super::change::own_number;
 use snap_copyup::{add_dirs, add_dirs_of_both, body_below, take_all};
 use snap_layer::{Body, Layer, Shared};
-use snap_merge::{FsError, show_are_layers};
+use snap_merge::FsError;
 use snap_path::Path;
 
 /// Gives what is seen at `from` the name `to`. What the layer lacks for it is added first, and taken back after
@@ -29,7 +30,8 @@ pub(crate) fn link(
     from: &Path,
     to: &Path,
 ) -> Result<(), FsError>
-    requires { first_error (tests (op.Link from.now to.now) (layer.old ∷ lowers.now)) ≡ None }
+    requires layers { AreLayers lowers.now }
+    requires passes { first_error (tests (op.Link from.now to.now) (layer.old ∷ lowers.now)) ≡ None }
     ensures ok { OnOk result (limited (next_layer (op.Link from.now to.now) layer.old lowers.now) ≡ Ok layer.new) }
     ensures error { IfErr result (λ e. (e ≡ FsError.OutOfMemory no_memory) ⊎ (limited (next_layer (op.Link from.now to.now) layer.old lowers.now) ≡ Err e)) }
     ensures unchanged { OnErr result (layer.new ≡ layer.old) }
@@ -37,19 +39,19 @@ pub(crate) fn link(
     if let Err(error) = add_link(layer, lowers, from, to) {
         return Err(error);
     }
-    layer.show_is_layer();
+    let _ = &layer.is_layer;
     Ok(())
 }
 
 /// Adds the name, to a file or symlink of the layer or to a copy of a lower one.
 fn add_link(layer: &mut Layer, lowers: &[Shared], from: &Path, to: &Path) -> Result<(), FsError>
-    requires { first_error (tests (op.Link from.now to.now) (layer.old ∷ lowers.now)) ≡ None }
+    requires layers { AreLayers lowers.now }
+    requires passes { first_error (tests (op.Link from.now to.now) (layer.old ∷ lowers.now)) ≡ None }
     ensures ok { OnOk result (layer.new ≡ next_layer (op.Link from.now to.now) layer.old lowers.now) }
     ensures error { IfErr result (λ e. IsRefusal (next_layer (op.Link from.now to.now) layer.old lowers.now) e) }
     ensures unchanged { OnErr result (layer.new ≡ layer.old) }
 {
-    show_are_layers(lowers);
-    layer.show_is_layer();
+    let _ = &layer.is_layer;
     if let Some(number) = own_number(layer, from) {
         return add_dirs_and_name(layer, lowers, to, number);
     }
@@ -58,14 +60,14 @@ fn add_link(layer: &mut Layer, lowers: &[Shared], from: &Path, to: &Path) -> Res
 
 /// Links a lower file or symlink: a copy of it gets both names, once the directories above them are added.
 fn link_lower(layer: &mut Layer, lowers: &[Shared], from: &Path, to: &Path) -> Result<(), FsError>
+    requires layers { AreLayers lowers.now }
     requires passes { first_error (tests (op.Link from.now to.now) (layer.old ∷ lowers.now)) ≡ None }
     requires lower { number_at layer.old from.now ≡ None }
     ensures ok { OnOk result (layer.new ≡ next_layer (op.Link from.now to.now) layer.old lowers.now) }
     ensures error { IfErr result (λ e. IsRefusal (next_layer (op.Link from.now to.now) layer.old lowers.now) e) }
     ensures unchanged { OnErr result (layer.new ≡ layer.old) }
 {
-    show_are_layers(lowers);
-    layer.show_is_layer();
+    let _ = &layer.is_layer;
     let (above_from, above_to) = add_dirs_of_both(layer, lowers, from, to)?;
     if let Err(error) = put_linked_copy(layer, lowers, from, to) {
         take_all(layer, &above_to);
@@ -82,12 +84,12 @@ fn put_linked_copy(
     from: &Path,
     to: &Path,
 ) -> Result<(), FsError>
-    requires { HasRooms layer.old from.now to.now }
+    requires layers { AreLayers lowers.now }
+    requires rooms { HasRooms layer.old from.now to.now }
     ensures ok { OnOk result ((b : Body) → object_body (below layer.old lowers.now from.now) ≡ Some b → layer.new ≡ with_linked layer.old from.now to.now b) }
     ensures error { IfErr result (λ e. (b : Body) → object_body (below layer.old lowers.now from.now) ≡ Some b → IsRefusal (with_linked layer.old from.now to.now b) e) }
     ensures unchanged { OnErr result (layer.new ≡ layer.old) }
 {
-    show_are_layers(lowers);
     let Some(body) = body_below(layer, lowers, from)? else {
         return Ok(());
     };
@@ -128,6 +130,7 @@ pub(crate) fn shift(
     leaves: bool,
     covers: bool,
 ) -> Result<(), FsError>
+    requires layers { AreLayers lowers.now }
     requires passes { first_error (tests (op.Rename from.now to.now) (layer.old ∷ lowers.now)) ≡ None }
     requires moves { is_same_name layer.old from.now to.now ≡ false }
     requires leaves { leaves ≡ is_some (below layer.old lowers.now from.now) }
@@ -136,16 +139,15 @@ pub(crate) fn shift(
     ensures error { IfErr result (λ e. (e ≡ FsError.OutOfMemory no_memory) ⊎ (limited (renamed layer.old lowers.now from.now to.now) ≡ Err e)) }
     ensures unchanged { OnErr result (layer.new ≡ layer.old) }
 {
-    show_are_layers(lowers);
     let _ = to.names();
-    layer.show_is_layer();
+    let _ = &layer.is_layer;
     if layer.at(from).is_none() {
         shift_lower(layer, lowers, from, to)?;
-        layer.show_is_layer();
+        let _ = &layer.is_layer;
         return Ok(());
     }
     add_dirs_and_move(layer, lowers, from, to, leaves, covers)?;
-    layer.show_is_layer();
+    let _ = &layer.is_layer;
     Ok(())
 }
 
@@ -155,6 +157,7 @@ pub(crate) fn shift(
 /// Where the layer with the whiteout would pass the limits of a layer, so would the rename's own result, which
 /// takes no fewer inodes, though what stands at `to` goes: that is no directory, so that one inode at most goes.
 fn shift_lower(layer: &mut Layer, lowers: &[Shared], from: &Path, to: &Path) -> Result<(), FsError>
+    requires layers { AreLayers lowers.now }
     requires passes { first_error (tests (op.Rename from.now to.now) (layer.old ∷ lowers.now)) ≡ None }
     requires moves { is_same_name layer.old from.now to.now ≡ false }
     requires lower { at layer.old from.now ≡ None }
@@ -162,10 +165,9 @@ fn shift_lower(layer: &mut Layer, lowers: &[Shared], from: &Path, to: &Path) -> 
     ensures error { IfErr result (λ e. IsRefusal (renamed layer.old lowers.now from.now to.now) e) }
     ensures unchanged { OnErr result (layer.new ≡ layer.old) }
 {
-    show_are_layers(lowers);
-    layer.show_is_layer();
+    let _ = &layer.is_layer;
     let (above_from, above_to) = add_dirs_of_both(layer, lowers, from, to)?;
-    layer.show_is_layer();
+    let _ = &layer.is_layer;
     if let Err(error) = put_shifted_copy(layer, lowers, from, to) {
         take_all(layer, &above_to);
         take_all(layer, &above_from);
@@ -181,6 +183,7 @@ fn put_shifted_copy(
     from: &Path,
     to: &Path,
 ) -> Result<(), FsError>
+    requires layers { AreLayers lowers.now }
     requires bare { at layer.old from.now ≡ None }
     requires parent { HasParent layer.old from.now }
     requires place { HasPlace layer.old to.now }
@@ -190,8 +193,7 @@ fn put_shifted_copy(
     ensures error { IfErr result (λ e. (b : Body) → object_body (below layer.old lowers.now from.now) ≡ Some b → IsRefusal (with_node layer.old from.now Node.Whiteout) e ⊎ IsRefusal (with_shifted layer.old from.now to.now b) e) }
     ensures unchanged { OnErr result (layer.new ≡ layer.old) }
 {
-    show_are_layers(lowers);
-    layer.show_is_layer();
+    let _ = &layer.is_layer;
     let Some(body) = body_below(layer, lowers, from)? else {
         return Ok(());
     };
@@ -238,7 +240,7 @@ fn add_dirs_and_move(
     ensures unchanged { OnErr result (layer.new ≡ layer.old) }
 {
     let dirs = add_dirs(layer, lowers, to)?;
-    layer.show_is_layer();
+    let _ = &layer.is_layer;
     if let Err(error) = relocate(layer, from, to, leaves, covers) {
         take_all(layer, &dirs);
         return Err(error);
@@ -260,7 +262,7 @@ fn relocate(
     ensures error { IfErr result (λ e. IsRefusal (shifted layer.old from.now to.now leaves covers) e) }
     ensures unchanged { OnErr result (layer.new ≡ layer.old) }
 {
-    layer.show_is_layer();
+    let _ = &layer.is_layer;
     layer.move_tree(from, to, leaves)?;
     if covers && is_dir_there(layer, to) {
         layer.set_opaque(to, true);

@@ -59,7 +59,7 @@ fn mkdir<'a>(
     ensures error { IfErr result (λ e. after (op.Mkdir path.now mode) layer.now lowers.now ≡ Err e) }
 {
     check_new(&Stack::over(layer, lowers), path, mode)?;
-    layer.show_is_layer();
+    let _ = &layer.is_layer;
     let opaque = is_whiteout(layer.at(path));
     let new = New::Dir { mode, opaque };
     Ok(Change::Put { path, new })
@@ -75,7 +75,7 @@ fn create<'a>(
     ensures error { IfErr result (λ e. after (op.Create path.now mode) layer.now lowers.now ≡ Err e) }
 {
     check_new(&Stack::over(layer, lowers), path, mode)?;
-    layer.show_is_layer();
+    let _ = &layer.is_layer;
     let old: &[u8] = &[];
     let edit = Edit::Keep;
     let new = New::File { mode, old, edit };
@@ -92,7 +92,7 @@ fn symlink<'a>(
     ensures error { IfErr result (λ e. after (op.Symlink path.now target.now) layer.now lowers.now ≡ Err e) }
 {
     check_symlink(&Stack::over(layer, lowers), path, target)?;
-    layer.show_is_layer();
+    let _ = &layer.is_layer;
     let target = target.as_slice();
     let new = New::Symlink { target };
     Ok(Change::Put { path, new })
@@ -109,7 +109,7 @@ fn write<'a>(
     ensures error { IfErr result (λ e. after (op.Write path.now offset bytes.now) layer.now lowers.now ≡ Err e) }
 {
     check_write(&Stack::over(layer, lowers), path, offset, bytes)?;
-    layer.show_is_layer();
+    let _ = &layer.is_layer;
     let edit = Edit::Write {
         offset: offset as usize,
         bytes: bytes.as_slice(),
@@ -127,7 +127,7 @@ fn truncate<'a>(
     ensures error { IfErr result (λ e. after (op.Truncate path.now size) layer.now lowers.now ≡ Err e) }
 {
     check_truncate(&Stack::over(layer, lowers), path, size)?;
-    layer.show_is_layer();
+    let _ = &layer.is_layer;
     let edit = Edit::Resize {
         size: size as usize,
     };
@@ -149,7 +149,7 @@ fn editing<'a>(
     ensures ok { IfOk result (λ c. IsReady c layer.now lowers.now × (outcome c layer.now lowers.now ≡ limited (with_content (copied_up layer.now lowers.now path.now) (number_at (copied_up layer.now lowers.now path.now) path.now) (edited edit.entry)))) }
     ensures sure { IfErr result (λ e. ⊥) }
 {
-    layer.show_is_layer();
+    let _ = &layer.is_layer;
     if let Some(number) = own_number(layer, path) {
         return Ok(Change::Fill { number, edit });
     }
@@ -171,7 +171,7 @@ fn set_mode<'a>(
     ensures error { IfErr result (λ e. after (op.SetMode path.now mode) layer.now lowers.now ≡ Err e) }
 {
     check_mode(&Stack::over(layer, lowers), path, mode)?;
-    layer.show_is_layer();
+    let _ = &layer.is_layer;
     if layer.at(path).is_some() {
         return Ok(Change::SetMode { path, mode });
     }
@@ -223,7 +223,7 @@ fn unlink<'a>(layer: &Layer, lowers: &'a [Shared], path: &'a Path) -> Result<Cha
     ensures error { IfErr result (λ e. after (op.Unlink path.now) layer.now lowers.now ≡ Err e) }
 {
     let found = check_unlink(&Stack::over(layer, lowers), path)?;
-    layer.show_is_layer();
+    let _ = &layer.is_layer;
     let covers = is_below(layer, lowers, path, found);
     Ok(Change::Erase { path, covers })
 }
@@ -234,7 +234,7 @@ fn rmdir<'a>(layer: &Layer, lowers: &'a [Shared], path: &'a Path) -> Result<Chan
     ensures sure { lists_names (op.Rmdir path.now) (layer.now ∷ lowers.now) ≡ false → IfErr result (λ e. after (op.Rmdir path.now) layer.now lowers.now ≡ Err e) }
 {
     let found = check_rmdir(&Stack::over(layer, lowers), layer.alloc(), path)?;
-    layer.show_is_layer();
+    let _ = &layer.is_layer;
     let covers = is_below(layer, lowers, path, found);
     Ok(Change::Erase { path, covers })
 }
@@ -249,7 +249,7 @@ fn rename<'a>(
     ensures error { IfErr result (λ e. (e ≡ FsError.OutOfMemory no_memory) ⊎ (after (op.Rename from.now to.now) layer.now lowers.now ≡ Err e)) }
     ensures sure { lists_names (op.Rename from.now to.now) (layer.now ∷ lowers.now) ≡ false → IfErr result (λ e. after (op.Rename from.now to.now) layer.now lowers.now ≡ Err e) }
 {
-    layer.show_is_layer();
+    let _ = &layer.is_layer;
     let Some(sides) = check_rename(layer, lowers, from, to)? else {
         return Ok(Change::Nothing);
     };

@@ -5,7 +5,7 @@ ghost use Rattle.snap_layer.specs.Tree.{body};
 ghost use Rattle.snap_layer.specs.declared.node.Body.TheVariants as body_kinds;
 ghost use Rattle.snap_usage.specs.Counted.{count_of, Covers};
 ghost use Rattle.snap_merge.specs.declared.error.FsError.{FsError};
-ghost use Rattle.snap_merge.specs.Objects.{seen};
+ghost use Rattle.snap_merge.specs.Objects.{seen, AreLayers};
 ghost use Rattle.snap_merge.specs.Walk.{walk};
 ghost use Rattle.snap_copyup.specs.Copying.{below, with_parents};
 ghost use Rattle.snap_copyup.specs.Places.{with_last, CanStand};
@@ -20,7 +20,7 @@ use super::rules::rule;
 use super::usage::weigh;
 use snap_copyup::{Last, put};
 use snap_layer::{Body, Bytes, Layer, Shared};
-use snap_merge::{FsError, show_are_layers};
+use snap_merge::FsError;
 use snap_path::Path;
 use snap_usage::Usage;
 use std::alloc::AllocError;
@@ -66,8 +66,7 @@ pub fn apply(layer: &mut Layer, lowers: &[Shared], op: &Op) -> Result<(), FsErro
     ensures view { OnOk result (changed op.now layer.old (seen (layer.old ∷ lowers.now)) (seen (layer.new ∷ lowers.now))) }
     ensures law { Changes op.now layer.old }
 {
-    layer.show_is_layer();
-    show_are_layers(lowers);
+    let _ = &layer.is_layer;
     let change = rule(layer, lowers, op)?;
     perform(layer, lowers, change)
 }
@@ -102,19 +101,20 @@ pub fn apply_within(
 
 /// Does the change to the layer.
 fn perform(layer: &mut Layer, lowers: &[Shared], change: Change<'_>) -> Result<(), FsError>
+    requires layers { AreLayers lowers.now }
     requires ready { IsReady change layer.old lowers.now }
     ensures ok { OnOk result (outcome change.entry layer.old lowers.now ≡ Ok layer.new) }
     ensures error { IfErr result (λ e. (e ≡ FsError.OutOfMemory no_memory) ⊎ (outcome change.entry layer.old lowers.now ≡ Err e)) }
     ensures unchanged { OnErr result (layer.new ≡ layer.old) }
 {
-    layer.show_is_layer();
+    let _ = &layer.is_layer;
     match change {
         Change::Nothing => Ok(()),
         Change::Put { path, new } => put_new(layer, lowers, path, new),
         Change::Fill { number, edit } => fill(layer, number, edit),
         Change::SetMode { path, mode } => {
             layer.set_mode(path, mode);
-            layer.show_is_layer();
+            let _ = &layer.is_layer;
             Ok(())
         }
         Change::Erase { path, covers } => erase(layer, lowers, path, covers),
@@ -139,7 +139,7 @@ fn grow(layer: &mut Layer, lowers: &[Shared], path: &Path, last: Last) -> Result
     if let Err(error) = put(layer, lowers, path, last) {
         return Err(error);
     }
-    layer.show_is_layer();
+    let _ = &layer.is_layer;
     Ok(())
 }
 
@@ -165,7 +165,7 @@ fn fill(layer: &mut Layer, number: u32, edit: Edit<'_>) -> Result<(), FsError>
 {
     let content = edited_bytes(layer, number, edit)?;
     layer.set_bytes(number, content);
-    layer.show_is_layer();
+    let _ = &layer.is_layer;
     Ok(())
 }
 
@@ -194,7 +194,7 @@ fn erase(layer: &mut Layer, lowers: &[Shared], path: &Path, covers: bool) -> Res
     ensures error { IfErr result (λ e. (e ≡ FsError.OutOfMemory no_memory) ⊎ (limited (erased layer.old lowers.now path.now) ≡ Err e)) }
     ensures unchanged { OnErr result (layer.new ≡ layer.old) }
 {
-    layer.show_is_layer();
+    let _ = &layer.is_layer;
     if layer.at(path).is_none() {
         return grow(layer, lowers, path, Last::Whiteout);
     }
@@ -202,10 +202,10 @@ fn erase(layer: &mut Layer, lowers: &[Shared], path: &Path, covers: bool) -> Res
         if let Err(error) = layer.add_whiteout(path) {
             return Err(FsError::from(error));
         }
-        layer.show_is_layer();
+        let _ = &layer.is_layer;
         return Ok(());
     }
     layer.take_name(path);
-    layer.show_is_layer();
+    let _ = &layer.is_layer;
     Ok(())
 }

@@ -59,7 +59,7 @@ pub(crate) fn weigh(
     requires ready { IsReady change layer.now lowers.now }
     ensures { result ≡ planned (outcome change.entry layer.now lowers.now) }
 {
-    layer.show_is_layer();
+    let _ = &layer.is_layer;
     match change {
         Change::Nothing => Ok(counted(layer)),
         Change::Put { path, new } => plan_growth(layer, path, new.blocks(), new.is_numbered()),
@@ -80,7 +80,7 @@ pub(crate) fn weigh(
 fn counted(layer: &Layer) -> Planned
     ensures { Ok result ≡ planned (Ok layer.now) }
 {
-    layer.show_is_layer();
+    let _ = &layer.is_layer;
     let after = count(layer);
     Planned { after }
 }
@@ -91,7 +91,7 @@ fn counted_with_mode(layer: &Layer, path: &Path, mode: u32) -> Planned
     requires low { mode ≤ 4095 }
     ensures { Ok result ≡ planned (limited (with_mode layer.now path.now (at layer.now path.now) mode)) }
 {
-    layer.show_is_layer();
+    let _ = &layer.is_layer;
     let after = count(layer);
     Planned { after }
 }
@@ -104,7 +104,7 @@ fn plan_link(layer: &Layer, lowers: &[Shared], from: &Path, to: &Path) -> Result
 {
     let _ = from.names();
     let _ = to.names();
-    layer.show_is_layer();
+    let _ = &layer.is_layer;
     let after = count_placed(layer, lowers, from, to);
     fitting(layer, after, layer.at(from).is_none())
 }
@@ -119,7 +119,7 @@ fn count_placed(layer: &Layer, lowers: &[Shared], from: &Path, to: &Path) -> Usa
 {
     let _ = from.names();
     let _ = to.names();
-    layer.show_is_layer();
+    let _ = &layer.is_layer;
     let left = count_without(layer, to);
     if layer.at(from).is_some() {
         let missing = missing_dirs(layer, to) as u64;
@@ -155,7 +155,7 @@ fn plan_erasing(layer: &Layer, path: &Path, covers: bool) -> Result<Planned, FsE
     ensures { (lowers : List Tree) → AreLayers lowers → walk (layer.now ∷ lowers) path.now ≡ None → is_some (seen (layer.now ∷ lowers) path.now) ≡ true → covers ≡ is_some (below layer.now lowers path.now) → result ≡ planned (limited (erased layer.now lowers path.now)) }
 {
     let _ = path.names();
-    layer.show_is_layer();
+    let _ = &layer.is_layer;
     if layer.at(path).is_none() {
         return plan_growth(layer, path, 0, false);
     }
@@ -184,7 +184,7 @@ fn plan_move(
 {
     let _ = from.names();
     let _ = to.names();
-    layer.show_is_layer();
+    let _ = &layer.is_layer;
     let left = count_placed(layer, lowers, from, to);
     let after = Usage {
         blocks: left.blocks,
@@ -212,7 +212,7 @@ fn freed_blocks(layer: &Layer, path: &Path) -> u64
     requires { (n : List ℕ) → IsFree (at layer.now (path.now ++ n ∷ [])) }
     ensures { block_count layer.now ≡ block_count (without layer.now path.now) + result }
 {
-    layer.show_is_layer();
+    let _ = &layer.is_layer;
     match layer.at(path) {
         Some(Node::Dir { .. }) => 1,
         Some(Node::File { number }) => last_blocks(layer, number),
@@ -250,7 +250,7 @@ fn plan_growth(layer: &Layer, path: &Path, blocks: u64, numbered: bool) -> Resul
     ensures { (last : Last) (lowers : List Tree) → Takes last blocks numbered → AreLayers lowers → walk (layer.now ∷ lowers) path.now ≡ None → CanStand last layer.now path.now → result ≡ planned (limited (with_last last (with_parents layer.now lowers path.now) path.now)) }
 {
     let _ = path.names();
-    layer.show_is_layer();
+    let _ = &layer.is_layer;
     let now = count(layer);
     let missing = missing_dirs(layer, path) as u64;
     let whiteouts = u64::from(is_whiteout(layer.at(path)));
@@ -280,7 +280,7 @@ fn plan_filling(layer: &Layer, number: u32, edit: Edit<'_>) -> Result<Planned, F
     requires there { (m : ℕ) × (old : List ℕ) × (body layer.now number ≡ Some (body_kinds.File m old)) × IsShort edit × (length (edited edit old) ≤ 1048576) }
     ensures { result ≡ planned (limited (with_content layer.now (Some number) (edited edit.entry))) }
 {
-    layer.show_is_layer();
+    let _ = &layer.is_layer;
     let now = count(layer);
     let size = file_size(layer, number);
     let new = blocks_of(edit.size(size) as u64);

@@ -74,7 +74,7 @@ pub fn count(layer: &Layer) -> Usage
     // The distinct file numbers of the paths are the numbers of the layer's bodies.
     ensures bodies { result ≡ record { blocks = block_count layer.now; inodes = inode_count layer.now } }
 {
-    layer.show_is_layer();
+    let _ = &layer.is_layer;
     Usage {
         blocks: layer.blocks(),
         inodes: layer.inodes() as u64,
@@ -89,7 +89,7 @@ pub fn count(layer: &Layer) -> Usage
 pub fn recount(layer: &Layer) -> Usage
     ensures { result ≡ count_of layer.now }
 {
-    layer.show_is_layer();
+    let _ = &layer.is_layer;
     let (directories, whiteouts) = layer.tally();
     let mut usage = Usage {
         blocks: directories as u64,

@@ -6,12 +6,13 @@ use Rattle.snap_copyup.specs.Copying.{with_parents}
 use Rattle.snap_copyup.specs.Places.{with_last, CanStand, IsRefusal}
 use Rattle.snap_copyup.proofs.Alone.{OnOk-weaker}
 use Rattle.snap_copyup.proofs.Copies.{last_copied, copied_view, copy_fits}
+use Rattle.snap_layer.specs.Layers.{IsLayer}
 use Rattle.snap_copyup.proofs.lower.copy_up.Goals as goal
 
 pub put-requires-clause-fit : goal.put-requires-clause-fit
 put-requires-clause-fit c =
     let u = c.args.layer.now in
-    subst (λ (l : Last). CanStand l u c.args.path.now) (sym c.in_ok-last.ensures) (copy_fits u c.args.lowers.now c.args.path.now c.show_is_layer.ensures.layer c.show_are_layers.ensures)
+    subst (λ (l : Last). CanStand l u c.args.path.now) (sym c.in_ok-last.ensures) (copy_fits u c.args.lowers.now c.args.path.now (subst IsLayer c.layer.view_is c.layer.invariant.1) c.show_are_layers.ensures)
 
 pub returns-clause-ok : goal.returns-clause-ok
 returns-clause-ok c =
@@ -36,5 +37,5 @@ returns-clause-view c =
     OnOk-weaker c.put.result
     (λ (e : c.put.new.layer ≡ with_last c.in_ok-last.last (with_parents u ls p) p) q.
     ap (λ (v : Tree). seen (v ∷ ls) q) (e ∙ ap (λ (l : Last). with_last l t p) c.in_ok-last.ensures ∙ last_copied u ls p c.requires)
-    ∙ copied_view u ls p c.requires c.show_is_layer.ensures.layer c.show_are_layers.ensures q)
+    ∙ copied_view u ls p c.requires (subst IsLayer c.layer.view_is c.layer.invariant.1) c.show_are_layers.ensures q)
     c.put.ensures.ok

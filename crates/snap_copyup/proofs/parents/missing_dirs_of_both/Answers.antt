@@ -3,6 +3,7 @@ use Rattle.snap_copyup.specs.Copying.{with_parents}
 use Rattle.snap_copyup.specs.Places.{TakesMore, missing_from}
 use Rattle.snap_copyup.proofs.Growing.{few_names}
 use Rattle.snap_copyup.proofs.Both.{takes_both}
+use Rattle.snap_layer.specs.Layers.{IsLayer}
 use Rattle.snap_copyup.proofs.parents.missing_dirs_of_both.Goals as goal
 
 pub overflow_add-result : goal.overflow_add-result
@@ -20,7 +21,7 @@ returns-clause-count c = λ lowers way_one way_other.
     let other = c.names-2.ensures.names in
     let shared = c.shared_names-shared.ensures in
     subst (λ (n : ℕ). TakesMore n u (with_parents (with_parents u lowers p) lowers q)) (sym sum)
-    (takes_both u lowers p q c.show_is_layer.ensures.layer way_one way_other k s (omega (arith, shared.few, ap length one))
+    (takes_both u lowers p q (subst IsLayer c.layer.view_is c.layer.invariant.1) way_one way_other k s (omega (arith, shared.few, ap length one))
     (sym (ap (take k) one) ∙ shared.same ∙ ap (take k) other)
     (λ in_one in_other same. shared.most (omega (arith, in_one, ap length one)) (omega (arith, in_other, ap length other)) (ap (take (k + 1)) one ∙ same ∙ sym (ap (take (k + 1)) other)))
     (omega (arith, c.min-first.ensures, ap length c.names-3.ensures.names)))

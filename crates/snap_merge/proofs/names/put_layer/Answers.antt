@@ -4,6 +4,7 @@ use Rattle.std.specs.BTreeSet.{BTreeSet}
 use Rattle.snap_path.specs.Text.{Names}
 use Rattle.snap_merge.specs.Shares.{seen_so_far, Shares}
 use Rattle.snap_merge.proofs.Sharing.{layer_told, over_none, shares_some, shares_none}
+use Rattle.snap_layer.specs.Layers.{IsLayer}
 use Rattle.snap_merge.proofs.names.put_layer.Goals as goal
 use Rattle.snap_merge.proofs.names.put_layer.Goals.{in-Some+in_ok-children+in_ok-put_dir, in_default}
 
@@ -19,10 +20,10 @@ returns c =
           ap (λ (ks : BTreeSet (List ℕ)). seen_so_far ks.keys c.match-share.gone.keys n x) w.shown-is
           ∙ ap (λ (ks : BTreeSet (List ℕ)). seen_so_far w.put_dir.new.shown.keys ks.keys n x) w.gone-is
           ∙ w.in_ok-put_dir.ensures n x
-          ∙ ap (seen_so_far c.args.shown.now.keys c.args.gone.now.keys n) (layer_told t c.show_is_layer.ensures.layer p w.in_ok-children.field-0.items w.in-Some.dir h (shares_some t p c.share_in-share.result.dir h share w.in-Some.dir w.in-Some.is) w.in_ok-children.ensures n (share.hiding n) under)
+          ∙ ap (seen_so_far c.args.shown.now.keys c.args.gone.now.keys n) (layer_told t (subst IsLayer c.layer.view_is c.layer.invariant.1) p w.in_ok-children.field-0.items w.in-Some.dir h (shares_some t p c.share_in-share.result.dir h share w.in-Some.dir w.in-Some.is) w.in_ok-children.ensures n (share.hiding n) under)
       | in_default w ↦ λ n under.
           let x = not h && is_some under in
           ap (λ (ks : BTreeSet (List ℕ)). seen_so_far ks.keys c.match-share.gone.keys n x) w.shown-is
           ∙ ap (λ (ks : BTreeSet (List ℕ)). seen_so_far c.args.shown.now.keys ks.keys n x) w.gone-is
-          ∙ ap (seen_so_far c.args.shown.now.keys c.args.gone.now.keys n) (sym (over_none t c.show_is_layer.ensures.layer (p ++ n ∷ []) h (share.hiding n) (shares_none t p c.share_in-share.result.dir h share w.in_default.is n) under))
+          ∙ ap (seen_so_far c.args.shown.now.keys c.args.gone.now.keys n) (sym (over_none t (subst IsLayer c.layer.view_is c.layer.invariant.1) (p ++ n ∷ []) h (share.hiding n) (shares_none t p c.share_in-share.result.dir h share w.in_default.is n) under))
     ]

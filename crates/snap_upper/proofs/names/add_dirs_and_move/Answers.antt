@@ -18,7 +18,7 @@ returns-in_err-dirs-clause-error c =
 pub relocate-requires : goal.relocate-requires
 relocate-requires c =
     let same = c.in_ok-dirs.ensures.ok in
-    subst (λ (t : Tree). IsMovable t c.args.from.now c.args.to.now) (sym same) (c.requires.movable (subst IsLayer same c.show_is_layer.ensures.layer))
+    subst (λ (t : Tree). IsMovable t c.args.from.now c.args.to.now) (sym same) (c.requires.movable (subst IsLayer same (subst IsLayer c.layer.view_is c.layer.invariant.1)))
 
 pub take_all-requires : goal.take_all-requires
 take_all-requires c =

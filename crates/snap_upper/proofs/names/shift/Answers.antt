@@ -20,7 +20,7 @@ returns-in_err-shift_lower-clause-error c =
 pub returns-then-is_none-clause-ok : goal.returns-then-is_none-clause-ok
 returns-then-is_none-clause-ok c =
     let next = c.shift_lower.new.layer in
-    ap limited (sym c.in_ok-shift_lower.ensures.ok) ∙ limited_fits next (layer_fits next c.show_is_layer-then-is_none.ensures.layer)
+    ap limited (sym c.in_ok-shift_lower.ensures.ok) ∙ limited_fits next (layer_fits next (subst IsLayer c.layer-then-is_none.view_is c.layer-then-is_none.invariant.1))
 
 pub add_dirs_and_move-requires-clause-way : goal.add_dirs_and_move-requires-clause-way
 add_dirs_and_move-requires-clause-way c = (renamable c.args.layer.now c.args.lowers.now c.args.from.now c.args.to.now c.requires.passes c.requires.moves).way_to
@@ -31,11 +31,11 @@ add_dirs_and_move-requires-clause-movable c = λ okt.
     let ls = c.args.lowers.now in
     let from = c.args.from.now in
     let to = c.args.to.now in
-    let ok = c.show_is_layer.ensures.layer in
+    let ok = subst IsLayer c.layer.view_is c.layer.invariant.1 in
     let is = renamable u ls from to c.requires.passes c.requires.moves in
     let some : is_some (at u from) ≡ true = ap is_some (sym c.at.ensures) ∙ c.is_none.ensures ∙ ap not c.if-is_none.false in
     let same : before_move u ls from to ≡ with_parents u ls to = ap (λ (t : Tree). with_parents t ls to) (own_copy u ls from ok some) in
-    subst (λ (t : Tree). IsMovable t from to) same (prepared_movable u ls from to ok c.show_are_layers.ensures is c.names.ensures.valid (subst IsLayer (sym same) okt))
+    subst (λ (t : Tree). IsMovable t from to) same (prepared_movable u ls from to ok c.requires.layers is c.names.ensures.valid (subst IsLayer (sym same) okt))
 
 pub returns-in_err-add_dirs_and_move-clause-error : goal.returns-in_err-add_dirs_and_move-clause-error
 returns-in_err-add_dirs_and_move-clause-error c =
@@ -43,7 +43,7 @@ returns-in_err-add_dirs_and_move-clause-error c =
     let ls = c.args.lowers.now in
     let from = c.args.from.now in
     let to = c.args.to.now in
-    let ok = c.show_is_layer.ensures.layer in
+    let ok = subst IsLayer c.layer.view_is c.layer.invariant.1 in
     let is = renamable u ls from to c.requires.passes c.requires.moves in
     let some : is_some (at u from) ≡ true = ap is_some (sym c.at.ensures) ∙ c.is_none.ensures ∙ ap not c.if-is_none.false in
     let same : before_move u ls from to ≡ with_parents u ls to = ap (λ (t : Tree). with_parents t ls to) (own_copy u ls from ok some) in
@@ -52,7 +52,7 @@ returns-in_err-add_dirs_and_move-clause-error c =
     let f = renamed u ls from to in
     let x = c.in_err-add_dirs_and_move.field-0.0 in
     refused_same c.from_residual-in_err-add_dirs_and_move.result x f f c.from_residual-in_err-add_dirs_and_move.ensures.1 refl
-    (either_refused x (with_parents u ls to) (shifted (with_parents u ls to) from to c.args.leaves c.args.covers) f (λ full. prepared_full u ls from to ok c.show_are_layers.ensures is (subst (λ (t : Tree). is_within t ≡ false) (sym same) full)) (λ i. shifted (sym same i) from to (sym leaves i) (sym covers i)) c.in_err-add_dirs_and_move.ensures.error)
+    (either_refused x (with_parents u ls to) (shifted (with_parents u ls to) from to c.args.leaves c.args.covers) f (λ full. prepared_full u ls from to ok c.requires.layers is (subst (λ (t : Tree). is_within t ≡ false) (sym same) full)) (λ i. shifted (sym same i) from to (sym leaves i) (sym covers i)) c.in_err-add_dirs_and_move.ensures.error)
 
 pub returns-clause-ok : goal.returns-clause-ok
 returns-clause-ok c =
@@ -61,9 +61,9 @@ returns-clause-ok c =
     let from = c.args.from.now in
     let to = c.args.to.now in
     let some : is_some (at u from) ≡ true = ap is_some (sym c.at.ensures) ∙ c.is_none.ensures ∙ ap not c.if-is_none.false in
-    let same : before_move u ls from to ≡ with_parents u ls to = ap (λ (t : Tree). with_parents t ls to) (own_copy u ls from c.show_is_layer.ensures.layer some) in
+    let same : before_move u ls from to ≡ with_parents u ls to = ap (λ (t : Tree). with_parents t ls to) (own_copy u ls from (subst IsLayer c.layer.view_is c.layer.invariant.1) some) in
     let leaves : is_some (below u ls from) ≡ c.args.leaves = sym c.requires.leaves in
     let covers : is_some (below u ls to) ≡ c.args.covers = sym c.requires.covers in
     let next = c.add_dirs_and_move.new.layer in
     let shifts : renamed u ls from to ≡ shifted (with_parents u ls to) from to c.args.leaves c.args.covers = λ i. shifted (same i) from to (leaves i) (covers i) in
-    ap limited (shifts ∙ sym c.in_ok-add_dirs_and_move.ensures.ok) ∙ limited_fits next (layer_fits next c.show_is_layer-2.ensures.layer)
+    ap limited (shifts ∙ sym c.in_ok-add_dirs_and_move.ensures.ok) ∙ limited_fits next (layer_fits next (subst IsLayer c.layer-2.view_is c.layer-2.invariant.1))

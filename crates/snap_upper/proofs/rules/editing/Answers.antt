@@ -1,11 +1,12 @@
-use Rattle.std.proofs.Common.{sym, ◌∙◌, rules}
+use Rattle.std.proofs.Common.{sym, ◌∙◌, rules, subst}
 use Rattle.snap_upper.proofs.Edits.{own_edit, lower_edit}
+use Rattle.snap_layer.specs.Layers.{IsLayer}
 use Rattle.snap_upper.proofs.rules.editing.Goals as goal
 
 pub returns-in-Some-clause-ok : goal.returns-in-Some-clause-ok
 returns-in-Some-clause-ok c =
-    own_edit c.args.layer.now c.args.lowers.now c.args.path.now c.args.edit c.show_is_layer.ensures.layer c.requires.layers c.requires.there.0 c.requires.there.1 c.requires.there.2 c.requires.short c.in-Some.number (sym c.own_number.ensures ∙ c.in-Some.is)
+    own_edit c.args.layer.now c.args.lowers.now c.args.path.now c.args.edit (subst IsLayer c.layer.view_is c.layer.invariant.1) c.requires.layers c.requires.there.0 c.requires.there.1 c.requires.there.2 c.requires.short c.in-Some.number (sym c.own_number.ensures ∙ c.in-Some.is)
 
 pub returns-clause-ok : goal.returns-clause-ok
 returns-clause-ok c =
-    lower_edit c.args.layer.now c.args.lowers.now c.args.path.now c.args.edit c.show_is_layer.ensures.layer c.requires.layers c.requires.there.0 c.requires.there.1 c.requires.there.2 c.requires.short c.requires.way (sym c.own_number.ensures ∙ c.in_default.is) c.in-Some-File.mode c.in-Some-File.bytes.now (sym c.below.ensures ∙ search rules)
+    lower_edit c.args.layer.now c.args.lowers.now c.args.path.now c.args.edit (subst IsLayer c.layer.view_is c.layer.invariant.1) c.requires.layers c.requires.there.0 c.requires.there.1 c.requires.there.2 c.requires.short c.requires.way (sym c.own_number.ensures ∙ c.in_default.is) c.in-Some-File.mode c.in-Some-File.bytes.now (sym c.below.ensures ∙ search rules)

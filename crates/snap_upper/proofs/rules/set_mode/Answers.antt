@@ -4,6 +4,7 @@ use Rattle.snap_merge.specs.Objects.{AreLayers}
 use Rattle.snap_upper.specs.declared.op.Op.TheVariants as op
 use Rattle.snap_upper.proofs.Outcomes.{stack_passes}
 use Rattle.snap_upper.proofs.Modes.{settable, has_mode, own_mode_after, empty, lower_ready, lower_after}
+use Rattle.snap_layer.specs.Layers.{IsLayer}
 use Rattle.snap_upper.proofs.rules.set_mode.Goals as goal
 
 pub returns-then-is_some-clause-ok : goal.returns-then-is_some-clause-ok
@@ -11,7 +12,7 @@ returns-then-is_some-clause-ok c =
     let u = c.args.layer.now in
     let ls = c.args.lowers.now in
     let p = c.args.path.now in
-    let ok = c.show_is_layer.ensures.layer in
+    let ok = subst IsLayer c.layer.view_is c.layer.invariant.1 in
     let passes = stack_passes (op.SetMode p c.args.mode) _ (u ∷ ls) c.over.ensures c.in_ok-check_mode.ensures.error in
     let some : is_some (at u p) ≡ true = ap is_some (sym c.at.ensures) ∙ sym c.is_some.ensures ∙ c.if-is_some.true in
     let can = settable u ls p c.args.mode ok passes in
@@ -26,7 +27,7 @@ lower_with-requires-clause-nothing c =
     let u = c.args.layer.now in
     let ls = c.args.lowers.now in
     let p = c.args.path.now in
-    let ok = c.show_is_layer.ensures.layer in
+    let ok = subst IsLayer c.layer.view_is c.layer.invariant.1 in
     let passes = stack_passes (op.SetMode p c.args.mode) _ (u ∷ ls) c.over.ensures c.in_ok-check_mode.ensures.error in
     empty u ls p c.args.mode ok passes (ap is_some (sym c.at.ensures) ∙ sym c.is_some.ensures ∙ c.if-is_some.false)
 
@@ -35,7 +36,7 @@ lower_with-requires-clause-there c =
     let u = c.args.layer.now in
     let ls = c.args.lowers.now in
     let p = c.args.path.now in
-    let ok = c.show_is_layer.ensures.layer in
+    let ok = subst IsLayer c.layer.view_is c.layer.invariant.1 in
     (settable u ls p c.args.mode ok (stack_passes (op.SetMode p c.args.mode) _ (u ∷ ls) c.over.ensures c.in_ok-check_mode.ensures.error)).there
 
 pub returns-clause-ok : goal.returns-clause-ok
@@ -43,7 +44,7 @@ returns-clause-ok c =
     let u = c.args.layer.now in
     let ls = c.args.lowers.now in
     let p = c.args.path.now in
-    let ok = c.show_is_layer.ensures.layer in
+    let ok = subst IsLayer c.layer.view_is c.layer.invariant.1 in
     let passes = stack_passes (op.SetMode p c.args.mode) _ (u ∷ ls) c.over.ensures c.in_ok-check_mode.ensures.error in
     let none : is_some (at u p) ≡ false = ap is_some (sym c.at.ensures) ∙ sym c.is_some.ensures ∙ c.if-is_some.false in
     let layers = (subst AreLayers c.over.ensures c.in_ok-check_mode.ensures.layers).1 in

@@ -4,6 +4,7 @@ use Rattle.snap_copyup.proofs.Alone.{dir_seen}
 use Rattle.snap_upper.specs.declared.op.Op.TheVariants as op
 use Rattle.snap_upper.proofs.Outcomes.{stack_passes, after_passes}
 use Rattle.snap_upper.proofs.Erased.{IsErasable-name}
+use Rattle.snap_layer.specs.Layers.{IsLayer}
 use Rattle.snap_upper.proofs.rules.unlink.Goals as goal
 
 pub returns-clause-ok : goal.returns-clause-ok
@@ -11,7 +12,7 @@ returns-clause-ok c =
     let u = c.args.layer.now in
     let ls = c.args.lowers.now in
     let p = c.args.path.now in
-    let ok = c.show_is_layer.ensures.layer in
+    let ok = subst IsLayer c.layer.view_is c.layer.invariant.1 in
     let passes = stack_passes (op.Unlink p) _ (u ∷ ls) c.over.ensures c.in_ok-found.ensures.error in
     let layers = subst AreLayers c.over.ensures c.in_ok-found.ensures.layers in
     let erasable = IsErasable-name (u ∷ ls) p layers (dir_seen u ls [] ok.root) passes in

@@ -10,6 +10,7 @@ use Rattle.snap_copyup.specs.Copying.{below}
 use Rattle.snap_upper.specs.After.{limited}
 use Rattle.snap_upper.proofs.Outcomes.{limited_fits, layer_fits, edit_refused}
 use Rattle.snap_upper.proofs.Erased.{place_erased, takeable_erased, erased_covered, erased_bare}
+use Rattle.snap_layer.specs.Layers.{IsLayer}
 use Rattle.snap_upper.proofs.upper.erase.Goals as goal
 
 pub add_whiteout-requires : goal.add_whiteout-requires
@@ -17,7 +18,7 @@ add_whiteout-requires c =
     let u = c.args.layer.now in
     let p = c.args.path.now in
     let some : is_some (at u p) ≡ true = ap is_some (sym c.at.ensures) ∙ c.is_none.ensures ∙ ap not c.if-is_none.false in
-    place_erased u c.args.lowers.now p c.show_is_layer.ensures.layer some c.requires.below_root c.requires.clear
+    place_erased u c.args.lowers.now p (subst IsLayer c.layer.view_is c.layer.invariant.1) some c.requires.below_root c.requires.clear
 
 pub returns-in-Err-clause-error : goal.returns-in-Err-clause-error
 returns-in-Err-clause-error c =
@@ -26,7 +27,7 @@ returns-in-Err-clause-error c =
     let p = c.args.path.now in
     let some : is_some (at u p) ≡ true = ap is_some (sym c.at.ensures) ∙ c.is_none.ensures ∙ ap not c.if-is_none.false in
     let covers : is_some (below u ls p) ≡ true = sym c.requires.covers ∙ c.if-covers.true in
-    subst (λ (t : Tree). (c.from.result ≡ OutOfMemory no_memory) ⊎ (limited t ≡ Err c.from.result)) (sym (erased_covered u ls p c.show_is_layer.ensures.layer some covers))
+    subst (λ (t : Tree). (c.from.result ≡ OutOfMemory no_memory) ⊎ (limited t ≡ Err c.from.result)) (sym (erased_covered u ls p (subst IsLayer c.layer.view_is c.layer.invariant.1) some covers))
     (edit_refused c.in-Err.error c.from.result (with_node u p Whiteout) c.from.ensures (λ full. c.in-Err.ensures.full.0 (ap (λ (x : LayerError). Err x) full)))
 
 pub returns-then-covers-clause-ok : goal.returns-then-covers-clause-ok
@@ -37,14 +38,14 @@ returns-then-covers-clause-ok c =
     let some : is_some (at u p) ≡ true = ap is_some (sym c.at.ensures) ∙ c.is_none.ensures ∙ ap not c.if-is_none.false in
     let covers : is_some (below u ls p) ≡ true = sym c.requires.covers ∙ c.if-covers.true in
     let next = c.add_whiteout.new.self in
-    ap limited (erased_covered u ls p c.show_is_layer.ensures.layer some covers ∙ sym c.in_default.ensures.ok) ∙ limited_fits next (layer_fits next c.show_is_layer-then-covers.ensures.layer)
+    ap limited (erased_covered u ls p (subst IsLayer c.layer.view_is c.layer.invariant.1) some covers ∙ sym c.in_default.ensures.ok) ∙ limited_fits next (layer_fits next (subst IsLayer c.layer-then-covers.view_is c.layer-then-covers.invariant.1))
 
 pub take_name-requires : goal.take_name-requires
 take_name-requires c =
     let u = c.args.layer.now in
     let p = c.args.path.now in
     let some : is_some (at u p) ≡ true = ap is_some (sym c.at.ensures) ∙ c.is_none.ensures ∙ ap not c.if-is_none.false in
-    takeable_erased u c.args.lowers.now p c.show_is_layer.ensures.layer some c.requires.below_root c.requires.clear
+    takeable_erased u c.args.lowers.now p (subst IsLayer c.layer.view_is c.layer.invariant.1) some c.requires.below_root c.requires.clear
 
 pub returns-clause-ok : goal.returns-clause-ok
 returns-clause-ok c =
@@ -54,4 +55,4 @@ returns-clause-ok c =
     let some : is_some (at u p) ≡ true = ap is_some (sym c.at.ensures) ∙ c.is_none.ensures ∙ ap not c.if-is_none.false in
     let bare : is_some (below u ls p) ≡ false = sym c.requires.covers ∙ c.if-covers.false in
     let next = c.take_name.new.self in
-    ap limited (erased_bare u ls p c.show_is_layer.ensures.layer some bare ∙ sym c.take_name.ensures) ∙ limited_fits next (layer_fits next c.show_is_layer-2.ensures.layer)
+    ap limited (erased_bare u ls p (subst IsLayer c.layer.view_is c.layer.invariant.1) some bare ∙ sym c.take_name.ensures) ∙ limited_fits next (layer_fits next (subst IsLayer c.layer-2.view_is c.layer-2.invariant.1))

@@ -12,6 +12,7 @@ use Rattle.snap_copyup.proofs.Wholes.{vacant}
 use Rattle.snap_upper.specs.After.{planned, limited}
 use Rattle.snap_upper.proofs.Erased.{none_from, erased_lower, erased_own}
 use Rattle.snap_upper.proofs.Freed.{erasing_next}
+use Rattle.snap_layer.specs.Layers.{IsLayer}
 use Rattle.snap_upper.proofs.usage.plan_erasing.Goals as goal
 
 byte_of : (b : Bool) → bool_byte b ≡ (if b then 1 else 0)
@@ -29,14 +30,14 @@ returns-then-is_none c =
     let p = c.args.path.now in
     let none = none_from (at u p) (ap is_some (sym c.at.ensures) ∙ c.is_none.ensures ∙ ap not c.if-is_none.true) in
     λ ls layers way there covers.
-    c.plan_growth.ensures last.Whiteout ls (refl, refl) layers way (vacant u p c.show_is_layer.ensures.layer none)
+    c.plan_growth.ensures last.Whiteout ls (refl, refl) layers way (vacant u p (subst IsLayer c.layer.view_is c.layer.invariant.1) none)
     ∙ ap (λ (t : Tree). planned (limited t)) (sym (erased_lower u ls p none there))
 
 pub returns : goal.returns
 returns c =
     let u = c.args.layer.now in
     let p = c.args.path.now in
-    let ok = c.show_is_layer.ensures.layer in
+    let ok = subst IsLayer c.layer.view_is c.layer.invariant.1 in
     let covers = c.args.covers in
     let some : is_some (at u p) ≡ true = ap is_some (sym c.at.ensures) ∙ c.is_none.ensures ∙ ap not c.if-is_none.false in
     let place : HasPlace u p = record {

@@ -1,4 +1,4 @@
-use Rattle.std.proofs.Common.{◌≡◌, ◌+◌, ◌-◌, [], Option, Some, length, sym, ap, ◌∙◌, arith}
+use Rattle.std.proofs.Common.{◌≡◌, ◌+◌, ◌-◌, [], Option, Some, length, sym, ap, ◌∙◌, arith, subst}
 use Rattle.snap_layer.specs.Counts.{blocks_of}
 use Rattle.snap_layer.specs.declared.node.Body.{Body}
 use Rattle.snap_layer.specs.declared.node.Body.TheVariants as body_kinds
@@ -8,11 +8,12 @@ use Rattle.snap_upper.specs.After.{limited, with_content, body_bytes}
 use Rattle.snap_upper.specs.Changes.{edited}
 use Rattle.snap_upper.proofs.Outcomes.{planned_fits}
 use Rattle.snap_upper.proofs.Writing.{rewrites, few_blocks}
+use Rattle.snap_layer.specs.Layers.{IsLayer}
 use Rattle.snap_upper.proofs.usage.plan_filling.Goals as goal
 
 pub overflow_sub-after : goal.overflow_sub-after
 overflow_sub-after c =
-    let ok = c.show_is_layer.ensures.layer in
+    let ok = subst IsLayer c.layer.view_is c.layer.invariant.1 in
     let t = c.requires.there in
     let size = c.file_size-size.ensures t.0 t.1 t.2 in
     let before = (rewrites c.args.layer.now c.args.number t.0 t.1 (edited c.args.edit t.1) ok t.2 t.4).blocks in
@@ -23,13 +24,13 @@ pub overflow_add-after : goal.overflow_add-after
 overflow_add-after c =
     let t = c.requires.there in
     let size = c.file_size-size.ensures t.0 t.1 t.2 in
-    omega (arith, c.blocks_of-new.ensures, c.size.ensures t.1 (sym size), t.4, ap (λ (n : Usage). n.blocks) c.count-now.ensures.bodies, few_blocks c.args.layer.now c.show_is_layer.ensures.layer)
+    omega (arith, c.blocks_of-new.ensures, c.size.ensures t.1 (sym size), t.4, ap (λ (n : Usage). n.blocks) c.count-now.ensures.bodies, few_blocks c.args.layer.now (subst IsLayer c.layer.view_is c.layer.invariant.1))
 
 pub returns : goal.returns
 returns c =
     let u = c.args.layer.now in
     let k = c.args.number in
-    let ok = c.show_is_layer.ensures.layer in
+    let ok = subst IsLayer c.layer.view_is c.layer.invariant.1 in
     let t = c.requires.there in
     let size = c.file_size-size.ensures t.0 t.1 t.2 in
     let new = edited c.args.edit t.1 in

@@ -1,4 +1,4 @@
-use Rattle.std.proofs.Common.{◌≡◌, ap, sym, ◌∙◌}
+use Rattle.std.proofs.Common.{◌≡◌, ap, sym, ◌∙◌, subst}
 use Rattle.std.specs.Prelude.{is_some, not}
 use Rattle.snap_layer.specs.Tree.{at}
 use Rattle.snap_upper.specs.declared.op.Op.TheVariants as op
@@ -6,10 +6,11 @@ use Rattle.snap_upper.specs.After.{next_layer}
 use Rattle.snap_upper.proofs.Erased.{none_from}
 use Rattle.snap_upper.proofs.Named.{linkable, linked_next}
 use Rattle.snap_upper.proofs.PreparedCounts.{prepared_next}
+use Rattle.snap_layer.specs.Layers.{IsLayer}
 use Rattle.snap_upper.proofs.usage.plan_link.Goals as goal
 
 pub count_placed-after-requires-clause-placeable : goal.count_placed-after-requires-clause-placeable
-count_placed-after-requires-clause-placeable c = linkable c.args.layer.now c.args.lowers.now c.args.from.now c.args.to.now c.show_is_layer.ensures.layer c.requires.layers c.requires.passes
+count_placed-after-requires-clause-placeable c = linkable c.args.layer.now c.args.lowers.now c.args.from.now c.args.to.now (subst IsLayer c.layer.view_is c.layer.invariant.1) c.requires.layers c.requires.passes
 
 pub returns : goal.returns
 returns c =
@@ -17,7 +18,7 @@ returns c =
     let ls = c.args.lowers.now in
     let from = c.args.from.now in
     let to = c.args.to.now in
-    let ok = c.show_is_layer.ensures.layer in
+    let ok = subst IsLayer c.layer.view_is c.layer.invariant.1 in
     let lower = c.is_none.result in
     let passes = c.requires.passes in
     let layers = c.requires.layers in

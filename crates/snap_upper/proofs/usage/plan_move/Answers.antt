@@ -1,4 +1,4 @@
-use Rattle.std.proofs.Common.{◌≡◌, ◌+◌, Bool, true, false, ℕ, refl, ap, sym, ◌∙◌, arith}
+use Rattle.std.proofs.Common.{◌≡◌, ◌+◌, Bool, true, false, ℕ, refl, ap, sym, ◌∙◌, arith, subst}
 use mir.Val.{bool_byte}
 use Rattle.std.specs.Prelude.{is_some, not, if◌then◌else◌}
 use Rattle.snap_layer.specs.Tree.{at}
@@ -11,6 +11,7 @@ use Rattle.snap_upper.proofs.Erased.{none_from}
 use Rattle.snap_upper.proofs.Movable.{renamable}
 use Rattle.snap_upper.proofs.MoveCounts.{placeable, renamed_next}
 use Rattle.snap_upper.proofs.PreparedCounts.{prepared_next}
+use Rattle.snap_layer.specs.Layers.{IsLayer}
 use Rattle.snap_upper.proofs.usage.plan_move.Goals as goal
 
 byte_of : (b : Bool) → bool_byte b ≡ (if b then 1 else 0)
@@ -23,7 +24,7 @@ count_placed-left-requires c =
     let ls = c.args.lowers.now in
     let from = c.args.from.now in
     let to = c.args.to.now in
-    record { layers = c.requires.layers; placeable = placeable u ls from to c.show_is_layer.ensures.layer c.requires.layers (renamable u ls from to c.requires.passes c.requires.moves) }
+    record { layers = c.requires.layers; placeable = placeable u ls from to (subst IsLayer c.layer.view_is c.layer.invariant.1) c.requires.layers (renamable u ls from to c.requires.passes c.requires.moves) }
 
 pub returns : goal.returns
 returns c =
@@ -31,7 +32,7 @@ returns c =
     let ls = c.args.lowers.now in
     let from = c.args.from.now in
     let to = c.args.to.now in
-    let ok = c.show_is_layer.ensures.layer in
+    let ok = subst IsLayer c.layer.view_is c.layer.invariant.1 in
     let lower = c.is_none.result in
     let is = renamable u ls from to c.requires.passes c.requires.moves in
     let leaves : is_some (below u ls from) ≡ c.args.leaves = sym c.requires.leaves in

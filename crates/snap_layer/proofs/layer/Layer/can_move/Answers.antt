@@ -1,8 +1,9 @@
-use Rattle.std.proofs.Common.{◌≡◌, false, sym, ap, ◌∙◌}
+use Rattle.std.proofs.Common.{◌≡◌, false, sym, ap, ◌∙◌, subst}
 use Rattle.std.specs.Prelude.{is_some}
 use Rattle.snap_path.specs.Text.{begins}
 use Rattle.snap_layer.proofs.Moves.{not_root}
 use Rattle.snap_layer.proofs.Testing.{moved_names}
+use Rattle.snap_layer.specs.Layers.{IsLayer}
 use Rattle.snap_layer.proofs.layer.Layer.can_move.Goals as goal
 
 pub has_short_paths-requires-clause-from : goal.has_short_paths-requires-clause-from
@@ -20,7 +21,7 @@ returns c =
     let place = c.has_place.ensures.0 c.if-not-has_place.false in
     let not_inside : begins from to ≡ false = sym c.begins.ensures.value ∙ c.if-begins.false in
     let not_around : begins to from ≡ false = sym c.begins-else-begins.ensures.value ∙ c.if-begins-2.false in
-    let ok = c.show_is_layer.ensures.layer in (
+    let ok = subst IsLayer c.self.view_is c.self.invariant.1 in (
       (λ t. record {
         there = ap is_some (sym c.at.ensures) ∙ c.if-is_none.ensures;
         place = place;

@@ -1,43 +1,44 @@
-use Rattle.std.proofs.Common.{arith}
+use Rattle.std.proofs.Common.{arith, subst}
 use Rattle.snap_layer.proofs.Totaling.{left_is, fewer_inodes}
+use Rattle.snap_layer.specs.Layers.{IsLayer}
 use Rattle.snap_layer.proofs.layer.Layer.left.Goals as goal
 
 pub overflow_sub-result : goal.overflow_sub-result
 overflow_sub-result c =
-    let is = left_is c.args.self.now c.self.inside.table c.self.view_is c.args.path.now c.names.result.now c.names.ensures.names c.self.inside.totals c.self.invariant c.tally_inside-dirs.result.0 c.tally_inside-dirs.result.1 c.last_body-files.result.0 c.last_body-files.result.1 c.tally_inside-dirs.ensures.dirs c.tally_inside-dirs.ensures.whiteouts c.last_body-files.ensures.inodes c.last_body-files.ensures.blocks in
+    let is = left_is c.args.self.now c.self.inside.table c.self.view_is c.args.path.now c.names.result.now c.names.ensures.names c.self.inside.totals c.self.invariant.0 c.tally_inside-dirs.result.0 c.tally_inside-dirs.result.1 c.last_body-files.result.0 c.last_body-files.result.1 c.tally_inside-dirs.ensures.dirs c.tally_inside-dirs.ensures.whiteouts c.last_body-files.ensures.inodes c.last_body-files.ensures.blocks in
     omega (arith, is.inodes_are)
 
 pub overflow_sub-result-2 : goal.overflow_sub-result-2
 overflow_sub-result-2 c =
-    let is = left_is c.args.self.now c.self.inside.table c.self.view_is c.args.path.now c.names.result.now c.names.ensures.names c.self.inside.totals c.self.invariant c.tally_inside-dirs.result.0 c.tally_inside-dirs.result.1 c.last_body-files.result.0 c.last_body-files.result.1 c.tally_inside-dirs.ensures.dirs c.tally_inside-dirs.ensures.whiteouts c.last_body-files.ensures.inodes c.last_body-files.ensures.blocks in
+    let is = left_is c.args.self.now c.self.inside.table c.self.view_is c.args.path.now c.names.result.now c.names.ensures.names c.self.inside.totals c.self.invariant.0 c.tally_inside-dirs.result.0 c.tally_inside-dirs.result.1 c.last_body-files.result.0 c.last_body-files.result.1 c.tally_inside-dirs.ensures.dirs c.tally_inside-dirs.ensures.whiteouts c.last_body-files.ensures.inodes c.last_body-files.ensures.blocks in
     omega (arith, is.inodes_are)
 
 pub overflow_sub-result-3 : goal.overflow_sub-result-3
 overflow_sub-result-3 c =
-    let is = left_is c.args.self.now c.self.inside.table c.self.view_is c.args.path.now c.names.result.now c.names.ensures.names c.self.inside.totals c.self.invariant c.tally_inside-dirs.result.0 c.tally_inside-dirs.result.1 c.last_body-files.result.0 c.last_body-files.result.1 c.tally_inside-dirs.ensures.dirs c.tally_inside-dirs.ensures.whiteouts c.last_body-files.ensures.inodes c.last_body-files.ensures.blocks in
+    let is = left_is c.args.self.now c.self.inside.table c.self.view_is c.args.path.now c.names.result.now c.names.ensures.names c.self.inside.totals c.self.invariant.0 c.tally_inside-dirs.result.0 c.tally_inside-dirs.result.1 c.last_body-files.result.0 c.last_body-files.result.1 c.tally_inside-dirs.ensures.dirs c.tally_inside-dirs.ensures.whiteouts c.last_body-files.ensures.inodes c.last_body-files.ensures.blocks in
     omega (arith, is.inodes_are)
 
 pub overflow_sub-result-4 : goal.overflow_sub-result-4
 overflow_sub-result-4 c =
-    let is = left_is c.args.self.now c.self.inside.table c.self.view_is c.args.path.now c.names.result.now c.names.ensures.names c.self.inside.totals c.self.invariant c.tally_inside-dirs.result.0 c.tally_inside-dirs.result.1 c.last_body-files.result.0 c.last_body-files.result.1 c.tally_inside-dirs.ensures.dirs c.tally_inside-dirs.ensures.whiteouts c.last_body-files.ensures.inodes c.last_body-files.ensures.blocks in
+    let is = left_is c.args.self.now c.self.inside.table c.self.view_is c.args.path.now c.names.result.now c.names.ensures.names c.self.inside.totals c.self.invariant.0 c.tally_inside-dirs.result.0 c.tally_inside-dirs.result.1 c.last_body-files.result.0 c.last_body-files.result.1 c.tally_inside-dirs.ensures.dirs c.tally_inside-dirs.ensures.whiteouts c.last_body-files.ensures.inodes c.last_body-files.ensures.blocks in
     omega (arith, is.blocks_are)
 
 pub overflow_sub-result-5 : goal.overflow_sub-result-5
 overflow_sub-result-5 c =
-    let is = left_is c.args.self.now c.self.inside.table c.self.view_is c.args.path.now c.names.result.now c.names.ensures.names c.self.inside.totals c.self.invariant c.tally_inside-dirs.result.0 c.tally_inside-dirs.result.1 c.last_body-files.result.0 c.last_body-files.result.1 c.tally_inside-dirs.ensures.dirs c.tally_inside-dirs.ensures.whiteouts c.last_body-files.ensures.inodes c.last_body-files.ensures.blocks in
+    let is = left_is c.args.self.now c.self.inside.table c.self.view_is c.args.path.now c.names.result.now c.names.ensures.names c.self.inside.totals c.self.invariant.0 c.tally_inside-dirs.result.0 c.tally_inside-dirs.result.1 c.last_body-files.result.0 c.last_body-files.result.1 c.tally_inside-dirs.ensures.dirs c.tally_inside-dirs.ensures.whiteouts c.last_body-files.ensures.inodes c.last_body-files.ensures.blocks in
     omega (arith, is.blocks_are)
 
 pub returns-clause-inodes : goal.returns-clause-inodes
 returns-clause-inodes c =
-    let is = left_is c.args.self.now c.self.inside.table c.self.view_is c.args.path.now c.names.result.now c.names.ensures.names c.self.inside.totals c.self.invariant c.tally_inside-dirs.result.0 c.tally_inside-dirs.result.1 c.last_body-files.result.0 c.last_body-files.result.1 c.tally_inside-dirs.ensures.dirs c.tally_inside-dirs.ensures.whiteouts c.last_body-files.ensures.inodes c.last_body-files.ensures.blocks in
+    let is = left_is c.args.self.now c.self.inside.table c.self.view_is c.args.path.now c.names.result.now c.names.ensures.names c.self.inside.totals c.self.invariant.0 c.tally_inside-dirs.result.0 c.tally_inside-dirs.result.1 c.last_body-files.result.0 c.last_body-files.result.1 c.tally_inside-dirs.ensures.dirs c.tally_inside-dirs.ensures.whiteouts c.last_body-files.ensures.inodes c.last_body-files.ensures.blocks in
     omega (arith, is.inodes_are)
 
 pub returns-clause-blocks : goal.returns-clause-blocks
 returns-clause-blocks c =
-    let is = left_is c.args.self.now c.self.inside.table c.self.view_is c.args.path.now c.names.result.now c.names.ensures.names c.self.inside.totals c.self.invariant c.tally_inside-dirs.result.0 c.tally_inside-dirs.result.1 c.last_body-files.result.0 c.last_body-files.result.1 c.tally_inside-dirs.ensures.dirs c.tally_inside-dirs.ensures.whiteouts c.last_body-files.ensures.inodes c.last_body-files.ensures.blocks in
+    let is = left_is c.args.self.now c.self.inside.table c.self.view_is c.args.path.now c.names.result.now c.names.ensures.names c.self.inside.totals c.self.invariant.0 c.tally_inside-dirs.result.0 c.tally_inside-dirs.result.1 c.last_body-files.result.0 c.last_body-files.result.1 c.tally_inside-dirs.ensures.dirs c.tally_inside-dirs.ensures.whiteouts c.last_body-files.ensures.inodes c.last_body-files.ensures.blocks in
     omega (arith, is.blocks_are)
 
 pub returns-clause-few : goal.returns-clause-few
 returns-clause-few c =
-    let is = left_is c.args.self.now c.self.inside.table c.self.view_is c.args.path.now c.names.result.now c.names.ensures.names c.self.inside.totals c.self.invariant c.tally_inside-dirs.result.0 c.tally_inside-dirs.result.1 c.last_body-files.result.0 c.last_body-files.result.1 c.tally_inside-dirs.ensures.dirs c.tally_inside-dirs.ensures.whiteouts c.last_body-files.ensures.inodes c.last_body-files.ensures.blocks in
-    omega (arith, is.inodes_are, fewer_inodes c.args.self.now c.show_is_layer.ensures.layer c.args.path.now)
+    let is = left_is c.args.self.now c.self.inside.table c.self.view_is c.args.path.now c.names.result.now c.names.ensures.names c.self.inside.totals c.self.invariant.0 c.tally_inside-dirs.result.0 c.tally_inside-dirs.result.1 c.last_body-files.result.0 c.last_body-files.result.1 c.tally_inside-dirs.ensures.dirs c.tally_inside-dirs.ensures.whiteouts c.last_body-files.ensures.inodes c.last_body-files.ensures.blocks in
+    omega (arith, is.inodes_are, fewer_inodes c.args.self.now (subst IsLayer c.self.view_is c.self.invariant.1) c.args.path.now)

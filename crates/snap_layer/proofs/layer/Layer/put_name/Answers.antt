@@ -2,7 +2,7 @@ use Rattle.std.proofs.Common.{◌≡◌, sym, ap, subst, ◌∙◌, arith, Some,
 use Rattle.snap_layer.specs.Tree.{body, leaf_node, at, number_at}
 use Rattle.snap_layer.specs.Layers.{IsLayer}
 use Rattle.snap_layer.specs.Edits.{with_node, with_name, name_of, HasPlace}
-use Rattle.snap_layer.specs.Totals.{Counts}
+use Rattle.snap_layer.specs.Totals.{IsCounted}
 use Rattle.snap_layer.proofs.Totaling.{names_few, counts_node}
 use Rattle.snap_layer.proofs.Changing.{body_some}
 use Rattle.snap_layer.proofs.Totaling.{name_becomes, name_no_dir, fewer_inodes}
@@ -11,7 +11,7 @@ use Rattle.snap_layer.proofs.layer.Layer.put_name.Goals as goal
 
 pub put_name-requires-clause-few : goal.put_name-requires-clause-few
 put_name-requires-clause-few c =
-    omega (arith, names_few c.args.number c.self.inside.table.entries, c.self.invariant.paths, c.self.ranges)
+    omega (arith, names_few c.args.number c.self.inside.table.entries, c.self.invariant.0.paths, c.self.ranges)
 
 pub put_name-requires-clause-layer : goal.put_name-requires-clause-layer
 put_name-requires-clause-layer c =
@@ -24,7 +24,7 @@ invariant_of-self-2 c =
     let there = body_some c.args.self.now c.args.number c.requires.there in
     let b = name_becomes c.args.self.now ok c.args.path.now c.names.ensures.valid c.requires.place c.args.number there.0 c.requires.apart there.1 in
     let is : c.put_name.new.self ≡ with_node c.args.self.now c.args.path.now (leaf_node c.args.number there.0) = c.in_ok-put_name.ensures.ok there.0 (ap (λ u. body u c.args.number) c.self.view_is ∙ there.1) ∙ ap (λ u. with_node u c.args.path.now (leaf_node c.args.number there.0)) c.self.view_is in
-    subst (Counts _) (sym is) (counts_node c.args.self.now ok c.args.path.now _ c.in_ok-paths.ensures.paths (leaf_node c.args.number there.0) (c.requires.count ∙ b.count) (omega (arith, c.requires.blocks, name_no_dir c.args.number there.0)))
+    subst (IsCounted _) (sym is) (counts_node c.args.self.now ok c.args.path.now _ c.in_ok-paths.ensures.paths (leaf_node c.args.number there.0) (c.requires.count ∙ b.count) (omega (arith, c.requires.blocks, name_no_dir c.args.number there.0)), b.layer (fewer_inodes c.args.self.now ok c.args.path.now))
 
 pub returns-clause-ok : goal.returns-clause-ok
 returns-clause-ok c =
@@ -42,7 +42,7 @@ pub put_name-requires-clause-apart : goal.put_name-requires-clause-apart
 put_name-requires-clause-apart c = subst (λ u. number_at u c.args.path.now ≡ Some c.args.number → ⊥) (sym c.self.view_is) c.requires.apart
 
 pub invariant_of-self : goal.invariant_of-self
-invariant_of-self c = subst (Counts c.self.inside.totals) (sym c.in_err-put_name.ensures.err) c.self.invariant
+invariant_of-self c = subst (IsCounted c.self.inside.totals) (sym c.in_err-put_name.ensures.err) c.self.invariant
 
 pub returns-in_err-put_name-clause-sure : goal.returns-in_err-put_name-clause-sure
 returns-in_err-put_name-clause-sure c = on_err_by c.from_residual-in_err-put_name.result (ap (λ u. at u c.args.path.now) (sym c.self.view_is) ∙ c.in_err-put_name.ensures.sure)

@@ -1,4 +1,4 @@
-use Rattle.std.proofs.Common.{Some, sym, ap, ◌∙◌}
+use Rattle.std.proofs.Common.{Some, sym, ap, ◌∙◌, subst}
 use Rattle.snap_layer.specs.declared.node.Node.{Node}
 use Rattle.snap_layer.specs.Layers.{IsLayer}
 use Rattle.snap_layer.proofs.Setting.{dir_mode}
@@ -6,5 +6,5 @@ use Rattle.snap_layer.proofs.layer.Layer.set_opaque.Goals as goal
 
 pub set_dir-requires-clause-mode : goal.set_dir-requires-clause-mode
 set_dir-requires-clause-mode c =
-    let ok : IsLayer c.args.self.now = c.show_is_layer.ensures.layer in
+    let ok : IsLayer c.args.self.now = subst IsLayer c.self.view_is c.self.invariant.1 in
     dir_mode c.args.self.now ok c.args.path.now c.in-Some-Dir.mode c.in-Some-Dir.field-0-1 (sym c.at.ensures ∙ c.in-Some-Dir.is ∙ ap (λ (n : Node). Some n) c.in-Some-Dir.field-0-is)
