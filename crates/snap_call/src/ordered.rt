@@ -11,7 +11,6 @@ use std::marker::Model;
 mod boxed_record;
 mod group;
 mod groups;
-mod keyed;
 mod space;
 
 use space::Space;

@@ -1,6 +1,6 @@
 // A record in memory of its own.
-ghost use Rattle.std.specs.Prelude.{◌≡◌, IfOk, IfErr, bytes_eq};
-ghost use Rattle.snap_call.specs.Spaces.{edited, is_after};
+ghost use Rattle.std.specs.Prelude.{◌≡◌, IfOk, IfErr};
+ghost use Rattle.snap_call.specs.Spaces.{edited};
 
 use crate::record_edit::RecordEdit;
 use snap_path::NoMemory;
@@ -44,19 +44,6 @@ impl BoxedRecord {
         ensures { result.now ≡ self.now }
     {
         &self.boxed
-    }
-
-    pub(super) fn has_key(&self, key: &str) -> bool
-        ensures { result ≡ bytes_eq self.now.key key.now }
-    {
-        self.boxed.key.as_str() == key
-    }
-
-    /// Whether its key comes after the text.
-    pub(super) fn is_after(&self, text: &str) -> bool
-        ensures { result ≡ is_after text.now self.now }
-    {
-        text < self.boxed.key.as_str()
     }
 
     /// The record, without the memory.

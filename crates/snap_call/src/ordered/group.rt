@@ -1,36 +1,40 @@
 // Records of one namespace whose keys begin alike.
 ghost use Rattle.std.specs.Prelude.{◌≡◌, ℕ, [], ◌∷◌, ◌++◌, length, false, map, option_copied, OnOk, OnErr, IfErr, IfOk, IsTrue, ◌↔◌};
+ghost use Rattle.std.specs.Map.{values_of};
 ghost use Rattle.snap_call.specs.Records.{record_at, has_key, with_record, without_key};
-ghost use Rattle.snap_call.specs.Spaces.{IsOf, page_after, edited_at};
+ghost use Rattle.snap_call.specs.Spaces.{IsOf, IsKeyed, page_after, edited_at};
 
 use super::boxed_record::BoxedRecord;
-use super::keyed::Keyed;
 use crate::record_edit::RecordEdit;
 use snap_path::NoMemory;
 use snap_record::{Filter, Info, Record, Sequence};
 use std::alloc::{AllocError, Global};
+use std::collections::BTreeMap;
 use std::marker::Model;
+use std::ops::Bound;
 
 /// Records of one namespace whose keys begin alike, most often one. Contracts see the list, in the
 /// order of the keys.
 ///
-/// A record that is alone stands beside the map, which then takes no memory.
+/// A record that is alone stands beside the map of several by their keys, which then takes no memory.
 #[derive(Drop)]
 pub(super) struct Group {
     alone: Option<BoxedRecord>,
-    others: Keyed,
+    others: BTreeMap<String, BoxedRecord>,
 }
 
 impl Model for Group {
     ghost use Rattle.std.specs.Prelude.{List, ◌++◌, ◌≡◌, [], IsSome};
+    ghost use Rattle.std.specs.Map.{values_of};
     ghost use Rattle.std.specs.Option.{option_to_list};
     ghost use Rattle.snap_record.specs.declared.record.Record.{Record};
+    ghost use Rattle.snap_call.specs.Spaces.{IsKeyed};
 
     ghost Value = { List Record };
 
-    ghost view = { λ g. option_to_list g.alone ++ g.others };
+    ghost view = { λ g. option_to_list g.alone ++ values_of g.others.entries };
 
-    ghost invariant = { λ g. IsSome g.alone → g.others ≡ [] };
+    ghost invariant = { λ g. (IsSome g.alone → values_of g.others.entries ≡ []) × IsKeyed g.others.entries };
 }
 
 impl Group {
@@ -40,7 +44,7 @@ impl Group {
     {
         Group {
             alone: Some(alone),
-            others: Keyed::new(alloc),
+            others: BTreeMap::new(alloc),
         }
     }
 
@@ -49,10 +53,10 @@ impl Group {
         requires { length self ≡ 1 }
         ensures { self ≡ result ∷ [] }
     {
-        let Group { alone, others } = self;
+        let Group { alone, mut others } = self;
         match alone {
             Some(alone) => alone,
-            None => others.into_only(),
+            None => others.pop_first().unwrap().1,
         }
     }
 
@@ -68,9 +72,12 @@ impl Group {
         ensures { (place : ℕ) → IsOf place self.now → option_copied result ≡ record_at place key.now self.now }
     {
         let Some(alone) = &self.alone else {
-            return self.others.get(key);
+            return match self.others.get(key) {
+                Some(boxed) => Some(boxed.record()),
+                None => None,
+            };
         };
-        if alone.has_key(key) {
+        if alone.record().key.as_str() == key {
             Some(alone.record())
         } else {
             None
@@ -91,12 +98,12 @@ impl Group {
         ensures value_returned { IfErr result (λ back. back.1 ≡ added) }
     {
         if let Some(alone) = self.alone.take() {
-            if let Err((no_memory, alone)) = self.others.insert(alloc, alone) {
+            if let Err((no_memory, alone)) = put(&mut self.others, alloc, alone) {
                 self.alone = Some(alone);
                 return Err((no_memory, added));
             }
         }
-        self.others.insert(alloc, added)
+        put(&mut self.others, alloc, added)
     }
 
     /// Takes the record of this key away. Where there is none, the records are as they were. Takes
@@ -108,7 +115,7 @@ impl Group {
         let Some(alone) = &self.alone else {
             return self.others.remove(key);
         };
-        if alone.has_key(key) {
+        if alone.record().key.as_str() == key {
             self.alone.take()
         } else {
             None
@@ -120,16 +127,19 @@ impl Group {
         ensures { (place : ℕ) → IsOf place self.old → self.new ≡ edited_at place key.now edit self.old }
     {
         let Some(alone) = &mut self.alone else {
-            self.others.edit(key, edit);
+            let Some(boxed) = self.others.get_mut(key) else {
+                return;
+            };
+            boxed.edit(edit);
             return;
         };
-        if alone.has_key(key) {
+        if alone.record().key.as_str() == key {
             alone.edit(edit);
         }
     }
 
     /// The infos with those of the records whose keys come after the text and that have every part of
-    /// the filter, until there are so many.
+    /// the filter, until there are so many. It begins by a search for the text.
     pub(super) fn page(
         &self,
         alloc: Global,
@@ -140,12 +150,27 @@ impl Group {
     ) -> Result<Sequence<Info>, AllocError>
         ensures { IfOk result (λ infos. infos ≡ page_after after.now most asked.now before self.now) }
     {
-        let Some(alone) = &self.alone else {
-            return self.others.page(alloc, before, after, most, asked);
-        };
         let mut infos = before;
-        if infos.len() < most && alone.is_after(after) && alone.record().matches(asked) {
-            infos.push(alone.record().info()?)?;
+        if let Some(alone) = &self.alone {
+            if infos.len() < most
+                && after < alone.record().key.as_str()
+                && alone.record().matches(asked)
+            {
+                infos.push(alone.record().info()?)?;
+            }
+            return Ok(infos);
+        }
+        let start = String::from_str(alloc, after)?;
+        for (_, boxed) in self
+            .others
+            .range((Bound::Excluded(start), Bound::Unbounded))
+        {
+            if infos.len() >= most {
+                return Ok(infos);
+            }
+            if boxed.record().matches(asked) {
+                infos.push(boxed.record().info()?)?;
+            }
         }
         Ok(infos)
     }
@@ -161,6 +186,37 @@ impl Group {
         if let Some(alone) = &self.alone {
             list.push(alone.record())?;
         }
-        self.others.listed(list)
+        for boxed in self.others.values() {
+            list.push(boxed.record())?;
+        }
+        Ok(list)
+    }
+}
+
+/// Puts a record into a map of records of one namespace by their keys. Where memory is wanting, the
+/// map is as it was and the error gives the record back.
+fn put(
+    map: &mut BTreeMap<String, BoxedRecord>,
+    alloc: Global,
+    added: BoxedRecord,
+) -> Result<(), (NoMemory, BoxedRecord)>
+    requires keyed { IsKeyed map.old.entries }
+    requires of { IsOf added.namespace (values_of map.old.entries) }
+    requires absent { has_key added.namespace added.key (values_of map.old.entries) ≡ false }
+    ensures keyed { IsKeyed map.new.entries }
+    ensures ok { OnOk result (values_of map.new.entries ≡ with_record added (values_of map.old.entries)) }
+    ensures err { OnErr result (values_of map.new.entries ≡ values_of map.old.entries) }
+    ensures value_returned { IfErr result (λ back. back.1 ≡ added) }
+{
+    let key = match String::from_str(alloc, added.record().key.as_str()) {
+        Ok(key) => key,
+        Err(refused) => return Err((refused.into(), added)),
+    };
+    match map.insert(key, added) {
+        Ok(_) => Ok(()),
+        Err(failed) => {
+            let (no_memory, (_, value)) = NoMemory::with_value(failed);
+            Err((no_memory, value))
+        }
     }
 }
