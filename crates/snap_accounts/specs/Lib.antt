@@ -5,3 +5,4 @@ pub mod Charged
 pub mod Vacant
 pub mod Entries
 pub mod Changes
+pub mod Commits

@@ -1,15 +1,15 @@
 // A commit of an open snapshot.
-ghost use Rattle.std.specs.Prelude.{◌≡◌, ◌<◌, ◌+◌, ◌^◌, ◌&&◌, length, true, false, OnOk, OnErr, IfOk, IfErr};
+ghost use Rattle.std.specs.Prelude.{◌≡◌, ◌<◌, ◌+◌, ◌^◌, ◌&&◌, length, true, OnOk, OnErr, IfOk, IfErr};
 ghost use Rattle.std.specs.Option.{option_map_or};
 ghost use Rattle.snap_layer.specs.Tree.{Tree};
 ghost use Rattle.snap_usage.specs.Counted.{Covers, count_of};
 ghost use Rattle.snap_ledger.specs.States.{minus, plus};
 ghost use Rattle.snap_call.specs.Forms.{is_key};
-ghost use Rattle.snap_call.specs.Records.{charge_of, charge_at, active_at, has_key, open_count};
-ghost use Rattle.snap_call.specs.Step.{commit_as, has_named, refused, IsCovered};
+ghost use Rattle.snap_call.specs.Records.{charge_of, charge_at, active_at, open_count};
+ghost use Rattle.snap_call.specs.Step.{commit_as, refused, IsCovered};
 ghost use Rattle.snap_call.specs.declared.reply.Reply.TheVariants.{Committed};
+ghost use Rattle.snap_accounts.specs.Commits.{CanCommit};
 ghost use Rattle.snap_accounts.specs.Entries.{IsRecorded};
-ghost use Rattle.snap_accounts.specs.Totals.{place_if};
 
 use crate::accounts::Accounts;
 use crate::charge::sum;
@@ -45,9 +45,7 @@ impl<N: StoreName> Accounts<N> {
     /// the number of records, and with the leases.
     pub fn check_commit(&self, slot: u64, name: &str, lease: &Option<Text>) -> Result<(), Refusal>
         requires { (charge_at slot self.now.records).issued ≡ true }
-        ensures formed { OnOk result ((is_key name.now && option_map_or is_key lease.now true) ≡ true) }
-        ensures free { OnOk result (has_key (place_if (active_at slot self.now.records)) name.now self.now.records ≡ false) }
-        ensures named { OnOk result (has_named self.now (place_if (active_at slot self.now.records)) lease.now ≡ true) }
+        ensures ok { OnOk result (CanCommit self.now slot name.now lease.now) }
         ensures recorded { IfErr result IsRecorded }
         ensures refused { IfErr result (λ why. (layer : Tree) → commit_as self.now slot name.now lease.now layer (active_at slot self.now.records) ≡ refused self.now why) }
     {
@@ -81,28 +79,25 @@ impl<N: StoreName> Accounts<N> {
     /// [`Accounts::check_commit`] tests the name and the lease.
     ///
     /// Takes memory for the committed record, with copies of its name, its parent and its labels, and for a
-    /// name that is new to the lease; where that is refused, nothing changes, and the share and the layer
-    /// come back. The cost grows with the logarithm of the number of records, with these texts, and with the
-    /// leases.
+    /// name that is new to the lease; where that is refused, nothing changes, and the share comes back. The
+    /// cost grows with the logarithm of the number of records, with these texts, and with the leases.
     pub fn commit(
         &mut self,
         share: Share<N>,
-        name: Text,
+        name: &Text,
         lease: &Option<Text>,
-        layer: Shared,
-    ) -> Result<Usage, (NoMemory, Share<N>, Shared)>
+        layer: &Shared,
+    ) -> Result<Usage, (NoMemory, Share<N>)>
         requires slot { share.slot < 64 }
         requires entries { self.old.entries < 2 ^ 63 }
-        requires covers { Covers share.usage (count_of layer) }
-        requires formed { (is_key name && option_map_or is_key lease.now true) ≡ true }
-        requires free { has_key (place_if (active_at share.slot self.old.records)) name self.old.records ≡ false }
-        requires named { has_named self.old (place_if (active_at share.slot self.old.records)) lease.now ≡ true }
-        ensures allowed { IsCovered share.id (count_of layer) (active_at share.slot self.old.records) }
-        ensures step { IfOk result (λ usage. commit_as self.old share.slot name lease.now layer (active_at share.slot self.old.records) ≡ (self.new, Committed share.id usage)) }
-        ensures count { IfOk result (λ usage. usage ≡ count_of layer) }
+        requires covers { Covers share.usage (count_of layer.now) }
+        requires possible { CanCommit self.old share.slot name.now lease.now }
+        ensures allowed { IsCovered share.id (count_of layer.now) (active_at share.slot self.old.records) }
+        ensures step { IfOk result (λ usage. commit_as self.old share.slot name.now lease.now layer.now (active_at share.slot self.old.records) ≡ (self.new, Committed share.id usage)) }
+        ensures count { IfOk result (λ usage. usage ≡ count_of layer.now) }
         ensures open { OnOk result (open_count self.new.records + 1 ≡ open_count self.old.records) }
         ensures unchanged { OnErr result (self.new ≡ self.old) }
-        ensures returned { IfErr result (λ back. (back.1 ≡ share) × (back.2 ≡ layer)) }
+        ensures returned { IfErr result (λ back. back.1 ≡ share) }
     {
         let mut share = share;
         let slot = share.slot();
@@ -113,8 +108,8 @@ impl<N: StoreName> Accounts<N> {
         let number = self.state.entries + 1;
         // With the next id read, the proof knows that there is room for one more record.
         let _ = self.next_id();
-        if let Err(refused) = self.state.commit(slot, &name, lease, &layer) {
-            return Err((refused.into(), share, layer));
+        if let Err(refused) = self.state.commit(slot, name, lease, layer) {
+            return Err((refused.into(), share));
         }
         self.totals.set(place, after);
         self.slots.spend(share);

@@ -1,39 +1,68 @@
 -- A commit of an open snapshot.
-use Rattle.std.proofs.Common.{◌≡◌, ℕ, sym, ap, ◌∙◌, subst}
+use Rattle.std.proofs.Common.{◌≡◌, ℕ, List, sym, ap, ◌∙◌, subst}
+use Rattle.std.specs.Prelude.{Option, Result, Ok, Err}
+use Rattle.snap_layer.specs.Tree.{Tree}
 use Rattle.snap_usage.specs.declared.usage.Usage.{Usage}
-use Rattle.snap_usage.specs.Counted.{count_of}
-use Rattle.snap_call.specs.declared.entry.Entry.{Entry}
-use Rattle.snap_call.specs.declared.reply.Reply.TheVariants.{Committed}
-use Rattle.snap_call.specs.declared.state.State.{State}
-use Rattle.snap_call.specs.declared.call.Call.{Call}
+use Rattle.snap_usage.specs.Counted.{Covers, count_of}
+use Rattle.snap_ledger.specs.States.{Meets, ShareState}
+use Rattle.snap_record.specs.Labels.{Bytes}
+use Rattle.snap_record.specs.Records.{usage_of}
+use Rattle.snap_record.specs.declared.record.Record.{Record}
 use Rattle.snap_call.specs.declared.call.Call.TheVariants as calls
 use Rattle.snap_call.specs.declared.call.Given.TheVariants.{Layer}
-use Rattle.snap_call.specs.Step.{commit_as, step, IsAllowed, IsCovered}
-use Rattle.snap_book.specs.Active.{ActiveValue}
-use Rattle.std.specs.Prelude.{Option}
-use Rattle.snap_layer.specs.Tree.{Tree}
-use Rattle.snap_record.specs.Labels.{Bytes}
-use Rattle.snap_call.specs.Records.{active_at}
+use Rattle.snap_call.specs.declared.entry.Entry.{Entry}
+use Rattle.snap_call.specs.declared.refusal.Refusal.{Refusal}
+use Rattle.snap_call.specs.declared.reply.Reply.TheVariants.{Committed, Refused}
+use Rattle.snap_call.specs.declared.state.State.{State}
+use Rattle.snap_call.specs.Journal.{entry}
+use Rattle.snap_call.specs.Records.{active_at, charge_at}
+use Rattle.snap_call.specs.Step.{commit_as, counted, refused, IsCovered}
+use Rattle.snap_call.proofs.Slots.{charge_at-issued}
+use Rattle.snap_accounts.specs.Commits.{CanCommit}
+use Rattle.snap_book.specs.Book.{commit_reply}
 
--- the step of a granted commit, where the book has the state s and the snapshot the value v
-pub settled : (b s t : State) (e : Entry) (a v : ActiveValue) (name : Bytes) (lease : Option Bytes) (u : Usage) → s ≡ b → v ≡ a
-    → step b e.call e.given ≡ commit_as b a.share.slot name lease a.layer (active_at a.share.slot b.records) → e.reply ≡ Committed a.share.id (count_of a.layer)
-    → commit_as s v.share.slot name lease v.layer (active_at v.share.slot s.records) ≡ (t, Committed v.share.id u) → u ≡ count_of v.layer
-    → step s e.call e.given ≡ (t, e.reply)
-settled b s t e a v name lease u is_b is_a granted reply did counted =
-    let granted_here : step s e.call e.given ≡ commit_as s a.share.slot name lease a.layer (active_at a.share.slot s.records) =
-    subst (λ (w : State). step w e.call e.given ≡ commit_as w a.share.slot name lease a.layer (active_at a.share.slot w.records)) (sym is_b) granted in
-    let inside : commit_as s a.share.slot name lease a.layer (active_at a.share.slot s.records) ≡ commit_as s v.share.slot name lease v.layer (active_at v.share.slot s.records) =
-    ap (λ (w : ActiveValue). commit_as s w.share.slot name lease w.layer (active_at w.share.slot s.records)) (sym is_a) in
-    let count : u ≡ count_of a.layer = counted ∙ ap (λ (w : ActiveValue). count_of w.layer) is_a in
-    granted_here ∙ (inside ∙ (did ∙ (λ i. (t, ((λ k. Committed (is_a k).share.id (count k)) ∙ sym reply) i))))
+same_name : (a b c d : ℕ) (x y : Bytes) (k l : Option Bytes) → calls.Commit a b x k ≡ calls.Commit c d y l → x ≡ y
+same_name a b c d x y k l e = cc
 
--- the condition of a commit, where the slot is open under the id and its charge covers the layer's count
-pub commit_allowed : (s t : State) (a : ActiveValue) (slot id : ℕ) (name : Bytes) (lease : Option Bytes) (call : Call) (layer : Tree) → t ≡ s → slot ≡ a.share.slot → id ≡ a.share.id → layer ≡ a.layer
-    → call ≡ calls.Commit slot id name lease → IsCovered a.share.id (count_of a.layer) (active_at a.share.slot s.records) → IsAllowed t call (Layer layer)
-commit_allowed s t a slot id name lease call layer is_s is_slot is_id is_layer is covered =
-    subst (λ (o : Call). IsAllowed t o (Layer layer)) (sym is)
-    (subst (λ (w : State). IsCovered id (count_of layer) (active_at slot w.records)) (sym is_s)
-    (subst (λ (n : ℕ). IsCovered id (count_of layer) (active_at n s.records)) (sym is_slot)
-    (subst (λ (n : ℕ). IsCovered n (count_of layer) (active_at a.share.slot s.records)) (sym is_id)
-    (subst (λ (l : Tree). IsCovered a.share.id (count_of l) (active_at a.share.slot s.records)) (sym is_layer) covered))))
+same_lease : (a b c d : ℕ) (x y : Bytes) (k l : Option Bytes) → calls.Commit a b x k ≡ calls.Commit c d y l → k ≡ l
+same_lease a b c d x y k l e = cc
+
+-- the texts of the entry's call are those that were tested
+pub can_commit : (s : State) (slot k id a b : ℕ) (name x : Bytes) (lease l : Option Bytes) → calls.Commit a b x l ≡ calls.Commit slot id name lease → k ≡ slot → CanCommit s k name lease → CanCommit s slot x l
+can_commit s slot k id a b name x lease l is same can =
+    subst (λ (n : Bytes). CanCommit s slot n l) (sym (same_name a b slot id x name l lease is))
+    (subst (λ (o : Option Bytes). CanCommit s slot name o) (sym (same_lease a b slot id x name l lease is))
+    (subst (λ (j : ℕ). CanCommit s j name lease) same can))
+
+-- the slot is open under the share's id, and its charge covers what the share does
+met_covered : (rs : List Record) (share : ShareState) (now : Usage) → Meets (charge_at share.slot rs) share → Covers share.usage now → IsCovered share.id now (active_at share.slot rs)
+met_covered rs share now met covers =
+    let found = charge_at-issued share.slot rs met.0 in
+    let held : usage_of found.0.content ≡ share.usage = found.3 ∙ met.2 in
+    subst (λ (o : Option Record). IsCovered share.id now o) (sym found.1) (found.2 ∙ met.1, subst (λ (u : Usage). Covers u now) (sym held) covers)
+
+-- a commit that is refused: its entry, its condition and its step, where meeting changed neither the state nor the share
+pub refused_commit : (s t u : State) (share was : ShareState) (slot n : ℕ) (name : Bytes) (lease : Option Bytes) (layer : Tree) (checked : Result (Unit {0}) Refusal) (why : Refusal) (x : Entry) → s ≡ u → share ≡ was → slot ≡ share.slot
+    → Meets (charge_at was.slot u.records) was → Covers was.usage (count_of layer)
+    → x ≡ entry n (calls.Commit share.slot share.id name lease) (Layer layer) (commit_reply checked share.id (count_of layer)) → checked ≡ Err why
+    → commit_as s slot name lease layer (active_at slot s.records) ≡ refused s why → t ≡ counted s
+    → (x ≡ entry n (calls.Commit share.slot share.id name lease) (Layer layer) (Refused why)) × IsCovered share.id (count_of layer) (active_at share.slot s.records)
+    × (commit_as s share.slot name lease layer (active_at share.slot s.records) ≡ (t, Refused why))
+refused_commit s t u share was slot n name lease layer checked why x same held at met covers made is refuses done = (
+  made ∙ ap (λ (r : Result (Unit {0}) Refusal). entry n (calls.Commit share.slot share.id name lease) (Layer layer) (commit_reply r share.id (count_of layer))) is,
+  subst (λ (v : State). IsCovered share.id (count_of layer) (active_at share.slot v.records)) (sym same)
+      (subst (λ (h : ShareState). IsCovered h.id (count_of layer) (active_at h.slot u.records)) (sym held) (met_covered u.records was (count_of layer) met covers)),
+  ap (λ (k : ℕ). commit_as s k name lease layer (active_at k s.records)) (sym at) ∙ (refuses ∙ ap (λ (v : State). (v, Refused why)) (sym done)),
+)
+
+-- a commit that is granted: its entry and its step
+pub granted_commit : (s t : State) (share : ShareState) (n a b : ℕ) (name x : Bytes) (lease l : Option Bytes) (layer : Tree) (now : Usage) (checked : Result (Unit {0}) Refusal) (done : Unit {0}) (e : Entry)
+    → e ≡ entry n (calls.Commit share.slot share.id name lease) (Layer layer) (commit_reply checked share.id (count_of layer)) → checked ≡ Ok done → now ≡ count_of layer
+    → calls.Commit a b x l ≡ calls.Commit share.slot share.id name lease → commit_as s share.slot x l layer (active_at share.slot s.records) ≡ (t, Committed share.id now)
+    → (e ≡ entry n (calls.Commit share.slot share.id name lease) (Layer layer) (Committed share.id now)) × (commit_as s share.slot name lease layer (active_at share.slot s.records) ≡ (t, Committed share.id now))
+granted_commit s t share n a b name x lease l layer now checked done e made is count call did = (
+  made
+      ∙ (ap (λ (r : Result (Unit {0}) Refusal). entry n (calls.Commit share.slot share.id name lease) (Layer layer) (commit_reply r share.id (count_of layer))) is
+      ∙ ap (λ (u : Usage). entry n (calls.Commit share.slot share.id name lease) (Layer layer) (Committed share.id u)) (sym count)),
+  (λ i. commit_as s share.slot (sym (same_name a b share.slot share.id x name l lease call) i) (sym (same_lease a b share.slot share.id x name l lease call) i) layer (active_at share.slot s.records)) ∙ did,
+)

@@ -1,13 +1,14 @@
 -- What holds of a book whenever no call is under way, and what a recorded call makes of it.
 -- Cited by `Book::open_session`, `Book::take_entry`, `Book::records` and others.
 use Rattle.std.specs.Prelude.{◌≡◌, ℕ, ◌+◌, ◌≤◌, ◌^◌, List, [], ◌∷◌, ◌++◌, Option, None, Some, length, Result, Ok, Err}
+use Rattle.snap_usage.specs.declared.usage.Usage.{Usage}
 use Rattle.snap_call.specs.declared.call.Call.{Call}
 use Rattle.snap_call.specs.declared.call.Given.{Given}
 use Rattle.snap_call.specs.declared.entry.Entry.{Entry}
 use Rattle.snap_call.specs.declared.refusal.Refusal.{Refusal}
 use Rattle.snap_call.specs.declared.refusal.Refusal.TheVariants.{JournalFull, OutOfMemory}
 use Rattle.snap_call.specs.declared.reply.Reply.{Reply}
-use Rattle.snap_call.specs.declared.reply.Reply.TheVariants.{Refused}
+use Rattle.snap_call.specs.declared.reply.Reply.TheVariants.{Committed, Refused}
 use Rattle.snap_call.specs.declared.state.State.{State}
 use Rattle.snap_call.specs.Good.{Good}
 use Rattle.snap_call.specs.Journal.{entry, Replays}
@@ -55,6 +56,11 @@ AnsweredBy old new n call given reply = Recorded old new n call given reply
 abbrev pub IsRefusedWith : {X Y : Type 0} → Result X (Refusal × Y) → Refusal → Type 0
 IsRefusedWith (Ok x) why = ⊥
 IsRefusedWith (Err back) why = back.0 ≡ why
+
+-- the reply to a commit of this id and count, which was tested
+abbrev pub commit_reply : Result (Unit {0}) Refusal → ℕ → Usage → Reply
+commit_reply (Ok done) id usage = Committed id usage
+commit_reply (Err why) id usage = Refused why
 
 -- a round begins at a good state without open snapshots and without sessions
 pub record IsOpening (s : State) : Type 0 where

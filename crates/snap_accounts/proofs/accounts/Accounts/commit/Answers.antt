@@ -26,12 +26,12 @@ commit-requires-clause-good g c = c.self.invariant.good
 pub commit-requires-clause-new : goal.commit-requires-clause-new
 commit-requires-clause-new g c =
     let same = c.self.view_is ∙ c.meet-held.ensures.same in
-    place-free c.slot-slot.result c.args.share.slot c.args.name c.self.inside.state _ c.slot-slot.ensures same c.requires.free
+    place-free c.slot-slot.result c.args.share.slot c.args.name.now c.self.inside.state _ c.slot-slot.ensures same c.requires.possible.free
 
 pub commit-requires-clause-named : goal.commit-requires-clause-named
 commit-requires-clause-named g c =
     let same = c.self.view_is ∙ c.meet-held.ensures.same in
-    place-named c.slot-slot.result c.args.share.slot c.args.lease.now c.self.inside.state _ c.slot-slot.ensures same c.requires.named
+    place-named c.slot-slot.result c.args.share.slot c.args.lease.now c.self.inside.state _ c.slot-slot.ensures same c.requires.possible.named
 
 pub overflow_sub-self : goal.overflow_sub-self
 overflow_sub-self g c =
@@ -48,16 +48,16 @@ returns-clause-open g c =
     let slot = c.args.share.slot in
     let same = c.self.view_is ∙ c.meet-held.ensures.same in
     let found = charge_at-issued slot s.records (ap (λ (u : State). (charge_at slot u.records).issued) same ∙ c.meet-held.ensures.met.0) in
-    let done = committed_from c.slot-slot.result slot c.args.name c.args.lease.now c.args.layer s c.commit.new.self found.0 c.slot-slot.ensures found.1 c.in_default.ensures.ok in
-    ap (λ (u : State). open_count u.records + 1) done ∙ (open_count-committed slot c.args.name c.args.layer (s.entries + 1) s.records found.0 found.1 ∙ ap (λ (u : State). open_count u.records) same)
+    let done = committed_from c.slot-slot.result slot c.args.name.now c.args.lease.now c.args.layer.now s c.commit.new.self found.0 c.slot-slot.ensures found.1 c.in_default.ensures.ok in
+    ap (λ (u : State). open_count u.records + 1) done ∙ (open_count-committed slot c.args.name.now c.args.layer.now (s.entries + 1) s.records found.0 found.1 ∙ ap (λ (u : State). open_count u.records) same)
 
 pub invariant_of-self-2 : goal.invariant_of-self-2
 invariant_of-self-2 g c =
     let s = c.self.inside.state in
     let slot = c.args.share.slot in
-    let name : Bytes = c.args.name in
+    let name : Bytes = c.args.name.now in
     let lease : Option Bytes = c.args.lease.now in
-    let layer : Tree = c.args.layer in
+    let layer : Tree = c.args.layer.now in
     let same = c.self.view_is ∙ c.meet-held.ensures.same in
     let found = charge_at-issued slot s.records (ap (λ (u : State). (charge_at slot u.records).issued) same ∙ c.meet-held.ensures.met.0) in
     let r : Record = found.0 in
@@ -65,10 +65,10 @@ invariant_of-self-2 g c =
     let own : usage_of r.content ≡ c.args.share.usage = found.3 ∙ (ap (λ (u : State). (charge_at slot u.records).usage) same ∙ c.meet-held.ensures.met.2) in
     let held : usage_of r.content ≡ c.meet-held.result = own ∙ sym c.meet-held.ensures.held in
     let place : c.place-place.result ≡ r.namespace = c.place-place.ensures.place ∙ ((λ i. place_if (active_at (c.slot-slot.ensures i) (sym c.self.view_is i).records)) ∙ ap place_if e) in
-    let count : c.count-usage.result ≡ count_of layer = c.count-usage.ensures.count ∙ ap count_of c.layer-2.ensures.value in
+    let count : c.count-usage.result ≡ count_of layer = c.count-usage.ensures.count ∙ ap count_of c.layer.ensures.value in
     let after : c.total_with-after.result ≡ charge_with r (count_of layer) s.records = c.total_with-after.ensures ∙ (λ i. plus (minus (charge_of (place i) (sym c.self.view_is i).records) (sym held i)) (count i)) in
     let free : has_key r.namespace name s.records ≡ false =
-    ap (λ (o : Option Record). has_key (place_if o) name s.records) (sym e) ∙ (ap (λ (u : State). has_key (place_if (active_at slot u.records)) name u.records) same ∙ c.requires.free) in
+    ap (λ (o : Option Record). has_key (place_if o) name s.records) (sym e) ∙ (ap (λ (u : State). has_key (place_if (active_at slot u.records)) name u.records) same ∙ c.requires.possible.free) in
     let done = committed_from c.slot-slot.result slot name lease layer s c.commit.new.self r c.slot-slot.ensures e c.in_default.ensures.ok in
     let less = open_count-committed slot name layer (s.entries + 1) s.records r e in
     let good = good_committed s slot name lease layer r c.self.invariant.good e free (subst (λ (u : Usage). Covers u (count_of layer)) (sym own) c.requires.covers) in
