@@ -8,9 +8,9 @@ use Rattle.serde_json.specs.Find.{as_str}
 use Rattle.snap_script.specs.declared.fault.Field.TheVariants as fields
 use Rattle.snap_script.specs.declared.fault.Fault.{Fault}
 use Rattle.snap_script.specs.declared.fault.Fault.TheVariants.{BadField}
-use Rattle.snap_script.specs.Fields.{optional, given, as_usage}
-use Rattle.snap_script.specs.Commands.{text, named}
-use Rattle.snap_script.specs.JobOperations.{operations}
+use Rattle.snap_script.specs.Fields.{text, optional, given, as_usage}
+use Rattle.snap_script.specs.Commands.{named}
+use Rattle.snap_script.specs.Operations.{operations}
 use Rattle.snap_script.specs.Results.{◌>>=◌}
 use Rattle.snap_writers.specs.declared.job.End.{End}
 use Rattle.snap_writers.specs.declared.job.End.TheVariants as ends

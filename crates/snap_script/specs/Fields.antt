@@ -30,6 +30,10 @@ required kind field line = optional kind field (Err (BadField field)) line
 abbrev pub given : {A : Type 0} → (Data → Option A) → Field → Data → Result (Option A) Fault
 given kind field line = optional (λ d. option_map Some (kind d)) field (Ok None) line
 
+-- a text that must be there
+abbrev pub text : Field → Data → Result Bytes Fault
+text field line = required as_str field line
+
 -- a number: digits alone, below 2^64
 abbrev pub as_natural : Data → Option ℕ
 as_natural d = option_and_then as_u64 (as_number d)

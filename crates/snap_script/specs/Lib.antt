@@ -1,9 +1,9 @@
 pub mod Faults
 pub mod Results
 pub mod Fields
-pub mod Commands
+pub mod Words
 pub mod Operations
-pub mod JobOperations
+pub mod Commands
 pub mod Lines
 pub mod Gives
 pub mod Answers

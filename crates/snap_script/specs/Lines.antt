@@ -15,8 +15,9 @@ use Rattle.snap_script.specs.declared.line.Line.{Line}
 use Rattle.snap_script.specs.declared.line.Line.TheVariants as lines
 use Rattle.snap_script.specs.declared.verb.Verb.{Verb}
 use Rattle.snap_script.specs.declared.verb.Verb.TheVariants.{Open}
-use Rattle.snap_script.specs.Fields.{optional, as_natural}
-use Rattle.snap_script.specs.Commands.{text, verb_of, config_of, command_of}
+use Rattle.snap_script.specs.Fields.{text, optional, as_natural}
+use Rattle.snap_script.specs.Words.{verb_of}
+use Rattle.snap_script.specs.Commands.{config_of, command_of}
 use Rattle.snap_script.specs.Results.{◌>>=◌}
 
 -- nothing but spaces, tabs and carriage returns

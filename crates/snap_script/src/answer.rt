@@ -5,8 +5,8 @@ ghost use Rattle.snap_script.specs.Answers.{answer_data, answer_line};
 ghost use Rattle.snap_script.specs.declared.answer.Answer.TheVariants as answers;
 
 use crate::values::{
-    changed, error, error_name, head, jobs, journal, names, path, reply, report, seen, session,
-    share, tree,
+    changed, entries_value, error, error_name, head, jobs, names_value, nodes_value, only, reply,
+    report, shown_value, usage_value,
 };
 use serde_json::Value;
 use snap_call::{Refusal, Reply};
@@ -19,7 +19,7 @@ use snap_usage::Usage;
 use std::alloc::{AllocError, Global};
 
 /// What a snapshot shows at a path.
-#[derive(Debug, Drop)]
+#[derive(Drop)]
 pub enum Shown {
     /// A directory.
     Dir { mode: u32 },
@@ -30,7 +30,7 @@ pub enum Shown {
 }
 
 /// A snapshot as one of the forest of its namespace.
-#[derive(Debug, Drop)]
+#[derive(Drop)]
 pub struct TreeNode {
     pub key: Text,
     pub kind: Kind,
@@ -44,7 +44,6 @@ pub struct TreeNode {
 }
 
 /// What a line of a script is answered, and the lines of a script of jobs together.
-#[derive(Debug)]
 pub enum Answer {
     /// What the store replies to a call, each reply with members of its own:
     ///
@@ -165,15 +164,17 @@ impl Answer {
     {
         match self {
             Answer::Reply(own) => reply(alloc, own),
-            Answer::Session(number) => session(alloc, *number),
-            Answer::Share(amount) => share(alloc, *amount),
+            Answer::Session(number) => only(alloc, "session", Value::from(*number)),
+            Answer::Share(amount) => only(alloc, "share", usage_value(alloc, *amount)?),
             Answer::Changed { count, share } => changed(alloc, *count, *share),
-            Answer::Seen(shown) => seen(alloc, shown),
-            Answer::Names(own) => names(alloc, own.as_slice()),
+            Answer::Seen(shown) => only(alloc, "seen", shown_value(alloc, shown)?),
+            Answer::Names(own) => only(alloc, "names", names_value(alloc, own.as_slice())?),
             Answer::Head { head: own, size } => head(alloc, own.as_slice(), *size),
-            Answer::Path(own) => path(alloc, own),
-            Answer::Tree(nodes) => tree(alloc, nodes.as_slice()),
-            Answer::Journal(entries) => journal(alloc, entries.as_slice()),
+            Answer::Path(own) => only(alloc, "path", Value::try_from_str(alloc, own.as_str())?),
+            Answer::Tree(nodes) => only(alloc, "tree", nodes_value(alloc, nodes.as_slice())?),
+            Answer::Journal(entries) => {
+                only(alloc, "journal", entries_value(alloc, entries.as_slice())?)
+            }
             Answer::Report {
                 entries,
                 actives,

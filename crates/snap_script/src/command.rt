@@ -1,10 +1,6 @@
 ghost use Rattle.std.specs.Prelude.{◌≡◌, IfOk, map};
-ghost use Rattle.snap_merge.specs.Walk.{Answers};
-ghost use Rattle.snap_script.specs.Operations.{path_of, operation_of};
 
 use snap_call::{Call, Config, Namespace};
-use snap_layer::Bytes;
-use snap_merge::FsError;
 use snap_path::Path;
 use snap_record::{Sequence, Text};
 use snap_upper::Op;
@@ -12,7 +8,7 @@ use snap_usage::Usage;
 use std::alloc::{AllocError, Global};
 
 /// A command of a script.
-#[derive(Debug, Drop)]
+#[derive(Drop)]
 pub enum Command {
     /// Opens a store, and its session 0.
     Open {
@@ -53,19 +49,20 @@ pub enum Command {
         key: Text,
     },
     /// Changes a file or a directory of an active snapshot. Where its charge doesn't cover what is
-    /// needed, so much is charged and, if the limit covers it, the extra amount too.
+    /// needed, so much is charged and, if the limit covers it, the extra amount too. There is no operation
+    /// where the text of a path is no path.
     File {
         namespace: Text,
         key: Text,
-        operation: FileCommand,
+        operation: Option<Op>,
         extra: Usage,
     },
-    /// Asks what an active snapshot shows at a path, whose text need not be a path.
+    /// Asks what an active snapshot shows at a path. There is none where its text is no path.
     Lookup {
         namespace: Text,
         key: Text,
         lookup: Lookup,
-        path: Text,
+        path: Option<Path>,
     },
     /// Asks for the snapshots of a namespace, as a forest by parent.
     Tree {
@@ -82,7 +79,7 @@ pub enum Command {
 }
 
 /// What is asked of a path.
-#[derive(Clone, Copy, Debug, PartialEq, Eq)]
+#[derive(Clone, Copy)]
 pub enum Lookup {
     /// What is seen there.
     Look,
@@ -94,59 +91,6 @@ pub enum Lookup {
     Resolve,
 }
 
-/// A file operation as a script has it: [`Op`](snap_upper::Op) with the texts of its paths, which
-/// need not be paths.
-#[derive(Debug, Drop)]
-pub enum FileCommand {
-    Mkdir {
-        path: Text,
-        mode: u32,
-    },
-    Create {
-        path: Text,
-        mode: u32,
-    },
-    Write {
-        path: Text,
-        offset: u64,
-        bytes: Bytes,
-    },
-    Truncate {
-        path: Text,
-        size: u64,
-    },
-    SetMode {
-        path: Text,
-        mode: u32,
-    },
-    Symlink {
-        path: Text,
-        target: Bytes,
-    },
-    Link {
-        from: Text,
-        to: Text,
-    },
-    Unlink {
-        path: Text,
-    },
-    Rmdir {
-        path: Text,
-    },
-    Rename {
-        from: Text,
-        to: Text,
-    },
-}
-
-/// The path of a text. `BadPath` where the text is none. `OutOfMemory` where memory for the path was
-/// refused. The cost grows with the text.
-pub fn path_of(alloc: Global, text: &Text) -> Result<Path, FsError>
-    ensures { Answers (path_of text.now) result }
-{
-    Ok(Path::parse(alloc, text.as_str())?)
-}
-
 /// The names of the namespaces, in their order. The memory and the cost grow with them.
 pub fn names_of(alloc: Global, namespaces: &[Namespace]) -> Result<Sequence<Text>, AllocError>
     ensures { IfOk result (λ names. names ≡ map (λ n. n.name) namespaces.now) }
@@ -156,60 +100,4 @@ pub fn names_of(alloc: Global, namespaces: &[Namespace]) -> Result<Sequence<Text
         names.push(namespace.name.clone()?)?;
     }
     Ok(names)
-}
-
-impl FileCommand {
-    /// The operation, once its paths are read, `from` before `to`.
-    ///
-    /// `BadPath` where a text is no path. `OutOfMemory` where memory for a path was refused. The
-    /// cost grows with the paths.
-    pub fn into_operation(self, alloc: Global) -> Result<Op, FsError>
-        ensures { Answers (operation_of self) result }
-    {
-        Ok(match self {
-            FileCommand::Mkdir { path, mode } => Op::Mkdir {
-                path: path_of(alloc, &path)?,
-                mode,
-            },
-            FileCommand::Create { path, mode } => Op::Create {
-                path: path_of(alloc, &path)?,
-                mode,
-            },
-            FileCommand::Write {
-                path,
-                offset,
-                bytes,
-            } => Op::Write {
-                path: path_of(alloc, &path)?,
-                offset,
-                bytes,
-            },
-            FileCommand::Truncate { path, size } => Op::Truncate {
-                path: path_of(alloc, &path)?,
-                size,
-            },
-            FileCommand::SetMode { path, mode } => Op::SetMode {
-                path: path_of(alloc, &path)?,
-                mode,
-            },
-            FileCommand::Symlink { path, target } => Op::Symlink {
-                path: path_of(alloc, &path)?,
-                target,
-            },
-            FileCommand::Link { from, to } => Op::Link {
-                from: path_of(alloc, &from)?,
-                to: path_of(alloc, &to)?,
-            },
-            FileCommand::Unlink { path } => Op::Unlink {
-                path: path_of(alloc, &path)?,
-            },
-            FileCommand::Rmdir { path } => Op::Rmdir {
-                path: path_of(alloc, &path)?,
-            },
-            FileCommand::Rename { from, to } => Op::Rename {
-                from: path_of(alloc, &from)?,
-                to: path_of(alloc, &to)?,
-            },
-        })
-    }
 }

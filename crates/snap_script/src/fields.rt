@@ -1,11 +1,10 @@
 // The fields of a line, each of its kind.
-ghost use Rattle.std.specs.Prelude.{◌≡◌, [], Some, None, Ok, option_map, replicate, IfOk};
-ghost use Rattle.serde_json.specs.Find.{get, as_str, as_array};
+ghost use Rattle.std.specs.Prelude.{◌≡◌, [], Some, None, Ok, option_map, IfOk};
+ghost use Rattle.serde_json.specs.Find.{get, as_str};
 ghost use Rattle.serde_json.specs.View.{view, items_view, members_view};
 ghost use Rattle.snap_script.specs.declared.fault.Field.TheVariants as fields;
 ghost use Rattle.snap_script.specs.Faults.{field_name};
-ghost use Rattle.snap_script.specs.Fields.{required, optional, given, as_natural, as_mode, pair_in, as_pair, as_usage, texts_in, as_texts, kind_named, as_kind, labels_with, as_labels, label_filter, label_filters_in, as_label_filters, namespace_in, as_namespace, namespaces_in, as_namespaces, as_fill, content_of};
-ghost use Rattle.snap_script.specs.Commands.{text};
+ghost use Rattle.snap_script.specs.Fields.{text, required, optional, given, as_natural, as_mode, pair_in, as_pair, as_usage, texts_in, as_texts, kind_named, as_kind, labels_with, as_labels, label_filter, label_filters_in, as_label_filters, as_namespace, namespaces_in, as_namespaces, as_fill, content_of};
 ghost use Rattle.snap_script.specs.Gives.{Gives, GivesAll};
 
 use crate::fault::{Fault, Field, ReadError};
@@ -18,7 +17,7 @@ use snap_usage::Usage;
 use std::alloc::{AllocError, Global};
 
 /// The value of a field, if the line has it.
-fn find(field: Field, line: &Value) -> Option<&Value>
+pub(crate) fn find(field: Field, line: &Value) -> Option<&Value>
     ensures { option_map (λ v. view v.now) result ≡ get (field_name field) (view line.now) }
 {
     line.get(field.name())
@@ -301,10 +300,13 @@ pub(crate) fn label_filters(alloc: Global, line: &Value) -> Result<Sequence<Labe
 }
 
 /// A namespace: a name, blocks and inodes.
-fn namespace_in(alloc: Global, values: &[Value]) -> Result<Option<Namespace>, AllocError>
-    ensures { IfOk result (λ namespace. namespace ≡ namespace_in (items_view values.now)) }
+fn namespace(alloc: Global, value: &Value) -> Result<Option<Namespace>, AllocError>
+    ensures { IfOk result (λ namespace. namespace ≡ as_namespace (view value.now)) }
 {
-    let [name, limit @ ..] = values else {
+    let Some(values) = value.as_array() else {
+        return Ok(None);
+    };
+    let [name, limit @ ..] = values.as_slice() else {
         return Ok(None);
     };
     let (Some(name), Some((blocks, inodes))) = (name.as_str(), pair_in(limit)) else {
@@ -314,15 +316,6 @@ fn namespace_in(alloc: Global, values: &[Value]) -> Result<Option<Namespace>, Al
         name: Text::copy_of(alloc, name)?,
         limit: Usage { blocks, inodes },
     }))
-}
-
-fn namespace(alloc: Global, value: &Value) -> Result<Option<Namespace>, AllocError>
-    ensures { IfOk result (λ namespace. namespace ≡ as_namespace (view value.now)) }
-{
-    match value.as_array() {
-        Some(values) => namespace_in(alloc, values.as_slice()),
-        None => Ok(None),
-    }
 }
 
 /// The namespaces of an array, where each item is one.
@@ -349,13 +342,6 @@ pub(crate) fn namespaces(alloc: Global, line: &Value) -> Result<Sequence<Namespa
     Ok(namespaces.ok_or(Fault::BadField(Field::Namespaces))?)
 }
 
-/// So many times the byte.
-fn repeated(alloc: Global, byte: u8, number: usize) -> Result<Bytes, AllocError>
-    ensures { IfOk result (λ bytes. bytes ≡ replicate number byte) }
-{
-    Ok(Bytes::new(vec![in alloc; byte; number]?))
-}
-
 /// The bytes of a fill.
 fn fill(alloc: Global, line: &Value) -> Result<Bytes, ReadError>
     ensures { Gives (λ bytes. bytes) result (required as_fill fields.Fill (view line.now)) }
@@ -366,7 +352,7 @@ fn fill(alloc: Global, line: &Value) -> Result<Bytes, ReadError>
     if byte > 255 || number > MAX_FILE_BYTES {
         return Err(ReadError::Fault(fault));
     }
-    Ok(repeated(alloc, byte as u8, number as usize)?)
+    Ok(Bytes::new(vec![in alloc; byte as u8; number as usize]?))
 }
 
 /// The bytes that are written.
@@ -386,13 +372,4 @@ pub(crate) fn target(alloc: Global, line: &Value) -> Result<Bytes, ReadError>
 {
     let target = lent_text(Field::Target, line)?;
     Ok(Bytes::copy_of(alloc, target.as_bytes())?)
-}
-
-/// The operations of a job, not read yet.
-pub(crate) fn operations(line: &Value) -> Result<&[Value], Fault>
-    ensures { GivesAll (λ values. items_view values.now) result (required as_array fields.Ops (view line.now)) }
-{
-    let found = find(Field::Ops, line).ok_or(Fault::BadField(Field::Ops))?;
-    let values = found.as_array().ok_or(Fault::BadField(Field::Ops))?;
-    Ok(values.as_slice())
 }

@@ -1,8 +1,9 @@
 //! The lines of a script: commands read from JSON, answers written as JSON.
 //!
 //! A line is JSON as `serde_json` reads it. What it says is one definition, `line_of` in
-//! `specs/Lines.antt`, with the commands in `specs/Commands.antt` and the kinds of their fields in
-//! `specs/Fields.antt`. The line of an answer is `answer_line` in `specs/Answers.antt`.
+//! `specs/Lines.antt`, with the commands in `specs/Commands.antt`, their words in `specs/Words.antt`, file
+//! operations in `specs/Operations.antt` and the kinds of their fields in `specs/Fields.antt`. The line of an
+//! answer is `answer_line` in `specs/Answers.antt`.
 #![tactic(auto)]
 
 mod answer;
@@ -16,7 +17,7 @@ mod values;
 mod verb;
 
 pub use answer::{Answer, Shown, TreeNode};
-pub use command::{Command, FileCommand, Lookup, names_of, path_of};
+pub use command::{Command, Lookup, names_of};
 pub use fault::{Fault, Field, ReadError, Shortage};
 pub use line::{Line, MAX_LINE_BYTES, is_empty, read_line, read_object, read_open};
 pub use operation::operations;

@@ -1,7 +1,7 @@
 ghost use Rattle.std.specs.Prelude.{◌≡◌};
 ghost use Rattle.serde_json.specs.View.{view};
-ghost use Rattle.snap_script.specs.Lines.{is_empty, json_of, object_of, object_in, allowed, command_line, opening_of, line_of};
-ghost use Rattle.snap_script.specs.Gives.{Gives, GivesAll};
+ghost use Rattle.snap_script.specs.Lines.{is_empty, json_of, object_in, allowed, command_line, opening_of, line_of};
+ghost use Rattle.snap_script.specs.Gives.{Gives};
 
 use crate::command::Command;
 use crate::fault::{Fault, Field, ReadError, Shortage};
@@ -16,7 +16,7 @@ use std::alloc::Global;
 pub const MAX_LINE_BYTES: usize = 16_777_216;
 
 /// What a line of a script is.
-#[derive(Debug, Drop)]
+#[derive(Drop)]
 pub enum Line {
     /// Nothing but spaces, tabs and carriage returns.
     Empty,
@@ -48,16 +48,6 @@ fn value_of(alloc: Global, bytes: &[u8]) -> Result<Value, ReadError>
     }
 }
 
-fn check_object(value: &Value) -> Result<(), Fault>
-    ensures { GivesAll (λ _. view value.now) result (object_of (view value.now)) }
-{
-    if value.is_object() {
-        Ok(())
-    } else {
-        Err(Fault::NotAnObject)
-    }
-}
-
 /// The object that a line is, without its line feed, whatever its length.
 ///
 /// `NotJson`, then `NotAnObject`; `OutOfMemory` where memory for the value was refused. The memory and the
@@ -67,8 +57,11 @@ pub fn read_object(alloc: Global, bytes: &[u8]) -> Result<Value, ReadError>
     ensures { Gives view result (object_in bytes.now) }
 {
     let value = value_of(alloc, bytes)?;
-    check_object(&value)?;
-    Ok(value)
+    if value.is_object() {
+        Ok(value)
+    } else {
+        Err(ReadError::Fault(Fault::NotAnObject))
+    }
 }
 
 /// The verb, where a command of it may stand here.

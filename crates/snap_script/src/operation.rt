@@ -1,17 +1,14 @@
-// The operations of a job, read from their values. They have the fields of file commands, without a snapshot
-// and an extra amount, and each path has to be one.
+// File operations, read from the values of lines and of jobs.
 ghost use Rattle.std.specs.Prelude.{◌≡◌};
 ghost use Rattle.serde_json.specs.View.{view, items_view};
-ghost use Rattle.snap_script.specs.declared.fault.Field.TheVariants as fields;
-ghost use Rattle.snap_script.specs.JobOperations.{path, file_verb, operation_by, operation, operations_in, operations};
+ghost use Rattle.snap_script.specs.Operations.{path_in, path, operation_at, file_operation, operation, operations_in, operations};
 ghost use Rattle.snap_script.specs.Gives.{Gives};
 
 use crate::fault::{Fault, Field, ReadError};
 use crate::fields::{
-    self, content, lent_text, mode_or, number_or, required_mode, required_number, target,
+    content, find, lent_text, mode_or, number_or, required_mode, required_number, target,
 };
-use crate::parse::FILE_MODE;
-use crate::verb::{FileVerb, Verb, verb_of};
+use crate::verb::{FileVerb, PathVerb, Verb, verb_of};
 use serde_json::Value;
 use snap_path::limits::DEFAULT_MODE;
 use snap_path::{Path, PathError};
@@ -19,79 +16,106 @@ use snap_record::Sequence;
 use snap_upper::Op;
 use std::alloc::Global;
 
-/// A path that must be there.
-#[tactic(auto, unfolding(crate::specs::JobOperations::path))]
-fn path(alloc: Global, field: Field, line: &Value) -> Result<Path, ReadError>
-    ensures { Gives (λ path. path) result (path field (view line.now)) }
+/// The mode of a new file, where the line has none.
+const FILE_MODE: u32 = 0o644;
+
+/// The path of a field's text, which must be there, and none where the text is no path.
+#[tactic(auto, unfolding(crate::specs::Operations::path_in))]
+pub(crate) fn path_in(alloc: Global, field: Field, line: &Value) -> Result<Option<Path>, ReadError>
+    ensures { Gives (λ path. path) result (path_in field (view line.now)) }
 {
     let text = lent_text(field, line)?;
     match Path::parse(alloc, text) {
-        Ok(path) => Ok(path),
-        Err(PathError::BadPath) => Err(ReadError::Fault(Fault::BadField(field))),
+        Ok(path) => Ok(Some(path)),
+        Err(PathError::BadPath) => Ok(None),
         Err(PathError::OutOfMemory(no_memory)) => Err(no_memory.into()),
     }
 }
 
-/// The verb of an operation, where the word has one.
-fn file_verb(verb: Option<Verb>) -> Result<FileVerb, Fault>
-    ensures { result ≡ file_verb verb }
+/// A path that must be there.
+#[tactic(auto, unfolding(crate::specs::Operations::path))]
+fn path(alloc: Global, field: Field, line: &Value) -> Result<Path, ReadError>
+    ensures { Gives (λ path. path) result (path field (view line.now)) }
 {
-    match verb {
-        Some(Verb::File(verb)) => Ok(verb),
-        _ => Err(Fault::BadField(Field::Do)),
-    }
+    let path = path_in(alloc, field, line)?;
+    Ok(path.ok_or(Fault::BadField(field))?)
 }
 
-/// The operation of the verb.
-#[tactic(auto, unfolding(crate::specs::JobOperations::operation_by))]
-fn operation_by(alloc: Global, verb: FileVerb, line: &Value) -> Result<Op, ReadError>
-    ensures { Gives (λ op. op) result (operation_by verb (view line.now)) }
+/// The operation of a verb at a path, with the line's other fields.
+#[tactic(auto, unfolding(crate::specs::Operations::operation_at))]
+fn operation_at(alloc: Global, verb: PathVerb, path: Path, line: &Value) -> Result<Op, ReadError>
+    ensures { Gives (λ op. op) result (operation_at verb path (view line.now)) }
 {
     Ok(match verb {
-        FileVerb::Mkdir => Op::Mkdir {
-            path: path(alloc, Field::Path, line)?,
+        PathVerb::Mkdir => Op::Mkdir {
+            path,
             mode: mode_or(DEFAULT_MODE, line)?,
         },
-        FileVerb::Create => Op::Create {
-            path: path(alloc, Field::Path, line)?,
+        PathVerb::Create => Op::Create {
+            path,
             mode: mode_or(FILE_MODE, line)?,
         },
-        FileVerb::Write => Op::Write {
-            path: path(alloc, Field::Path, line)?,
+        PathVerb::Write => Op::Write {
+            path,
             offset: number_or(0, Field::Offset, line)?,
             bytes: content(alloc, line)?,
         },
-        FileVerb::Truncate => Op::Truncate {
-            path: path(alloc, Field::Path, line)?,
+        PathVerb::Truncate => Op::Truncate {
+            path,
             size: required_number(Field::Size, line)?,
         },
-        FileVerb::SetMode => Op::SetMode {
-            path: path(alloc, Field::Path, line)?,
+        PathVerb::SetMode => Op::SetMode {
+            path,
             mode: required_mode(line)?,
         },
-        FileVerb::Symlink => Op::Symlink {
-            path: path(alloc, Field::Path, line)?,
+        PathVerb::Symlink => Op::Symlink {
+            path,
             target: target(alloc, line)?,
         },
-        FileVerb::Link => Op::Link {
-            from: path(alloc, Field::From, line)?,
-            to: path(alloc, Field::To, line)?,
-        },
-        FileVerb::Unlink => Op::Unlink {
-            path: path(alloc, Field::Path, line)?,
-        },
-        FileVerb::Rmdir => Op::Rmdir {
-            path: path(alloc, Field::Path, line)?,
-        },
-        FileVerb::Rename => Op::Rename {
-            from: path(alloc, Field::From, line)?,
-            to: path(alloc, Field::To, line)?,
-        },
+        PathVerb::Unlink => Op::Unlink { path },
+        PathVerb::Rmdir => Op::Rmdir { path },
     })
 }
 
-/// The operation that a value is.
-#[tactic(auto, unfolding(crate::specs::JobOperations::operation))]
+/// The operation of a file command, and none where the text of a path is no path. The line's other fields
+/// are tested then too.
+#[tactic(auto, unfolding(crate::specs::Operations::file_operation))]
+pub(crate) fn file_operation(
+    alloc: Global,
+    verb: FileVerb,
+    line: &Value,
+) -> Result<Option<Op>, ReadError>
+    ensures { Gives (λ op. op) result (file_operation verb (view line.now)) }
+{
+    match verb {
+        FileVerb::At(verb) => match path_in(alloc, Field::Path, line)? {
+            Some(path) => Ok(Some(operation_at(alloc, verb, path, line)?)),
+            None => {
+                operation_at(alloc, verb, Path::root(alloc), line)?;
+                Ok(None)
+            }
+        },
+        FileVerb::Link => {
+            let from = path_in(alloc, Field::From, line)?;
+            let to = path_in(alloc, Field::To, line)?;
+            match from.zip(to) {
+                Some((from, to)) => Ok(Some(Op::Link { from, to })),
+                None => Ok(None),
+            }
+        }
+        FileVerb::Rename => {
+            let from = path_in(alloc, Field::From, line)?;
+            let to = path_in(alloc, Field::To, line)?;
+            match from.zip(to) {
+                Some((from, to)) => Ok(Some(Op::Rename { from, to })),
+                None => Ok(None),
+            }
+        }
+    }
+}
+
+/// The operation of a job that a value is.
+#[tactic(auto, unfolding(crate::specs::Operations::operation))]
 fn operation(alloc: Global, value: &Value) -> Result<Op, ReadError>
     ensures { Gives (λ op. op) result (operation (view value.now)) }
 {
@@ -99,8 +123,21 @@ fn operation(alloc: Global, value: &Value) -> Result<Op, ReadError>
         return Err(ReadError::Fault(Fault::BadField(Field::Ops)));
     }
     let word = lent_text(Field::Do, value)?;
-    let verb = file_verb(verb_of(word))?;
-    operation_by(alloc, verb, value)
+    match verb_of(word) {
+        Some(Verb::File(FileVerb::At(verb))) => {
+            let path = path(alloc, Field::Path, value)?;
+            operation_at(alloc, verb, path, value)
+        }
+        Some(Verb::File(FileVerb::Link)) => Ok(Op::Link {
+            from: path(alloc, Field::From, value)?,
+            to: path(alloc, Field::To, value)?,
+        }),
+        Some(Verb::File(FileVerb::Rename)) => Ok(Op::Rename {
+            from: path(alloc, Field::From, value)?,
+            to: path(alloc, Field::To, value)?,
+        }),
+        _ => Err(ReadError::Fault(Fault::BadField(Field::Do))),
+    }
 }
 
 /// The operations that values are, each in turn.
@@ -114,16 +151,18 @@ fn operations_in(alloc: Global, values: &[Value]) -> Result<Sequence<Op>, ReadEr
     Ok(ops)
 }
 
-/// The operations of a job (`ops`): an array of objects, each with its word in `do` and its own fields.
+/// The operations of a job (`ops`): an array of objects, each with its word in `do` and the fields of that file
+/// command, but for its snapshot and its extra amount.
 ///
 /// `BadField(Ops)` where the field is absent, or no array. Then, operation by operation: `BadField(Ops)` where
 /// it is no object, `BadField(Do)` where its word is none of a file command, and the first of its fields that
 /// is absent without a default, of a wrong kind, or a path's text that is no path. `OutOfMemory` where memory
 /// was refused. The memory and the cost grow with the line, and a `fill` takes as many bytes as it asks for.
-#[tactic(auto, unfolding(crate::specs::JobOperations::operations))]
+#[tactic(auto, unfolding(crate::specs::Operations::operations))]
 pub fn operations(alloc: Global, line: &Value) -> Result<Sequence<Op>, ReadError>
     ensures { Gives (λ ops. ops) result (operations (view line.now)) }
 {
-    let values = fields::operations(line)?;
-    operations_in(alloc, values)
+    let found = find(Field::Ops, line).ok_or(Fault::BadField(Field::Ops))?;
+    let values = found.as_array().ok_or(Fault::BadField(Field::Ops))?;
+    operations_in(alloc, values.as_slice())
 }

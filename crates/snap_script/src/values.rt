@@ -1,10 +1,10 @@
 // The JSON values of answers.
-ghost use Rattle.std.specs.Prelude.{◌≡◌, Some, IfOk, OnOk, map};
+ghost use Rattle.std.specs.Prelude.{◌≡◌, IfOk, OnOk, map};
 ghost use Rattle.std.specs.Option.{option_map, option_map_or};
 ghost use Rattle.serde_json.specs.Data.{string, array, object, no_members, put};
 ghost use Rattle.serde_json.specs.View.{view, items_of, members_view};
 ghost use Rattle.snap_call.specs.declared.reply.Reply.TheVariants as replies;
-ghost use Rattle.snap_script.specs.Answers.{answer_data, error_data, error_name, entry_data, info_data, members_with, node_data, number_data, refusal_name, reply_data, shown_data, text_data, usage_data, mount_data};
+ghost use Rattle.snap_script.specs.Answers.{only, answer_data, error_data, error_name, entry_data, info_data, members_with, node_data, number_data, refusal_name, reply_data, shown_data, text_data, usage_data, mount_data};
 ghost use Rattle.snap_script.specs.declared.answer.Answer.TheVariants as answers;
 
 use crate::answer::{Shown, TreeNode};
@@ -18,8 +18,17 @@ use snap_record::{Info, Labels, Text};
 use snap_usage::Usage;
 use std::alloc::{AllocError, Global};
 
+/// An object of one member.
+pub(crate) fn only(alloc: Global, key: &str, value: Value) -> Result<Value, AllocError>
+    ensures { IfOk result (λ v. view v ≡ object (only key.now (view value))) }
+{
+    let mut members = Map::new(alloc);
+    serde_json::put(&mut members, alloc, key, value)?;
+    Ok(Value::Object(members))
+}
+
 /// Blocks, then inodes.
-fn usage_value(alloc: Global, usage: Usage) -> Result<Value, AllocError>
+pub(crate) fn usage_value(alloc: Global, usage: Usage) -> Result<Value, AllocError>
     ensures { IfOk result (λ v. view v ≡ usage_data usage) }
 {
     json!(in alloc; [usage.blocks, usage.inodes])
@@ -137,18 +146,6 @@ fn mounts_value(alloc: Global, mounts: &[Mount]) -> Result<Value, AllocError>
     Ok(Value::Array(items))
 }
 
-fn done(alloc: Global) -> Result<Value, AllocError>
-    ensures { IfOk result (λ v. view v ≡ reply_data replies.Done) }
-{
-    json!(in alloc; {"ok": true})
-}
-
-pub(crate) fn session(alloc: Global, number: u64) -> Result<Value, AllocError>
-    ensures { IfOk result (λ v. view v ≡ answer_data (answers.Session number)) }
-{
-    json!(in alloc; {"session": number})
-}
-
 fn prepared(alloc: Global, id: u32, slot: u64, chain: &[u32]) -> Result<Value, AllocError>
     ensures { IfOk result (λ v. view v ≡ reply_data (replies.Prepared id slot chain.now)) }
 {
@@ -161,13 +158,6 @@ fn viewed(alloc: Global, id: u32, chain: &[u32]) -> Result<Value, AllocError>
 {
     let chain = ids_value(alloc, chain)?;
     json!(in alloc; {"chain": chain, "id": id})
-}
-
-pub(crate) fn share(alloc: Global, share: Usage) -> Result<Value, AllocError>
-    ensures { IfOk result (λ v. view v ≡ answer_data (answers.Share share)) }
-{
-    let share = usage_value(alloc, share)?;
-    json!(in alloc; {"share": share})
 }
 
 fn committed(alloc: Global, id: u32, usage: Usage) -> Result<Value, AllocError>
@@ -183,41 +173,6 @@ fn swept(alloc: Global, removed: &[Text], leases: u64, freed: Usage) -> Result<V
     let freed = usage_value(alloc, freed)?;
     let removed = texts_value(alloc, removed)?;
     json!(in alloc; {"freed": freed, "leases": leases, "removed": removed})
-}
-
-fn freed(alloc: Global, freed: Usage) -> Result<Value, AllocError>
-    ensures { IfOk result (λ v. view v ≡ reply_data (replies.Removed freed)) }
-{
-    let freed = usage_value(alloc, freed)?;
-    json!(in alloc; {"freed": freed})
-}
-
-fn info(alloc: Global, info: &Info) -> Result<Value, AllocError>
-    ensures { IfOk result (λ v. view v ≡ reply_data (replies.Info info.now)) }
-{
-    let info = info_value(alloc, info)?;
-    json!(in alloc; {"info": info})
-}
-
-fn usage(alloc: Global, usage: Usage) -> Result<Value, AllocError>
-    ensures { IfOk result (λ v. view v ≡ reply_data (replies.Usage usage)) }
-{
-    let usage = usage_value(alloc, usage)?;
-    json!(in alloc; {"usage": usage})
-}
-
-fn mounts(alloc: Global, mounts: &[Mount]) -> Result<Value, AllocError>
-    ensures { IfOk result (λ v. view v ≡ reply_data (replies.Mounts mounts.now)) }
-{
-    let mounts = mounts_value(alloc, mounts)?;
-    json!(in alloc; {"mounts": mounts})
-}
-
-fn infos(alloc: Global, infos: &[Info]) -> Result<Value, AllocError>
-    ensures { IfOk result (λ v. view v ≡ reply_data (replies.Page infos.now)) }
-{
-    let infos = infos_value(alloc, infos)?;
-    json!(in alloc; {"infos": infos})
 }
 
 pub(crate) fn changed(alloc: Global, count: Usage, share: Usage) -> Result<Value, AllocError>
@@ -242,7 +197,7 @@ fn node_value(alloc: Global, node: &TreeNode) -> Result<Value, AllocError>
     })
 }
 
-fn nodes_value(alloc: Global, nodes: &[TreeNode]) -> Result<Value, AllocError>
+pub(crate) fn nodes_value(alloc: Global, nodes: &[TreeNode]) -> Result<Value, AllocError>
     ensures { IfOk result (λ v. view v ≡ array (items_of (map node_data nodes.now))) }
 {
     let mut items = Vec::new(alloc);
@@ -250,13 +205,6 @@ fn nodes_value(alloc: Global, nodes: &[TreeNode]) -> Result<Value, AllocError>
         items.push(node_value(alloc, node)?)?;
     }
     Ok(Value::Array(items))
-}
-
-pub(crate) fn tree(alloc: Global, nodes: &[TreeNode]) -> Result<Value, AllocError>
-    ensures { IfOk result (λ v. view v ≡ answer_data (answers.Tree nodes.now)) }
-{
-    let nodes = nodes_value(alloc, nodes)?;
-    json!(in alloc; {"tree": nodes})
 }
 
 /// Adds a member, where there is one.
@@ -320,7 +268,7 @@ fn entry_value(alloc: Global, entry: &EntryInfo) -> Result<Value, AllocError>
     Ok(Value::Object(members))
 }
 
-fn entries_value(alloc: Global, entries: &[EntryInfo]) -> Result<Value, AllocError>
+pub(crate) fn entries_value(alloc: Global, entries: &[EntryInfo]) -> Result<Value, AllocError>
     ensures { IfOk result (λ v. view v ≡ array (items_of (map entry_data entries.now))) }
 {
     let mut items = Vec::new(alloc);
@@ -328,13 +276,6 @@ fn entries_value(alloc: Global, entries: &[EntryInfo]) -> Result<Value, AllocErr
         items.push(entry_value(alloc, entry)?)?;
     }
     Ok(Value::Array(items))
-}
-
-pub(crate) fn journal(alloc: Global, entries: &[EntryInfo]) -> Result<Value, AllocError>
-    ensures { IfOk result (λ v. view v ≡ answer_data (answers.Journal entries.now)) }
-{
-    let entries = entries_value(alloc, entries)?;
-    json!(in alloc; {"journal": entries})
 }
 
 pub(crate) fn report(
@@ -374,31 +315,21 @@ fn text_value(alloc: Global, bytes: &[u8]) -> Result<Value, AllocError>
     }
 }
 
-fn shown_value(alloc: Global, shown: &Shown) -> Result<Value, AllocError>
-    ensures { IfOk result (λ v. view v ≡ shown_data (Some shown.now)) }
+/// What is seen, or null.
+pub(crate) fn shown_value(alloc: Global, shown: &Option<Shown>) -> Result<Value, AllocError>
+    ensures { IfOk result (λ v. view v ≡ shown_data shown.now) }
 {
     match shown {
-        Shown::Dir { mode } => json!(in alloc; {"dir": *mode}),
-        Shown::File { mode, size } => json!(in alloc; {"file": *mode, "size": *size}),
-        Shown::Symlink { target } => {
-            let target = text_value(alloc, target.as_slice())?;
-            json!(in alloc; {"symlink": target})
+        None => Ok(Value::Null),
+        Some(Shown::Dir { mode }) => only(alloc, "dir", Value::from(*mode)),
+        Some(Shown::File { mode, size }) => json!(in alloc; {"file": *mode, "size": *size}),
+        Some(Shown::Symlink { target }) => {
+            only(alloc, "symlink", text_value(alloc, target.as_slice())?)
         }
     }
 }
 
-/// What is seen, or null.
-pub(crate) fn seen(alloc: Global, shown: &Option<Shown>) -> Result<Value, AllocError>
-    ensures { IfOk result (λ v. view v ≡ answer_data (answers.Seen shown.now)) }
-{
-    let shown = match shown {
-        Some(shown) => shown_value(alloc, shown)?,
-        None => Value::Null,
-    };
-    json!(in alloc; {"seen": shown})
-}
-
-fn names_value(alloc: Global, names: &[Name]) -> Result<Value, AllocError>
+pub(crate) fn names_value(alloc: Global, names: &[Name]) -> Result<Value, AllocError>
     ensures { IfOk result (λ v. view v ≡ array (items_of (map string names.now))) }
 {
     let mut items = Vec::new(alloc);
@@ -408,25 +339,12 @@ fn names_value(alloc: Global, names: &[Name]) -> Result<Value, AllocError>
     Ok(Value::Array(items))
 }
 
-pub(crate) fn names(alloc: Global, names: &[Name]) -> Result<Value, AllocError>
-    ensures { IfOk result (λ v. view v ≡ answer_data (answers.Names names.now)) }
-{
-    let names = names_value(alloc, names)?;
-    json!(in alloc; {"names": names})
-}
-
 /// A file's first bytes in lower hexadecimal, and how many it has.
 pub(crate) fn head(alloc: Global, head: &[u8], size: u64) -> Result<Value, AllocError>
     ensures { IfOk result (λ v. view v ≡ answer_data (answers.Head head.now size)) }
 {
     let head = hex::encode(alloc, head)?;
     json!(in alloc; {"head": head.as_str(), "size": size})
-}
-
-pub(crate) fn path(alloc: Global, path: &Path) -> Result<Value, AllocError>
-    ensures { IfOk result (λ v. view v ≡ answer_data (answers.Path path.now)) }
-{
-    json!(in alloc; {"path": path.as_str()})
 }
 
 /// The name of a refusal in answers.
@@ -504,16 +422,18 @@ pub(crate) fn reply(alloc: Global, reply: &Reply) -> Result<Value, AllocError>
     ensures { IfOk result (λ v. view v ≡ reply_data reply.now) }
 {
     match reply {
-        Reply::Opened | Reply::Trimmed | Reply::Done => done(alloc),
+        Reply::Opened | Reply::Trimmed | Reply::Done => only(alloc, "ok", Value::Bool(true)),
         Reply::Prepared { id, slot, chain } => prepared(alloc, *id, *slot, chain.as_slice()),
         Reply::Viewed { id, chain } => viewed(alloc, *id, chain.as_slice()),
-        Reply::Charged { now } => share(alloc, *now),
+        Reply::Charged { now } => only(alloc, "share", usage_value(alloc, *now)?),
         Reply::Committed { id, usage } => committed(alloc, *id, *usage),
-        Reply::Discarded(amount) | Reply::Removed(amount) => freed(alloc, *amount),
-        Reply::Info(own) => info(alloc, own),
-        Reply::Usage(amount) => usage(alloc, *amount),
-        Reply::Mounts(own) => mounts(alloc, own.as_slice()),
-        Reply::Page(own) => infos(alloc, own.as_slice()),
+        Reply::Discarded(amount) | Reply::Removed(amount) => {
+            only(alloc, "freed", usage_value(alloc, *amount)?)
+        }
+        Reply::Info(info) => only(alloc, "info", info_value(alloc, info)?),
+        Reply::Usage(amount) => only(alloc, "usage", usage_value(alloc, *amount)?),
+        Reply::Mounts(own) => only(alloc, "mounts", mounts_value(alloc, own.as_slice())?),
+        Reply::Page(own) => only(alloc, "infos", infos_value(alloc, own.as_slice())?),
         Reply::Swept {
             removed,
             leases,

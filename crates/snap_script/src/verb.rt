@@ -1,33 +1,19 @@
 ghost use Rattle.std.specs.Prelude.{◌≡◌, map};
 ghost use Rattle.std.specs.Map.{lookup};
 ghost use Rattle.std.specs.Str.{bytes_eq};
-ghost use Rattle.snap_script.specs.Commands.{verb_of};
+ghost use Rattle.snap_history.specs.Entries.{call_word};
+ghost use Rattle.snap_script.specs.Words.{verb_of};
 
 use crate::command::Lookup;
+use snap_history::CallKind;
 
 /// The commands by their words.
 #[derive(Clone, Copy)]
 pub(crate) enum Verb {
     Open,
-    Session,
     Reopen,
-    Prepare,
-    View,
-    Charge,
-    Trim,
-    Commit,
-    Discard,
-    Remove,
-    Stat,
-    Update,
-    Usage,
-    Mounts,
-    Walk,
-    Limit,
-    LeaseCreate,
-    LeaseAdd,
-    LeaseRelease,
-    Sweep,
+    /// The word is that of the call in a journal.
+    Call(CallKind),
     File(FileVerb),
     Lookup(Lookup),
     Tree,
@@ -38,49 +24,60 @@ pub(crate) enum Verb {
 /// The file commands by their words.
 #[derive(Clone, Copy)]
 pub(crate) enum FileVerb {
+    /// At one path.
+    At(PathVerb),
+    Link,
+    Rename,
+}
+
+/// The file commands at one path by their words.
+#[derive(Clone, Copy)]
+pub(crate) enum PathVerb {
     Mkdir,
     Create,
     Write,
     Truncate,
     SetMode,
     Symlink,
-    Link,
     Unlink,
     Rmdir,
-    Rename,
 }
 
-/// The words of the commands.
-const WORDS: [(&str, Verb); 37] = [
+/// The calls that are commands.
+const CALLS: [CallKind; 18] = [
+    CallKind::Session,
+    CallKind::Prepare,
+    CallKind::View,
+    CallKind::Charge,
+    CallKind::Trim,
+    CallKind::Commit,
+    CallKind::Discard,
+    CallKind::Remove,
+    CallKind::Stat,
+    CallKind::Update,
+    CallKind::Usage,
+    CallKind::Mounts,
+    CallKind::Walk,
+    CallKind::Limit,
+    CallKind::LeaseCreate,
+    CallKind::LeaseAdd,
+    CallKind::LeaseRelease,
+    CallKind::Sweep,
+];
+
+/// The words of the other commands.
+const WORDS: [(&str, Verb); 19] = [
     ("open", Verb::Open),
-    ("session", Verb::Session),
     ("reopen", Verb::Reopen),
-    ("prepare", Verb::Prepare),
-    ("view", Verb::View),
-    ("charge", Verb::Charge),
-    ("trim", Verb::Trim),
-    ("commit", Verb::Commit),
-    ("discard", Verb::Discard),
-    ("remove", Verb::Remove),
-    ("stat", Verb::Stat),
-    ("update", Verb::Update),
-    ("usage", Verb::Usage),
-    ("mounts", Verb::Mounts),
-    ("walk", Verb::Walk),
-    ("limit", Verb::Limit),
-    ("lease_create", Verb::LeaseCreate),
-    ("lease_add", Verb::LeaseAdd),
-    ("lease_release", Verb::LeaseRelease),
-    ("sweep", Verb::Sweep),
-    ("mkdir", Verb::File(FileVerb::Mkdir)),
-    ("create", Verb::File(FileVerb::Create)),
-    ("write", Verb::File(FileVerb::Write)),
-    ("truncate", Verb::File(FileVerb::Truncate)),
-    ("setmode", Verb::File(FileVerb::SetMode)),
-    ("symlink", Verb::File(FileVerb::Symlink)),
+    ("mkdir", Verb::File(FileVerb::At(PathVerb::Mkdir))),
+    ("create", Verb::File(FileVerb::At(PathVerb::Create))),
+    ("write", Verb::File(FileVerb::At(PathVerb::Write))),
+    ("truncate", Verb::File(FileVerb::At(PathVerb::Truncate))),
+    ("setmode", Verb::File(FileVerb::At(PathVerb::SetMode))),
+    ("symlink", Verb::File(FileVerb::At(PathVerb::Symlink))),
+    ("unlink", Verb::File(FileVerb::At(PathVerb::Unlink))),
+    ("rmdir", Verb::File(FileVerb::At(PathVerb::Rmdir))),
     ("link", Verb::File(FileVerb::Link)),
-    ("unlink", Verb::File(FileVerb::Unlink)),
-    ("rmdir", Verb::File(FileVerb::Rmdir)),
     ("rename", Verb::File(FileVerb::Rename)),
     ("look", Verb::Lookup(Lookup::Look)),
     ("list", Verb::Lookup(Lookup::List)),
@@ -90,6 +87,19 @@ const WORDS: [(&str, Verb); 37] = [
     ("journal", Verb::Journal),
     ("report", Verb::Report),
 ];
+
+/// The call among these that has the word.
+fn call_in(mut calls: &[CallKind], word: &str) -> Option<CallKind>
+    ensures { result ≡ lookup (bytes_eq word.now) (map (λ call. (call_word call, call)) calls.entry.now) }
+{
+    while let [call, rest @ ..] = calls {
+        if word == call.as_str() {
+            return Some(*call);
+        }
+        calls = rest;
+    }
+    None
+}
 
 /// The verb that a table has for the word.
 fn verb_in(mut table: &[(&str, Verb)], word: &str) -> Option<Verb>
@@ -105,9 +115,12 @@ fn verb_in(mut table: &[(&str, Verb)], word: &str) -> Option<Verb>
 }
 
 /// The verb of a word.
-#[tactic(auto, unfolding(crate::specs::Commands::verb_of))]
+#[tactic(auto, unfolding(crate::specs::Words::verb_of))]
 pub(crate) fn verb_of(word: &str) -> Option<Verb>
     ensures { result ≡ verb_of word.now }
 {
-    verb_in(&WORDS, word)
+    match call_in(&CALLS, word) {
+        Some(call) => Some(Verb::Call(call)),
+        None => verb_in(&WORDS, word),
+    }
 }

@@ -6,6 +6,7 @@ use Rattle.snap_path.specs.Text.{Names}
 use Rattle.snap_layer.specs.Tree.{Tree}
 use Rattle.snap_usage.specs.declared.usage.Usage.{Usage}
 use Rattle.snap_merge.specs.declared.error.FsError.{FsError}
+use Rattle.snap_merge.specs.declared.error.FsError.TheVariants.{BadPath}
 use Rattle.snap_merge.specs.Objects.{Object, dir, file, symlink, seen}
 use Rattle.snap_merge.specs.Listing.{listing}
 use Rattle.snap_merge.specs.Reading.{reading}
@@ -39,7 +40,6 @@ use Rattle.snap_script.specs.declared.command.Command.{Command}
 use Rattle.snap_script.specs.declared.command.Command.TheVariants as commands
 use Rattle.snap_script.specs.declared.command.Lookup.{Lookup}
 use Rattle.snap_script.specs.declared.command.Lookup.TheVariants as lookups
-use Rattle.snap_script.specs.Operations.{path_of, operation_of}
 use Rattle.snap_session.specs.Opened.{OpenedValue, new_world, share_at, count_at, totals_of}
 use Rattle.snap_session.specs.Journal.{journal_of}
 use Rattle.snap_session.specs.Tree.{tree}
@@ -96,10 +96,10 @@ abbrev pub tried : ℕ → ℕ → ℕ → Step → Usage → WorldValue × Step
 tried session slot id operation extra after = option_map_or (λ need. retried session slot operation (move after.0 (Locked session (calls.Charge slot id need (wanted need extra)))))
     (need_of after.1) (telling session slot after)
 
--- an operation, once its path is read
-unfoldable pub performed : ℕ → ℕ → ℕ → Result Op FsError → Usage → WorldValue → WorldValue × Answer
-performed session slot id (Ok op) extra w = tried session slot id (Hand slot op) extra (move w (Hand slot op))
-performed session slot id (Err e) extra w = (w, answers.Failed e)
+-- an operation; there is none where the text of a path was no path
+unfoldable pub performed : ℕ → ℕ → ℕ → Option Op → Usage → WorldValue → WorldValue × Answer
+performed session slot id (Some op) extra w = tried session slot id (Hand slot op) extra (move w (Hand slot op))
+performed session slot id None extra w = (w, answers.Failed BadPath)
 
 -- ---- what a snapshot shows
 
@@ -121,9 +121,10 @@ looked_up lookups.List layers path = found_or_failed answers.Names (listing laye
 looked_up lookups.Read layers path = found_or_failed (λ bytes. answers.Head (take 16 bytes) (length bytes)) (reading layers path)
 looked_up lookups.Resolve layers path = found_or_failed answers.Path (resolution layers path)
 
--- a lookup in the layers of a snapshot, or why there are none; no step is made
-abbrev pub lookup : Lookup → Result Names FsError → Result (List Tree) Refusal → Answer
-lookup asked path (Ok layers) = found_or_failed (looked_up asked layers) path
+-- a lookup in the layers of a snapshot, or why there are none; there is no path where its text was none. No step is made
+abbrev pub lookup : Lookup → Option Names → Result (List Tree) Refusal → Answer
+lookup asked (Some path) (Ok layers) = looked_up asked layers path
+lookup asked None (Ok layers) = answers.Failed BadPath
 lookup asked path (Err why) = answers.Reply (replies.Refused why)
 
 -- ---- the next round
@@ -162,8 +163,8 @@ on_store s n (commands.Charge namespace key need want) = on_key s.world namespac
 on_store s n (commands.Trim namespace key) = on_key s.world namespace key (λ slot id. stepped n slot (Locked n (calls.Trim slot id)) s.world)
 on_store s n (commands.Commit namespace key name lease) = on_key s.world namespace key (λ slot id. stepped n slot (Locked n (calls.Commit slot id name lease)) s.world)
 on_store s n (commands.Discard namespace key) = on_key s.world namespace key (λ slot id. stepped n slot (Locked n (calls.Discard slot id)) s.world)
-on_store s n (commands.File namespace key operation extra) = on_key s.world namespace key (λ slot id. performed n slot id (operation_of operation) extra s.world)
-on_store s n (commands.Lookup namespace key asked path) = (s.world, lookup asked (path_of path) (stack_of s.world namespace key))
+on_store s n (commands.File namespace key operation extra) = on_key s.world namespace key (λ slot id. performed n slot id operation extra s.world)
+on_store s n (commands.Lookup namespace key asked path) = (s.world, lookup asked path (stack_of s.world namespace key))
 on_store s n (commands.Tree namespace) = (s.world, tree s namespace)
 on_store s n (commands.Journal namespace after most) = (s.world, journal_of s.world namespace after most)
 on_store s n commands.Report = (s.world, report s)

@@ -1,8 +1,7 @@
 // File commands, with the charge that they need.
-ghost use Rattle.std.specs.Prelude.{◌≡◌, Err, IfOk};
+ghost use Rattle.std.specs.Prelude.{◌≡◌, IfOk};
 ghost use Rattle.snap_world.specs.declared.step.Step.TheVariants.{Hand};
 ghost use Rattle.snap_world.specs.Move.{move};
-ghost use Rattle.snap_script.specs.Operations.{operation_of};
 ghost use Rattle.snap_session.specs.Commands.{on_key, need_of, is_charged, tried, performed};
 
 use crate::calls::found;
@@ -12,11 +11,10 @@ use snap_call::{Call, Reply};
 use snap_ledger::StoreName;
 use snap_merge::FsError;
 use snap_record::Text;
-use snap_script::{Answer, FileCommand};
+use snap_script::Answer;
 use snap_upper::Op;
 use snap_usage::Usage;
 use snap_world::{Answer as StepAnswer, NoMemory, World};
-use std::alloc::Global;
 
 // The charge that the operation needs.
 fn need_of(answer: &StepAnswer) -> Option<Usage>
@@ -66,37 +64,21 @@ fn tried<N: StoreName>(
 }
 
 #[tactic(auto, unfolding(crate::specs::Commands::performed))]
-fn performed<N: StoreName>(
-    alloc: Global,
-    world: &mut World<N>,
-    n: u64,
-    slot: u64,
-    id: u32,
-    operation: FileCommand,
-    extra: Usage,
-) -> Result<Answer, NoMemory>
-    ensures { IfOk result (λ answer. performed n slot id (operation_of operation) extra world.old ≡ (world.new, answer)) }
-{
-    match operation.into_operation(alloc) {
-        Ok(op) => tried(world, n, slot, id, &op, extra),
-        Err(FsError::OutOfMemory(no_memory)) => Err(no_memory),
-        Err(error) => Ok(Answer::Failed(error)),
-    }
-}
-
 pub(crate) fn file<N: StoreName>(
-    alloc: Global,
     world: &mut World<N>,
     n: u64,
     namespace: Text,
     key: Text,
-    operation: FileCommand,
+    operation: Option<Op>,
     extra: Usage,
 ) -> Result<Answer, NoMemory>
-    ensures { IfOk result (λ answer. on_key world.old namespace key (λ slot id. performed n slot id (operation_of operation) extra world.old) ≡ (world.new, answer)) }
+    ensures { IfOk result (λ answer. on_key world.old namespace key (λ slot id. performed n slot id operation extra world.old) ≡ (world.new, answer)) }
 {
     match found(world, namespace, key) {
-        Ok((slot, id)) => performed(alloc, world, n, slot, id, operation, extra),
+        Ok((slot, id)) => match operation {
+            Some(op) => tried(world, n, slot, id, &op, extra),
+            None => Ok(Answer::Failed(FsError::BadPath)),
+        },
         Err(why) => Ok(Answer::refused(why)),
     }
 }

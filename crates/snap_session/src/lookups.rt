@@ -1,9 +1,7 @@
 // What a snapshot shows at a path.
 ghost use Rattle.std.specs.Prelude.{◌≡◌, IfOk, length, take};
 ghost use Rattle.snap_merge.specs.Objects.{object};
-ghost use Rattle.snap_script.specs.declared.command.Lookup.TheVariants as lookups;
 ghost use Rattle.snap_script.specs.declared.answer.Answer.TheVariants as answers;
-ghost use Rattle.snap_script.specs.Operations.{path_of};
 ghost use Rattle.snap_world.specs.Stacks.{stack_of};
 ghost use Rattle.snap_session.specs.Commands.{shown_of, looked_up, lookup};
 
@@ -12,7 +10,7 @@ use snap_ledger::StoreName;
 use snap_merge::{FsError, Seen, Stack};
 use snap_path::Path;
 use snap_record::{Sequence, Text};
-use snap_script::{Answer, Lookup, Shown, path_of};
+use snap_script::{Answer, Lookup, Shown};
 use snap_world::{NoMemory, World};
 use std::alloc::{AllocError, Global};
 
@@ -35,25 +33,6 @@ fn shown_of(alloc: Global, seen: Seen<'_>) -> Result<Shown, AllocError>
     }
 }
 
-fn look(alloc: Global, stack: &Stack<'_>, path: &Path) -> Result<Answer, NoMemory>
-    ensures { IfOk result (λ answer. answer ≡ looked_up lookups.Look stack.now path.now) }
-{
-    match stack.look(path) {
-        Some(seen) => Ok(Answer::Seen(Some(shown_of(alloc, seen)?))),
-        None => Ok(Answer::Seen(None)),
-    }
-}
-
-fn list(alloc: Global, stack: &Stack<'_>, path: &Path) -> Result<Answer, NoMemory>
-    ensures { IfOk result (λ answer. answer ≡ looked_up lookups.List stack.now path.now) }
-{
-    match stack.list(alloc, path) {
-        Ok(names) => Ok(Answer::Names(Sequence::from(names))),
-        Err(FsError::OutOfMemory(no_memory)) => Err(no_memory),
-        Err(error) => Ok(Answer::Failed(error)),
-    }
-}
-
 // The file's first bytes, and how many it has.
 fn head_of(alloc: Global, bytes: &[u8]) -> Result<Answer, AllocError>
     ensures { IfOk result (λ answer. answer ≡ answers.Head (take 16 bytes.now) (length bytes.now)) }
@@ -65,25 +44,6 @@ fn head_of(alloc: Global, bytes: &[u8]) -> Result<Answer, AllocError>
     })
 }
 
-fn read(alloc: Global, stack: &Stack<'_>, path: &Path) -> Result<Answer, NoMemory>
-    ensures { IfOk result (λ answer. answer ≡ looked_up lookups.Read stack.now path.now) }
-{
-    match stack.read(path) {
-        Ok(bytes) => Ok(head_of(alloc, bytes)?),
-        Err(error) => Ok(Answer::Failed(error)),
-    }
-}
-
-fn resolve(alloc: Global, stack: &Stack<'_>, path: &Path) -> Result<Answer, NoMemory>
-    ensures { IfOk result (λ answer. answer ≡ looked_up lookups.Resolve stack.now path.now) }
-{
-    match stack.resolve(alloc, path) {
-        Ok(found) => Ok(Answer::Path(found)),
-        Err(FsError::OutOfMemory(no_memory)) => Err(no_memory),
-        Err(error) => Ok(Answer::Failed(error)),
-    }
-}
-
 fn looked_up(
     alloc: Global,
     lookup: Lookup,
@@ -93,10 +53,24 @@ fn looked_up(
     ensures { IfOk result (λ answer. answer ≡ looked_up lookup stack.now path.now) }
 {
     match lookup {
-        Lookup::Look => look(alloc, stack, path),
-        Lookup::List => list(alloc, stack, path),
-        Lookup::Read => read(alloc, stack, path),
-        Lookup::Resolve => resolve(alloc, stack, path),
+        Lookup::Look => match stack.look(path) {
+            Some(seen) => Ok(Answer::Seen(Some(shown_of(alloc, seen)?))),
+            None => Ok(Answer::Seen(None)),
+        },
+        Lookup::List => match stack.list(alloc, path) {
+            Ok(names) => Ok(Answer::Names(Sequence::from(names))),
+            Err(FsError::OutOfMemory(no_memory)) => Err(no_memory),
+            Err(error) => Ok(Answer::Failed(error)),
+        },
+        Lookup::Read => match stack.read(path) {
+            Ok(bytes) => Ok(head_of(alloc, bytes)?),
+            Err(error) => Ok(Answer::Failed(error)),
+        },
+        Lookup::Resolve => match stack.resolve(alloc, path) {
+            Ok(found) => Ok(Answer::Path(found)),
+            Err(FsError::OutOfMemory(no_memory)) => Err(no_memory),
+            Err(error) => Ok(Answer::Failed(error)),
+        },
     }
 }
 
@@ -106,17 +80,16 @@ pub(crate) fn lookup<N: StoreName>(
     namespace: Text,
     key: Text,
     asked: Lookup,
-    path: Text,
+    path: Option<Path>,
 ) -> Result<Answer, NoMemory>
-    ensures { IfOk result (λ answer. answer ≡ lookup asked (path_of path) (stack_of world.now namespace key)) }
+    ensures { IfOk result (λ answer. answer ≡ lookup asked path (stack_of world.now namespace key)) }
 {
     let stack = match world.stack(namespace.as_str(), key.as_str()) {
         Ok(stack) => stack,
         Err(why) => return Ok(Answer::refused(why)),
     };
-    match path_of(alloc, &path) {
-        Ok(path) => looked_up(alloc, asked, &stack, &path),
-        Err(FsError::OutOfMemory(no_memory)) => Err(no_memory),
-        Err(error) => Ok(Answer::Failed(error)),
+    match path {
+        Some(path) => looked_up(alloc, asked, &stack, &path),
+        None => Ok(Answer::Failed(FsError::BadPath)),
     }
 }

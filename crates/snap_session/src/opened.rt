@@ -104,7 +104,7 @@ fn on_store<N: StoreName>(
             key,
             operation,
             extra,
-        } => file(alloc, world, n, namespace, key, operation, extra),
+        } => file(world, n, namespace, key, operation, extra),
         Command::Lookup {
             namespace,
             key,

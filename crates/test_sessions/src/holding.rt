@@ -7,7 +7,7 @@ use snap_book::{Held, Reply};
 use snap_ledger::StoreName;
 use snap_merge::FsError;
 use snap_record::Text;
-use snap_script::{Answer, FileCommand};
+use snap_script::Answer;
 use snap_upper::Op;
 use snap_usage::Usage;
 use snap_writers::run;
@@ -121,11 +121,13 @@ impl<'a, N: StoreName, R: Wait> Round<'a, N, R> {
         n: u64,
         namespace: &str,
         key: &str,
-        operation: FileCommand,
+        operation: Option<Op>,
         extra: Usage,
     ) -> Result<Answer, Refused> {
         let place = self.found(namespace, key)?;
-        let op = operation.into_operation(self.alloc)?;
-        self.apply(n, place, &op, extra)
+        match operation {
+            Some(op) => self.apply(n, place, &op, extra),
+            None => Err(Refused::File(FsError::BadPath)),
+        }
     }
 }

@@ -5,10 +5,10 @@ use crate::round::Round;
 use snap_book::Held;
 use snap_layer::Bytes;
 use snap_ledger::StoreName;
-use snap_merge::{Seen, Stack};
+use snap_merge::{FsError, Seen, Stack};
 use snap_path::Path;
-use snap_record::{Sequence, Text};
-use snap_script::{Answer, Lookup, Shown, path_of};
+use snap_record::Sequence;
+use snap_script::{Answer, Lookup, Shown};
 use std::alloc::{AllocError, Global};
 use std::sync::Wait;
 
@@ -81,10 +81,12 @@ impl<'a, N: StoreName, R: Wait> Round<'a, N, R> {
         namespace: &str,
         key: &str,
         asked: Lookup,
-        path: &Text,
+        path: &Option<Path>,
     ) -> Result<Answer, Refused> {
         let stack = self.stack(namespace, key)?;
-        let path = path_of(self.alloc, path)?;
-        looked_up(self.alloc, asked, &stack, &path)
+        match path {
+            Some(path) => looked_up(self.alloc, asked, &stack, path),
+            None => Err(Refused::File(FsError::BadPath)),
+        }
     }
 }

@@ -1,8 +1,7 @@
 // Streams that fail or have no end, and what a program that ends early is told.
-use crate::setup::{equal, text};
+use crate::setup::equal;
 use snap_jobs::{JobsStop, write_jobs_within};
-use snap_merge::FsError;
-use snap_script::{Field, Shortage, path_of};
+use snap_script::{Field, Shortage};
 use snap_session::{Stop, replay, replay_within};
 use std::io;
 use std::io::BufWriter;
@@ -126,8 +125,7 @@ fn streams_without_end(rt: HostRuntime) {
     equal(&rt, "a read too many", (ended, output.as_slice()), wanted);
 }
 
-// The statuses of want of memory and of a store that isn't closed, a field's name, and a path that ends with a
-// slash.
+// The statuses of want of memory and of a store that isn't closed, and a field's name.
 #[test]
 fn statuses_and_names(rt: HostRuntime) {
     let memory = Stop::OutOfMemory(Shortage::Library).status();
@@ -135,7 +133,4 @@ fn statuses_and_names(rt: HostRuntime) {
     prove!(memory == 4 && open == 5);
     let name = Field::Namespace.name();
     prove!(name == "ns");
-    let path = path_of(rt.alloc(), &text(&rt, rt.alloc(), "/etc/")).err();
-    let refused = matches!(path, Some(FsError::BadPath | FsError::OutOfMemory(_)));
-    prove!(refused);
 }

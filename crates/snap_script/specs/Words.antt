@@ -1,0 +1,55 @@
+-- The words of the commands; cited by the public clauses of `read_line` and `operations` through Lines.antt and
+-- Operations.antt.
+-- Cited by `read_open`, `read_line`, `operations` and others.
+use Rattle.std.specs.Prelude.{List, ℕ, [], ◌∷◌, Option, option_map, codes, map}
+use Rattle.std.specs.Option.{option_or}
+use Rattle.std.specs.Map.{lookup}
+use Rattle.std.specs.Str.{bytes_eq}
+use Rattle.snap_history.specs.declared.kind.CallKind.{CallKind}
+use Rattle.snap_history.specs.declared.kind.CallKind.TheVariants as kinds
+use Rattle.snap_history.specs.Entries.{call_word}
+use Rattle.snap_script.specs.declared.command.Lookup.TheVariants as lookups
+use Rattle.snap_script.specs.declared.verb.Verb.{Verb}
+use Rattle.snap_script.specs.declared.verb.Verb.TheVariants as verbs
+use Rattle.snap_script.specs.declared.verb.FileVerb.TheVariants as file_verbs
+use Rattle.snap_script.specs.declared.verb.PathVerb.TheVariants as path_verbs
+
+-- the calls that are commands
+abbrev pub calls : List CallKind
+calls =
+    kinds.Session ∷ kinds.Prepare ∷ kinds.View ∷ kinds.Charge ∷ kinds.Trim ∷ kinds.Commit
+    ∷ kinds.Discard ∷ kinds.Remove ∷ kinds.Stat ∷ kinds.Update ∷ kinds.Usage ∷ kinds.Mounts
+    ∷ kinds.Walk ∷ kinds.Limit ∷ kinds.LeaseCreate ∷ kinds.LeaseAdd ∷ kinds.LeaseRelease ∷ kinds.Sweep
+    ∷ []
+
+-- the call that has the word, as a journal tells it
+abbrev pub call_of_word : List ℕ → Option CallKind
+call_of_word word = lookup (bytes_eq word) (map (λ call. (call_word call, call)) calls)
+
+-- the words of the other commands
+abbrev pub words : List (List ℕ × Verb)
+words =
+    (codes "open", verbs.Open)
+    ∷ (codes "reopen", verbs.Reopen)
+    ∷ (codes "mkdir", verbs.File (file_verbs.At path_verbs.Mkdir))
+    ∷ (codes "create", verbs.File (file_verbs.At path_verbs.Create))
+    ∷ (codes "write", verbs.File (file_verbs.At path_verbs.Write))
+    ∷ (codes "truncate", verbs.File (file_verbs.At path_verbs.Truncate))
+    ∷ (codes "setmode", verbs.File (file_verbs.At path_verbs.SetMode))
+    ∷ (codes "symlink", verbs.File (file_verbs.At path_verbs.Symlink))
+    ∷ (codes "unlink", verbs.File (file_verbs.At path_verbs.Unlink))
+    ∷ (codes "rmdir", verbs.File (file_verbs.At path_verbs.Rmdir))
+    ∷ (codes "link", verbs.File file_verbs.Link)
+    ∷ (codes "rename", verbs.File file_verbs.Rename)
+    ∷ (codes "look", verbs.Lookup lookups.Look)
+    ∷ (codes "list", verbs.Lookup lookups.List)
+    ∷ (codes "read", verbs.Lookup lookups.Read)
+    ∷ (codes "resolve", verbs.Lookup lookups.Resolve)
+    ∷ (codes "tree", verbs.Tree)
+    ∷ (codes "journal", verbs.Journal)
+    ∷ (codes "report", verbs.Report)
+    ∷ []
+
+-- the verb of a word
+unfoldable pub verb_of : List ℕ → Option Verb
+verb_of word = option_or (option_map verbs.Call (call_of_word word)) (lookup (bytes_eq word) words)
