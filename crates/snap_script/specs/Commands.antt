@@ -26,7 +26,7 @@ unfoldable pub named : Data → Result (Bytes × Bytes) Fault
 named line = do namespace ← text fields.Namespace line; key ← text fields.Key line; Ok (namespace, key)
 
 -- the limit that a command names
-unfoldable pub limit_of : Data → Result Usage Fault
+abbrev pub limit_of : Data → Result Usage Fault
 limit_of line = do blocks ← required as_natural fields.Blocks line; inodes ← required as_natural fields.Inodes line; Ok (record { blocks = blocks; inodes = inodes })
 
 -- the store that open names, by its root, its namespaces and the most entries of its journal. The first id is 1.

@@ -5,8 +5,8 @@ ghost use Rattle.snap_script.specs.Answers.{answer_data, answer_line};
 ghost use Rattle.snap_script.specs.declared.answer.Answer.TheVariants as answers;
 
 use crate::values::{
-    changed, entries_value, error, error_name, head, jobs, names_value, nodes_value, only, reply,
-    report, shown_value, usage_value,
+    entries_value, error, error_name, jobs, names_value, nodes_value, only, pair, reply, report,
+    shown_value, usage_value,
 };
 use serde_json::Value;
 use snap_call::{Refusal, Reply};
@@ -166,10 +166,18 @@ impl Answer {
             Answer::Reply(own) => reply(alloc, own),
             Answer::Session(number) => only(alloc, "session", Value::from(*number)),
             Answer::Share(amount) => only(alloc, "share", usage_value(alloc, *amount)?),
-            Answer::Changed { count, share } => changed(alloc, *count, *share),
+            Answer::Changed { count, share } => {
+                let count = usage_value(alloc, *count)?;
+                let share = usage_value(alloc, *share)?;
+                pair(alloc, "count", count, "share", share)
+            }
             Answer::Seen(shown) => only(alloc, "seen", shown_value(alloc, shown)?),
             Answer::Names(own) => only(alloc, "names", names_value(alloc, own.as_slice())?),
-            Answer::Head { head: own, size } => head(alloc, own.as_slice(), *size),
+            Answer::Head { head, size } => {
+                let head = hex::encode(alloc, head.as_slice())?;
+                let head = Value::try_from_str(alloc, head.as_str())?;
+                pair(alloc, "head", head, "size", Value::from(*size))
+            }
             Answer::Path(own) => only(alloc, "path", Value::try_from_str(alloc, own.as_str())?),
             Answer::Tree(nodes) => only(alloc, "tree", nodes_value(alloc, nodes.as_slice())?),
             Answer::Journal(entries) => {

@@ -88,7 +88,7 @@ pub enum Shortage {
 }
 
 /// Why no line was read.
-#[derive(Clone, Copy, Debug, PartialEq, Eq)]
+#[derive(Clone, Copy)]
 pub enum ReadError {
     Fault(Fault),
     OutOfMemory(Shortage),

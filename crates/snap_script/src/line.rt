@@ -28,9 +28,13 @@ pub enum Line {
 pub fn is_empty(bytes: &[u8]) -> bool
     ensures { result ≡ is_empty bytes.now }
 {
-    bytes
-        .iter()
-        .all(|byte| *byte == b' ' || *byte == b'\t' || *byte == b'\r')
+    for byte in bytes {
+        let is_space = *byte == b' ' || *byte == b'\t' || *byte == b'\r';
+        if !is_space {
+            return false;
+        }
+    }
+    true
 }
 
 /// The value that a line is.

@@ -2,11 +2,11 @@
 ghost use Rattle.std.specs.Prelude.{◌≡◌};
 ghost use Rattle.serde_json.specs.View.{view};
 ghost use Rattle.snap_history.specs.declared.kind.CallKind.TheVariants as kinds;
-ghost use Rattle.snap_script.specs.Commands.{named, config_of, filter_of, limit_of, call_of, command_of};
+ghost use Rattle.snap_script.specs.Commands.{named, config_of, filter_of, call_of, command_of};
 ghost use Rattle.snap_script.specs.Gives.{Gives};
 
 use crate::command::Command;
-use crate::fault::{Fault, Field, ReadError};
+use crate::fault::{Field, ReadError};
 use crate::fields::{
     label_filters, labels, namespaces, number_or, optional_kind, optional_number, optional_text,
     paths, required_labels, required_number, required_usage, text, text_or_empty, usage_or,
@@ -135,22 +135,14 @@ fn walk(alloc: Global, line: &Value) -> Result<Command, ReadError>
     }))
 }
 
-/// The limit that a command names.
-#[tactic(auto, unfolding(crate::specs::Commands::limit_of))]
-fn limited(line: &Value) -> Result<Usage, Fault>
-    ensures { result ≡ limit_of (view line.now) }
-{
-    let blocks = required_number(Field::Blocks, line)?;
-    let inodes = required_number(Field::Inodes, line)?;
-    Ok(Usage { blocks, inodes })
-}
-
 #[tactic(auto, unfolding(crate::specs::Commands::call_of))]
 fn set_limit(alloc: Global, line: &Value) -> Result<Command, ReadError>
     ensures { Gives (λ c. c) result (call_of kinds.Limit (view line.now)) }
 {
     let namespace = text(alloc, Field::Namespace, line)?;
-    let limit = limited(line)?;
+    let blocks = required_number(Field::Blocks, line)?;
+    let inodes = required_number(Field::Inodes, line)?;
+    let limit = Usage { blocks, inodes };
     Ok(Command::Call(Call::SetLimit { namespace, limit }))
 }
 

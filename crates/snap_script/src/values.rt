@@ -27,6 +27,22 @@ pub(crate) fn only(alloc: Global, key: &str, value: Value) -> Result<Value, Allo
     Ok(Value::Object(members))
 }
 
+/// An object of two members.
+pub(crate) fn pair(
+    alloc: Global,
+    first: &str,
+    value: Value,
+    second: &str,
+    other: Value,
+) -> Result<Value, AllocError>
+    ensures { IfOk result (λ v. view v ≡ object (put second.now (view other) (only first.now (view value)))) }
+{
+    let mut members = Map::new(alloc);
+    serde_json::put(&mut members, alloc, first, value)?;
+    serde_json::put(&mut members, alloc, second, other)?;
+    Ok(Value::Object(members))
+}
+
 /// Blocks, then inodes.
 pub(crate) fn usage_value(alloc: Global, usage: Usage) -> Result<Value, AllocError>
     ensures { IfOk result (λ v. view v ≡ usage_data usage) }
@@ -54,40 +70,15 @@ fn texts_value(alloc: Global, texts: &[Text]) -> Result<Value, AllocError>
     Ok(Value::Array(items))
 }
 
-/// Adds a member for a label.
-fn put_label(
-    alloc: Global,
-    members: &mut Map<String, Value>,
-    key: &Text,
-    value: &Text,
-) -> Result<(), AllocError>
-    ensures { OnOk result (members_view members.new.entries ≡ put key.now (string value.now) (members_view members.old.entries)) }
-{
-    let value = Value::try_from_str(alloc, value.as_str())?;
-    serde_json::put(members, alloc, key.as_str(), value)
-}
-
 fn labels_value(alloc: Global, labels: &Labels) -> Result<Value, AllocError>
     ensures { IfOk result (λ v. view v ≡ object (members_with string labels.now no_members)) }
 {
     let mut members = Map::new(alloc);
     for (key, value) in labels.iter() {
-        put_label(alloc, &mut members, key, value)?;
+        let value = Value::try_from_str(alloc, value.as_str())?;
+        serde_json::put(&mut members, alloc, key.as_str(), value)?;
     }
     Ok(Value::Object(members))
-}
-
-/// Adds a member for a namespace's total.
-fn put_total(
-    alloc: Global,
-    members: &mut Map<String, Value>,
-    name: &Text,
-    total: Usage,
-) -> Result<(), AllocError>
-    ensures { OnOk result (members_view members.new.entries ≡ put name.now (usage_data total) (members_view members.old.entries)) }
-{
-    let value = usage_value(alloc, total)?;
-    serde_json::put(members, alloc, name.as_str(), value)
 }
 
 fn totals_value(alloc: Global, totals: &[(Text, Usage)]) -> Result<Value, AllocError>
@@ -95,7 +86,8 @@ fn totals_value(alloc: Global, totals: &[(Text, Usage)]) -> Result<Value, AllocE
 {
     let mut members = Map::new(alloc);
     for (name, total) in totals {
-        put_total(alloc, &mut members, name, *total)?;
+        let total = usage_value(alloc, *total)?;
+        serde_json::put(&mut members, alloc, name.as_str(), total)?;
     }
     Ok(Value::Object(members))
 }
@@ -153,34 +145,12 @@ fn prepared(alloc: Global, id: u32, slot: u64, chain: &[u32]) -> Result<Value, A
     json!(in alloc; {"chain": chain, "id": id, "slot": slot})
 }
 
-fn viewed(alloc: Global, id: u32, chain: &[u32]) -> Result<Value, AllocError>
-    ensures { IfOk result (λ v. view v ≡ reply_data (replies.Viewed id chain.now)) }
-{
-    let chain = ids_value(alloc, chain)?;
-    json!(in alloc; {"chain": chain, "id": id})
-}
-
-fn committed(alloc: Global, id: u32, usage: Usage) -> Result<Value, AllocError>
-    ensures { IfOk result (λ v. view v ≡ reply_data (replies.Committed id usage)) }
-{
-    let usage = usage_value(alloc, usage)?;
-    json!(in alloc; {"id": id, "usage": usage})
-}
-
 fn swept(alloc: Global, removed: &[Text], leases: u64, freed: Usage) -> Result<Value, AllocError>
     ensures { IfOk result (λ v. view v ≡ reply_data (replies.Swept removed.now leases freed)) }
 {
     let freed = usage_value(alloc, freed)?;
     let removed = texts_value(alloc, removed)?;
     json!(in alloc; {"freed": freed, "leases": leases, "removed": removed})
-}
-
-pub(crate) fn changed(alloc: Global, count: Usage, share: Usage) -> Result<Value, AllocError>
-    ensures { IfOk result (λ v. view v ≡ answer_data (answers.Changed count share)) }
-{
-    let count = usage_value(alloc, count)?;
-    let share = usage_value(alloc, share)?;
-    json!(in alloc; {"count": count, "share": share})
 }
 
 fn node_value(alloc: Global, node: &TreeNode) -> Result<Value, AllocError>
@@ -339,14 +309,6 @@ pub(crate) fn names_value(alloc: Global, names: &[Name]) -> Result<Value, AllocE
     Ok(Value::Array(items))
 }
 
-/// A file's first bytes in lower hexadecimal, and how many it has.
-pub(crate) fn head(alloc: Global, head: &[u8], size: u64) -> Result<Value, AllocError>
-    ensures { IfOk result (λ v. view v ≡ answer_data (answers.Head head.now size)) }
-{
-    let head = hex::encode(alloc, head)?;
-    json!(in alloc; {"head": head.as_str(), "size": size})
-}
-
 /// The name of a refusal in answers.
 fn refusal_name(refusal: Refusal) -> &'static str
     ensures { result.now ≡ refusal_name refusal }
@@ -424,9 +386,15 @@ pub(crate) fn reply(alloc: Global, reply: &Reply) -> Result<Value, AllocError>
     match reply {
         Reply::Opened | Reply::Trimmed | Reply::Done => only(alloc, "ok", Value::Bool(true)),
         Reply::Prepared { id, slot, chain } => prepared(alloc, *id, *slot, chain.as_slice()),
-        Reply::Viewed { id, chain } => viewed(alloc, *id, chain.as_slice()),
+        Reply::Viewed { id, chain } => {
+            let chain = ids_value(alloc, chain.as_slice())?;
+            pair(alloc, "chain", chain, "id", Value::from(*id))
+        }
         Reply::Charged { now } => only(alloc, "share", usage_value(alloc, *now)?),
-        Reply::Committed { id, usage } => committed(alloc, *id, *usage),
+        Reply::Committed { id, usage } => {
+            let usage = usage_value(alloc, *usage)?;
+            pair(alloc, "id", Value::from(*id), "usage", usage)
+        }
         Reply::Discarded(amount) | Reply::Removed(amount) => {
             only(alloc, "freed", usage_value(alloc, *amount)?)
         }
