@@ -1,6 +1,6 @@
 -- The commands of a script; cited by the public clause of `read_line` through Lines.antt. The fields of a command are
 -- tested in the order in which they stand.
--- Cited by `read_open`, `read_line`, `operations` and others.
+-- Cited by `read_open`, `read_line`, `named` and others.
 use Rattle.std.specs.Prelude.{[], Result, Ok}
 use Rattle.serde_json.specs.Data.{Data}
 use Rattle.serde_json.specs.Find.{as_str}
