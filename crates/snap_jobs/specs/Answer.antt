@@ -10,6 +10,7 @@ use Rattle.snap_record.specs.Labels.{Bytes}
 use Rattle.snap_call.specs.Records.{charge_of}
 use Rattle.snap_call.specs.State.{place_of}
 use Rattle.snap_book.specs.Book.{BookValue}
+use Rattle.snap_round.specs.declared.rule.Round.{Round}
 use Rattle.snap_script.specs.Answers.{answer_line}
 use Rattle.snap_script.specs.declared.answer.Answer.{Answer}
 use Rattle.snap_script.specs.declared.answer.Answer.TheVariants.{Jobs}
@@ -50,17 +51,17 @@ totals_of book names = map (λ name. (name, total_of book name)) names
 abbrev pub answer_of : List Ended → BookValue → List Bytes → Answer
 answer_of ends book names = Jobs (count_by is_committed ends) (count_by is_discarded ends) (count_by is_refused ends) (totals_of book names)
 
--- the text is the line of the answer to some report of the jobs
-pub record IsLineOf (jobs : List Job) (names : List Bytes) (text : List ℕ) : Type 0 where
+-- the text is the line of the answer to some report of the jobs on a store of this round
+pub record IsLineOf (r : Round) (jobs : List Job) (names : List Bytes) (text : List ℕ) : Type 0 where
   pub ends : List Ended
   pub closed : BookValue
-  pub report : IsReport jobs ends closed
+  pub report : IsReport r jobs ends closed
   pub line : text ≡ answer_line (answer_of ends closed names)
 
 -- what is written, by what was read: nothing where no line has opened a store, and else the line of a report of the jobs
 abbrev pub IsText : Option ReadValue → List ℕ → Type 0
 IsText None text = text ≡ []
-IsText (Some read) text = IsLineOf read.jobs read.names text
+IsText (Some read) text = IsLineOf read.round read.jobs read.names text
 
 -- the text is written
 abbrev pub HasWritten : Option ReadValue → Option (List ℕ) → Option (List ℕ) → Type 0

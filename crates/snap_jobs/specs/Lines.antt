@@ -3,7 +3,9 @@
 use Rattle.std.specs.Prelude.{ℕ, if◌then◌else◌, List, [], ◌∷◌, ◌++◌, length, map, nat_lt, Option, Some, None, Result, Ok, Err}
 use Rattle.snap_record.specs.Labels.{Bytes}
 use Rattle.snap_call.specs.Forms.{is_config}
+use Rattle.snap_call.specs.State.{opening}
 use Rattle.snap_call.specs.declared.config.Config.{Config}
+use Rattle.snap_round.specs.declared.rule.Round.{Round}
 use Rattle.snap_script.specs.declared.fault.Field.TheVariants.{Open}
 use Rattle.snap_script.specs.declared.fault.Fault.{Fault}
 use Rattle.snap_script.specs.declared.fault.Fault.TheVariants.{TooLong, BadField}
@@ -13,18 +15,19 @@ use Rattle.snap_writers.specs.declared.job.Job.{Job}
 use Rattle.snap_lines.specs.Effects.{Effects}
 use Rattle.snap_jobs.specs.Jobs.{job_of}
 
--- what was read once a store is open: the names of its namespaces, and the jobs, in order
+-- what was read once a store is open: its round, the names of its namespaces, and the jobs, in order
 pub record ReadValue : Type 0 where
+  pub round : Round
   pub names : List Bytes
   pub jobs : List Job
 
 -- a store of the configuration, where this has its form, and no job
 abbrev pub opened_as : Config → Result ReadValue Fault
-opened_as config = if is_config config then Ok (record { names = map (λ n. n.name) config.namespaces; jobs = [] }) else Err (BadField Open)
+opened_as config = if is_config config then Ok (record { round = record { opening = opening config; limit = config.journal }; names = map (λ n. n.name) config.namespaces; jobs = [] }) else Err (BadField Open)
 
 -- one job more
 abbrev pub with_job : ReadValue → Job → ReadValue
-with_job read job = record { names = read.names; jobs = read.jobs ++ job ∷ [] }
+with_job read job = record { round = read.round; names = read.names; jobs = read.jobs ++ job ∷ [] }
 
 -- what is read with the bytes of the next line that isn't empty: the store, then jobs, of which there are at most 65,536
 unfoldable pub read_with : Option ReadValue → List ℕ → Result ReadValue Fault

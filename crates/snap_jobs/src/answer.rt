@@ -3,10 +3,9 @@ ghost use Rattle.std.specs.Prelude.{◌≡◌, IfOk};
 ghost use Rattle.std.specs.List.{count_by};
 ghost use Rattle.snap_jobs.specs.Answer.{is_committed, is_discarded, is_refused, total_of, totals_of, answer_of};
 
-use snap_ledger::StoreName;
 use snap_record::{Sequence, Text};
 use snap_script::Answer;
-use snap_store::Closed;
+use snap_store::{Closed, RoundName};
 use snap_usage::Usage;
 use snap_writers::{Ended, Report};
 use std::alloc::{AllocError, Global};
@@ -54,7 +53,7 @@ fn refused(ends: &[Ended]) -> usize
 }
 
 // What the namespace of this name is charged.
-fn total_of<N: StoreName>(closed: &Closed<N>, name: &str) -> Usage
+fn total_of<N: RoundName>(closed: &Closed<N>, name: &str) -> Usage
     ensures { result ≡ total_of closed.now name.now }
 {
     match closed.totals(name) {
@@ -63,7 +62,7 @@ fn total_of<N: StoreName>(closed: &Closed<N>, name: &str) -> Usage
     }
 }
 
-fn totals_of<N: StoreName>(
+fn totals_of<N: RoundName>(
     alloc: Global,
     closed: &Closed<N>,
     names: &[Text],
@@ -79,7 +78,7 @@ fn totals_of<N: StoreName>(
 }
 
 // What a run of jobs came to, with the totals of the namespaces of these names.
-pub(crate) fn answer_of<N: StoreName>(
+pub(crate) fn answer_of<N: RoundName>(
     alloc: Global,
     report: &Report<N>,
     names: &[Text],

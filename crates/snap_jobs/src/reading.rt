@@ -6,12 +6,11 @@ ghost use Rattle.snap_jobs.specs.Lines.{opened_as, read_with, taken, there};
 
 use crate::job::job_of;
 use snap_call::{Config, Refusal};
-use snap_ledger::{NewTable, StoreName};
 use snap_lines::TakeLine;
 use snap_path::NoMemory;
 use snap_record::{Sequence, Text};
 use snap_script::{Fault, Field, ReadError, is_empty, names_of, read_object, read_open};
-use snap_store::Store;
+use snap_store::{NewStore, RoundName, Store};
 use snap_writers::Job;
 use std::alloc::Global;
 use std::marker::Model;
@@ -21,33 +20,33 @@ pub const MAX_JOBS: usize = 65_536;
 
 // The store that the first line has opened, the names of its namespaces, and the jobs.
 #[derive(Drop)]
-pub(crate) struct Read<N: StoreName> {
+pub(crate) struct Read<N: RoundName> {
     pub(crate) store: Store<N>,
     pub(crate) names: Sequence<Text>,
     pub(crate) jobs: Vec<Job>,
 }
 
-impl<N: StoreName> Model for Read<N> {
+impl<N: RoundName> Model for Read<N> {
     ghost use Rattle.snap_jobs.specs.Lines.{ReadValue};
 
     ghost Value = { ReadValue };
 
-    ghost view = { λ s. record { names = s.names; jobs = s.jobs.items } };
+    ghost view = { λ s. record { round = s.store; names = s.names; jobs = s.jobs.items } };
 }
 
-/// What was read of a script of jobs. Contracts see nothing, or, once the first line has opened a store, the
-/// names of its namespaces and the jobs.
+/// What was read of a script of jobs. Contracts see nothing, or, once the first line has opened a store, its
+/// round, the names of its namespaces and the jobs.
 ///
-/// The table names the store, and goes to it when it is opened. Where memory is refused then, the name is spent, and
+/// The tables name the store, and go to it when it is opened. Where memory is refused then, the name is spent, and
 /// the refusal is kept for a later line that opens a store. A configuration without its form leaves the name.
 #[derive(Drop)]
-pub struct JobLines<N: StoreName> {
-    table: Option<NewTable>,
+pub struct JobLines<N: RoundName> {
+    new: Option<NewStore>,
     refused: Option<NoMemory>,
     read: Option<Read<N>>,
 }
 
-impl<N: StoreName> Model for JobLines<N> {
+impl<N: RoundName> Model for JobLines<N> {
     ghost use Rattle.std.specs.Prelude.{◌≡◌, ◌||◌, Option, true, is_some, IfSome};
     ghost use Rattle.snap_jobs.specs.Lines.{ReadValue};
 
@@ -55,18 +54,18 @@ impl<N: StoreName> Model for JobLines<N> {
 
     ghost view = { λ s. s.read };
 
-    // The table is there until a store is opened with it or memory is refused.
-    ghost invariant = { λ s. IfSome s.table (λ t. t ≡ N.table) × ((is_some s.table || (is_some s.refused || is_some s.read)) ≡ true) };
+    // The tables are there until a store is opened with them or memory is refused.
+    ghost invariant = { λ s. IfSome s.new (λ n. n ≡ (N.table, N.rounds)) × ((is_some s.new || (is_some s.refused || is_some s.read)) ≡ true) };
 }
 
-impl<N: StoreName> JobLines<N> {
+impl<N: RoundName> JobLines<N> {
     /// Before the first line. Takes no memory.
-    pub fn new(table: NewTable) -> JobLines<N>
-        requires { table ≡ N.table }
+    pub fn new(new: NewStore) -> JobLines<N>
+        requires { new ≡ (N.table, N.rounds) }
         ensures { result ≡ None }
     {
         JobLines {
-            table: Some(table),
+            new: Some(new),
             refused: None,
             read: None,
         }
@@ -84,10 +83,10 @@ impl<N: StoreName> JobLines<N> {
         if let Some(no_memory) = self.refused {
             return Err(no_memory.into());
         }
-        let Some(table) = self.table.take() else {
+        let Some(new) = self.new.take() else {
             unreachable!()
         };
-        match Store::open(alloc, table, config) {
+        match Store::open(alloc, new, config) {
             Ok(store) => {
                 self.read = Some(Read {
                     store,
@@ -123,7 +122,7 @@ impl<N: StoreName> JobLines<N> {
     }
 }
 
-impl<N: StoreName> Read<N> {
+impl<N: RoundName> Read<N> {
     // Takes the line of a job.
     #[tactic(auto, unfolding(crate::specs::Lines::read_with))]
     fn take_job(&mut self, alloc: Global, line: &[u8]) -> Result<(), ReadError>
@@ -146,7 +145,7 @@ impl<N: StoreName> Read<N> {
 /// `BadField` with the first of its fields. `OutOfMemory` where memory was refused.
 ///
 /// The memory and the cost grow with the line, and a `fill` takes as many bytes as it asks for.
-impl<N: StoreName> TakeLine for JobLines<N> {
+impl<N: RoundName> TakeLine for JobLines<N> {
     ghost use Rattle.snap_jobs.specs.Lines.{jobs_effect};
 
     ghost effect = { jobs_effect };

@@ -10,10 +10,9 @@ ghost use Rattle.snap_jobs.specs.Words.{is_of_jobs};
 use crate::answer::answer_of;
 use crate::reading::{JobLines, Read};
 use crate::stop::JobsStop;
-use snap_ledger::{NewTable, StoreName};
 use snap_lines::{Stop, read_lines, write_bytes};
 use snap_script::Shortage;
-use snap_store::{Cause, NotClosed, Store};
+use snap_store::{Cause, NewStore, NotClosed, RoundName, Store};
 use snap_writers::{Gate, Job, Report, RunFault, run_jobs};
 use std::alloc::Global;
 use std::io::{Read as Input, Write};
@@ -34,7 +33,7 @@ impl Gate for OpenGate {
 }
 
 // Why the store that comes back was not closed.
-fn stop_of<N: StoreName>(back: &NotClosed<N>) -> JobsStop
+fn stop_of<N: RoundName>(back: &NotClosed<N>) -> JobsStop
     ensures { is_of_jobs result ≡ true }
 {
     match back.cause {
@@ -48,7 +47,7 @@ fn stop_of<N: StoreName>(back: &NotClosed<N>) -> JobsStop
 }
 
 // Runs the jobs. A report comes also where a gate has stopped a worker, which an open one does not.
-fn report_of<N: StoreName + Send + Sync, T: Threads + Wait + Sync>(
+fn report_of<N: RoundName + Send + Sync, T: Threads + Wait + Sync>(
     rt: &T,
     alloc: Global,
     store: Store<N>,
@@ -56,7 +55,7 @@ fn report_of<N: StoreName + Send + Sync, T: Threads + Wait + Sync>(
     workers: u32,
 ) -> Result<Report<N>, JobsStop>
     requires { (1 ≤ workers) × (workers ≤ 16) }
-    ensures report { IfOk result (λ report. IsReport jobs.now report.ends report.closed) }
+    ensures report { IfOk result (λ report. IsReport store jobs.now report.ends report.closed) }
     ensures stop { IfErr result (λ stop. is_of_jobs stop ≡ true) }
 {
     match run_jobs(rt, alloc, store, jobs, workers, &OpenGate) {
@@ -71,14 +70,14 @@ fn report_of<N: StoreName + Send + Sync, T: Threads + Wait + Sync>(
 }
 
 // Runs the jobs, and gives the line of their answer.
-fn line_of<N: StoreName + Send + Sync, T: Threads + Wait + Sync>(
+fn line_of<N: RoundName + Send + Sync, T: Threads + Wait + Sync>(
     rt: &T,
     alloc: Global,
     read: Read<N>,
     workers: u32,
 ) -> Result<String, JobsStop>
     requires { (1 ≤ workers) × (workers ≤ 16) }
-    ensures line { IfOk result (λ line. IsLineOf read.jobs read.names (string_bytes line)) }
+    ensures line { IfOk result (λ line. IsLineOf read.round read.jobs read.names (string_bytes line)) }
     ensures stop { IfErr result (λ stop. is_of_jobs stop ≡ true) }
 {
     let Read { store, names, jobs } = read;
@@ -100,7 +99,7 @@ fn write_line<W: Write>(output: &mut W, line: &str) -> Result<(), Stop>
 }
 
 // Runs the jobs that were read, and writes the line of their answer; nothing where no line has opened a store.
-fn run_read<N: StoreName + Send + Sync, T: Threads + Wait + Sync, W: Write>(
+fn run_read<N: RoundName + Send + Sync, T: Threads + Wait + Sync, W: Write>(
     rt: &T,
     alloc: Global,
     read: Option<Read<N>>,
@@ -123,16 +122,16 @@ fn run_read<N: StoreName + Send + Sync, T: Threads + Wait + Sync, W: Write>(
     }
 }
 
-fn run<N: StoreName + Send + Sync, T: Threads + Wait + Sync, R: Input, W: Write>(
+fn run<N: RoundName + Send + Sync, T: Threads + Wait + Sync, R: Input, W: Write>(
     rt: &T,
     alloc: Global,
-    table: NewTable,
+    new: NewStore,
     input: &mut R,
     output: &mut W,
     workers: u32,
     reads: u32,
 ) -> Result<(), JobsStop>
-    requires table { table ≡ N.table }
+    requires names { new ≡ (N.table, N.rounds) }
     requires workers { (1 ≤ workers) × (workers ≤ 16) }
     ensures done { OnOk result (IfSome (R.remaining input.old) (λ bytes. (transcript jobs_effect None bytes).fault ≡ None)) }
     ensures written { OnOk result (IfSome (R.remaining input.old) (λ bytes. HasWritten (transcript jobs_effect None bytes).value
@@ -140,7 +139,7 @@ fn run<N: StoreName + Send + Sync, T: Threads + Wait + Sync, R: Input, W: Write>
     ensures stopped { IfErr result (λ stop. IfSome (R.remaining input.old) (λ bytes. HasStopped bytes stop
         (W.contents output.old) (W.contents output.new))) }
 {
-    let mut lines: JobLines<N> = JobLines::new(table);
+    let mut lines: JobLines<N> = JobLines::new(new);
     match read_lines(alloc, &mut lines, input, output, reads) {
         Ok(()) => run_read(rt, alloc, lines.into_read(), output, workers),
         Err(stop) => Err(JobsStop::Lines(stop)),
@@ -180,8 +179,8 @@ pub fn write_jobs_within<T: Threads + Wait + Sync, R: Input, W: Write>(
     ensures stopped { IfErr result (λ stop. IfSome (R.remaining input.old) (λ bytes. HasStopped bytes stop
         (W.contents output.old) (W.contents output.new))) }
 {
-    let table = NewTable::new(alloc)?;
-    run::<Brand, T, R, W>(rt, alloc, table, input, output, workers, reads)
+    let new = NewStore::new(alloc)?;
+    run::<Brand, T, R, W>(rt, alloc, new, input, output, workers, reads)
 }
 
 /// [`write_jobs_within`] with at most 4,294,967,295 reads.

@@ -12,6 +12,8 @@ use Rattle.snap_book.specs.Book.{BookValue, IsOpening}
 use Rattle.snap_tape.specs.Sessions.{AreAll, IsCheck, IsOwn}
 use Rattle.snap_tape.specs.Tapes.{SessionValue}
 use Rattle.snap_tape.specs.declared.check.SessionsFault.TheVariants as faults
+use Rattle.snap_round.specs.declared.rule.Round.{Round}
+use Rattle.snap_store.specs.Rounds.{round_of}
 use Rattle.snap_store.specs.declared.cause.OpenKey.{OpenKey}
 use Rattle.snap_store.specs.declared.cause.Cause.{Cause}
 use Rattle.snap_store.specs.declared.cause.Cause.TheVariants.{StillOut, SessionsMissing, TapeMismatch, OutOfMemory}
@@ -45,9 +47,9 @@ abbrev pub IsRefusal : BookValue → List SessionValue → Cause → Type 0
 IsRefusal b sessions (OutOfMemory want) = 0 < open_count b.state.records
 IsRefusal b sessions cause = IsCause b sessions (Some cause)
 
--- it is the cause of a book that is kept
-abbrev pub HasCause : List SessionValue → Cause → Type 0
-HasCause sessions cause = (b : BookValue) × IsKept b × IsRefusal b sessions cause
+-- it is the cause of a book that is kept, of the store's round
+abbrev pub HasCause : Round → List SessionValue → Cause → Type 0
+HasCause r sessions cause = (b : BookValue) × (round_of b ≡ r) × IsKept b × IsRefusal b sessions cause
 
 -- ---- a closed store
 
@@ -61,8 +63,9 @@ pub record IsSettled (s : State) : Type 0 where
   pub idle : open_count s.records ≡ 0
   pub totals : (place : ℕ) → charge_of place s.records ≡ sum_of counted_in place s.records
 
--- all of a closed store: its sessions, what is charged, and how the journal leads from the round's beginning to its state
-pub record IsClosed (b : BookValue) (handed : List SessionValue) : Type 0 where
+-- all of a store of this round that is closed: its round, its sessions, what is charged, and how the journal leads from the round's beginning to its state
+pub record IsClosed (r : Round) (b : BookValue) (handed : List SessionValue) : Type 0 where
+  pub round : round_of b ≡ r
   pub sessions : AreSessions b.journal handed
   pub settled : IsSettled b.state
   pub kept : IsKept b

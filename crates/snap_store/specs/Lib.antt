@@ -1,3 +1,4 @@
 pub mod Values
 pub mod Replies
 pub mod Closing
+pub mod Rounds

@@ -4,14 +4,16 @@ ghost use Rattle.std.specs.Option.{option_map};
 ghost use Rattle.snap_call.specs.Records.{charge_of, open_count};
 ghost use Rattle.snap_call.specs.State.{place_of};
 ghost use Rattle.snap_call.specs.Totals.{counted_in, sum_of};
-ghost use Rattle.snap_book.specs.Round.{round_answer};
+ghost use Rattle.snap_book.specs.Round.{next_round, round_answer};
+ghost use Rattle.snap_round.specs.Rounds.{whole};
+ghost use Rattle.snap_store.specs.Rounds.{round_of};
 ghost use Rattle.snap_store.specs.Closing.{AreSessions, HasCause, IsKept, IsRefusal, IsSettled};
 
 use crate::cause::{Cause, close_cause};
-use crate::store::Store;
+use crate::store::{Store, begun};
 use snap_book::{Book, Refusal, SharedEntry};
 use snap_call::Records;
-use snap_ledger::StoreName;
+use snap_round::{RoundName, Tie};
 use snap_tape::Session;
 use snap_usage::Usage;
 use std::alloc::Global;
@@ -19,26 +21,29 @@ use std::marker::Model;
 
 /// A store that is closed: no snapshot is open, and no session calls it.
 #[derive(Drop)]
-pub struct Closed<N: StoreName> {
+pub struct Closed<N: RoundName> {
     alloc: Global,
     book: Book<N>,
+    tie: Tie<N>,
 }
 
-impl<N: StoreName> Model for Closed<N> {
+impl<N: RoundName> Model for Closed<N> {
     ghost use Rattle.std.specs.Prelude.{◌≡◌};
     ghost use Rattle.snap_call.specs.Records.{open_count};
+    ghost use Rattle.snap_round.specs.Rounds.{whole};
     ghost use Rattle.snap_book.specs.Book.{BookValue};
+    ghost use Rattle.snap_store.specs.Rounds.{round_of};
 
     ghost Value = { BookValue };
 
     ghost view = { λ c. c.book };
 
-    ghost invariant = { λ c. open_count c.book.state.records ≡ 0 };
+    ghost invariant = { λ c. (open_count c.book.state.records ≡ 0) × (c.tie ≡ whole (round_of c.book)) };
 }
 
-/// A store that was not closed, as it was: the store, the sessions that were handed in, and why.
+/// A store that was not closed, as it was: the store, in the same round, the sessions that were handed in, and why.
 #[derive(Drop)]
-pub struct NotClosed<N: StoreName> {
+pub struct NotClosed<N: RoundName> {
     pub store: Store<N>,
     pub sessions: Vec<Session>,
     pub cause: Cause,
@@ -46,12 +51,12 @@ pub struct NotClosed<N: StoreName> {
 
 /// A closed store of which no next round was opened, as it was, and why.
 #[derive(Drop)]
-pub struct NotOpened<N: StoreName> {
+pub struct NotOpened<N: RoundName> {
     pub closed: Closed<N>,
     pub refusal: Refusal,
 }
 
-impl<N: StoreName> Store<N> {
+impl<N: RoundName> Store<N> {
     /// Closes the store, once all its sessions are joined and all its snapshots spent, and tells what each
     /// namespace is charged: exactly the blocks and inodes counted over its remaining layers.
     ///
@@ -60,19 +65,22 @@ impl<N: StoreName> Store<N> {
     /// number of each session, or for the list of open snapshots. The cost is one pass over the journal and
     /// the tapes, as [`close_cause`] has it.
     pub fn close(self, sessions: Vec<Session>) -> Result<Closed<N>, NotClosed<N>>
+        ensures round { IfOk result (λ closed. round_of closed ≡ self) }
         ensures sessions { IfOk result (λ closed. AreSessions closed.journal sessions.items) }
         ensures totals { IfOk result (λ closed. IsSettled closed.state) }
         ensures kept { IfOk result (λ closed. IsKept closed) }
+        ensures same { IfErr result (λ back. back.store ≡ self) }
         ensures returned { IfErr result (λ back. back.sessions ≡ sessions) }
-        ensures cause { IfErr result (λ back. HasCause back.sessions.items back.cause) }
+        ensures cause { IfErr result (λ back. HasCause back.store back.sessions.items back.cause) }
     {
-        let (alloc, book) = self.into_book();
+        let (alloc, book, tie) = self.into_book();
         match close_cause(alloc, &book, sessions.as_slice()) {
-            Ok(None) => Ok(Closed::of(alloc, book)),
-            Ok(Some(cause)) => Err(NotClosed::of(alloc, book, sessions, cause)),
+            Ok(None) => Ok(Closed::of(alloc, book, tie)),
+            Ok(Some(cause)) => Err(NotClosed::of(alloc, book, tie, sessions, cause)),
             Err(no_memory) => Err(NotClosed::of(
                 alloc,
                 book,
+                tie,
                 sessions,
                 Cause::OutOfMemory(no_memory),
             )),
@@ -87,47 +95,61 @@ impl<N: StoreName> Store<N> {
     /// that of dropping the entries of the round that ends.
     pub fn reopen(closed: Closed<N>, journal: u64) -> Result<Store<N>, NotOpened<N>>
         ensures opened { OnOk result (round_answer closed.state journal ≡ Ok tt) }
+        ensures round { IfOk result (λ store. store ≡ record { opening = next_round closed.state; limit = journal }) }
         ensures refused { IfErr result (λ back. round_answer closed.state journal ≡ Err back.refusal) }
         ensures same { IfErr result (λ back. back.closed ≡ closed) }
     {
-        let Closed { alloc, mut book } = closed;
+        let Closed {
+            alloc,
+            mut book,
+            tie,
+        } = closed;
         match book.next_round(journal) {
-            Ok(()) => Ok(Store::of(alloc, book)),
+            Ok(()) => Ok(begun(alloc, book, tie)),
             Err(refusal) => Err(NotOpened {
-                closed: Closed { alloc, book },
+                closed: Closed { alloc, book, tie },
                 refusal,
             }),
         }
     }
 }
 
-impl<N: StoreName> NotClosed<N> {
+impl<N: RoundName> NotClosed<N> {
     // The store of a book that can't be closed for the cause.
-    fn of(alloc: Global, book: Book<N>, sessions: Vec<Session>, cause: Cause) -> NotClosed<N>
-        requires { IsRefusal book sessions.items cause }
+    fn of(
+        alloc: Global,
+        book: Book<N>,
+        tie: Tie<N>,
+        sessions: Vec<Session>,
+        cause: Cause,
+    ) -> NotClosed<N>
+        requires refused { IsRefusal book sessions.items cause }
+        requires whole { tie ≡ whole (round_of book) }
+        ensures same { result.store ≡ round_of book }
         ensures returned { result.sessions ≡ sessions }
-        ensures cause { HasCause result.sessions.items result.cause }
+        ensures cause { HasCause result.store result.sessions.items result.cause }
     {
         // The clauses of the records tell what the book keeps.
         let _records = book.records();
         NotClosed {
-            store: Store::of(alloc, book),
+            store: Store::of(alloc, book, tie),
             sessions,
             cause,
         }
     }
 }
 
-impl<N: StoreName> Closed<N> {
+impl<N: RoundName> Closed<N> {
     // The closed store of a book.
-    fn of(alloc: Global, book: Book<N>) -> Closed<N>
-        requires { open_count book.state.records ≡ 0 }
+    fn of(alloc: Global, book: Book<N>, tie: Tie<N>) -> Closed<N>
+        requires idle { open_count book.state.records ≡ 0 }
+        requires whole { tie ≡ whole (round_of book) }
         ensures closed { result ≡ book }
         ensures kept { IsKept book }
     {
         // The clauses of the records tell what the book keeps.
         let _records = book.records();
-        Closed { alloc, book }
+        Closed { alloc, book, tie }
     }
 
     /// What the namespace is charged, in blocks of 4096 bytes and inodes: the sum of the counts over its

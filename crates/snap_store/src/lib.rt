@@ -18,5 +18,6 @@ pub use cause::{Cause, OpenKey, close_cause};
 pub use close::{Closed, NotClosed, NotOpened};
 pub use plain::Swept;
 pub use snap_path::NoMemory;
+pub use snap_round::{NewStore, Round, RoundName};
 pub use snap_tape::{Mismatch, Session, first_mismatch};
 pub use store::Store;

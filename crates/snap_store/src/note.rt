@@ -1,6 +1,7 @@
 // Which calls left an entry, by their answers.
 ghost use Rattle.std.specs.Prelude.{◌≡◌, None, if◌then◌else◌};
 ghost use Rattle.snap_tape.specs.Tapes.{is_recorded, is_noted};
+ghost use Rattle.snap_store.specs.Rounds.{round_of};
 
 use snap_book::{Book, Refusal, Reply, SharedEntry};
 use snap_ledger::StoreName;
@@ -27,7 +28,8 @@ pub(crate) fn is_noted(reply: &Reply) -> bool
 
 // The last entry, for the tape, where the last call left one.
 pub(crate) fn entry_of<N: StoreName>(book: &mut Book<N>, is_there: bool) -> Option<SharedEntry>
-    ensures { result ≡ (if is_there then book.old.copy else None) }
+    ensures entry { result ≡ (if is_there then book.old.copy else None) }
+    ensures round { round_of book.new ≡ round_of book.old }
 {
     if is_there { book.take_entry() } else { None }
 }

@@ -10,9 +10,9 @@ ghost use Rattle.snap_tape.specs.Tapes.{AnsweredOn, RefusedOn, Taped};
 use crate::note::{entry_of, is_noted};
 use crate::store::Store;
 use snap_book::{Call, Refusal, Reply};
-use snap_ledger::StoreName;
 use snap_mount::Mount;
 use snap_record::{Filter, Info, Labels, Sequence, Text};
+use snap_round::RoundName;
 use snap_tape::Session;
 use snap_usage::Usage;
 use std::alloc::{AllocError, Global};
@@ -178,7 +178,7 @@ fn lease_add_call(
     })
 }
 
-impl<N: StoreName> Store<N> {
+impl<N: RoundName> Store<N> {
     // Does a plain call in the session.
     fn ask<R: Wait>(&self, rt: &R, session: &mut Session, call: Call) -> Reply
         requires { IsPlain call }
@@ -189,9 +189,10 @@ impl<N: StoreName> Store<N> {
         if let Err(refused) = session.reserve(1) {
             return Reply::Refused(refused.into());
         }
-        let mut book = self.book.lock(rt);
+        let mut locked = self.book.lock(rt);
+        let book = &mut locked.book;
         let reply = book.do_call(session.number(), call);
-        session.note(entry_of(&mut book, is_noted(&reply)));
+        session.note(entry_of(book, is_noted(&reply)));
         reply
     }
 

@@ -1,25 +1,49 @@
 // A store: its book behind the lock, and the calls that hand snapshots out and take them back.
-ghost use Rattle.std.specs.Prelude.{◌≡◌, ◌≤◌, ◌+◌, ◌⊎◌, ◌∷◌, ◌<◌, [], false, IfOk, IfErr, OnOk, IsErrOf, ◌↔◌};
+ghost use Rattle.std.specs.Prelude.{◌≡◌, ◌≤◌, ◌+◌, ◌⊎◌, ◌∷◌, ◌<◌, [], None, false, IfOk, IfErr, OnOk, IsErrOf, ◌↔◌};
 ghost use Rattle.snap_path.specs.Memory.{no_memory};
 ghost use Rattle.snap_usage.specs.Counted.{count_of};
 ghost use Rattle.snap_call.specs.Forms.{is_config};
 ghost use Rattle.snap_call.specs.Journal.{entry};
+ghost use Rattle.snap_call.specs.State.{opening};
 ghost use Rattle.snap_call.specs.declared.call.Call.TheVariants as calls;
 ghost use Rattle.snap_call.specs.declared.call.Given.TheVariants.{Nothing, Count, Layer as LayerGiven};
 ghost use Rattle.snap_call.specs.declared.refusal.Refusal.TheVariants.{BadArgument, JournalFull, NumbersSpent, OutOfMemory};
 ghost use Rattle.snap_call.specs.declared.reply.Reply.TheVariants as replies;
 ghost use Rattle.snap_book.specs.Held.{share_of};
 ghost use Rattle.snap_tape.specs.Tapes.{RefusedOn, Taped};
+ghost use Rattle.snap_round.specs.Rounds.{whole};
+ghost use Rattle.snap_store.specs.Rounds.{round_of};
 ghost use Rattle.snap_store.specs.Values.{IsChargedTo, IsPrepared, IsViewed};
 
 use crate::note::{entry_of, is_recorded};
 use snap_book::{Active, Book, Config, Held, Refusal, Sealed, Viewed};
-use snap_ledger::{NewTable, StoreName};
 use snap_record::{Labels, Text};
+use snap_round::{Half, KnownRound, NewStore, RoundName, Tie};
 use snap_tape::Session;
 use snap_usage::Usage;
 use std::alloc::Global;
+use std::marker::{Brand, Model};
 use std::sync::{Mutex, Wait};
+
+// What the lock holds: the book, and the half of the round that it is of. The half takes no bytes.
+#[derive(Drop)]
+pub(crate) struct Locked<N: RoundName> {
+    pub(crate) book: Book<N>,
+    pub(crate) half: Half<N>,
+}
+
+impl<N: RoundName> Model for Locked<N> {
+    ghost use Rattle.std.specs.Prelude.{◌≡◌};
+    ghost use Rattle.snap_round.specs.Rounds.{inner};
+    ghost use Rattle.snap_book.specs.Book.{BookValue};
+    ghost use Rattle.snap_store.specs.Rounds.{round_of};
+
+    ghost Value = { BookValue };
+
+    ghost view = { λ l. l.book };
+
+    ghost invariant = { λ l. l.half ≡ inner (round_of l.book) };
+}
 
 /// A store of snapshots: a [`Book`] behind one lock, which any number of threads call at once, each by a
 /// [`Session`] of its own.
@@ -32,38 +56,83 @@ use std::sync::{Mutex, Wait};
 /// answers it; `JournalFull` where each entry that is left is kept for the end of an open snapshot. These two
 /// leave no entry, neither in the journal nor on the tape; every other refusal is recorded in both. Each
 /// returns only if it gets the lock. The cost is that of the book's call.
+///
+/// Contracts see a store as its [`Round`](crate::Round): the state that it began at, and the most entries of its
+/// journal. No call changes them, and the book under the lock is of this round ([`Tie`]).
 #[derive(Drop)]
-pub struct Store<N: StoreName> {
+pub struct Store<N: RoundName> {
     pub(crate) alloc: Global,
-    pub(crate) book: Mutex<Book<N>>,
+    pub(crate) book: Mutex<Locked<N>>,
+    tie: Tie<N>,
 }
 
-impl<N: StoreName> Store<N> {
-    // The store of a book.
-    pub(crate) fn of(alloc: Global, book: Book<N>) -> Store<N> {
+impl<N: RoundName> Model for Store<N> {
+    ghost use Rattle.std.specs.Prelude.{◌≡◌};
+    ghost use Rattle.snap_round.specs.Rounds.{outer};
+    ghost use Rattle.snap_round.specs.declared.rule.Round.{Round};
+
+    ghost Value = { Round };
+
+    ghost view = { λ s. s.tie.round };
+
+    ghost invariant = { λ s. s.tie ≡ outer s.tie.round };
+}
+
+// The store of a book that begins a round, which the type names.
+fn known<N: RoundName, K: KnownRound>(alloc: Global, book: Book<N>, tie: Tie<N>) -> Store<N>
+    requires known { round_of book ≡ K.round }
+    requires whole { tie ≡ whole tie.round }
+    ensures { result ≡ round_of book }
+{
+    Store::of(alloc, book, tie.begin::<K>())
+}
+
+// The store of a book that begins a round.
+pub(crate) fn begun<N: RoundName>(alloc: Global, book: Book<N>, tie: Tie<N>) -> Store<N>
+    requires begins { book ≡ record { state = book.opening; journal = []; opening = book.opening; limit = book.limit; copy = None } }
+    requires whole { tie ≡ whole tie.round }
+    ensures { result ≡ round_of book }
+{
+    known::<N, Brand>(alloc, book, tie)
+}
+
+impl<N: RoundName> Store<N> {
+    // The store of a book, which is of the round of the tie.
+    pub(crate) fn of(alloc: Global, book: Book<N>, tie: Tie<N>) -> Store<N>
+        requires { tie ≡ whole (round_of book) }
+        ensures { result ≡ round_of book }
+    {
+        let (tie, half) = tie.split();
         Store {
             alloc,
-            book: Mutex::new(book),
+            book: Mutex::new(Locked { book, half }),
+            tie,
         }
     }
 
-    // Its book, out of the lock.
-    pub(crate) fn into_book(self) -> (Global, Book<N>) {
-        let Store { alloc, book } = self;
-        (alloc, book.into_inner())
+    // Its book, out of the lock: it is of the store's round.
+    pub(crate) fn into_book(self) -> (Global, Book<N>, Tie<N>)
+        ensures round { round_of result.1 ≡ self }
+        ensures whole { result.2 ≡ whole (round_of result.1) }
+    {
+        let Store { alloc, book, tie } = self;
+        let Locked { book, half } = book.into_inner();
+        (alloc, book, tie.join(half))
     }
 
     /// A store with the namespaces of the configuration and no snapshots, in a round without sessions.
     ///
     /// `BadArgument` where a part of the configuration has not its form; `OutOfMemory` where memory is
     /// refused. It waits for nobody.
-    pub fn open(alloc: Global, table: NewTable, config: Config) -> Result<Store<N>, Refusal>
-        requires { table ≡ N.table }
+    pub fn open(alloc: Global, new: NewStore, config: Config) -> Result<Store<N>, Refusal>
+        requires { new ≡ (N.table, N.rounds) }
+        ensures opened { IfOk result (λ store. store ≡ record { opening = opening config; limit = config.journal }) }
         ensures bad { IsErrOf result BadArgument ↔ (is_config config ≡ false) }
         ensures err { IfErr result (λ why. (why ≡ BadArgument) ⊎ (why ≡ OutOfMemory no_memory)) }
     {
-        let book = Book::open(alloc, table, config)?;
-        Ok(Store::of(alloc, book))
+        let (charges, tie) = new.into_parts();
+        let book = Book::open(alloc, charges, config)?;
+        Ok(begun(alloc, book, tie))
     }
 
     /// Opens a session of the round. Its tape begins with the entry of this call.
@@ -76,7 +145,8 @@ impl<N: StoreName> Store<N> {
     {
         let mut tape = Vec::new(self.alloc);
         tape.reserve(1)?;
-        let mut book = self.book.lock(rt);
+        let mut locked = self.book.lock(rt);
+        let book = &mut locked.book;
         let number = book.open_session()?;
         let Some(entry) = book.take_entry() else {
             unreachable!()
@@ -106,14 +176,15 @@ impl<N: StoreName> Store<N> {
         ensures room { session.old.spare ≤ session.new.spare + 1 }
     {
         session.reserve(1)?;
-        let mut book = self.book.lock(rt);
+        let mut locked = self.book.lock(rt);
+        let book = &mut locked.book;
         match book.prepare(session.number(), namespace, key, parent, labels) {
             Ok(active) => {
                 session.note(book.take_entry());
                 Ok(active)
             }
             Err(why) => {
-                session.note(entry_of(&mut book, is_recorded(why)));
+                session.note(entry_of(book, is_recorded(why)));
                 Err(why)
             }
         }
@@ -137,14 +208,15 @@ impl<N: StoreName> Store<N> {
         ensures room { session.old.spare ≤ session.new.spare + 1 }
     {
         session.reserve(1)?;
-        let mut book = self.book.lock(rt);
+        let mut locked = self.book.lock(rt);
+        let book = &mut locked.book;
         match book.view(session.number(), namespace, key, parent, labels) {
             Ok(viewed) => {
                 session.note(book.take_entry());
                 Ok(viewed)
             }
             Err(why) => {
-                session.note(entry_of(&mut book, is_recorded(why)));
+                session.note(entry_of(book, is_recorded(why)));
                 Err(why)
             }
         }
@@ -171,14 +243,15 @@ impl<N: StoreName> Store<N> {
         ensures same { IfErr result (λ why. active.new ≡ active.old) }
     {
         session.reserve(1)?;
-        let mut book = self.book.lock(rt);
+        let mut locked = self.book.lock(rt);
+        let book = &mut locked.book;
         match book.charge(session.number(), active, need, want) {
             Ok(()) => {
                 session.note(book.take_entry());
                 Ok(())
             }
             Err(why) => {
-                session.note(entry_of(&mut book, is_recorded(why)));
+                session.note(entry_of(book, is_recorded(why)));
                 Err(why)
             }
         }
@@ -200,14 +273,15 @@ impl<N: StoreName> Store<N> {
         ensures same { IfErr result (λ why. active.new ≡ active.old) }
     {
         session.reserve(1)?;
-        let mut book = self.book.lock(rt);
+        let mut locked = self.book.lock(rt);
+        let book = &mut locked.book;
         match book.trim(session.number(), active) {
             Ok(()) => {
                 session.note(book.take_entry());
                 Ok(())
             }
             Err(why) => {
-                session.note(entry_of(&mut book, is_recorded(why)));
+                session.note(entry_of(book, is_recorded(why)));
                 Err(why)
             }
         }
@@ -235,14 +309,15 @@ impl<N: StoreName> Store<N> {
         if let Err(refused) = session.reserve(1) {
             return Err((refused.into(), sealed));
         }
-        let mut book = self.book.lock(rt);
+        let mut locked = self.book.lock(rt);
+        let book = &mut locked.book;
         match book.commit(session.number(), name, lease, sealed) {
             Ok(usage) => {
                 session.note(book.take_entry());
                 Ok(usage)
             }
             Err((why, sealed)) => {
-                session.note(entry_of(&mut book, is_recorded(why)));
+                session.note(entry_of(book, is_recorded(why)));
                 Err((why, sealed))
             }
         }
@@ -258,7 +333,8 @@ impl<N: StoreName> Store<N> {
         ensures granted { Taped session.old session.new (calls.Discard (share_of held).slot (share_of held).id) Nothing (replies.Discarded result) }
         ensures held { result ≡ (share_of held).usage }
     {
-        let mut book = self.book.lock(rt);
+        let mut locked = self.book.lock(rt);
+        let book = &mut locked.book;
         let freed = book.discard(session.number(), held);
         session.note(book.take_entry());
         freed

@@ -13,6 +13,7 @@ use Rattle.snap_tape.proofs.Counting.{stands}
 use Rattle.snap_grants.specs.Grants.{AreKeeping, AreOrigins, IsKeeping, Origin, Stored, grants, origin_in, sum_below, worth}
 use Rattle.snap_grants.proofs.Origins.{origins}
 use Rattle.snap_grants.proofs.Tapes.{own_origins, tapes_law}
+use Rattle.snap_round.specs.declared.rule.Round.{Round}
 use Rattle.snap_store.specs.Closing.{IsClosed}
 use Rattle.snap_writers.specs.declared.job.Job.{Job}
 use Rattle.snap_writers.specs.declared.job.Ended.{Ended}
@@ -61,8 +62,8 @@ keeps_all n (e ∷ es) below each = (
   keeps_all n es (All-tail (λ x. x.session < n) e es below) (λ k low. own_rest e es k (e.session == k) (each k low)),
 )
 
-journal_keeps : (b : BookValue) (sessions : List SessionValue) → IsClosed b sessions → AllByRecursion (λ s. AreKeeping s.tape) sessions → AreKeeping b.journal
-journal_keeps b sessions closed keep = keeps_all (length sessions) b.journal closed.sessions.all.known of
+journal_keeps : (r : Round) (b : BookValue) (sessions : List SessionValue) → IsClosed r b sessions → AllByRecursion (λ s. AreKeeping s.tape) sessions → AreKeeping b.journal
+journal_keeps r b sessions closed keep = keeps_all (length sessions) b.journal closed.sessions.all.known of
   where
     own_are : AllByRecursion (IsOwn b.journal) sessions
     own_are = all_rec (IsOwn b.journal) sessions closed.sessions.tapes
@@ -123,14 +124,14 @@ pub record Stores (jobs : List Job) (ends : List Ended) (b : BookValue) : Type 0
   pub of : AllZip IsStoredOf (done jobs ends) stored
   pub committed : (h : Stored → ℕ) → worth h b.state ≡ worth h b.opening + total h stored
 
-pub stores : (jobs : List Job) (workers : ℕ) (ws : List Worked) (ends : List Ended) (b : BookValue) → 1 ≤ workers → AreWorked jobs workers ws → AreInOrder jobs workers ws ends → IsClosed b (sessions_of ws) → Stores jobs ends b
-stores jobs workers ws ends b some worked order closed = record { stored = all.stored; of = all.of; committed = law }
+pub stores : (jobs : List Job) (workers : ℕ) (ws : List Worked) (ends : List Ended) (r : Round) (b : BookValue) → 1 ≤ workers → AreWorked jobs workers ws → AreInOrder jobs workers ws ends → IsClosed r b (sessions_of ws) → Stores jobs ends b
+stores jobs workers ws ends r b some worked order closed = record { stored = all.stored; of = all.of; committed = law }
   where
     own_are : AllByRecursion (IsOwn b.journal) (sessions_of ws)
     own_are = all_rec (IsOwn b.journal) (sessions_of ws) closed.sessions.tapes
 
     keeps : AreKeeping b.journal
-    keeps = journal_keeps b (sessions_of ws) closed (sessions_keep jobs workers 0 ws worked.each)
+    keeps = journal_keeps r b (sessions_of ws) closed (sessions_keep jobs workers 0 ws worked.each)
 
     origin : ℕ → Origin
     origin = origin_in b.journal

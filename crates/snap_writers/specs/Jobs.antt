@@ -23,6 +23,7 @@ use Rattle.snap_book.specs.Book.{BookValue}
 use Rattle.snap_book.specs.Wanted.{wanted}
 use Rattle.snap_tape.specs.Tapes.{SessionValue}
 use Rattle.snap_grants.specs.Grants.{Stored, worth}
+use Rattle.snap_round.specs.declared.rule.Round.{Round}
 use Rattle.snap_store.specs.Closing.{IsClosed}
 use Rattle.snap_writers.specs.declared.job.Job.{Job}
 use Rattle.snap_writers.specs.declared.job.End.{End}
@@ -170,11 +171,11 @@ abbrev pub total : (Stored → ℕ) → List Stored → ℕ
 total h [] = 0
 total h (s ∷ ss) = h s + total h ss
 
--- one end for each job, in order; all of a closed store; and, however snapshots are weighed, its committed ones are those that the round began with and one for each job that ended Committed
-pub record IsReport (jobs : List Job) (es : List Ended) (b : BookValue) : Type 0 where
+-- of a store of this round: one end for each job, in order; all of it once it is closed; and, however snapshots are weighed, its committed ones are those that the round began with and one for each job that ended Committed
+pub record IsReport (r : Round) (jobs : List Job) (es : List Ended) (b : BookValue) : Type 0 where
   pub count : length es ≡ length jobs
   pub sessions : List SessionValue
-  pub closed : IsClosed b sessions
+  pub closed : IsClosed r b sessions
   pub stored : List Stored
   pub of : AllZip IsStoredOf (done jobs es) stored
   pub committed : (h : Stored → ℕ) → worth h b.state ≡ worth h b.opening + total h stored

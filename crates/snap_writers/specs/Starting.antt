@@ -11,6 +11,7 @@ use Rattle.snap_writers.specs.declared.job.RunFault.TheVariants as faults
 use Rattle.snap_writers.specs.declared.job.Worked.{Worked}
 use Rattle.snap_writers.specs.declared.threads.Started.{Started}
 use Rattle.snap_writers.specs.declared.threads.Started.TheVariants.{There, Threadless}
+use Rattle.snap_round.specs.declared.rule.Round.{Round}
 use Rattle.snap_store.specs.Closing.{HasCause}
 use Rattle.snap_writers.specs.Jobs.{IsReport, IsWorked, every, jobs_of, unprepared}
 use Rattle.snap_writers.specs.Going.{none_run}
@@ -76,9 +77,9 @@ pub record AreBack (jobs : List Job) (workers : ℕ) (sessions : List SessionVal
   pub worked : AreWorked jobs workers all
   pub are : sessions ≡ sessions_of all
 
--- there are not 1 to 16 workers; or there are, and: nothing was run; or the gate stopped a worker, and this is the report; or the sessions of all workers are back, and the close of the store failed for the cause
-abbrev pub IsFault : {N : Type 0} → List Job → ℕ → RunFault N → Type 0
-IsFault jobs workers (faults.BadWorkers store) = (workers ≡ 0) ⊎ (16 < workers)
-IsFault jobs workers (faults.OutOfMemory store want) = IsCount workers
-IsFault jobs workers (faults.GateClosed worker report) = IsCount workers × IsReport jobs report.ends report.closed × (1 ≤ worker) × (worker ≤ workers)
-IsFault jobs workers (faults.NotClosed back) = IsCount workers × AreBack jobs workers back.sessions.items × HasCause back.sessions.items back.cause
+-- there are not 1 to 16 workers; or there are, and: nothing was run; or the gate stopped a worker, and this is the report; or the sessions of all workers are back, and the close of the store failed for the cause. A store that comes back is of the round that it was of
+abbrev pub IsFault : {N : Type 0} → Round → List Job → ℕ → RunFault N → Type 0
+IsFault r jobs workers (faults.BadWorkers store) = (store ≡ r) × ((workers ≡ 0) ⊎ (16 < workers))
+IsFault r jobs workers (faults.OutOfMemory store want) = (store ≡ r) × IsCount workers
+IsFault r jobs workers (faults.GateClosed worker report) = IsCount workers × IsReport r jobs report.ends report.closed × (1 ≤ worker) × (worker ≤ workers)
+IsFault r jobs workers (faults.NotClosed back) = IsCount workers × AreBack jobs workers back.sessions.items × (back.store ≡ r) × HasCause r back.sessions.items back.cause

@@ -3,10 +3,9 @@ ghost use Rattle.snap_writers.specs.Jobs.{IsWorked};
 
 use crate::running::RunError;
 use snap_book::Refusal;
-use snap_ledger::StoreName;
 use snap_path::NoMemory;
 use snap_record::{Sequence, Text};
-use snap_store::{Closed, NotClosed, Session, Store};
+use snap_store::{Closed, NotClosed, RoundName, Session, Store};
 use snap_upper::Op;
 use snap_usage::Usage;
 use std::thread::Promise;
@@ -90,7 +89,7 @@ impl<'a> Promise<Worked> for Works<'a> {
 
 /// What came of all jobs.
 #[derive(Drop)]
-pub struct Report<N: StoreName> {
+pub struct Report<N: RoundName> {
     /// One end for each job, in their order.
     pub ends: Ends,
     pub closed: Closed<N>,
@@ -98,7 +97,7 @@ pub struct Report<N: StoreName> {
 
 /// Why there is no report, or not of all jobs.
 #[derive(Drop)]
-pub enum RunFault<N: StoreName> {
+pub enum RunFault<N: RoundName> {
     /// The number of workers is not 1 to 16. Nothing was run, and the store is as it was.
     BadWorkers(Store<N>),
     /// Memory was refused before a thread was started. The store is as it was.

@@ -6,9 +6,8 @@ ghost use Rattle.snap_book.specs.Files.{worked};
 ghost use Rattle.snap_writers.specs.Run.{HasCharged, HasRun, IsSameSnapshot};
 
 use snap_book::{Active, Refusal, needed_by, wanted};
-use snap_ledger::StoreName;
 use snap_merge::FsError;
-use snap_store::{Session, Store};
+use snap_store::{RoundName, Session, Store};
 use snap_upper::Op;
 use snap_usage::Usage;
 use std::sync::Wait;
@@ -26,7 +25,7 @@ pub enum RunError {
 }
 
 // Charges the snapshot for the operation, which needs so much, and does it.
-fn charge_and_apply<N: StoreName, R: Wait>(
+fn charge_and_apply<N: RoundName, R: Wait>(
     store: &Store<N>,
     rt: &R,
     session: &mut Session,
@@ -59,7 +58,7 @@ fn charge_and_apply<N: StoreName, R: Wait>(
 ///
 /// It waits for the store's lock where a charge is needed, and else for nobody. The cost is that of
 /// [`Active::apply`], twice where a charge is needed, and of [`Store::charge`].
-pub fn run<N: StoreName, R: Wait>(
+pub fn run<N: RoundName, R: Wait>(
     store: &Store<N>,
     rt: &R,
     session: &mut Session,

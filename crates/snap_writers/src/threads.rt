@@ -8,8 +8,7 @@ ghost use Rattle.snap_writers.specs.Starting.{AreAssigned, AreStarted, AreWorked
 use crate::assignment::Assignment;
 use crate::job::{Ends, Gate, Job, Worked, Works};
 use crate::worker::run_worker;
-use snap_ledger::StoreName;
-use snap_store::Store;
+use snap_store::{RoundName, Store};
 use std::alloc::{AllocError, Global};
 use std::sync::Wait;
 use std::thread;
@@ -58,7 +57,7 @@ fn joined<R: Threads>(
 
 // Runs each worker on a thread of its own, and gives what they gave back, in order. Memory is refused before a
 // thread is started.
-pub(crate) fn all_worked<N: StoreName + Send + Sync, R: Threads + Wait + Sync, G: Gate>(
+pub(crate) fn all_worked<N: RoundName + Send + Sync, R: Threads + Wait + Sync, G: Gate>(
     rt: &R,
     alloc: Global,
     store: &Store<N>,

@@ -16,9 +16,8 @@ ghost use Rattle.snap_writers.specs.Going.{GoesOn, HasRunJob, IsFresh, IsReady, 
 use crate::job::{End, Ended, Ends, Gate, Job, Worked};
 use crate::running::{RunError, run};
 use snap_book::{Active, Held, Refusal};
-use snap_ledger::StoreName;
 use snap_record::{Labels, Text};
-use snap_store::{Session, Store};
+use snap_store::{RoundName, Session, Store};
 use snap_upper::Op;
 use snap_usage::Usage;
 use std::alloc::Global;
@@ -27,7 +26,7 @@ use std::sync::Wait;
 // A worker with its session. It has asked the gate for so many steps, and may make the last of them where the
 // gate let it pass and it is not made yet.
 #[derive(Drop)]
-pub(crate) struct Worker<'a, N: StoreName, R: Wait, G: Gate> {
+pub(crate) struct Worker<'a, N: RoundName, R: Wait, G: Gate> {
     pub(crate) rt: &'a R,
     pub(crate) alloc: Global,
     pub(crate) store: &'a Store<N>,
@@ -52,7 +51,7 @@ impl From<RunError> for Stop {
     }
 }
 
-impl<'a, N: StoreName, R: Wait, G: Gate> Worker<'a, N, R, G> {
+impl<'a, N: RoundName, R: Wait, G: Gate> Worker<'a, N, R, G> {
     // Asks the gate for the next step.
     fn passes(&mut self) -> bool
         ensures same { self.new.session ≡ self.old.session }
@@ -284,7 +283,7 @@ fn unstarted(ends: Ends, why: Refusal) -> Ends
 ///
 /// It waits for the store's lock in each call, and for the gate. The cost is that of its calls and operations,
 /// and a pass over all jobs.
-pub fn run_worker<N: StoreName, R: Wait, G: Gate>(
+pub fn run_worker<N: RoundName, R: Wait, G: Gate>(
     rt: &R,
     alloc: Global,
     store: &Store<N>,

@@ -7,8 +7,7 @@ use crate::assignment::{Assignment, assignments};
 use crate::job::{Ended, Gate, Job, Report, RunFault};
 use crate::order::{first_refused, in_order, sessions_of};
 use crate::threads::all_worked;
-use snap_ledger::StoreName;
-use snap_store::{Session, Store};
+use snap_store::{RoundName, Session, Store};
 use std::alloc::{AllocError, Global};
 use std::sync::Wait;
 use std::thread::Threads;
@@ -49,7 +48,7 @@ pub const MAX_WORKERS: u32 = 16;
 ///
 /// It waits for the workers, which wait for the store's lock and for the gate. The cost is that of the jobs'
 /// calls and operations, a pass over all jobs for each worker, and [`Store::close`].
-pub fn run_jobs<N: StoreName + Send + Sync, R: Threads + Wait + Sync, G: Gate>(
+pub fn run_jobs<N: RoundName + Send + Sync, R: Threads + Wait + Sync, G: Gate>(
     rt: &R,
     alloc: Global,
     store: Store<N>,
@@ -58,10 +57,10 @@ pub fn run_jobs<N: StoreName + Send + Sync, R: Threads + Wait + Sync, G: Gate>(
     gate: &G,
 ) -> Result<Report<N>, RunFault<N>>
     // Ok: all that is owed for all jobs, in one record.
-    ensures report { IfOk result (λ report. IsReport jobs.now report.ends report.closed) }
+    ensures report { IfOk result (λ report. IsReport store jobs.now report.ends report.closed) }
     ensures workers { OnOk result (IsCount workers) }
     // Err: why, and what is given back.
-    ensures fault { IfErr result (λ fault. IsFault jobs.now workers fault) }
+    ensures fault { IfErr result (λ fault. IsFault store jobs.now workers fault) }
 {
     if workers == 0 || workers > MAX_WORKERS {
         return Err(RunFault::BadWorkers(store));

@@ -4,9 +4,8 @@ use crate::known::{Kept, Key};
 use crate::refused::Refused;
 use crate::round::{Round, session_at};
 use snap_book::{Call, Held, Refusal, Reply};
-use snap_ledger::StoreName;
 use snap_record::{Labels, Sequence};
-use snap_store::{Session, Swept};
+use snap_store::{RoundName, Session, Swept};
 use std::alloc::{AllocError, Global};
 use std::sync::Wait;
 
@@ -26,7 +25,7 @@ fn chain_of(alloc: Global, session: &Session) -> Result<Sequence<u32>, AllocErro
     }
 }
 
-impl<'a, N: StoreName, R: Wait> Round<'a, N, R> {
+impl<'a, N: RoundName, R: Wait> Round<'a, N, R> {
     fn prepare(
         &mut self,
         n: u64,

@@ -3,10 +3,9 @@ ghost use Rattle.std.specs.Prelude.{◌<◌};
 
 use crate::known::Key;
 use snap_book::{Held, Refusal, Reply, Sealed};
-use snap_ledger::StoreName;
 use snap_path::NoMemory;
 use snap_record::Text;
-use snap_store::{Session, Store};
+use snap_store::{RoundName, Session, Store};
 use snap_usage::Usage;
 use std::alloc::{AllocError, Global};
 use std::sync::Wait;
@@ -28,7 +27,7 @@ impl Room {
 
 // The snapshot, with its key. One that is dropped is discarded, in memory that was taken before, since the
 // snapshot has to be spent where a run ends for want of memory.
-pub(crate) struct Hand<'a, N: StoreName, R: Wait> {
+pub(crate) struct Hand<'a, N: RoundName, R: Wait> {
     pub(crate) rt: &'a R,
     pub(crate) store: &'a Store<N>,
     pub(crate) key: Key,
@@ -37,7 +36,7 @@ pub(crate) struct Hand<'a, N: StoreName, R: Wait> {
     pub(crate) held: Held<N>,
 }
 
-impl<'a, N: StoreName, R: Wait> Drop for Hand<'a, N, R> {
+impl<'a, N: RoundName, R: Wait> Drop for Hand<'a, N, R> {
     fn drop(self) {
         let Hand {
             rt,
@@ -53,7 +52,7 @@ impl<'a, N: StoreName, R: Wait> Drop for Hand<'a, N, R> {
 }
 
 // The snapshot, sealed. Where memory is refused it comes back as it was.
-fn seal<N: StoreName>(held: Held<N>) -> Result<Sealed<N>, (NoMemory, Held<N>)> {
+fn seal<N: RoundName>(held: Held<N>) -> Result<Sealed<N>, (NoMemory, Held<N>)> {
     match held {
         Held::Active(active) => match active.seal() {
             Ok(sealed) => Ok(sealed),
@@ -63,7 +62,7 @@ fn seal<N: StoreName>(held: Held<N>) -> Result<Sealed<N>, (NoMemory, Held<N>)> {
     }
 }
 
-impl<'a, N: StoreName, R: Wait> Hand<'a, N, R> {
+impl<'a, N: RoundName, R: Wait> Hand<'a, N, R> {
     // Seals what is held, and commits it. Where that is refused the hand comes back.
     pub(crate) fn commit(
         self,

@@ -4,17 +4,17 @@ use crate::known::{Kept, Key};
 use crate::refused::Refused;
 use crate::round::{Round, session_at};
 use snap_book::{Held, Reply};
-use snap_ledger::StoreName;
 use snap_merge::FsError;
 use snap_record::Text;
 use snap_script::Answer;
+use snap_store::RoundName;
 use snap_upper::Op;
 use snap_usage::Usage;
 use snap_writers::run;
 use std::sync::Wait;
 
 // The hand goes out of its place.
-fn take<'a, N: StoreName, R: Wait>(
+fn take<'a, N: RoundName, R: Wait>(
     hands: &mut Vec<Hand<'a, N, R>>,
     place: usize,
 ) -> Result<Hand<'a, N, R>, Refused> {
@@ -25,7 +25,7 @@ fn take<'a, N: StoreName, R: Wait>(
     }
 }
 
-impl<'a, N: StoreName, R: Wait> Round<'a, N, R> {
+impl<'a, N: RoundName, R: Wait> Round<'a, N, R> {
     // Charges for the wanted amount, or for the needed one; trims where there are none.
     pub(crate) fn charge(
         &mut self,

@@ -4,11 +4,11 @@ use crate::refused::Refused;
 use crate::round::Round;
 use snap_book::Held;
 use snap_layer::Bytes;
-use snap_ledger::StoreName;
 use snap_merge::{FsError, Seen, Stack};
 use snap_path::Path;
 use snap_record::Sequence;
 use snap_script::{Answer, Lookup, Shown};
+use snap_store::RoundName;
 use std::alloc::{AllocError, Global};
 use std::sync::Wait;
 
@@ -54,7 +54,7 @@ fn looked_up(
     }
 }
 
-impl<'a, N: StoreName, R: Wait> Round<'a, N, R> {
+impl<'a, N: RoundName, R: Wait> Round<'a, N, R> {
     // The layers of an open snapshot, or of a view.
     fn stack(&self, namespace: &str, key: &str) -> Result<Stack<'_>, Refused> {
         if let Some(

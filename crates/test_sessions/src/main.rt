@@ -38,7 +38,7 @@ mod stop;
 use crate::script::carry_out;
 use crate::steps::carry_out_by_steps;
 use crate::stop::Stop;
-use snap_ledger::{NewTable, StoreName};
+use snap_store::{NewStore, RoundName};
 use std::alloc::Global;
 use std::io::{BufWriter, Write};
 use std::marker::Brand;
@@ -59,20 +59,21 @@ fn asks_for_steps(rt: &(impl Env + AllocGlobal)) -> Result<bool, Stop> {
     }
 }
 
-fn run<N: StoreName, R: Wait, W: Write>(
+fn run<N: RoundName, R: Wait, W: Write>(
     alloc: Global,
     rt: &R,
-    table: NewTable,
+    new: NewStore,
     by_steps: bool,
     lines: &mut Lines<'_>,
     output: &mut W,
 ) -> Result<(), Stop>
-    requires { table ≡ N.table }
+    requires { new ≡ (N.table, N.rounds) }
 {
     if by_steps {
-        carry_out_by_steps::<N, W>(alloc, table, lines, output)
+        let (charges, _tie) = new.into_parts::<N>();
+        carry_out_by_steps::<N, W>(alloc, charges, lines, output)
     } else {
-        carry_out::<N, R, W>(alloc, rt, table, lines, output)
+        carry_out::<N, R, W>(alloc, rt, new, lines, output)
     }
 }
 
@@ -84,8 +85,8 @@ fn replay<R: Wait, W: Write>(
     text: &str,
     output: &mut W,
 ) -> Result<(), Stop> {
-    let table = NewTable::new(alloc)?;
-    run::<Brand, R, W>(alloc, rt, table, by_steps, &mut text.lines(), output)
+    let new = NewStore::new(alloc)?;
+    run::<Brand, R, W>(alloc, rt, new, by_steps, &mut text.lines(), output)
 }
 
 fn replayed<R: Wait + Env + Input + Print + AllocGlobal>(rt: &R) -> Result<(), Stop> {

@@ -5,13 +5,13 @@ use crate::round::Round;
 use crate::stop::Stop;
 use snap_book::Refusal;
 use snap_call::limits::MAX_JOURNAL;
-use snap_ledger::StoreName;
 use snap_script::{Answer, Command, Line, read_line};
+use snap_store::RoundName;
 use std::io::Write;
 use std::str::Lines;
 use std::sync::Wait;
 
-impl<'a, N: StoreName, R: Wait> Round<'a, N, R> {
+impl<'a, N: RoundName, R: Wait> Round<'a, N, R> {
     // The round ends for one of so many entries, unless a snapshot is open.
     fn end_for(&mut self, journal: u64) -> Result<(), Refused> {
         if !self.hands.is_empty() {

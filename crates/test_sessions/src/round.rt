@@ -6,14 +6,13 @@ use crate::known::Known;
 use crate::refused::Refused;
 use crate::stop::Stop;
 use snap_book::{Refusal, Reply};
-use snap_ledger::StoreName;
 use snap_script::Answer;
-use snap_store::{Session, Store};
+use snap_store::{RoundName, Session, Store};
 use std::alloc::{AllocError, Global};
 use std::sync::Wait;
 
 // The session n is at place n.
-pub(crate) struct Round<'a, N: StoreName, R: Wait> {
+pub(crate) struct Round<'a, N: RoundName, R: Wait> {
     pub(crate) alloc: Global,
     pub(crate) rt: &'a R,
     pub(crate) store: &'a Store<N>,
@@ -24,7 +23,7 @@ pub(crate) struct Round<'a, N: StoreName, R: Wait> {
     pub(crate) next: Option<u64>,
 }
 
-impl<'a, N: StoreName, R: Wait> Drop for Round<'a, N, R> {
+impl<'a, N: RoundName, R: Wait> Drop for Round<'a, N, R> {
     fn drop(self) {
         let Round {
             alloc: _,
@@ -64,7 +63,7 @@ fn reserve_again(session: &mut Session) -> Result<(), AllocError>
     }
 }
 
-impl<'a, N: StoreName, R: Wait> Round<'a, N, R> {
+impl<'a, N: RoundName, R: Wait> Round<'a, N, R> {
     // Opens a session: its number.
     pub(crate) fn open_session(&mut self) -> Result<u64, Refused> {
         self.sessions.reserve(1)?;

@@ -6,10 +6,9 @@ use crate::lines::write_answer;
 use crate::round::{Ended, Round};
 use crate::stop::Stop;
 use snap_book::{Config, Refusal};
-use snap_ledger::{NewTable, StoreName};
 use snap_record::{Sequence, Text};
 use snap_script::{Answer, Command, Line, names_of, read_line};
-use snap_store::{Cause, Closed, NotClosed, Session, Store};
+use snap_store::{Cause, Closed, NewStore, NotClosed, RoundName, Session, Store};
 use snap_usage::Usage;
 use std::alloc::{AllocError, Global};
 use std::io::Write;
@@ -18,7 +17,7 @@ use std::sync::Wait;
 
 // A round that has been closed, and the entries of the next one, if the script asks for one.
 #[derive(Drop)]
-struct Past<N: StoreName> {
+struct Past<N: RoundName> {
     closed: Closed<N>,
     known: Known,
     next: Option<u64>,
@@ -55,7 +54,7 @@ fn first_config<W: Write>(
 }
 
 // Where memory is refused the store and the sessions come back, and it is closed again.
-fn close<N: StoreName>(store: Store<N>, sessions: Vec<Session>) -> Result<Closed<N>, Stop> {
+fn close<N: RoundName>(store: Store<N>, sessions: Vec<Session>) -> Result<Closed<N>, Stop> {
     match store.close(sessions) {
         Ok(closed) => Ok(closed),
         Err(
@@ -73,7 +72,7 @@ fn close<N: StoreName>(store: Store<N>, sessions: Vec<Session>) -> Result<Closed
 }
 
 // A round, up to its close.
-fn one_round<N: StoreName, R: Wait, W: Write>(
+fn one_round<N: RoundName, R: Wait, W: Write>(
     alloc: Global,
     rt: &R,
     store: Store<N>,
@@ -105,7 +104,7 @@ fn one_round<N: StoreName, R: Wait, W: Write>(
 }
 
 // The report of a closed store: of each namespace, what it is charged.
-fn report<N: StoreName>(
+fn report<N: RoundName>(
     alloc: Global,
     closed: &Closed<N>,
     names: &[Text],
@@ -124,7 +123,7 @@ fn report<N: StoreName>(
 }
 
 // All rounds, and the report at the end.
-fn rounds<N: StoreName, R: Wait, W: Write>(
+fn rounds<N: RoundName, R: Wait, W: Write>(
     alloc: Global,
     rt: &R,
     mut store: Store<N>,
@@ -156,14 +155,14 @@ fn rounds<N: StoreName, R: Wait, W: Write>(
     Err(Stop::NotClosed)
 }
 
-pub(crate) fn carry_out<N: StoreName, R: Wait, W: Write>(
+pub(crate) fn carry_out<N: RoundName, R: Wait, W: Write>(
     alloc: Global,
     rt: &R,
-    table: NewTable,
+    new: NewStore,
     lines: &mut Lines<'_>,
     output: &mut W,
 ) -> Result<(), Stop>
-    requires { table ≡ N.table }
+    requires { new ≡ (N.table, N.rounds) }
 {
     let Some(config) = first_config(alloc, lines, output)? else {
         return Ok(());
@@ -172,7 +171,7 @@ pub(crate) fn carry_out<N: StoreName, R: Wait, W: Write>(
         names: names_of(alloc, config.namespaces.as_slice())?,
         kept: Vec::new(alloc),
     };
-    let Ok(store) = Store::<N>::open(alloc, table, config) else {
+    let Ok(store) = Store::<N>::open(alloc, new, config) else {
         return Err(Stop::NoMemory);
     };
     rounds(alloc, rt, store, known, lines, output)

@@ -4,8 +4,7 @@ ghost use Rattle.std.specs.Prelude.{◌≡◌};
 use crate::setup::{equal, text};
 use crate::stores::{closed, listed, new_session, not_closed, opened, stat};
 use snap_book::{Call, Entry, Given, Refusal, Reply, SharedEntry};
-use snap_ledger::{NewTable, StoreName};
-use snap_store::{Closed, Mismatch, Session, Store, first_mismatch};
+use snap_store::{Closed, Mismatch, NewStore, RoundName, Session, Store, first_mismatch};
 use snap_usage::Usage;
 use std::alloc::Global;
 use std::process::Abort;
@@ -14,7 +13,7 @@ use std::thread;
 use std::thread::Threads;
 
 /// A close with one session of two gives both the store and that session back.
-pub fn close_with_one_of_two<N: StoreName, R: Wait + Abort>(
+pub fn close_with_one_of_two<N: RoundName, R: Wait + Abort>(
     rt: &R,
     alloc: Global,
     store: Store<N>,
@@ -55,7 +54,7 @@ fn journal_with<R: Abort>(rt: &R, alloc: Global, why: Refusal) -> Vec<SharedEntr
 }
 
 /// An altered reply is found at its place. The store itself has the tape's own.
-pub fn alter_a_reply<N: StoreName, R: Wait + Abort>(
+pub fn alter_a_reply<N: RoundName, R: Wait + Abort>(
     rt: &R,
     alloc: Global,
     store: Store<N>,
@@ -80,14 +79,14 @@ pub fn alter_a_reply<N: StoreName, R: Wait + Abort>(
 }
 
 /// The sessions 0 and 1 of a store of their own, of which the first makes one stat.
-pub fn strangers<N: StoreName, R: Wait + Abort>(
+pub fn strangers<N: RoundName, R: Wait + Abort>(
     rt: &R,
     alloc: Global,
-    table: NewTable,
+    new: NewStore,
 ) -> (Session, Session)
-    requires { table ≡ N.table }
+    requires { new ≡ (N.table, N.rounds) }
 {
-    let store = opened::<N, R>(rt, alloc, table, 100);
+    let store = opened::<N, R>(rt, alloc, new, 100);
     let mut first = new_session(rt, &store);
     let second = new_session(rt, &store);
     let info = stat(rt, &store, &mut first, "k");
@@ -96,7 +95,7 @@ pub fn strangers<N: StoreName, R: Wait + Abort>(
 }
 
 /// A close with another store's sessions: one has no number here, the other an entry too many.
-pub fn close_with_strangers<N: StoreName, R: Wait + Abort>(
+pub fn close_with_strangers<N: RoundName, R: Wait + Abort>(
     rt: &R,
     alloc: Global,
     store: Store<N>,
@@ -112,7 +111,7 @@ pub fn close_with_strangers<N: StoreName, R: Wait + Abort>(
 }
 
 /// A session that is dropped on another thread leaves its store open for good.
-pub fn drop_a_session<N: StoreName, R: Threads + Wait + Abort>(
+pub fn drop_a_session<N: RoundName, R: Threads + Wait + Abort>(
     rt: &R,
     alloc: Global,
     store: Store<N>,

@@ -10,14 +10,14 @@ use snap_book::{Active, Book, Held, Refusal};
 use snap_call::{Call, Reply};
 use snap_ledger::{NewTable, StoreName};
 use snap_record::Labels;
-use snap_store::{Closed, Session, Store};
+use snap_store::{Closed, RoundName, Session, Store};
 use snap_usage::Usage;
 use std::alloc::Global;
 use std::process::Abort;
 use std::sync::Wait;
 
 // The slot of a snapshot that is given back is the next one's.
-fn reuse<N: StoreName, R: Wait + Abort>(
+fn reuse<N: RoundName, R: Wait + Abort>(
     rt: &R,
     alloc: Global,
     store: &Store<N>,
@@ -33,7 +33,7 @@ fn reuse<N: StoreName, R: Wait + Abort>(
 }
 
 /// All slots are taken, of 65 that are asked for. A close now names what is open, and gives all back.
-pub fn take_all_slots<N: StoreName, R: Wait + Abort>(
+pub fn take_all_slots<N: RoundName, R: Wait + Abort>(
     rt: &R,
     alloc: Global,
     store: Store<N>,
@@ -52,7 +52,7 @@ pub fn take_all_slots<N: StoreName, R: Wait + Abort>(
 }
 
 /// A journal of four entries that is full refuses all sessions, but for a discard, whose entry has its room.
-pub fn fill_by_two<N: StoreName, R: Wait + Abort>(
+pub fn fill_by_two<N: RoundName, R: Wait + Abort>(
     rt: &R,
     alloc: Global,
     store: Store<N>,

@@ -2,13 +2,12 @@
 ghost use Rattle.std.specs.Prelude.{◌≡◌};
 
 use crate::gates::Steps;
-use crate::setup::{equal, new_table, path, text, usage};
+use crate::setup::{equal, new_store, path, text, usage};
 use crate::stores::{closed, discard_all, is_cause, new_session, opened, prepare_all};
 use snap_book::Refusal;
-use snap_ledger::{NewTable, StoreName};
 use snap_merge::FsError;
 use snap_record::Sequence;
-use snap_store::{NotClosed, Store};
+use snap_store::{NewStore, NotClosed, RoundName, Store};
 use snap_upper::Op;
 use snap_usage::Usage;
 use snap_writers::{End, Ended, Gate, Job, Report, RunError, RunFault, run_jobs};
@@ -107,7 +106,7 @@ const STOPPED: [Ended; 2] = [
 ];
 
 // The store, which no job ran on, since the number of workers is wrong.
-fn unrun<N: StoreName, R: Abort>(rt: &R, answer: Result<Report<N>, RunFault<N>>) -> Store<N> {
+fn unrun<N: RoundName, R: Abort>(rt: &R, answer: Result<Report<N>, RunFault<N>>) -> Store<N> {
     match answer {
         Err(RunFault::BadWorkers(store)) => store,
         _ => panic!(rt; "a number of workers that is wrong"),
@@ -115,7 +114,7 @@ fn unrun<N: StoreName, R: Abort>(rt: &R, answer: Result<Report<N>, RunFault<N>>)
 }
 
 // The first worker that the gate stopped, if it stopped one, and the report.
-fn reported<N: StoreName, R: Abort>(
+fn reported<N: RoundName, R: Abort>(
     rt: &R,
     answer: Result<Report<N>, RunFault<N>>,
 ) -> (Option<u32>, Report<N>) {
@@ -128,17 +127,17 @@ fn reported<N: StoreName, R: Abort>(
 
 // Runs the jobs by so many workers through the gate. Found are the first worker that it stopped, the end of
 // each job, and what the namespace a is charged. No workers and too many give the store back before.
-fn end_so<N: StoreName + Send + Sync, R: Threads + Wait + Abort + Sync, G: Gate>(
+fn end_so<N: RoundName + Send + Sync, R: Threads + Wait + Abort + Sync, G: Gate>(
     rt: &R,
     alloc: Global,
-    table: NewTable,
+    new: NewStore,
     run: (&str, &[Job], u32, &G),
     wanted: (Option<u32>, &[Ended], Option<Usage>),
 )
-    requires { table ≡ N.table }
+    requires { new ≡ (N.table, N.rounds) }
 {
     let (shown, jobs, workers, gate) = run;
-    let store = opened::<N, R>(rt, alloc, table, 1000);
+    let store = opened::<N, R>(rt, alloc, new, 1000);
     let store = unrun(rt, run_jobs(rt, alloc, store, jobs, 0, gate));
     let store = unrun(rt, run_jobs(rt, alloc, store, jobs, 17, gate));
     let (stopped, report) = reported(rt, run_jobs(rt, alloc, store, jobs, workers, gate));
@@ -147,7 +146,7 @@ fn end_so<N: StoreName + Send + Sync, R: Threads + Wait + Abort + Sync, G: Gate>
 }
 
 // The store and the sessions of the four workers; it is not closed while 64 snapshots are open.
-fn run_without_slots<N: StoreName + Send + Sync, R: Threads + Wait + Abort + Clock + Sync>(
+fn run_without_slots<N: RoundName + Send + Sync, R: Threads + Wait + Abort + Clock + Sync>(
     rt: &R,
     alloc: Global,
     store: Store<N>,
@@ -160,14 +159,14 @@ fn run_without_slots<N: StoreName + Send + Sync, R: Threads + Wait + Abort + Clo
 }
 
 // Without a slot no job is prepared.
-fn without_slots<N: StoreName + Send + Sync, R: Threads + Wait + Abort + Clock + Sync>(
+fn without_slots<N: RoundName + Send + Sync, R: Threads + Wait + Abort + Clock + Sync>(
     rt: &R,
     alloc: Global,
-    table: NewTable,
+    new: NewStore,
 )
-    requires { table ≡ N.table }
+    requires { new ≡ (N.table, N.rounds) }
 {
-    let store = opened::<N, R>(rt, alloc, table, 1000);
+    let store = opened::<N, R>(rt, alloc, new, 1000);
     let mut session = new_session(rt, &store);
     let held = prepare_all(rt, alloc, &store, &mut session, "s", 64);
     let NotClosed {
@@ -221,8 +220,8 @@ fn jobs_and_gates(rt: HostRuntime) {
         ),
     ];
     for (run, wanted) in rows {
-        let table = new_table(&rt, alloc);
-        end_so::<Brand, HostRuntime, Steps<HostRuntime>>(&rt, alloc, table, run, wanted);
+        let new = new_store(&rt, alloc);
+        end_so::<Brand, HostRuntime, Steps<HostRuntime>>(&rt, alloc, new, run, wanted);
     }
-    without_slots::<Brand, HostRuntime>(&rt, alloc, new_table(&rt, alloc));
+    without_slots::<Brand, HostRuntime>(&rt, alloc, new_store(&rt, alloc));
 }

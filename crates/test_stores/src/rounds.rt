@@ -5,11 +5,10 @@ use crate::closes::{
     alter_a_reply, close_with_one_of_two, close_with_strangers, drop_a_session, strangers,
 };
 use crate::full::{fill_a_book, fill_by_two, spend_numbers, take_all_slots};
-use crate::setup::{equal, new_table, usage};
+use crate::setup::{equal, new_store, new_table, usage};
 use crate::stores::{closed, commit, listed, new_session, not_closed, opened, prepare, reopened};
 use crate::threads::{sixteen_sessions, two_sessions};
-use snap_ledger::{NewTable, StoreName};
-use snap_store::Session;
+use snap_store::{NewStore, RoundName, Session};
 use std::alloc::Global;
 use std::marker::Brand;
 use std::process::Abort;
@@ -17,10 +16,10 @@ use std::sync::Wait;
 use std::thread::Threads;
 
 // A first round commits base by its third entry, and can't end before.
-fn first_round<N: StoreName, R: Wait + Abort>(rt: &R, alloc: Global, table: NewTable)
-    requires { table ≡ N.table }
+fn first_round<N: RoundName, R: Wait + Abort>(rt: &R, alloc: Global, new: NewStore)
+    requires { new ≡ (N.table, N.rounds) }
 {
-    let store = opened::<N, R>(rt, alloc, table, 100);
+    let store = opened::<N, R>(rt, alloc, new, 100);
     let mut session = new_session(rt, &store);
     let active = prepare(rt, alloc, &store, &mut session, "k").expect(rt, "a new snapshot");
     let (store, mut session) = not_closed(rt, alloc, store, session, "snapshots are open", 1);
@@ -32,15 +31,15 @@ fn first_round<N: StoreName, R: Wait + Abort>(rt: &R, alloc: Global, table: NewT
 }
 
 // The rounds of one store. They leave no snapshot, but for the last two.
-fn eight_rounds<N: StoreName + Send + Sync, R: Threads + Wait + Abort + Sync>(
+fn eight_rounds<N: RoundName + Send + Sync, R: Threads + Wait + Abort + Sync>(
     rt: &R,
     alloc: Global,
-    table: NewTable,
+    new: NewStore,
     strangers: (Session, Session),
 )
-    requires { table ≡ N.table }
+    requires { new ≡ (N.table, N.rounds) }
 {
-    let store = opened::<N, R>(rt, alloc, table, 100);
+    let store = opened::<N, R>(rt, alloc, new, 100);
     let closed = close_with_one_of_two(rt, alloc, store);
     let closed = alter_a_reply(rt, alloc, reopened(rt, closed, 100));
     let closed = close_with_strangers(rt, alloc, reopened(rt, closed, 100), strangers);
@@ -54,9 +53,9 @@ fn eight_rounds<N: StoreName + Send + Sync, R: Threads + Wait + Abort + Sync>(
 #[test]
 fn rounds_of_stores(rt: HostRuntime) {
     let alloc = rt.alloc();
-    first_round::<Brand, HostRuntime>(&rt, alloc, new_table(&rt, alloc));
-    let strangers = strangers::<Brand, HostRuntime>(&rt, alloc, new_table(&rt, alloc));
-    eight_rounds::<Brand, HostRuntime>(&rt, alloc, new_table(&rt, alloc), strangers);
+    first_round::<Brand, HostRuntime>(&rt, alloc, new_store(&rt, alloc));
+    let strangers = strangers::<Brand, HostRuntime>(&rt, alloc, new_store(&rt, alloc));
+    eight_rounds::<Brand, HostRuntime>(&rt, alloc, new_store(&rt, alloc), strangers);
     fill_a_book::<Brand, HostRuntime>(&rt, alloc, new_table(&rt, alloc));
     spend_numbers::<Brand, HostRuntime>(&rt, alloc, new_table(&rt, alloc));
 }

@@ -1,8 +1,7 @@
 // What can be handed to another thread. Witnesses: they are proved, and not run.
 use snap_book::{Active, Book, Sealed};
 use snap_call::{Call, Config, SharedEntry, State};
-use snap_ledger::StoreName;
-use snap_store::{Closed, Session, Store};
+use snap_store::{Closed, RoundName, Session, Store};
 use std::sync::Mutex;
 
 fn sends<T: Send>(_value: &T) {}
@@ -11,7 +10,7 @@ fn syncs<T: Sync>(_value: &T) {}
 
 // The plain data, what writers hold, a book and its lock; and a store, which many threads can call, and what it
 // hands out.
-fn are_sent<N: StoreName + Send + Sync>(
+fn are_sent<N: RoundName + Send + Sync>(
     plain: (&Config, &State, &Call, &SharedEntry),
     book: (&Active<N>, &Sealed<N>, &Book<N>, &Mutex<Book<N>>),
     store: (&Store<N>, &Session, &Closed<N>),

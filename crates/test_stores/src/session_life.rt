@@ -1,11 +1,10 @@
 // The life of a session. docs/STORE.md shows the two functions to the letter.
 ghost use Rattle.std.specs.Prelude.{◌≡◌};
 
-use crate::setup::{config, equal, new_table, path, usage};
+use crate::setup::{config, equal, new_store, path, usage};
 use snap_book::{Config, Held};
-use snap_ledger::{NewTable, StoreName};
 use snap_record::Labels;
-use snap_store::{Cause, Session, Store};
+use snap_store::{Cause, NewStore, RoundName, Session, Store};
 use snap_upper::Op;
 use snap_usage::Usage;
 use snap_writers::run;
@@ -15,7 +14,7 @@ use std::sync::Wait;
 use std::test::Fail;
 
 /// Unpacks a layer without a parent, which has one file, and commits it. The answer is what it takes.
-fn unpack<N: StoreName, R: Wait>(
+fn unpack<N: RoundName, R: Wait>(
     rt: &R,
     store: &Store<N>,
     session: &mut Session,
@@ -46,16 +45,16 @@ fn unpack<N: StoreName, R: Wait>(
 
 /// A round of one session: the store is opened, used and closed. The answers are what the layer takes, and
 /// what its namespace is charged once the store is closed.
-fn round<N: StoreName, R: Wait>(
+fn round<N: RoundName, R: Wait>(
     rt: &R,
     alloc: Global,
-    table: NewTable,
+    new: NewStore,
     config: Config,
     file: &Op,
 ) -> Result<(Usage, Option<Usage>), Fail>
-    requires { table ≡ N.table }
+    requires { new ≡ (N.table, N.rounds) }
 {
-    let store = Store::<N>::open(alloc, table, config)?;
+    let store = Store::<N>::open(alloc, new, config)?;
     let mut session = store.session(rt)?;
     let usage = unpack(rt, &store, &mut session, &Labels::new(alloc), file)?;
     let mut sessions = Vec::new(alloc);
@@ -69,13 +68,13 @@ fn round<N: StoreName, R: Wait>(
 #[test]
 fn a_round_of_one_session(rt: HostRuntime) -> Result<(), Fail> {
     let alloc = rt.alloc();
-    let table = new_table(&rt, alloc);
+    let new = new_store(&rt, alloc);
     let file = Op::Create {
         path: path(&rt, alloc, "/hello"),
         mode: 420,
     };
     let config = config(&rt, alloc, usage(100, 100), 100);
-    let found = round::<Brand, HostRuntime>(&rt, alloc, table, config, &file)?;
+    let found = round::<Brand, HostRuntime>(&rt, alloc, new, config, &file)?;
     let wanted = (usage(1, 2), Some(usage(1, 2)));
     equal(&rt, "the layer, and what is charged", found, wanted);
     Ok(())

@@ -5,6 +5,7 @@ use snap_call::{Config, Namespace};
 use snap_ledger::NewTable;
 use snap_path::Path;
 use snap_record::{Sequence, Text};
+use snap_store::NewStore;
 use snap_usage::Usage;
 use std::alloc::Global;
 use std::fmt::{Debug, Display};
@@ -54,4 +55,8 @@ pub fn config<R: Abort>(rt: &R, alloc: Global, limit: Usage, journal: u64) -> Co
 
 pub fn new_table<R: Abort>(rt: &R, alloc: Global) -> NewTable {
     NewTable::new(alloc).expect(rt, "a table")
+}
+
+pub fn new_store<R: Abort>(rt: &R, alloc: Global) -> NewStore {
+    NewStore::new(alloc).expect(rt, "the tables of a store")
 }

@@ -1,14 +1,13 @@
 // Figures that follow from the contracts of a store's calls alone. Witnesses: they are proved, and not run.
 use snap_book::{Active, Held};
-use snap_ledger::StoreName;
 use snap_record::Labels;
-use snap_store::{Session, Store};
+use snap_store::{RoundName, Session, Store};
 use snap_usage::Usage;
 use std::sync::Wait;
 use std::test::Fail;
 
 // A granted call leaves one entry on the tape. A session's tape begins with its own entry.
-fn taped<N: StoreName, R: Wait>(
+fn taped<N: RoundName, R: Wait>(
     rt: &R,
     store: &Store<N>,
     session: &mut Session,
@@ -25,7 +24,7 @@ fn taped<N: StoreName, R: Wait>(
 }
 
 // A new snapshot is charged 1/1 for its root, and gives it back.
-fn freed<N: StoreName, R: Wait>(
+fn freed<N: RoundName, R: Wait>(
     rt: &R,
     store: &Store<N>,
     session: &mut Session,
@@ -43,7 +42,7 @@ fn freed<N: StoreName, R: Wait>(
 }
 
 // Where 2/2 are needed and wanted of a snapshot that is charged no more, it is charged 2/2.
-fn charged<N: StoreName, R: Wait>(
+fn charged<N: RoundName, R: Wait>(
     rt: &R,
     store: &Store<N>,
     session: &mut Session,

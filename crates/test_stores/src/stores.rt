@@ -3,29 +3,28 @@ ghost use Rattle.std.specs.Prelude.{◌≡◌};
 
 use crate::setup::{config, equal, says, usage};
 use snap_book::{Active, Held, Refusal};
-use snap_ledger::{NewTable, StoreName};
 use snap_record::{Info, Labels};
-use snap_store::{Cause, Closed, NotClosed, NotOpened, Session, Store};
+use snap_store::{Cause, Closed, NewStore, NotClosed, NotOpened, RoundName, Session, Store};
 use snap_usage::Usage;
 use std::alloc::Global;
 use std::process::Abort;
 use std::sync::Wait;
 
 /// A store whose namespace a has 100/100, without sessions, in a round of so many entries.
-pub fn opened<N: StoreName, R: Abort>(
+pub fn opened<N: RoundName, R: Abort>(
     rt: &R,
     alloc: Global,
-    table: NewTable,
+    new: NewStore,
     journal: u64,
 ) -> Store<N>
-    requires { table ≡ N.table }
+    requires { new ≡ (N.table, N.rounds) }
 {
     let config = config(rt, alloc, usage(100, 100), journal);
-    Store::open(alloc, table, config).expect(rt, "a store")
+    Store::open(alloc, new, config).expect(rt, "a store")
 }
 
 /// A session of the store.
-pub fn new_session<N: StoreName, R: Wait + Abort>(rt: &R, store: &Store<N>) -> Session {
+pub fn new_session<N: RoundName, R: Wait + Abort>(rt: &R, store: &Store<N>) -> Session {
     store.session(rt).expect(rt, "a session")
 }
 
@@ -39,7 +38,7 @@ pub fn listed<const N: usize, R: Abort>(
 }
 
 /// What is told of the key in the namespace a.
-pub fn stat<N: StoreName, R: Wait>(
+pub fn stat<N: RoundName, R: Wait>(
     rt: &R,
     store: &Store<N>,
     session: &mut Session,
@@ -49,7 +48,7 @@ pub fn stat<N: StoreName, R: Wait>(
 }
 
 /// Prepares the key in the namespace a, without a parent.
-pub fn prepare<N: StoreName, R: Wait>(
+pub fn prepare<N: RoundName, R: Wait>(
     rt: &R,
     alloc: Global,
     store: &Store<N>,
@@ -61,7 +60,7 @@ pub fn prepare<N: StoreName, R: Wait>(
 
 /// Prepares so many keys, each one letter longer than the one before, and keeps what is granted. The
 /// others are refused for want of a slot.
-pub fn prepare_all<N: StoreName, R: Wait + Abort>(
+pub fn prepare_all<N: RoundName, R: Wait + Abort>(
     rt: &R,
     alloc: Global,
     store: &Store<N>,
@@ -83,7 +82,7 @@ pub fn prepare_all<N: StoreName, R: Wait + Abort>(
 }
 
 /// Gives the snapshot back, with the answer what it was charged.
-pub fn discard<N: StoreName, R: Wait + Abort>(
+pub fn discard<N: RoundName, R: Wait + Abort>(
     rt: &R,
     store: &Store<N>,
     session: &mut Session,
@@ -94,7 +93,7 @@ pub fn discard<N: StoreName, R: Wait + Abort>(
 }
 
 /// Gives all of them back.
-pub fn discard_all<N: StoreName, R: Wait + Abort>(
+pub fn discard_all<N: RoundName, R: Wait + Abort>(
     rt: &R,
     store: &Store<N>,
     session: &mut Session,
@@ -109,7 +108,7 @@ pub fn discard_all<N: StoreName, R: Wait + Abort>(
 
 /// Commits the snapshot under the name, with the answer what its layer takes. Where it is refused, the
 /// answer is why, and what the snapshot was charged, which is given back.
-pub fn commit<N: StoreName, R: Wait + Abort>(
+pub fn commit<N: RoundName, R: Wait + Abort>(
     rt: &R,
     store: &Store<N>,
     session: &mut Session,
@@ -154,7 +153,7 @@ pub fn is_cause<R: Abort>(
 
 /// A close with this session alone is refused with these words, while so many snapshots with keys of the
 /// letter k are open. Store and session come back.
-pub fn not_closed<N: StoreName, R: Abort>(
+pub fn not_closed<N: RoundName, R: Abort>(
     rt: &R,
     alloc: Global,
     store: Store<N>,
@@ -179,7 +178,7 @@ pub fn not_closed<N: StoreName, R: Abort>(
 
 /// The store, closed with all sessions of the round. The namespace a is charged so much, and the round had
 /// so many entries.
-pub fn closed<N: StoreName, R: Abort>(
+pub fn closed<N: RoundName, R: Abort>(
     rt: &R,
     round: &str,
     store: Store<N>,
@@ -199,7 +198,7 @@ pub fn closed<N: StoreName, R: Abort>(
 
 /// The next round, of so many entries. A journal past the limit opened none before, and the closed store
 /// came back.
-pub fn reopened<N: StoreName, R: Abort>(rt: &R, closed: Closed<N>, journal: u64) -> Store<N> {
+pub fn reopened<N: RoundName, R: Abort>(rt: &R, closed: Closed<N>, journal: u64) -> Store<N> {
     let entries = closed.journal().len();
     let closed = match Store::reopen(closed, 1_048_577) {
         Ok(_) => panic!(rt; "a round with too long a journal"),

@@ -5,9 +5,8 @@ use crate::stores::{
 };
 use snap_book::{Active, Held, Refusal};
 use snap_layer::Bytes;
-use snap_ledger::StoreName;
 use snap_record::{Kind, Labels};
-use snap_store::{Closed, Session, Store};
+use snap_store::{Closed, RoundName, Session, Store};
 use snap_upper::Op;
 use snap_usage::Usage;
 use snap_writers::run;
@@ -18,7 +17,7 @@ use std::thread;
 use std::thread::Threads;
 
 // Commits the snapshot as c with the file /f.
-fn fill<N: StoreName, R: Wait + Abort>(
+fn fill<N: RoundName, R: Wait + Abort>(
     rt: &R,
     alloc: Global,
     store: &Store<N>,
@@ -43,7 +42,7 @@ fn fill<N: StoreName, R: Wait + Abort>(
 }
 
 // Reads the file through a view.
-fn read<N: StoreName, R: Wait + Abort>(
+fn read<N: RoundName, R: Wait + Abort>(
     rt: &R,
     alloc: Global,
     store: &Store<N>,
@@ -56,7 +55,7 @@ fn read<N: StoreName, R: Wait + Abort>(
 }
 
 // Prepares k, lets the other thread ask for it, and goes on.
-fn write_first<N: StoreName, R: Wait + Abort>(
+fn write_first<N: RoundName, R: Wait + Abort>(
     rt: &R,
     alloc: Global,
     store: &Store<N>,
@@ -72,7 +71,7 @@ fn write_first<N: StoreName, R: Wait + Abort>(
 }
 
 // Asks for k while the other thread has it open.
-fn ask_between<N: StoreName, R: Wait + Abort>(
+fn ask_between<N: RoundName, R: Wait + Abort>(
     rt: &R,
     alloc: Global,
     store: &Store<N>,
@@ -93,7 +92,7 @@ fn ask_between<N: StoreName, R: Wait + Abort>(
     session
 }
 
-fn meet<N: StoreName + Send + Sync, R: Threads + Wait + Abort + Sync>(
+fn meet<N: RoundName + Send + Sync, R: Threads + Wait + Abort + Sync>(
     rt: &R,
     alloc: Global,
     store: &Store<N>,
@@ -111,7 +110,7 @@ fn meet<N: StoreName + Send + Sync, R: Threads + Wait + Abort + Sync>(
 }
 
 /// Two sessions on two threads, which meet at each turn.
-pub fn two_sessions<N: StoreName + Send + Sync, R: Threads + Wait + Abort + Sync>(
+pub fn two_sessions<N: RoundName + Send + Sync, R: Threads + Wait + Abort + Sync>(
     rt: &R,
     alloc: Global,
     store: Store<N>,
@@ -125,7 +124,7 @@ pub fn two_sessions<N: StoreName + Send + Sync, R: Threads + Wait + Abort + Sync
 
 // Prepares five keys and keeps what it gets until all threads have prepared theirs. The answer is the
 // session, and how many were granted.
-fn hold<N: StoreName, R: Wait + Abort>(
+fn hold<N: RoundName, R: Wait + Abort>(
     rt: &R,
     alloc: Global,
     store: &Store<N>,
@@ -144,7 +143,7 @@ const LETTERS: [&str; 16] = [
     "a", "b", "c", "d", "e", "f", "g", "h", "i", "j", "k", "l", "m", "n", "o", "p",
 ];
 
-fn hold_on_threads<N: StoreName + Send + Sync, R: Threads + Wait + Abort + Sync>(
+fn hold_on_threads<N: RoundName + Send + Sync, R: Threads + Wait + Abort + Sync>(
     rt: &R,
     alloc: Global,
     store: &Store<N>,
@@ -170,7 +169,7 @@ fn hold_on_threads<N: StoreName + Send + Sync, R: Threads + Wait + Abort + Sync>
 }
 
 /// 16 threads ask for 80 snapshots, and share the 64 slots.
-pub fn sixteen_sessions<N: StoreName + Send + Sync, R: Threads + Wait + Abort + Sync>(
+pub fn sixteen_sessions<N: RoundName + Send + Sync, R: Threads + Wait + Abort + Sync>(
     rt: &R,
     alloc: Global,
     store: Store<N>,

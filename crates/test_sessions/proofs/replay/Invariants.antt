@@ -1,4 +1,7 @@
 use Rattle.test_sessions.proofs.replay.Given as goal
 
-abbrev pub ghosts-run : goal.ghosts-run
-ghosts-run g a = record { table = a.table }
+abbrev pub ghosts-run-N-StoreName : goal.ghosts-run-N-StoreName
+ghosts-run-N-StoreName g a = record { table = a.new.0 }
+
+abbrev pub ghosts-run-N-RoundName : goal.ghosts-run-N-RoundName
+ghosts-run-N-RoundName g a = record { rounds = a.new.1 }

@@ -11,4 +11,4 @@ returns-clause-counts g c =
     let s = c.self.inside.book.state in
     let name = c.args.namespace.now in
     subst (λ (b : BookValue). c.totals.result ≡ option_map (λ place. sum_of counted_in place b.state.records) (place_of name b.state.namespaces)) c.self.view_is
-    (c.totals.ensures.counts ∙ totals_alone (place_of name s.namespaces) s.records c.self.invariant)
+    (c.totals.ensures.counts ∙ totals_alone (place_of name s.namespaces) s.records c.self.invariant.0)

@@ -1,8 +1,8 @@
 use Rattle.std.specs.Prelude.{if◌then◌else◌, Bool}
 use Rattle.std.proofs.Common.{ℕ, None, sym, ap, ◌∙◌, subst}
 use Rattle.snap_call.specs.declared.call.Given.TheVariants.{Nothing}
-use Rattle.snap_book.specs.Book.{AnsweredBy, BookValue}
-use Rattle.snap_tape.specs.Tapes.{AnsweredOn, SessionValue, is_noted}
+use Rattle.snap_book.specs.Book.{AnsweredBy}
+use Rattle.snap_tape.specs.Tapes.{AnsweredOn, SessionValue}
 use Rattle.snap_store.proofs.Noted.{answered_on}
 use Rattle.snap_store.proofs.Replies.{reply_to}
 use Rattle.snap_store.proofs.store.Store.ask.Goals as goal
@@ -10,14 +10,12 @@ use Rattle.snap_store.proofs.store.Store.ask.Goals as goal
 pub returns-clause-answered : goal.returns-clause-answered
 returns-clause-answered g c =
     let mid = c.reserve.new.self in
-    let b = c.deref_mut.result.now in
+    let b = c.behind-locked.inside.book in
     let after = c.do_call-reply.new.self in
     let reply = c.do_call-reply.result in
     let room = c.in_default.ensures.room in
     let by = subst (λ (n : ℕ). AnsweredBy b after n c.args.call Nothing reply) c.number.ensures c.do_call-reply.ensures.answered in
-    let e = c.entry_of.ensures
-    ∙ (ap (λ (t : Bool). if t then c.deref_mut-2.result.now.copy else None) c.is_noted.ensures
-    ∙ ap (λ (x : BookValue). if is_noted reply then x.copy else None) c.deref_mut-2.ensures.value) in
+    let e = c.entry_of.ensures.entry ∙ ap (λ (t : Bool). if t then after.copy else None) c.is_noted.ensures in
     subst (λ (s : SessionValue). AnsweredOn c.args.session.now s c.args.call Nothing reply) (sym c.note.ensures.entry)
     (answered_on c.args.session.now mid b after c.args.call Nothing reply c.entry_of.result c.reserve.ensures.same room by e)
 

@@ -1,9 +1,9 @@
-use Rattle.std.proofs.Common.{◌≡◌, ℕ, sym, ap, ◌∙◌, subst}
+use Rattle.std.proofs.Common.{◌≡◌, ℕ, sym, subst}
 use Rattle.snap_call.specs.declared.call.Call.TheVariants as calls
 use Rattle.snap_call.specs.declared.call.Given.TheVariants.{Nothing}
 use Rattle.snap_call.specs.declared.reply.Reply.TheVariants.{Viewed}
 use Rattle.snap_call.specs.State.{ancestors, ids_of, place_of, shown_layers}
-use Rattle.snap_book.specs.Book.{BookValue, Recorded}
+use Rattle.snap_book.specs.Book.{Recorded}
 use Rattle.snap_tape.specs.Tapes.{SessionValue, Taped}
 use Rattle.snap_store.proofs.Handed.{placed, view_shows}
 use Rattle.snap_store.proofs.Noted.{taped}
@@ -11,7 +11,7 @@ use Rattle.snap_store.proofs.store.Store.view.Goals as goal
 
 pub returns-in-Ok-clause-granted : goal.returns-in-Ok-clause-granted
 returns-in-Ok-clause-granted g c =
-    let b = c.deref_mut.result.now in
+    let b = c.behind-locked.inside.book in
     let v = c.in-Ok.viewed in
     let parent = c.args.parent.now in
     let call = calls.View c.args.namespace.now c.args.key.now parent c.args.labels.now in
@@ -20,7 +20,7 @@ returns-in-Ok-clause-granted g c =
     let at = placed (place_of c.args.namespace.now b.state.namespaces) P Q c.in-Ok.ensures.granted c.in-Ok.ensures.lowers in
     let reply = Viewed v.id (ids_of (ancestors at.0 parent b.state.records)) in
     let recorded = subst (λ (n : ℕ). Recorded b c.view.new.self n call Nothing reply) c.number.ensures at.2 in
-    let copied = c.take_entry.ensures.entry ∙ ap (λ (x : BookValue). x.copy) c.deref_mut-in-Ok.ensures.value in
+    let copied = c.take_entry.ensures.entry in
     record {
       met = b.state;
       at = at.0;
