@@ -41,7 +41,7 @@ impl<N: RoundName> Model for Read<N> {
 /// the refusal is kept for a later line that opens a store. A configuration without its form leaves the name.
 #[derive(Drop)]
 pub struct JobLines<N: RoundName> {
-    new: Option<NewStore>,
+    tables: Option<NewStore>,
     refused: Option<NoMemory>,
     read: Option<Read<N>>,
 }
@@ -55,7 +55,7 @@ impl<N: RoundName> Model for JobLines<N> {
     ghost view = { λ s. s.read };
 
     // The tables are there until a store is opened with them or memory is refused.
-    ghost invariant = { λ s. IfSome s.new (λ n. n ≡ (N.table, N.rounds)) × ((is_some s.new || (is_some s.refused || is_some s.read)) ≡ true) };
+    ghost invariant = { λ s. IfSome s.tables (λ n. n ≡ (N.table, N.rounds)) × ((is_some s.tables || (is_some s.refused || is_some s.read)) ≡ true) };
 }
 
 impl<N: RoundName> JobLines<N> {
@@ -65,7 +65,7 @@ impl<N: RoundName> JobLines<N> {
         ensures { result ≡ None }
     {
         JobLines {
-            new: Some(new),
+            tables: Some(new),
             refused: None,
             read: None,
         }
@@ -83,7 +83,7 @@ impl<N: RoundName> JobLines<N> {
         if let Some(no_memory) = self.refused {
             return Err(no_memory.into());
         }
-        let Some(new) = self.new.take() else {
+        let Some(new) = self.tables.take() else {
             unreachable!()
         };
         match Store::open(alloc, new, config) {
