@@ -17,7 +17,7 @@ use Rattle.snap_call.specs.declared.call.Given.TheVariants.{Nothing}
 use Rattle.std.proofs.Common.{Bool}
 use Rattle.std.proofs.lemmas.Bool.{lt-ltb}
 use Rattle.std.specs.Prelude.{if◌then◌else◌}
-use Rattle.snap_accounts.specs.Entries.{IsRecorded}
+use Rattle.snap_accounts.specs.Entries.{IsPlain, IsRecorded}
 use Rattle.snap_book.specs.Book.{JournalValue, BookValue, IsLast, IsOpening, Kept, Recorded, RefusedBy}
 use Rattle.snap_call.proofs.Replaying.{replays_step, step-entries}
 
@@ -90,3 +90,12 @@ pub session_step : (s t : State) → s.sessions < 65536 → t ≡ record s { ses
 session_step s t few is =
     ap (λ (b : Bool). if b then (record s { sessions = s.sessions + 1; entries = s.entries + 1 }, Opened) else (s, Refused NumbersSpent)) (lt-ltb s.sessions 65536 few)
     ∙ (λ i. (sym is i, Opened))
+
+-- a plain call is allowed
+pub plain_allowed : (s : State) (call : Call) → IsPlain call → IsAllowed s call Nothing
+plain_allowed s calls.Session plain = absurd plain
+plain_allowed s (calls.Charge slot id need want) plain = absurd plain
+plain_allowed s (calls.Trim slot id) plain = absurd plain
+plain_allowed s (calls.Commit slot id name lease) plain = absurd plain
+plain_allowed s (calls.Discard slot id) plain = absurd plain
+plain_allowed s call plain = tt

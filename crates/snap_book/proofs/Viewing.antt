@@ -1,5 +1,5 @@
 -- A granted view, as the book says it.
-use Rattle.std.specs.Prelude.{IfOk, IsSomeAnd, if◌then◌else◌, nat_le, Result, Ok, Err}
+use Rattle.std.specs.Prelude.{IfOk, IfErr, IsSomeAnd, if◌then◌else◌, nat_le, Result, Ok, Err}
 use Rattle.std.specs.List.{AllByRecursion}
 use Rattle.std.specs.Ordering.{is_lt, ordering_reverse}
 use Rattle.std.specs.declared.cmp.Ordering.{Ordering}
@@ -28,7 +28,9 @@ use Rattle.snap_call.proofs.Places.{place_for-Ok}
 use Rattle.snap_accounts.specs.declared.change.Change.{Change}
 use Rattle.snap_accounts.specs.declared.change.Change.TheVariants.{View}
 use Rattle.snap_accounts.specs.Changes.{CanChange, changed}
-use Rattle.snap_book.specs.Book.{BookValue, Recorded}
+use Rattle.snap_accounts.specs.Entries.{IsInEntry}
+use Rattle.snap_book.specs.Book.{BookValue, Recorded, RefusedBy}
+use Rattle.snap_book.proofs.Keeping.{refused_by}
 use Rattle.snap_book.specs.Viewed.{ViewedValue, IsView, HasView, ComesWith, IsViewOf}
 
 -- ---- a record that was added
@@ -162,3 +164,9 @@ pub lowers_at : (mid old : BookValue) (namespace parent : Bytes) (reply : Reply)
 lowers_at mid old namespace parent reply (Err why) same granted = tt
 lowers_at mid old namespace parent reply (Ok v) same granted =
     some_other _ _ (place_of namespace old.state.namespaces) (λ place parts. parts.1) (subst (λ (b : BookValue). IsGranted b.state namespace parent reply v) same granted)
+
+-- a refusal that is answered is the recorded one
+pub refused_at : (old new : BookValue) (n : ℕ) (call : Call) (reply : Reply) (answer : Result ViewedValue Refusal) → Recorded old new n call givens.Nothing reply → IsInEntry reply
+    → IfErr answer (λ why. reply ≡ replies.Refused why) → IfErr answer (λ why. RefusedBy old new n call givens.Nothing why)
+refused_at old new n call reply (Ok v) noted kept is = tt
+refused_at old new n call reply (Err why) noted kept is = refused_by why old new n call givens.Nothing (subst IsInEntry is kept) (subst (λ (r : Reply). Recorded old new n call givens.Nothing r) is noted)

@@ -1,45 +1,53 @@
 // The plain calls: View, Remove, Update, Stat, Usage, Mounts and Walk.
-ghost use Rattle.std.specs.Prelude.{◌≡◌, ◌≤◌, ◌<◌, ◌+◌, ◌^◌, ◌↔◌, length, IfOk};
+ghost use Rattle.std.specs.Prelude.{◌≡◌, ◌≤◌, ◌<◌, ◌+◌, ◌^◌, ◌↔◌, length, IfOk, OnErr, IfErr, IsErrOf};
+ghost use Rattle.snap_call.specs.Journal.{entry};
 ghost use Rattle.snap_call.specs.Records.{open_count};
 ghost use Rattle.snap_call.specs.Step.{step};
 ghost use Rattle.snap_call.specs.declared.call.Given.TheVariants.{Nothing};
 ghost use Rattle.snap_call.specs.declared.refusal.Refusal.TheVariants.{JournalFull};
 ghost use Rattle.snap_call.specs.declared.reply.Reply.TheVariants as replies;
 ghost use Rattle.snap_accounts.specs.Changes.{CanChange, changed};
-ghost use Rattle.snap_accounts.specs.Entries.{IsPlain, IsInEntry};
-ghost use Rattle.snap_book.specs.Book.{AnsweredBy};
+ghost use Rattle.snap_accounts.specs.Entries.{IsPlain, IsInEntry, IsUnrecorded};
+ghost use Rattle.snap_book.specs.Book.{AnsweredBy, Recorded};
 
 use crate::book::Book;
+use crate::journal::shared;
 use snap_accounts::{Accounts, Change};
-use snap_call::{Call, Entry, Given, Refusal, Reply};
+use snap_call::{Call, Given, Refusal, Reply, SharedEntry};
 use snap_ledger::StoreName;
 use std::alloc::{AllocError, Global};
 
-// What a plain call answers, with a copy, and what it changes.
+// What a plain call takes memory for beside its change: its entry for the two holders, and its reply.
 #[derive(Drop)]
-struct Plan {
-    reply: Reply,
-    copy: Reply,
-    change: Change,
+pub(crate) struct Plan {
+    pub(crate) entry: SharedEntry,
+    pub(crate) copy: SharedEntry,
+    pub(crate) reply: Reply,
+    pub(crate) change: Change,
 }
 
-fn planned<N: StoreName>(
+// The plan of a plain call.
+pub(crate) fn planned<N: StoreName>(
     alloc: Global,
     accounts: &Accounts<N>,
-    call: &Call,
+    session: u64,
+    call: Call,
 ) -> Result<Plan, AllocError>
-    requires plain { IsPlain call.now }
+    requires plain { IsPlain call }
     requires entries { accounts.now.entries < 2 ^ 63 }
-    ensures reply { IfOk result (λ p. step accounts.now call.now Nothing ≡ (changed accounts.now p.change, p.reply)) }
-    ensures copy { IfOk result (λ p. p.copy ≡ p.reply) }
+    ensures entry { IfOk result (λ p. p.entry ≡ entry session call Nothing p.reply) }
+    ensures copy { IfOk result (λ p. p.copy ≡ p.entry) }
+    ensures changed { IfOk result (λ p. step accounts.now call Nothing ≡ (changed accounts.now p.change, p.reply)) }
     ensures recorded { IfOk result (λ p. IsInEntry p.reply) }
     ensures possible { IfOk result (λ p. CanChange accounts.now p.change) }
 {
-    let (reply, change) = accounts.plan(alloc, call)?;
-    let copy = reply.clone()?;
+    let (reply, change) = accounts.plan(alloc, &call)?;
+    let recorded = reply.clone()?;
+    let (entry, copy) = shared(alloc, session, call, Given::Nothing, recorded)?;
     Ok(Plan {
-        reply,
+        entry,
         copy,
+        reply,
         change,
     })
 }
@@ -47,30 +55,25 @@ fn planned<N: StoreName>(
 impl<N: StoreName> Book<N> {
     // Makes the change of a plain call and records the call. The answer is its reply, or why there is no
     // entry.
-    fn carry_out(&mut self, session: u64, call: Call, plan: Plan) -> Reply
+    fn record_plain(&mut self, session: u64, call: Call) -> Result<Reply, Refusal>
         requires plain { IsPlain call }
-        requires reply { step self.old.state call Nothing ≡ (changed self.old.state plan.change, plan.reply) }
-        requires copy { plan.copy ≡ plan.reply }
-        requires recorded { IsInEntry plan.reply }
-        requires possible { CanChange self.old.state plan.change }
-        ensures answered { AnsweredBy self.old self.new session call Nothing result }
-        ensures full { (result ≡ replies.Refused JournalFull) ↔ (self.old.limit ≤ length self.old.journal + open_count self.old.state.records) }
+        ensures recorded { IfOk result (λ reply. Recorded self.old self.new session call Nothing reply) }
+        ensures reply { IfOk result IsInEntry }
+        ensures unchanged { OnErr result (self.new ≡ self.old) }
+        ensures err { IfErr result IsUnrecorded }
+        ensures full { IsErrOf result JournalFull ↔ (self.old.limit ≤ length self.old.journal + open_count self.old.state.records) }
     {
+        self.journal.admit(self.accounts.open_slots(), 1)?;
+        let plan = planned(self.alloc, &self.accounts, session, call)?;
         let Plan {
-            reply,
+            entry,
             copy,
+            reply,
             change,
         } = plan;
-        let entry = Entry {
-            session,
-            call,
-            given: Given::Nothing,
-            reply: copy,
-        };
-        match self.note_change(entry, change) {
-            Ok(()) => reply,
-            Err(why) => Reply::Refused(why),
-        }
+        self.accounts.carry_out(change)?;
+        self.journal.push(entry, copy);
+        Ok(reply)
     }
 
     /// Does a call that takes no snapshot out of its writer's hands and puts none into them: `View`,
@@ -118,12 +121,9 @@ impl<N: StoreName> Book<N> {
         ensures answered { AnsweredBy self.old self.new session call Nothing result }
         ensures full { (result ≡ replies.Refused JournalFull) ↔ (self.old.limit ≤ length self.old.journal + open_count self.old.state.records) }
     {
-        if let Err(why) = self.journal.admit(self.accounts.open_slots(), 1) {
-            return Reply::Refused(why);
-        }
-        match planned(self.alloc, &self.accounts, &call) {
-            Ok(plan) => self.carry_out(session, call, plan),
-            Err(refused) => Reply::Refused(refused.into()),
+        match self.record_plain(session, call) {
+            Ok(reply) => reply,
+            Err(why) => Reply::Refused(why),
         }
     }
 }

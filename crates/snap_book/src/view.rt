@@ -1,22 +1,19 @@
 // A new view.
-ghost use Rattle.std.specs.Prelude.{◌≡◌, ◌<◌, ◌≤◌, ◌+◌, ◌^◌, ◌↔◌, length, IfOk, IfErr, IsErrOf, IsSomeAnd};
-ghost use Rattle.snap_call.specs.Journal.{entry};
+ghost use Rattle.std.specs.Prelude.{◌≡◌, ◌≤◌, ◌+◌, ◌↔◌, length, IfOk, IfErr, IsErrOf, IsSomeAnd};
 ghost use Rattle.snap_call.specs.Records.{open_count};
 ghost use Rattle.snap_call.specs.State.{place_of, ancestors, ids_of, shown_layers};
-ghost use Rattle.snap_call.specs.Step.{step};
 ghost use Rattle.snap_call.specs.declared.call.Call.TheVariants as calls;
 ghost use Rattle.snap_call.specs.declared.call.Given.TheVariants.{Nothing};
 ghost use Rattle.snap_call.specs.declared.refusal.Refusal.TheVariants.{JournalFull};
 ghost use Rattle.snap_call.specs.declared.reply.Reply.TheVariants as replies;
-ghost use Rattle.snap_accounts.specs.Changes.{CanChange, changed};
-ghost use Rattle.snap_accounts.specs.Entries.{IsRecorded};
 ghost use Rattle.snap_book.specs.Book.{Recorded, RefusedBy};
 ghost use Rattle.snap_book.specs.Viewed.{ComesWith, IsViewOf};
 
 use crate::book::Book;
+use crate::plain::{Plan, planned};
 use crate::viewed::Viewed;
-use snap_accounts::{Accounts, Change};
-use snap_call::{Call, Entry, Given, Refusal, Reply};
+use snap_accounts::Change;
+use snap_call::{Call, Refusal, Reply};
 use snap_ledger::StoreName;
 use snap_record::{Labels, Text};
 use std::alloc::{AllocError, Global};
@@ -53,47 +50,6 @@ fn answer_to(
         Reply::Refused(why) => Ok(Err(*why)),
         _ => Ok(Ok(Viewed::added_by(alloc, change)?)),
     }
-}
-
-// The entry of a call View, what it changes, and what its caller gets.
-#[derive(Drop)]
-struct Plan {
-    entry: Entry,
-    change: Change,
-    answer: Result<Viewed, Refusal>,
-}
-
-// All that a call View takes memory for beside the shared entry and the snapshot's place.
-fn planned<N: StoreName>(
-    alloc: Global,
-    accounts: &Accounts<N>,
-    session: u64,
-    namespace: &str,
-    key: &str,
-    parent: &str,
-    labels: &Labels,
-) -> Result<Plan, AllocError>
-    requires entries { accounts.now.entries < 2 ^ 63 }
-    ensures entry { IfOk result (λ p. p.entry ≡ entry session (calls.View namespace.now key.now parent.now labels.now) Nothing p.entry.reply) }
-    ensures changed { IfOk result (λ p. step accounts.now p.entry.call Nothing ≡ (changed accounts.now p.change, p.entry.reply)) }
-    ensures possible { IfOk result (λ p. CanChange accounts.now p.change) }
-    ensures granted { IfOk result (λ p. IfOk p.answer (λ v. IsSomeAnd (place_of namespace.now accounts.now.namespaces) (λ place. (p.entry.reply ≡ replies.Viewed v.id (ids_of (ancestors place parent.now accounts.now.records))) × (v.lowers ≡ shown_layers place parent.now accounts.now.records)))) }
-    ensures refused { IfOk result (λ p. IfErr p.answer (λ why. (p.entry.reply ≡ replies.Refused why) × IsRecorded why)) }
-{
-    let call = view_call(alloc, namespace, key, parent, labels)?;
-    let (reply, change) = accounts.plan(alloc, &call)?;
-    let answer = answer_to(alloc, &reply, &change)?;
-    let entry = Entry {
-        session,
-        call,
-        given: Given::Nothing,
-        reply,
-    };
-    Ok(Plan {
-        entry,
-        change,
-        answer,
-    })
 }
 
 impl<N: StoreName> Book<N> {
@@ -134,20 +90,17 @@ impl<N: StoreName> Book<N> {
         ensures full { IsErrOf result JournalFull ↔ (self.old.limit ≤ length self.old.journal + open_count self.old.state.records) }
     {
         self.journal.admit(self.accounts.open_slots(), 1)?;
+        let call = view_call(self.alloc, namespace, key, parent, labels)?;
+        let plan = planned(self.alloc, &self.accounts, session, call)?;
+        let answer = answer_to(self.alloc, &plan.reply, &plan.change)?;
         let Plan {
             entry,
+            copy,
+            reply: _,
             change,
-            answer,
-        } = planned(
-            self.alloc,
-            &self.accounts,
-            session,
-            namespace,
-            key,
-            parent,
-            labels,
-        )?;
-        self.note_change(entry, change)?;
+        } = plan;
+        self.accounts.carry_out(change)?;
+        self.journal.push(entry, copy);
         answer
     }
 }

@@ -1,17 +1,17 @@
 -- Labels and the number of the last change are seen by nothing but an info: what is the same of two lists that differ in these alone.
 use Rattle.std.proofs.Common.{◌≡◌, ℕ, zero, suc, ◌+◌, Bool, true, false, cond, List, [], ◌∷◌, map, Option, Some, None, IsSome, refl, sym, ap, ◌∙◌}
-use Rattle.std.specs.List.{AllByRecursion, find, list_any}
+use Rattle.std.specs.List.{AllByRecursion, find}
 use Rattle.std.specs.List.Sorted.{IsStrictlySortedBy}
-use Rattle.std.specs.Option.{option_map, option_or, is_some}
+use Rattle.std.specs.Option.{option_map, is_some}
 use Rattle.std.specs.declared.cmp.Ordering.TheVariants.{Less}
-use Rattle.std.specs.Prelude.{if◌then◌else◌, ◌||◌, option_and_then, unwrap_or}
+use Rattle.std.specs.Prelude.{if◌then◌else◌, option_and_then, unwrap_or}
 use Rattle.snap_ledger.specs.States.{plus}
 use Rattle.snap_lease.specs.Lease.{Lease}
 use Rattle.snap_record.specs.Labels.{Bytes, Label}
 use Rattle.snap_record.specs.declared.record.Record.{Record}
 use Rattle.snap_call.specs.declared.config.Namespace.{Namespace}
-use Rattle.snap_call.specs.Records.{record_cmp, is_named, record_at, has_key, is_slot, active_at, is_committed, committed_at, charge_of, charge_if, charge_at, active_one, open_count, with_labels, relabelled, is_free, lowest_free, AllPairwise}
-use Rattle.snap_call.specs.State.{place_of, chain_from, is_present, is_base, ancestors, ids_of, with_layer, layers_of}
+use Rattle.snap_call.specs.Records.{record_cmp, is_named, record_at, is_slot, active_at, is_committed, committed_at, charge_of, charge_if, charge_at, active_one, open_count, with_labels, relabelled, AllPairwise}
+use Rattle.snap_call.specs.State.{place_of, chain_from, is_base, ancestors, ids_of, with_layer, layers_of}
 use Rattle.snap_call.specs.Good.{IsGuarding}
 use Rattle.snap_call.proofs.Lists.{all-map, some_same, none_some, if_committed}
 use Rattle.snap_call.proofs.Chains.{HasParent, NamesStand, chain, chain_over}
@@ -75,15 +75,8 @@ find-bare p same (r ∷ rs) =
     ap (λ b. cond b (Some (bare r)) (find p (map bare rs))) (same r)
     ∙ elim (p r) as (λ b. cond b (Some (bare r)) (find p (map bare rs)) ≡ option_map bare (cond b (Some r) (find p rs))) [ true ↦ refl | false ↦ find-bare p same rs ]
 
-pub list_any-bare : (p : Record → Bool) → ((r : Record) → p (bare r) ≡ p r) → (rs : List Record) → list_any p (map bare rs) ≡ list_any p rs
-list_any-bare p same [] = refl
-list_any-bare p same (r ∷ rs) = ap (λ b. b || list_any p (map bare rs)) (same r) ∙ ap (λ b. p r || b) (list_any-bare p same rs)
-
 pub record_at-bare : (place : ℕ) (key : Bytes) (rs : List Record) → record_at place key (map bare rs) ≡ option_map bare (record_at place key rs)
 record_at-bare place key rs = find-bare (is_named place key) (λ r. refl) rs
-
-pub has_key-bare : (place : ℕ) (key : Bytes) (rs : List Record) → has_key place key (map bare rs) ≡ has_key place key rs
-has_key-bare place key rs = list_any-bare (is_named place key) (λ r. refl) rs
 
 pub active_at-bare : (slot : ℕ) (rs : List Record) → active_at slot (map bare rs) ≡ option_map bare (active_at slot rs)
 active_at-bare slot rs = find-bare (is_slot slot) (λ r. refl) rs
@@ -134,16 +127,6 @@ charge_at-bare slot rs = ap (charge_if slot) (active_at-bare slot rs) ∙ by (ac
     by None = refl
     by (Some r) = refl
 
-pub is_free-bare : (slot : ℕ) (rs : List Record) → is_free slot (map bare rs) ≡ is_free slot rs
-is_free-bare slot rs = ap (λ b. if b then false else true) (list_any-bare (is_slot slot) (λ r. refl) rs)
-
-pub lowest_free-bare : (n : ℕ) (rs : List Record) → lowest_free n (map bare rs) ≡ lowest_free n rs
-unfolding lowest_free
-lowest_free-bare zero rs = refl
-lowest_free-bare (suc n) rs =
-    ap (λ o. option_or o (if is_free n (map bare rs) then Some n else None)) (lowest_free-bare n rs)
-    ∙ ap (λ b. option_or (lowest_free n rs) (if b then Some n else None)) (is_free-bare n rs)
-
 -- whether there is one
 is_some-map : {X Y : Type 0} (f : X → Y) (o : Option X) → is_some (option_map f o) ≡ is_some o
 is_some-map f None = refl
@@ -168,9 +151,6 @@ module _ (rs ts : List Record) (alike : AreAlike rs ts) where
       by None is found = absurd (none_some (bare r) (sym (ap (option_map bare) is) ∙ found))
       by (Some t) is found = (t, is, some_same (bare t) (bare r) (sym (ap (option_map bare) is) ∙ found))
 
-  pub alike-record_at : (place : ℕ) (key : Bytes) (r : Record) → record_at place key rs ≡ Some r → (t : Record) × (record_at place key ts ≡ Some t) × (bare t ≡ bare r)
-  alike-record_at place key r e = alike-record (is_named place key) (λ t. refl) r e
-
   pub alike-active_at : (slot : ℕ) (r : Record) → active_at slot rs ≡ Some r → (t : Record) × (active_at slot ts ≡ Some t) × (bare t ≡ bare r)
   alike-active_at slot r e = alike-record (is_slot slot) (λ t. refl) r e
 
@@ -181,19 +161,12 @@ module _ (rs ts : List Record) (alike : AreAlike rs ts) where
       by None h = refl
       by (Some t) h = absurd (none_some (bare t) (sym h))
 
-  pub alike-has_key : (place : ℕ) (key : Bytes) → has_key place key ts ≡ has_key place key rs
-  alike-has_key place key = same_of (has_key place key) (has_key-bare place key)
-
   -- the committed record of a key is there in both, or in neither
   pub alike-is_committed : (place : ℕ) (key : Bytes) → is_some (committed_at place key ts) ≡ is_some (committed_at place key rs)
   alike-is_committed place key = some_of (committed_at place key) bare (committed_at-bare place key)
 
   pub alike-some : (place : ℕ) (key : Bytes) → IsSome (committed_at place key rs) → IsSome (committed_at place key ts)
   alike-some place key some = alike-is_committed place key ∙ some
-
-  pub alike-is_present : (place : ℕ) (p : Bytes) → is_present place p ts ≡ is_present place p rs
-  alike-is_present place [] = refl
-  alike-is_present place (b ∷ bs) = alike-has_key place (b ∷ bs)
 
   pub alike-is_base : (place : ℕ) (p : Bytes) → is_base place p ts ≡ is_base place p rs
   alike-is_base place [] = refl
@@ -233,9 +206,6 @@ module _ (rs ts : List Record) (alike : AreAlike rs ts) where
 
   pub alike-charge_at : (slot : ℕ) → charge_at slot ts ≡ charge_at slot rs
   alike-charge_at slot = same_of (charge_at slot) (charge_at-bare slot)
-
-  pub alike-lowest_free : (n : ℕ) → lowest_free n ts ≡ lowest_free n rs
-  alike-lowest_free n = same_of (lowest_free n) (lowest_free-bare n)
 
 -- ---- the ancestors of a snapshot, in two lists that are alike
 

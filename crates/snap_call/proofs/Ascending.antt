@@ -1,25 +1,24 @@
 -- Records in order: what each change keeps, and where a search by halves ends.
-use Rattle.std.proofs.Common.{◌≡◌, ℕ, zero, suc, ◌+◌, ◌<◌, ◌≤◌, Bool, true, false, true≢false, cond, List, [], ◌∷◌, length, get_or, Some, None, position, refl, sym, ap, ◌∙◌, subst, inl, inr, arith}
+use Rattle.std.proofs.Common.{◌≡◌, ℕ, zero, suc, ◌+◌, ◌<◌, ◌≤◌, Bool, true, false, true≢false, cond, List, [], ◌∷◌, length, get_or, Some, None, position, refl, sym, ap, ◌∙◌, inl, inr, arith}
 use Rattle.std.proofs.lemmas.Bool.{cases_eq, cases_lt, false_from_ne_true, not-false, not-true}
 use Rattle.std.proofs.lemmas.List.{get_or_default}
-use Rattle.std.proofs.lemmas.Cmp.{alike_right, tied_back, tied_itself, upto}
+use Rattle.std.proofs.lemmas.Cmp.{tied_itself, upto}
 use Rattle.std.specs.Cmp.{IsTotalOrder}
 use Rattle.std.specs.List.{AllByRecursion, insert, list_any, position_from}
 use Rattle.std.specs.Option.{is_some}
 use Rattle.std.proofs.lemmas.Iterator.Adapters.{position_from-zero}
 use Rattle.std.specs.List.Sorted.{IsStrictlySortedBy, IsPartitionedBy, IsPartitionPoint}
-use Rattle.std.specs.Prelude.{if◌then◌else◌, ◌||◌, not}
+use Rattle.std.specs.Prelude.{◌||◌, not}
 use Rattle.std.specs.declared.cmp.Ordering.{Ordering}
 use Rattle.std.specs.declared.cmp.Ordering.TheVariants.{Less, Equal, Greater}
-use Rattle.std.specs.Ordering.{is_gt, is_lt, ordering_reverse}
-use Rattle.snap_record.specs.Labels.{Bytes, Label}
+use Rattle.std.specs.Ordering.{is_gt, is_lt}
+use Rattle.snap_record.specs.Labels.{Bytes}
 use Rattle.snap_record.specs.declared.record.Record.{Record}
 use Rattle.snap_call.specs.Indexes.{IsAscending}
 use Rattle.snap_call.specs.Marked.{key_cmp}
-use Rattle.snap_call.specs.Records.{AllPairwise, record_cmp, is_later, is_named, with_record, without, relabelled}
+use Rattle.snap_call.specs.Records.{AllPairwise, record_cmp, is_later, is_named, with_record}
 use Rattle.snap_call.proofs.CodeLemmas.{with_record_found, with_record-None}
-use Rattle.snap_call.proofs.Lists.{all-map, all-with_record, pairwise-without}
-use Rattle.snap_call.proofs.Alike.{pairwise-relabelled}
+use Rattle.snap_call.proofs.Lists.{all-map}
 use Rattle.snap_call.proofs.InOrder.{record_cmp_total}
 use Rattle.snap_call.proofs.Searches.{probe, named_tied, tied_named, position-absent, position-found}
 
@@ -43,17 +42,6 @@ module _ {X : Type 0} {R : X → X → Ordering} (total : IsTotalOrder R) where
       by Equal e = ap is_lt (total.congr x y z e ∙ less)
       by Greater e = absurd (true≢false (sym (ap is_gt e) ∙ up))
 
-  later_below : (x y z : X) → is_lt (R x y) ≡ true → is_gt (R y z) ≡ false → is_lt (R x z) ≡ true
-  later_below x y z low up = by (R y z) refl
-    where
-      less : R x y ≡ Less
-      less = is_lt-Less (R x y) low
-
-      by : (o : Ordering) → R y z ≡ o → is_lt (R x z) ≡ true
-      by Less e = ap is_lt (total.trans x y z less e)
-      by Equal e = ap is_lt (sym (alike_right total y z x e) ∙ less)
-      by Greater e = absurd (true≢false (sym (ap is_gt e) ∙ up))
-
 -- ---- lists
 
 module _ {X : Type 0} where
@@ -72,31 +60,6 @@ module _ {X : Type 0} where
 
 above : (r t : Record) (rs : List Record) → is_gt (record_cmp r t) ≡ false → AllByRecursion (λ u. is_gt (record_cmp t u) ≡ false) rs → AllByRecursion (λ u. is_gt (record_cmp r u) ≡ false) rs
 above r t rs e all = all-map (λ u. is_gt (record_cmp t u) ≡ false) (λ u. is_gt (record_cmp r u) ≡ false) (λ u h. upto record_cmp_total r t u e h) rs all
-
-pub ascending-with_record : (r : Record) (rs : List Record) → IsAscending rs → IsAscending (with_record r rs)
-ascending-with_record r [] up = (tt, tt)
-ascending-with_record r (t ∷ ts) up = by (record_cmp r t) refl (ascending-with_record r ts up.1)
-  where
-    by : (o : Ordering) → record_cmp r t ≡ o → IsAscending (with_record r ts) → IsAscending (if is_lt o then r ∷ t ∷ ts else t ∷ with_record r ts)
-    by Less e next = ((ap is_gt e, above r t ts (ap is_gt e) up.0), up)
-    by Equal e next = (all-with_record r (λ u. is_gt (record_cmp t u) ≡ false) ts (ap is_gt (tied_back record_cmp_total r t e)) up.0, next)
-    by Greater e next = (all-with_record r (λ u. is_gt (record_cmp t u) ≡ false) ts (ap is_gt (record_cmp_total.antisymm t r ∙ ap ordering_reverse e)) up.0, next)
-
--- and an insertion that may have failed for want of memory
-pub ascending-inserted : (done : Bool) (r : Record) (rs ls us : List Record) (i : ℕ) → IsAscending rs → ls ≡ rs → insert ls i r ≡ with_record r ls → us ≡ (if done then insert rs i r else rs) → IsAscending us
-ascending-inserted done r rs ls us i up same in_place e =
-    let P : List Record → Type 0 = λ l. IsAscending l in
-    let put : with_record r rs ≡ insert rs i r = ap (with_record r) (sym same) ∙ sym in_place ∙ ap (λ l. insert l i r) same in
-    subst P (sym e) (elim done as (λ b. IsAscending (if b then insert rs i r else rs)) [
-      | true ↦ subst P put (ascending-with_record r rs up)
-      | false ↦ up
-    ])
-
-pub ascending-without : (p : Record → Bool) (rs : List Record) → IsAscending rs → IsAscending (without p rs)
-ascending-without p rs up = pairwise-without p (λ r t. is_gt (record_cmp r t) ≡ false) rs up
-
-pub ascending-relabelled : (place : ℕ) (key : Bytes) (labels : List Label) (number : ℕ) (rs : List Record) → IsAscending rs → IsAscending (relabelled place key labels number rs)
-ascending-relabelled place key labels number rs up = pairwise-relabelled place key labels number (λ r t. is_gt (record_cmp r t) ≡ false) rs (λ r t h. h) (λ r t h. h) up
 
 -- records that are strictly in order are in order
 pub ascending-sorted : (rs : List Record) → IsStrictlySortedBy record_cmp rs → IsAscending rs
@@ -125,14 +88,6 @@ pub parted-key : (place : ℕ) (key : Bytes) (rs : List Record) → IsAscending 
 parted-key place key rs up i j d le lt low =
     let t = get_or rs j d in
     below_later record_cmp_total (get_or rs i d) t (record t { namespace = place; key = key }) (not_after rs i j d up le lt) low
-
--- the records that a record doesn't come before stand first
-pub parted-later : (r : Record) (rs : List Record) → IsAscending rs → IsPartitionedBy (λ t. not (is_later r t)) rs
-parted-later r rs up i j d le lt low = at (is_later r (get_or rs i d)) refl
-  where
-    at : (b : Bool) → is_later r (get_or rs i d) ≡ b → not (is_later r (get_or rs i d)) ≡ true
-    at false e = ap not e
-    at true e = absurd (true≢false (sym (later_below record_cmp_total r (get_or rs i d) (get_or rs j d) e (not_after rs i j d up le lt)) ∙ not-true (is_later r (get_or rs j d)) low))
 
 -- where a record goes
 pub placed : (r : Record) (rs : List Record) (i : ℕ) → i ≤ length rs → IsPartitionPoint (λ t. not (is_later r t) ≡ true) (λ t. not (is_later r t) ≡ false) rs i → insert rs i r ≡ with_record r rs

@@ -1,7 +1,6 @@
 -- The entries of one namespace, by their keys, as a list of records.
-use Rattle.std.proofs.Common.{◌≡◌, ℕ, zero, suc, ◌+◌, ◌-◌, ◌<◌, ◌≤◌, Bool, true, false, true≢false, eq-eqb, cond, List, [], ◌∷◌, ◌++◌, length, take, map, Some, None, refl, sym, ap, ◌∙◌, string_bytes, string_cmp, arith, count_by, append_assoc, append-nil, IsTrue, ◌↔◌, nat_lt}
-use Rattle.std.specs.Prelude.{if◌then◌else◌, ◌&&◌, ◌||◌, not, bytes_eq, filter, find}
-use Rattle.std.specs.List.{list_any}
+use Rattle.std.proofs.Common.{◌≡◌, ℕ, zero, suc, ◌+◌, ◌-◌, ◌<◌, ◌≤◌, Bool, true, false, true≢false, eq-eqb, cond, List, [], ◌∷◌, ◌++◌, length, take, map, Some, None, refl, sym, ap, ◌∙◌, string_bytes, string_cmp, arith, count_by, append_assoc, append-nil}
+use Rattle.std.specs.Prelude.{if◌then◌else◌, ◌&&◌, not, bytes_eq, filter, find}
 use Rattle.std.specs.Map.{lookup, remove_entry, set_value, values_of}
 use Rattle.std.specs.BTreeMap.{is_at, insert_entry}
 use Rattle.std.specs.declared.cmp.Ordering.{Ordering}
@@ -10,7 +9,6 @@ use Rattle.std.specs.Ordering.{is_lt, is_eq, nat_cmp, ordering_then, match_order
 use Rattle.std.specs.Cmp.Lexicographic.{slice_cmp}
 use Rattle.std.specs.declared.string.String.{String}
 use Rattle.std.proofs.lemmas.Bool.{or_parts}
-use Rattle.std.proofs.lemmas.Bool.Decides.{nat_tests}
 use Rattle.std.proofs.lemmas.List.{length_push}
 use Rattle.std.proofs.lemmas.List.Sums.{sum_by-cons}
 use Rattle.std.proofs.lemmas.Cmp.{nat_cmp_total, tied_itself}
@@ -18,14 +16,13 @@ use Rattle.std.proofs.lemmas.Map.Lookups.{exact_bytes}
 use Rattle.std.proofs.lemmas.Map.Text.{is_eq-slice_cmp}
 use Rattle.snap_counts.specs.Counts.{count_in}
 use Rattle.snap_counts.proofs.Lists.{one_if}
-use Rattle.snap_lease.proofs.CountLemmas.{is_positive-count_by}
 use Rattle.snap_lease.proofs.ListLemmas.{bytes_eq_comm}
 use Rattle.snap_record.specs.Labels.{Bytes, Label}
 use Rattle.snap_record.specs.Records.{info_of}
 use Rattle.snap_record.specs.declared.filter.Filter.{Filter}
 use Rattle.snap_record.specs.declared.info.Info.{Info}
 use Rattle.snap_record.specs.declared.record.Record.{Record}
-use Rattle.snap_call.specs.Records.{record_cmp, is_named, record_at, has_key, is_child, has_children, child_count, with_record, without, with_labels, relabelled, is_walked, page}
+use Rattle.snap_call.specs.Records.{record_cmp, is_named, record_at, has_key, is_child, child_count, with_record, without, with_labels, relabelled, is_walked, page}
 use Rattle.snap_call.specs.Spaces.{IsOf, IsKeyed, AreParentCounts, amended, edited, is_after, is_asked, infos_of}
 use Rattle.snap_call.specs.declared.record_edit.RecordEdit.{RecordEdit}
 use Rattle.snap_call.specs.declared.record_edit.RecordEdit.TheVariants as edits
@@ -67,14 +64,6 @@ edited-key (edits.Labels labels number) r = refl
 pub edited-parent : (edit : RecordEdit) (r : Record) → (edited edit r).parent ≡ r.parent
 edited-parent (edits.Content content) r = refl
 edited-parent (edits.Labels labels number) r = refl
-
-pub edited-before : (edit : RecordEdit) (r t : Record) → record_cmp (edited edit r) t ≡ record_cmp r t
-edited-before (edits.Content content) r t = refl
-edited-before (edits.Labels labels number) r t = refl
-
-pub edited-after : (edit : RecordEdit) (r t : Record) → record_cmp t (edited edit r) ≡ record_cmp t r
-edited-after (edits.Content content) r t = refl
-edited-after (edits.Labels labels number) r t = refl
 
 -- ---- by key
 
@@ -204,19 +193,6 @@ parents-added r rs ts old new counted more is q =
     let e = ap (count_by (has_parent q)) is ∙ count-with_record (has_parent q) r rs in
     omega (arith, e, counted q, more q)
 
--- a record of the namespace is on the parent where the parent is counted
-children-any : (place : ℕ) (key : Bytes) (rs : List Record) → IsOf place rs → list_any (has_parent key) rs ≡ has_children place key rs
-children-any place key [] of = refl
-children-any place key (r ∷ rs) of =
-    ap (λ b. b || list_any (has_parent key) rs) (bytes_eq_comm key r.parent ∙ sym (ap (λ b. b && bytes_eq r.parent key) (eq-eqb r.namespace place of.0)))
-    ∙ ap (λ b. is_child place key r || b) (children-any place key rs of.1)
-
-pub children-counted : (place : ℕ) (key : Bytes) (rs : List Record) (counts : List (Bytes × ℕ)) (b : Bool) → IsOf place rs → AreParentCounts rs counts → IsTrue b ↔ (0 < count_in key counts) → b ≡ has_children place key rs
-children-counted place key rs counts b of counted is =
-    let e : nat_lt 0 (count_in key counts) ≡ list_any (has_parent key) rs = ap (nat_lt 0) (counted key) ∙ is_positive-count_by (has_parent key) rs in
-    let f : b ≡ nat_lt 0 (count_in key counts) = grind (arith, nat_tests, is) in
-    f ∙ e ∙ children-any place key rs of
-
 -- so many records of the namespace are on the parent as it is counted
 children-alike : (place : ℕ) (key : Bytes) (rs : List Record) → IsOf place rs → count_by (has_parent key) rs ≡ child_count place key rs
 children-alike place key [] of = refl
@@ -303,12 +279,5 @@ infos-pushed most asked r items rest infos pushed all info below passes is same 
     ∙ append_assoc infos (info_of r ∷ []) (infos_of (most - length (infos ++ info_of r ∷ [])) asked rest)
     ∙ sym (ap (λ n. infos ++ map info_of (take n (r ∷ filter (is_asked asked) rest))) left)
     ∙ sym (ap (λ b. infos ++ map info_of (take (most - length infos) (cond b (r ∷ filter (is_asked asked) rest) (filter (is_asked asked) rest)))) passes)
-    ∙ sym (ap (λ l. infos ++ infos_of (most - length infos) asked l) is)
-    ∙ so_far
-
-pub infos-passed : (most : ℕ) (asked : Filter) (r : Record) (items rest : List Record) (infos all : List Info) → is_asked asked r ≡ false → items ≡ r ∷ rest
-    → infos ++ infos_of (most - length infos) asked items ≡ all → infos ++ infos_of (most - length infos) asked rest ≡ all
-infos-passed most asked r items rest infos all fails is so_far =
-    sym (ap (λ b. infos ++ map info_of (take (most - length infos) (cond b (r ∷ filter (is_asked asked) rest) (filter (is_asked asked) rest)))) fails)
     ∙ sym (ap (λ l. infos ++ infos_of (most - length infos) asked l) is)
     ∙ so_far

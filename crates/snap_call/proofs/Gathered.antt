@@ -1,5 +1,5 @@
 -- What goes, summed over the marked records, and the records without those of some keys.
-use Rattle.std.proofs.Common.{◌≡◌, ℕ, ◌+◌, ◌<◌, ◌≤◌, Bool, true, false, List, [], ◌∷◌, ◌++◌, length, map, drop, get_or, refl, sym, ap, ◌∙◌, subst, arith, append_assoc, append-nil}
+use Rattle.std.proofs.Common.{◌≡◌, ℕ, ◌+◌, ◌<◌, ◌≤◌, Bool, true, false, List, [], ◌∷◌, ◌++◌, length, map, drop, get_or, refl, sym, ap, ◌∙◌, subst, arith, append_assoc}
 use Rattle.std.proofs.lemmas.Bool.{and_from, and_left, and_parts, and_right, eqb-true, ne_eqb, eq-eqb}
 use Rattle.std.proofs.lemmas.List.{drop_more}
 use Rattle.std.specs.List.{AllByRecursion, filter}
@@ -20,7 +20,7 @@ use Rattle.snap_call.specs.Reached.{is_reached, is_swept, swept_keys, unswept}
 use Rattle.snap_call.specs.Records.{charge_of, is_committed, is_named, record_cmp, without_key, without_keys}
 use Rattle.snap_call.proofs.Lists.{all-map}
 use Rattle.snap_call.proofs.InOrder.{own_named, unnamed_before}
-use Rattle.snap_call.proofs.Sums.{usage, blocks, inodes, part_of, plus-none, plus-joined}
+use Rattle.snap_call.proofs.Sums.{blocks, inodes, part_of, plus-joined}
 
 -- ---- the marked records
 
@@ -70,12 +70,6 @@ pub record IsGathered (place : ℕ) (all rest : List Record) (w : Sweep) : Type 
   pub removed : w.removed ++ map (λ (r : Record). r.key) rest ≡ map (λ (r : Record). r.key) all
   pub freed : plus w.freed (charge_of place rest) ≡ charge_of place all
 
-pub gather-begins : (place : ℕ) (all : List Record) (w : Sweep) → w.removed ≡ [] → w.freed ≡ no_usage → IsGathered place all all w
-gather-begins place all w removed freed = record {
-  removed = ap (λ ks. ks ++ map (λ (r : Record). r.key) all) removed;
-  freed = ap (λ (u : Usage). plus u (charge_of place all)) freed ∙ usage _ _ (omega arith) (omega arith);
-}
-
 module _ (place : ℕ) (all : List Record) where
   module _ (r : Record) (rest : List Record) (w : Sweep) (own : r.namespace ≡ place) (at : IsGathered place all (r ∷ rest) w) where
     part : part_of place r ≡ usage_of r.content
@@ -91,12 +85,6 @@ module _ (place : ℕ) (all : List Record) where
       removed = ap (λ ks. ks ++ map (λ (r : Record). r.key) rest) removed ∙ append_assoc w.removed (r.key ∷ []) (map (λ (r : Record). r.key) rest) ∙ at.removed;
       freed = ap (λ (u : Usage). plus u (charge_of place rest)) freed ∙ sym (plus-joined w.freed (usage_of r.content) (charge_of place rest)) ∙ ap (λ (u : Usage). plus w.freed (plus u (charge_of place rest))) (sym part) ∙ at.freed;
     }
-
-  pub gather-removed : (w : Sweep) → IsGathered place all [] w → w.removed ≡ map (λ (r : Record). r.key) all
-  gather-removed w at = sym (append-nil w.removed) ∙ at.removed
-
-  pub gather-freed : (w : Sweep) → IsGathered place all [] w → w.freed ≡ charge_of place all
-  gather-freed w at = sym (plus-none w.freed) ∙ at.freed
 
 -- ---- the records without those of some keys
 

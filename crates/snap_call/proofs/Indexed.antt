@@ -1,5 +1,5 @@
 -- The table of slots agrees with the records, after each change.
-use Rattle.std.proofs.Common.{◌≡◌, ◌≢◌, ℕ, zero, suc, ◌<◌, Bool, true, false, true≢false, eqb, eq-eqb, cond, Bor, List, [], ◌∷◌, ◌++◌, Option, Some, None, Result, Ok, Err, OnOk, OnErr, refl, sym, ap, ◌∙◌, subst, ⊎_elim}
+use Rattle.std.proofs.Common.{◌≡◌, ◌≢◌, ℕ, zero, suc, Bool, true, false, true≢false, eqb, eq-eqb, cond, Bor, List, [], ◌∷◌, ◌++◌, Option, Some, None, Result, Ok, Err, OnOk, OnErr, refl, sym, ap, ◌∙◌, subst, ⊎_elim}
 use Rattle.std.proofs.lemmas.Bool.{false_from_ne_true}
 use Rattle.std.proofs.lemmas.Bool.Decides.{eqb_tells}
 use Rattle.std.specs.List.{AllByRecursion, find, list_any}
@@ -63,11 +63,6 @@ slot_of-none : (k : ℕ) (c : Content) → slot_of c ≡ None → has_slot k c �
 slot_of-none k (View layers) e = refl
 slot_of-none k (Active s u) e = absurd (none_some s (sym e))
 slot_of-none k (Committed layer u) e = refl
-
-pub slot_of-low : (slot : ℕ) (c : Content) → slot_of c ≡ Some slot → HasLowSlot c → slot < 64
-slot_of-low slot (View layers) e few = absurd (none_some slot e)
-slot_of-low slot (Active s u) e few = subst (λ (n : ℕ). n < 64) (some_same s slot e) few
-slot_of-low slot (Committed layer u) e few = absurd (none_some slot e)
 
 -- two tests that find the same record take the same away
 pub without-same : (p q : Record → Bool) (rs : List Record) (r : Record) → p r ≡ true → q r ≡ true → find p rs ≡ Some r → find q rs ≡ Some r → without p rs ≡ without q rs
@@ -318,11 +313,6 @@ module _ (rs : List Record) (names : List (Option Name)) (at : AreIndexed rs nam
   indexed-came r slot n (Ok u) ts middle others new few free own is done ok same put =
       subst (λ l. AreIndexed l others) (sym ok) (indexed-with_active rs names at r new few free slot others (slot_of-has slot r.content own)
       (λ k. put k ∙ ap (λ (m : Name). name_after k slot (Some m) middle) is ∙ ap (λ (o : Option Name). if eqb k slot then Some (name_of r) else o) (same k)))
-
-  -- or didn't
-  pub indexed-refused : {E : Type 0} (r : Record) (done : Result (Unit {0}) E) (ts : List Record) (middle : List (Option Name)) → is_ok done ≡ false → OnErr done (ts ≡ rs) → ((k : ℕ) → name_in k middle ≡ name_in k names) → AreIndexed ts middle
-  indexed-refused r (Ok u) ts middle failed err same = absurd (true≢false failed)
-  indexed-refused r (Err e) ts middle failed err same = subst (λ l. AreIndexed l middle) (sym err) (indexed-same rs names at middle same)
 
   -- the record of a key goes
   module _ (place : ℕ) (key : Bytes) (ts : List Record) (taken : Option Record) (left : ts ≡ without_key place key rs) (gone : taken ≡ record_at place key rs) where

@@ -22,14 +22,14 @@ use Rattle.snap_call.specs.declared.config.Namespace.{Namespace}
 use Rattle.snap_call.specs.declared.state.State.{State}
 use Rattle.snap_call.specs.Forms.{has_name}
 use Rattle.snap_call.specs.Records.{has_key, has_children, has_slot, is_named, is_slot, record_at, committed_at, active_at, charge_of, with_record, without_slot, without_key, recharged, relabelled, committed_as, HasLowSlot, AreApart}
-use Rattle.snap_call.specs.State.{place_of, name_at, limit_at, chain_from, is_base, is_too_deep, ancestors, layers_of, or_empty, shown_layers}
+use Rattle.snap_call.specs.State.{place_of, name_at, limit_at, is_base, is_too_deep, ancestors, layers_of, or_empty, shown_layers}
 use Rattle.snap_call.specs.Good.{IsGuarding, IsCounted, IsShown, Good}
 use Rattle.snap_call.specs.Step.{counted, one, new_active, prepared, committed, leases_after, added, new_view, viewed, removed_at}
 use Rattle.snap_call.proofs.Leasing.{place_of-name_at, guarding-with_name}
 use Rattle.snap_call.proofs.Lengths.{length-with_record, length-without, length-without_found, length-recharged, length-relabelled}
 use Rattle.snap_call.proofs.Lists.{all-map, all-both, committed-from, find-with_record_own, find-none, none-passes, record_at-is_named, same_slot, active_at-all, all-with_record, pairwise-with_record, all-without, pairwise-without, all-beside, all-recharged, pairwise-recharged}
 use Rattle.snap_call.proofs.InOrder.{sorted-with_record, sorted-without, sorted-recharged, has_key-without}
-use Rattle.snap_call.proofs.Chains.{HasParent, chain, Keeps, KeepsFor, Every, every, OnParent, on_parent, AreOn, all_on, IsOther, Keeps-after, Keeps-with_record, Keeps-without_slot, Keeps-recharged, on_other, keeps-without_key, keeps-HasParent, keeps-NamesStand, keeps-some_chain, keeps-ancestors, chain-found}
+use Rattle.snap_call.proofs.Chains.{HasParent, chain, Keeps, KeepsFor, Every, every, OnParent, AreOn, all_on, IsOther, Keeps-after, Keeps-with_record, Keeps-without_slot, Keeps-recharged, on_other, keeps-without_key, keeps-HasParent, keeps-NamesStand, keeps-some_chain, keeps-ancestors, chain-found}
 use Rattle.snap_call.proofs.Sums.{charge_with, charge_of-with_record_own, charge_of-with_record_other, charge_of-covers, charge_of-without_own, charge_of-without_other, charge_of-recharged_own, charge_of-recharged_other, charge_of-committed_own, charge_of-committed_other}
 use Rattle.snap_call.proofs.Alike.{AreAlike, bare-relabelled, all-relabelled, pairwise-relabelled, sorted-relabelled, alike-HasParent, alike-IsGuarding, alike-charge_of, alike-layers, alike-some_chain}
 
@@ -374,10 +374,6 @@ module _ (s : State) (place : ℕ) (key : Bytes) (r : Record) (good : Good s) (e
 
   pub removed_others : (p : ℕ) → p ≢ place → charge_of p (without_key place key s.records) ≡ charge_of p s.records
   removed_others p apart = charge_of-without_other p (is_named place key) s.records r e (λ same. apart (same ∙ removed_place))
-
-  -- the ancestors of those that stay are the same
-  pub removed-ancestors : (p : ℕ) (parent : Bytes) → IsOther place key p parent → IsSome (chain_from 64 s.records p parent) → ancestors p parent (without_key place key s.records) ≡ ancestors p parent s.records
-  removed-ancestors p parent other some = keeps-ancestors (IsOther place key) s.records (without_key place key s.records) (keeps-without_key place key s.records childless) p parent (on_parent (IsOther place key) p parent other) some
 
   pub good_removed : (namespace : Bytes) → place_of namespace s.namespaces ≡ Some place → is_guarded s.leases namespace key ≡ false → Good (removed_at s place key)
   good_removed namespace spaced unleased = record {

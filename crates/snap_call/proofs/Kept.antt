@@ -47,9 +47,6 @@ either : (b : Bool) (x y : State × Reply) → (b ≡ true → Good x.0) → (b 
 either true x y f g = f refl
 either false x y f g = g refl
 
-pub good_refused : (s : State) (why : Refusal) → Good s → Good (refused s why).0
-good_refused s why good = good_counted s good
-
 pub good_session : (s : State) → Good s → Good (session s).0
 good_session s good = either (nat_lt s.sessions 65536) _ _ (λ e. good_counters s (s.sessions + 1) (s.entries + 1) good) (λ e. good)
 

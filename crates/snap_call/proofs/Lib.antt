@@ -2,7 +2,7 @@ pub mod Lists
 mod Lengths
 pub mod InOrder
 pub mod Entries
-pub mod Spaces
+pub mod Joined
 pub mod Groups
 pub mod Chains
 pub mod Sums

@@ -28,10 +28,6 @@ module _ {X : Type 0} where
   all-both P Q [] p q = tt
   all-both P Q (x ∷ xs) p q = ((p.0, q.0), all-both P Q xs p.1 q.1)
 
-  pub pairwise-map : (R S : X → X → Type 0) → ((x y : X) → R x y → S x y) → (xs : List X) → AllPairwise R xs → AllPairwise S xs
-  pairwise-map R S f [] all = tt
-  pairwise-map R S f (x ∷ xs) all = (all-map (R x) (S x) (f x) xs all.0, pairwise-map R S f xs all.1)
-
   pub some_same : (x y : X) → ◌≡◌ {A = Option X} (Some x) (Some y) → x ≡ y
   some_same x y e = cc
 
@@ -179,12 +175,6 @@ committed-from o r e is = ap (option_and_then if_committed) e ∙ ap (λ b. if b
 
 pub committed_at-record_at : (place : ℕ) (key : Bytes) (rs : List Record) (r : Record) → committed_at place key rs ≡ Some r → record_at place key rs ≡ Some r
 committed_at-record_at place key rs r e = (committed-parts (record_at place key rs) r e).0
-
-pub committed_at-is_committed : (place : ℕ) (key : Bytes) (rs : List Record) (r : Record) → committed_at place key rs ≡ Some r → is_committed r.content ≡ true
-committed_at-is_committed place key rs r e = (committed-parts (record_at place key rs) r e).1
-
-pub committed_at-all : (P : Record → Type 0) (place : ℕ) (key : Bytes) (rs : List Record) (r : Record) → committed_at place key rs ≡ Some r → AllByRecursion P rs → P r
-committed_at-all P place key rs r e all = record_at-all P place key rs r (committed_at-record_at place key rs r e) all
 
 pub committed_at-is_named : (place : ℕ) (key : Bytes) (rs : List Record) (r : Record) → committed_at place key rs ≡ Some r → is_named place key r ≡ true
 committed_at-is_named place key rs r e = record_at-is_named place key rs r (committed_at-record_at place key rs r e)

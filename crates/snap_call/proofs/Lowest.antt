@@ -19,14 +19,6 @@ is_free-None slot (r ∷ rs) e = at (is_slot slot r) refl (is_free-None slot rs)
     at true is next = absurd (true≢false (sym (rw is at e)))
     at false is next = rw is (next (rw is at e))
 
-pub None-is_free : (slot : ℕ) (rs : List Record) → active_at slot rs ≡ None → is_free slot rs ≡ true
-None-is_free slot [] e = refl
-None-is_free slot (r ∷ rs) e = at (is_slot slot r) refl (None-is_free slot rs)
-  where
-    at : (b : Bool) → is_slot slot r ≡ b → (active_at slot rs ≡ None → is_free slot rs ≡ true) → is_free slot (r ∷ rs) ≡ true
-    at true is next = let f = rw is at e in absurd (cc)
-    at false is next = rw is (next (rw is at e))
-
 -- and it is taken where one is
 pub is_free-Some : (slot : ℕ) (rs : List Record) → is_free slot rs ≡ false → (r : Record) × (active_at slot rs ≡ Some r)
 is_free-Some slot [] e = absurd (true≢false e)
@@ -35,13 +27,6 @@ is_free-Some slot (r ∷ rs) e = at (is_slot slot r) refl (is_free-Some slot rs)
     at : (b : Bool) → is_slot slot r ≡ b → (is_free slot rs ≡ false → (t : Record) × (active_at slot rs ≡ Some t)) → (t : Record) × (active_at slot (r ∷ rs) ≡ Some t)
     at true is next = (r, rw is refl)
     at false is next = let f = next (rw is at e) in (f.0, rw is f.1)
-
-pub Some-is_free : (slot : ℕ) (rs : List Record) (r : Record) → active_at slot rs ≡ Some r → is_free slot rs ≡ false
-Some-is_free slot rs r e = at (is_free slot rs) refl
-  where
-    at : (b : Bool) → is_free slot rs ≡ b → is_free slot rs ≡ false
-    at true is = let f = is_free-None slot rs is in absurd (cc)
-    at false is = is
 
 -- below any number
 none_below : (n : ℕ) (rs : List Record) → lowest_free n rs ≡ None → (k : ℕ) → k < n → is_free k rs ≡ false

@@ -1,17 +1,16 @@
 -- A binary search among the records finds where a key stands.
-use Rattle.std.proofs.Common.{◌≡◌, ◌≢◌, ℕ, zero, suc, ◌+◌, ◌<◌, ◌≤◌, Bool, true, false, List, [], ◌∷◌, length, get_or, Some, None, Result, Ok, Err, position, refl, sym, ap, ◌∙◌, inl, inr, arith}
-use Rattle.std.proofs.lemmas.Bool.{and_parts, cases_eq, cases_lt, cases_order, eqb-true, false_from_ne_true, true≢false}
+use Rattle.std.proofs.Common.{◌≡◌, ◌≢◌, ℕ, zero, suc, ◌+◌, ◌<◌, ◌≤◌, Bool, true, false, List, [], ◌∷◌, length, get_or, Some, None, position, refl, sym, ap, ◌∙◌, inl, inr, arith}
+use Rattle.std.proofs.lemmas.Bool.{and_parts, cases_order, eqb-true, false_from_ne_true, true≢false}
 use Rattle.std.proofs.lemmas.Cmp.{alike_right, tied_back, tied_itself}
 use Rattle.std.proofs.lemmas.Iterator.Adapters.{position_from-zero}
 use Rattle.std.proofs.lemmas.Map.Keys.{Less-from_sorted}
 use Rattle.std.proofs.lemmas.Slice.Eq.{bytes_eq-Decides}
 use Rattle.std.specs.List.{position_from}
-use Rattle.std.specs.List.Sorted.{IsStrictlySortedBy, IsNonDecreasingBy, IsPartitionPoint, IsBinarySearchResult, IsSearchInRange}
+use Rattle.std.specs.List.Sorted.{IsStrictlySortedBy}
 use Rattle.std.specs.Prelude.{bytes_eq, ◌==◌}
 use Rattle.std.specs.declared.cmp.Ordering.{Ordering}
 use Rattle.std.specs.declared.cmp.Ordering.TheVariants.{Less, Equal, Greater}
 use Rattle.std.specs.Ordering.{ordering_index}
-use Rattle.std.specs.Result.{result_ok}
 use Rattle.snap_record.specs.Labels.{Bytes}
 use Rattle.snap_record.specs.declared.record.Record.{Record}
 use Rattle.snap_call.specs.Records.{record_cmp, is_named}
@@ -79,12 +78,6 @@ module _ (place : ℕ) (key : Bytes) where
       by Greater e = index_below (key_cmp place key x)
 
   module _ (rs : List Record) (sorted : IsStrictlySortedBy record_cmp rs) where
-    sorted-rises : IsNonDecreasingBy (λ r. ordering_index (key_cmp place key r)) rs
-    sorted-rises i j d le lt = elim (cases_eq i j) [
-      | inl same ↦ (let e : ordering_index (key_cmp place key (get_or rs i d)) ≡ ordering_index (key_cmp place key (get_or rs j d)) = ap (λ k. ordering_index (key_cmp place key (get_or rs k d))) same in omega arith)
-      | inr differ ↦ rises (get_or rs i d) (get_or rs j d) (Less-from_sorted record_cmp rs i j d sorted (omega arith) lt)
-    ]
-
     -- no record before one of the key is of the key
     named_first : (i k : ℕ) (d : Record) → i < length rs → is_named place key (get_or rs i d) ≡ true → k < i → is_named place key (get_or rs k d) ≡ false
     named_first i k d lt here below =
@@ -102,26 +95,3 @@ module _ (place : ℕ) (key : Bytes) where
       where
         clash : (r : Record) → is_named place key r ≡ true → is_named place key r ≡ false → ⊥
         clash r h g = true≢false (sym h ∙ g)
-
-    -- what the search answers
-    search-found : (i : ℕ) → i < length rs → ((d : Record) → key_cmp place key (get_or rs i d) ≡ Equal) → position (is_named place key) rs ≡ Some i
-    search-found i lt equal = by rs refl
-      where
-        by : (l : List Record) → l ≡ rs → position (is_named place key) rs ≡ Some i
-        by [] e = let n : length rs ≡ 0 = sym (ap length e) in absurd (omega arith)
-        by (d ∷ ds) e =
-            let here : is_named place key (get_or rs i d) ≡ true = tied_named (get_or rs i d) (equal d) in
-            position-found (is_named place key) rs i d lt here (λ k below. named_first i k d lt here below)
-
-    search-absent : (i : ℕ) → IsPartitionPoint (λ r. key_cmp place key r ≡ Less) (λ r. key_cmp place key r ≡ Greater) rs i → position (is_named place key) rs ≡ None
-    search-absent i parts = position-absent (is_named place key) rs none
-      where
-        none : (k : ℕ) (d : Record) → k < length rs → is_named place key (get_or rs k d) ≡ false
-        none k d lt = elim (cases_lt k i) [
-          | inl below ↦ not_named (get_or rs k d) Less (parts.0 k d (omega arith) below) (λ h. cc)
-          | inr above ↦ not_named (get_or rs k d) Greater (parts.1 k d above lt) (λ h. cc)
-        ]
-
-    pub searched : (r : Result ℕ ℕ) → IsSearchInRange r (length rs) → IsBinarySearchResult (key_cmp place key) rs r → result_ok r ≡ position (is_named place key) rs
-    searched (Ok i) within at = sym (search-found i within at)
-    searched (Err i) within parts = sym (search-absent i (parts sorted-rises))

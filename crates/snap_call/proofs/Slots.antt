@@ -137,14 +137,6 @@ charge_at-Some slot rs r e = ap (charge_if slot) e
 pub charge_at-None : (slot : ℕ) (rs : List Record) → active_at slot rs ≡ None → charge_at slot rs ≡ free_charge slot
 charge_at-None slot rs e = ap (charge_if slot) e
 
--- a charge stands under its slot's number
-pub charge_at-slot : (slot : ℕ) (rs : List Record) → (charge_at slot rs).slot ≡ slot
-charge_at-slot slot rs = at (active_at slot rs)
-  where
-    at : (o : Option Record) → (charge_if slot o).slot ≡ slot
-    at None = refl
-    at (Some r) = refl
-
 -- a charge is issued where a record is found, and has its id and usage
 pub charge_at-issued : (slot : ℕ) (rs : List Record) → (charge_at slot rs).issued ≡ true → (r : Record) × (active_at slot rs ≡ Some r) × (r.id ≡ (charge_at slot rs).id) × (usage_of r.content ≡ (charge_at slot rs).usage) × (is_slot slot r ≡ true)
 charge_at-issued slot rs e = at (active_at slot rs) refl
@@ -152,9 +144,6 @@ charge_at-issued slot rs e = at (active_at slot rs) refl
     at : (o : Option Record) → active_at slot rs ≡ o → (r : Record) × (active_at slot rs ≡ Some r) × (r.id ≡ (charge_at slot rs).id) × (usage_of r.content ≡ (charge_at slot rs).usage) × (is_slot slot r ≡ true)
     at None is = absurd (true≢false (sym e ∙ ap (λ (o : Option Record). (charge_if slot o).issued) is))
     at (Some r) is = (r, is, sym (ap (λ (o : Option Record). (charge_if slot o).id) is), sym (ap (λ (o : Option Record). (charge_if slot o).usage) is), active_at-is_slot slot rs r is)
-
-pub issued-charge_at : (slot : ℕ) (rs : List Record) (r : Record) → active_at slot rs ≡ Some r → (charge_at slot rs).issued ≡ true
-issued-charge_at slot rs r e = ap (λ (o : Option Record). (charge_if slot o).issued) e
 
 pub charge_at-free : (slot : ℕ) (rs : List Record) → (charge_at slot rs).issued ≡ false → active_at slot rs ≡ None
 charge_at-free slot rs e = at (active_at slot rs) refl

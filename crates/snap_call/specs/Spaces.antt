@@ -16,7 +16,7 @@ use Rattle.snap_record.specs.Records.{info_of}
 use Rattle.snap_record.specs.declared.filter.Filter.{Filter}
 use Rattle.snap_record.specs.declared.info.Info.{Info}
 use Rattle.snap_record.specs.declared.record.Record.{Record}
-use Rattle.snap_call.specs.Records.{record_cmp, is_named, with_labels}
+use Rattle.snap_call.specs.Records.{is_named, with_labels}
 use Rattle.snap_call.specs.declared.record_edit.RecordEdit.{RecordEdit}
 use Rattle.snap_call.specs.declared.record_edit.RecordEdit.TheVariants as edits
 
@@ -43,10 +43,9 @@ abbrev pub joined : List (List Record) → List Record
 joined [] = []
 joined (rs ∷ rss) = rs ++ joined rss
 
--- the lists are those of the namespaces, their records are in order, each key once in its namespace, and so many
-pub record AreOrdered (rss : List (List Record)) (count : ℕ) : Type 0 where
+-- the lists are those of the namespaces, and have so many records
+pub record AreCounted (rss : List (List Record)) (count : ℕ) : Type 0 where
   pub from : AreFrom 0 rss
-  pub sorted : IsStrictlySortedBy record_cmp (joined rss)
   pub counted : count ≡ length (joined rss)
 
 -- the bytes that a key begins with

@@ -13,13 +13,13 @@ mod entry_room;
 mod forms;
 pub mod limits;
 mod open_slots;
-mod ordered;
 mod record_edit;
 mod records;
 mod refusal;
 mod reply;
 mod same;
 mod shared_entry;
+mod spaces;
 mod state;
 mod sweep;
 

@@ -4,8 +4,8 @@ ghost use Rattle.snap_call.specs.Records.{record_at, has_key, has_children, chil
 ghost use Rattle.snap_call.specs.Indexes.{slot_of};
 
 use crate::open_slots::{Name, OpenSlots};
-use crate::ordered::Ordered;
 use crate::record_edit::RecordEdit;
+use crate::spaces::Spaces;
 use snap_ledger::MAX_SLOTS;
 use snap_path::NoMemory;
 use snap_record::{Content, Filter, Info, Labels, Record, Sequence, Text};
@@ -20,7 +20,7 @@ use std::marker::Model;
 /// number. A table has the name of the snapshot that is active in each slot.
 #[derive(Drop)]
 pub struct Records {
-    rows: Ordered,
+    spaces: Spaces,
     slots: OpenSlots,
 }
 
@@ -31,10 +31,11 @@ impl Model for Records {
     ghost Value = { List Record };
 
     ghost use Rattle.snap_call.specs.Indexes.{AreIndexed};
+    ghost use Rattle.snap_call.specs.Spaces.{AreCounted, joined};
 
-    ghost view = { λ r. r.rows };
+    ghost view = { λ r. joined r.spaces.list.items };
 
-    ghost invariant = { λ r. AreIndexed r.rows r.slots };
+    ghost invariant = { λ r. AreCounted r.spaces.list.items r.spaces.count × AreIndexed (joined r.spaces.list.items) r.slots };
 }
 
 // The slot of an active snapshot.
@@ -54,7 +55,10 @@ impl Records {
         ensures { result ≡ [] }
     {
         Records {
-            rows: Ordered::new(alloc),
+            spaces: Spaces {
+                list: Vec::new(alloc),
+                count: 0,
+            },
             slots: OpenSlots::new(alloc),
         }
     }
@@ -63,49 +67,59 @@ impl Records {
     pub fn list(&self, alloc: Global) -> Result<Vec<&Record>, AllocError>
         ensures { IfOk result (λ list. map (λ r. r.now) list.items ≡ self.now) }
     {
-        self.rows.list(alloc)
+        let mut list = Vec::with_capacity(alloc, self.spaces.count)?;
+        for space in &self.spaces.list {
+            list = space.listed(list)?;
+        }
+        Ok(list)
     }
 
     /// How many records there are. Takes no memory. The cost is constant.
     pub fn len(&self) -> usize
         ensures { result ≡ length self.now }
     {
-        self.rows.len()
+        self.spaces.count
     }
 
     /// Whether there are no records. Takes no memory. The cost is constant.
     pub fn is_empty(&self) -> bool
         ensures { IsTrue result ↔ (self.now ≡ []) }
     {
-        self.rows.len() == 0
+        self.spaces.count == 0
     }
 
     /// Whether the namespace at the place has a snapshot of this key. Takes no memory.
     pub fn has_key(&self, place: usize, key: &str) -> bool
         ensures { result ≡ has_key place key.now self.now }
     {
-        self.rows.get(place, key).is_some()
+        self.record_at(place, key).is_some()
     }
 
     /// The record of this key in the namespace at the place. Takes no memory.
     pub fn record_at(&self, place: usize, key: &str) -> Option<&Record>
         ensures { option_copied result ≡ record_at place key.now self.now }
     {
-        self.rows.get(place, key)
+        match self.spaces.list.get(place) {
+            Some(space) => space.get(key),
+            None => None,
+        }
     }
 
     /// Whether the namespace at the place has a snapshot on this parent. Takes no memory.
     pub fn has_children(&self, place: usize, key: &str) -> bool
         ensures { result ≡ has_children place key.now self.now }
     {
-        self.rows.has_children(place, key)
+        self.child_count(place, key) > 0
     }
 
     /// How many snapshots of the namespace at the place are on this parent. Takes no memory.
     pub fn child_count(&self, place: usize, key: &str) -> u64
         ensures { result ≡ child_count place key.now self.now }
     {
-        self.rows.child_count(place, key)
+        match self.spaces.list.get(place) {
+            Some(space) => space.child_count(key),
+            None => 0,
+        }
     }
 
     /// The record that is active in the slot, if the slot is open. Takes no memory.
@@ -115,7 +129,7 @@ impl Records {
         let Some(name) = self.slots.get(slot) else {
             return None;
         };
-        self.rows.get(name.place, name.key.as_str())
+        self.record_at(name.place, name.key.as_str())
     }
 
     /// Whether a snapshot is active in the slot. Takes no memory. The cost is constant.
@@ -149,7 +163,7 @@ impl Records {
         ensures value_returned { IfErr result (λ back. back.1 ≡ added) }
     {
         let Some(slot) = slot_of(&added.content) else {
-            return self.rows.insert(added);
+            return self.spaces.put(added);
         };
         let key = match added.key.clone() {
             Ok(key) => key,
@@ -162,7 +176,7 @@ impl Records {
             place: added.namespace,
             key,
         };
-        let inserted = self.rows.insert(added);
+        let inserted = self.spaces.put(added);
         if inserted.is_ok() {
             self.slots.set(slot, name);
         }
@@ -178,7 +192,7 @@ impl Records {
         let Some(name) = self.slots.take(slot) else {
             return None;
         };
-        self.rows.remove(name.place, name.key.as_str())
+        self.spaces.take_out(name.place, name.key.as_str())
     }
 
     /// Takes the record of the key in the namespace at the place away. Where there is none, the records
@@ -187,7 +201,7 @@ impl Records {
         ensures taken { self.new ≡ without_key place key.now self.old }
         ensures record_taken { result ≡ record_at place key.now self.old }
     {
-        let Some(taken) = self.rows.remove(place, key) else {
+        let Some(taken) = self.spaces.take_out(place, key) else {
             return None;
         };
         let Some(slot) = slot_of(&taken.content) else {
@@ -217,7 +231,7 @@ impl Records {
         };
         let content = Content::Active { slot, charged: to };
         let edit = RecordEdit::Content(content);
-        self.rows.edit(name.place, name.key.as_str(), edit);
+        self.spaces.edit_at(name.place, name.key.as_str(), edit);
     }
 
     /// Gives the record of the key in the namespace at the place these labels, as the journal entry of
@@ -226,7 +240,7 @@ impl Records {
         ensures { self.new ≡ relabelled place key.now labels number self.old }
     {
         let edit = RecordEdit::Labels { labels, number };
-        self.rows.edit(place, key, edit);
+        self.spaces.edit_at(place, key, edit);
     }
 
     /// The infos of the records of the namespace at the place whose keys come after the text and that
@@ -242,6 +256,9 @@ impl Records {
     ) -> Result<Sequence<Info>, AllocError>
         ensures { IfOk result (λ infos. infos ≡ page place after.now most asked.now self.now) }
     {
-        self.rows.page(alloc, place, after, most, asked)
+        match self.spaces.list.get(place) {
+            Some(space) => space.page(alloc, after, most, asked),
+            None => Ok(Sequence::new(alloc)),
+        }
     }
 }

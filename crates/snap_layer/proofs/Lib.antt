@@ -5,6 +5,7 @@ pub mod Counting
 pub mod Kept
 pub mod Replacing
 pub mod Bounds
+pub mod Contents
 pub mod Setting
 pub mod Filling
 pub mod Moves

@@ -10,3 +10,4 @@ pub mod Totals
 pub mod Directory
 pub mod Reached
 pub mod Undoing
+pub mod Contents

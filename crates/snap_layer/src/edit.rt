@@ -9,9 +9,12 @@ ghost use Rattle.snap_layer.specs.Tree.{IsDirAt, number_of, leaf_node};
 ghost use Rattle.snap_layer.specs.Walk.{entry_of, entry_at, node_of, body_of, count_of, node_at, body_at, count_at, seen, view_of, Links, Same, Adds, Shifted, Frees, Releases, Drops, Covers, Clears, Enters, Renames, Relocates, Lowers, Raises, Gains, Renodes, Rebodies};
 ghost use Rattle.snap_layer.specs.Holds.{place};
 ghost use Rattle.snap_layer.specs.Edits.{body_with_mode};
+ghost use Rattle.snap_layer.specs.Counts.{body_blocks};
+ghost use Rattle.snap_layer.specs.Contents.{body_edited, IsShort};
 ghost use Rattle.snap_layer.specs.declared.node.Node.{Node as ANode};
 ghost use Rattle.snap_layer.specs.declared.node.Body.{Body as BodyValue};
 
+use super::bytes::Edit;
 use super::inode::{Inode, Target};
 use super::node::{Body, Node};
 use super::walk::{entry_at as entry, number_at};
@@ -451,6 +454,40 @@ pub(crate) fn set_body(slots: &mut Slab<Inode>, key: usize, body: Body)
 {
     match slots.get_mut(key) {
         Some(inode) => set_leaf(inode, body),
+        None => unreachable!(),
+    }
+}
+
+/// Changes the bytes of the leaf in place, and gives the blocks that it took and those that it takes.
+fn edit_leaf(inode: &mut Inode, edit: Edit<'_>) -> Result<(u64, u64), AllocError>
+    requires { IsShort edit }
+    ensures entries { (m : List ℕ) → entry_of (Some inode.new) m ≡ entry_of (Some inode.old) m }
+    ensures node { node_of (Some inode.new) ≡ node_of (Some inode.old) }
+    ensures ok { (b : BodyValue) → body_of (Some inode.old) ≡ Some b → OnOk result (body_of (Some inode.new) ≡ Some (body_edited b edit.entry)) }
+    ensures blocks { (b : BodyValue) → body_of (Some inode.old) ≡ Some b → IfOk result (λ n. n ≡ (body_blocks b, body_blocks (body_edited b edit.entry))) }
+    ensures err { OnErr result (body_of (Some inode.new) ≡ body_of (Some inode.old)) }
+    ensures count { count_of (Some inode.new) ≡ count_of (Some inode.old) }
+{
+    match inode {
+        Inode::Leaf { body, .. } => body.edit(edit),
+        Inode::Dir { .. } => Ok((0, 0)),
+    }
+}
+
+/// Changes the bytes of the leaf with the key in place, and gives the blocks that it took and those that it takes.
+pub(crate) fn edit_body(
+    slots: &mut Slab<Inode>,
+    key: usize,
+    edit: Edit<'_>,
+) -> Result<(u64, u64), AllocError>
+    requires short { IsShort edit }
+    requires leaf { IsSome (body_at slots.old key) }
+    ensures ok { (b : BodyValue) → body_at slots.old key ≡ Some b → OnOk result (Rebodies (view_of slots.old) (view_of slots.new) key (body_edited b edit.entry)) }
+    ensures blocks { (b : BodyValue) → body_at slots.old key ≡ Some b → IfOk result (λ n. n ≡ (body_blocks b, body_blocks (body_edited b edit.entry))) }
+    ensures err { OnErr result (Same (view_of slots.old) (view_of slots.new)) }
+{
+    match slots.get_mut(key) {
+        Some(inode) => edit_leaf(inode, edit),
         None => unreachable!(),
     }
 }

@@ -3,10 +3,12 @@ ghost use Rattle.std.specs.Prelude.{◌≡◌, ◌↔◌, ◌<◌, ◌≤◌, �
 ghost use Rattle.snap_path.specs.Memory.{no_memory};
 ghost use Rattle.snap_layer.specs.Tree.{at, body, number_at, IsDirAt, leaf_node};
 ghost use Rattle.snap_layer.specs.Counts.{inode_count, block_count, body_blocks, is_within};
+ghost use Rattle.snap_layer.specs.Contents.{body_bytes, edited, IsShort};
 ghost use Rattle.snap_layer.specs.Totals.{path_count};
 ghost use Rattle.snap_layer.specs.Layers.{IsLayer, IsFile, IsBody, is_target};
 ghost use Rattle.snap_layer.specs.Edits.{with_body, with_entry, with_node, with_new, with_name, name_of, with_bytes, with_mode, with_file_mode, with_opaque, with_moved, with_linked, without, HasRoom, HasRooms, HasPlace, IsTakeable, IsMovable, IsRegular, HasMode};
 
+use super::bytes::Edit;
 use super::error::LayerError;
 use super::layer::Layer;
 use super::node::{Body, Bytes, Node};
@@ -207,6 +209,25 @@ impl Layer {
             let mode = *mode;
             self.fill(number, mode, freed, bytes);
         }
+    }
+
+    /// Changes the bytes of a file in place, for all its names.
+    ///
+    /// The conditions are that the number is a regular file's, and that what is written ends at 1,048,576 bytes at
+    /// the most, or that the file is to have at most so many. It fails only where memory for more bytes is refused,
+    /// and the layer is then as it was: a write within the file's size takes none, and a cut gives some back. Cost:
+    /// the logarithm of the number of files, and the bytes that are written; where the file grows, in one growth
+    /// of several also its bytes.
+    pub fn edit_bytes(&mut self, number: u32, edit: Edit<'_>) -> Result<(), AllocError>
+        requires file { IsRegular (body self.old number) }
+        requires short { IsShort edit }
+        ensures ok { OnOk result (self.new ≡ with_bytes self.old number (body self.old number) (edited edit.entry (body_bytes (body self.old number)))) }
+        ensures err { OnErr result (self.new ≡ self.old) }
+    {
+        let _ = &self.is_layer;
+        let (freed, taken) = self.table.edit_bytes(number, edit)?;
+        self.totals.blocks = self.totals.blocks - freed + taken;
+        Ok(())
     }
 
     /// Sets or clears the mark of a directory: an opaque one hides what the layers below have in it

@@ -8,6 +8,7 @@
 //! at a path of it, and `specs/Holds.antt` which `Tree` it is.
 #![tactic(auto)]
 
+mod bytes;
 mod dir;
 mod edit;
 mod edits;
@@ -21,6 +22,7 @@ mod table;
 mod totals;
 mod walk;
 
+pub use bytes::Edit;
 pub use dir::Dir;
 pub use error::LayerError;
 pub use layer::Layer;

@@ -1,5 +1,8 @@
-ghost use Rattle.std.specs.Prelude.{◌≡◌, List, ℕ, IfOk};
+ghost use Rattle.std.specs.Prelude.{◌≡◌, List, ℕ, IfOk, OnOk, OnErr, length};
+ghost use Rattle.snap_layer.specs.Counts.{blocks_of, body_blocks};
+ghost use Rattle.snap_layer.specs.Contents.{edited, body_edited, IsShort};
 
+use super::bytes::{Edit, put_at, resize};
 use snap_path::limits::BLOCK_BYTES;
 use std::alloc::{AllocError, Global};
 use std::marker::Model;
@@ -11,6 +14,8 @@ pub struct Bytes {
 }
 
 impl Model for Bytes {
+    ghost use Rattle.std.specs.Prelude.{List, ℕ};
+
     ghost Value = { List ℕ };
 
     ghost view = { λ b. b.items.items };
@@ -38,6 +43,26 @@ impl Bytes {
         ensures { result.now ≡ self.now }
     {
         self.items.as_slice()
+    }
+
+    /// The blocks of 4096 bytes that they take.
+    pub(crate) fn blocks(&self) -> u64
+        ensures { result ≡ blocks_of (length self.now) }
+    {
+        (self.items.len() as u64).div_ceil(BLOCK_BYTES)
+    }
+
+    /// Changes the bytes in place. Only a growth takes memory, and nothing changes before it is there.
+    pub(crate) fn edit(&mut self, edit: Edit<'_>) -> Result<(), AllocError>
+        requires { IsShort edit }
+        ensures ok { OnOk result (self.new ≡ edited edit.entry self.old) }
+        ensures err { OnErr result (self.new ≡ self.old) }
+    {
+        match edit {
+            Edit::Keep => Ok(()),
+            Edit::Write { offset, bytes } => put_at(&mut self.items, offset, bytes),
+            Edit::Resize { size } => resize(&mut self.items, size),
+        }
     }
 }
 
@@ -179,7 +204,7 @@ impl Body {
         ensures { result ≡ body_blocks self.now }
     {
         match self {
-            Body::File { bytes, .. } => (bytes.as_slice().len() as u64).div_ceil(BLOCK_BYTES),
+            Body::File { bytes, .. } => bytes.blocks(),
             Body::Symlink { .. } => 0,
         }
     }
@@ -191,6 +216,23 @@ impl Body {
         match self {
             Body::File { mode: own, .. } => *own = mode,
             Body::Symlink { .. } => {}
+        }
+    }
+
+    /// Changes the bytes of a file in place, and gives the blocks that it took and those that it takes.
+    pub(crate) fn edit(&mut self, edit: Edit<'_>) -> Result<(u64, u64), AllocError>
+        requires { IsShort edit }
+        ensures ok { OnOk result (self.new ≡ body_edited self.old edit.entry) }
+        ensures blocks { IfOk result (λ b. b ≡ (body_blocks self.old, body_blocks (body_edited self.old edit.entry))) }
+        ensures err { OnErr result (self.new ≡ self.old) }
+    {
+        match self {
+            Body::File { bytes, .. } => {
+                let freed = bytes.blocks();
+                bytes.edit(edit)?;
+                Ok((freed, bytes.blocks()))
+            }
+            Body::Symlink { .. } => Ok((0, 0)),
         }
     }
 }

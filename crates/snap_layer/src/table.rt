@@ -3,7 +3,8 @@ ghost use Rattle.std.specs.Prelude.{[], ◌≡◌, ◌<◌, ◌≤◌, ◌+◌, 
 ghost use Rattle.std.specs.Option.{option_copied};
 ghost use Rattle.std.specs.Map.{keys_of};
 ghost use Rattle.snap_layer.specs.Tree.{Tree, at, body, number_of, number_at, IsDirAt, leaf_node};
-ghost use Rattle.snap_layer.specs.Counts.{name_count};
+ghost use Rattle.snap_layer.specs.Counts.{name_count, body_blocks};
+ghost use Rattle.snap_layer.specs.Contents.{body_edited, IsShort};
 ghost use Rattle.snap_layer.specs.Layers.{IsLayer, IsFile};
 ghost use Rattle.snap_layer.specs.Edits.{root_only, with_body, with_entry, with_node, with_new, without, with_moved, with_file_mode, with_linked, HasPlace, HasRooms, IsTakeable, IsFree, HasParent, IsMovable};
 ghost use Rattle.snap_layer.specs.declared.node.Body.{Body as BodyValue};
@@ -15,10 +16,11 @@ ghost use Rattle.snap_layer.specs.Undoing.{with_next, IsNew};
 mod reads;
 mod same;
 
+use super::bytes::Edit;
 use super::dir::Dir;
 use super::edit::{
-    body_at, copied, cover_entry, link, links_at, next_place, place_of, put_inode, put_leaf,
-    relocate, replace_name, set_body, set_dir, set_mode, take_target,
+    body_at, copied, cover_entry, edit_body, link, links_at, next_place, place_of, put_inode,
+    put_leaf, relocate, replace_name, set_body, set_dir, set_mode, take_target,
 };
 use super::inode::{Inode, Target};
 use super::node::{Body, Node};
@@ -354,6 +356,22 @@ impl Table {
             unreachable!()
         };
         set_mode(&mut self.slots, key, mode);
+    }
+
+    /// Changes the bytes of the file with the number in place, and gives the blocks that it took and those that it
+    /// takes.
+    pub fn edit_bytes(&mut self, number: u32, edit: Edit<'_>) -> Result<(u64, u64), AllocError>
+        requires file { IsFile (body self.old number) }
+        requires short { IsShort edit }
+        ensures ok { (b : BodyValue) → body self.old number ≡ Some b → OnOk result (self.new ≡ with_body self.old number (body_edited b edit.entry)) }
+        ensures blocks { (b : BodyValue) → body self.old number ≡ Some b → IfOk result (λ n. n ≡ (body_blocks b, body_blocks (body_edited b edit.entry))) }
+        ensures err { OnErr result (self.new ≡ self.old) }
+    {
+        let _ = &self.slots;
+        let Some(key) = place_of(&self.places, number) else {
+            unreachable!()
+        };
+        edit_body(&mut self.slots, key, edit)
     }
 
     /// Gives the file with the number another body, which is a file too.

@@ -1,5 +1,5 @@
 -- The round of a book.
--- Cited by `Store::close`, `run_jobs` and others.
+-- Cited by `Store::close`, `write_jobs_within`, `write_jobs` and others.
 use Rattle.snap_book.specs.Book.{BookValue}
 use Rattle.snap_round.specs.declared.rule.Round.{Round}
 

@@ -18,6 +18,7 @@ use Rattle.snap_layer.proofs.Setting.{file_body}
 use Rattle.snap_layer.proofs.Looks.{Sets-with_entry, SetsBody-with_body}
 use Rattle.snap_layer.proofs.Kept.{node_with_number}
 use Rattle.snap_layer.proofs.Laws.{Replaces-with_new}
+use Rattle.snap_layer.specs.Contents.{written, resized}
 use Rattle.snap_merge.specs.Objects.{Object, dir, file, symlink, seen, shown_body, is_shown_dir, AreLayers}
 use Rattle.snap_merge.specs.declared.error.FsError.{FsError}
 use Rattle.snap_merge.specs.declared.error.FsError.TheVariants.{LayerFull}
@@ -28,7 +29,7 @@ use Rattle.snap_upper.specs.declared.op.Op.TheVariants as op
 use Rattle.snap_copyup.specs.Copying.{with_parents, copied_up}
 use Rattle.snap_copyup.proofs.Layers.{no_missing}
 use Rattle.snap_merge.specs.Walk.{walk, unless}
-use Rattle.snap_upper.specs.After.{after, tests, first_error, limited, next_layer, is_whiteout_at, written, resized, with_content}
+use Rattle.snap_upper.specs.After.{after, tests, first_error, limited, next_layer, is_whiteout_at, with_content}
 use Rattle.snap_upper.proofs.KindErrors.{file_error, mode_error}
 use Rattle.snap_upper.specs.Changed.{ShowsAt, IsName, Turns, with_file_bytes, with_object_mode, changed}
 use Rattle.snap_copyup.proofs.Alone.{free_unseen, dir_seen}

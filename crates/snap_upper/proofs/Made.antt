@@ -6,6 +6,7 @@ use Rattle.snap_layer.specs.Tree.{Tree, at}
 use Rattle.snap_layer.specs.Counts.{is_within}
 use Rattle.snap_layer.specs.Edits.{with_mode}
 use Rattle.snap_layer.specs.Layers.{IsLayer}
+use Rattle.snap_layer.specs.Contents.{edited}
 use Rattle.snap_merge.specs.declared.error.FsError.{FsError}
 use Rattle.snap_merge.specs.declared.error.FsError.TheVariants.{LayerFull}
 use Rattle.snap_merge.specs.Objects.{seen}
@@ -17,7 +18,7 @@ use Rattle.snap_upper.specs.declared.change.Change.{Change}
 use Rattle.snap_upper.specs.declared.change.Change.TheVariants.{Nothing, Put, Fill, SetMode, Erase, Link, Move}
 use Rattle.snap_upper.specs.After.{Outcome, after, limited, with_content, erased, renamed, next_layer}
 use Rattle.snap_upper.specs.Changed.{changed}
-use Rattle.snap_upper.specs.Changes.{IsChange, as_last, edited, outcome}
+use Rattle.snap_upper.specs.Changes.{IsChange, as_last, outcome}
 use Rattle.snap_upper.proofs.Changing.{after_changes}
 
 pub made_after : (a b c : Outcome) → a ≡ b → a ≡ c → b ≡ c
@@ -39,7 +40,7 @@ limited_err t = by (is_within t)
 outcome_err : (c : Change) (u : Tree) (ls : List Tree) → IfErr (outcome c u ls) (λ e. e ≡ LayerFull)
 outcome_err Nothing u ls = tt
 outcome_err (Put path new) u ls = limited_err (with_last (as_last new) (with_parents u ls path.now) path.now)
-outcome_err (Fill number edit) u ls = limited_err (with_content u (Some number) (edited edit))
+outcome_err (Fill number size edit) u ls = limited_err (with_content u (Some number) (edited edit))
 outcome_err (SetMode path mode) u ls = limited_err (with_mode u path.now (at u path.now) mode)
 outcome_err (Erase path covers) u ls = limited_err (erased u ls path.now)
 outcome_err (Link from to) u ls = limited_err (next_layer (op.Link from.now to.now) u ls)

@@ -11,6 +11,7 @@ use Rattle.snap_layer.specs.Counts.{inode_count, block_count}
 use Rattle.snap_layer.specs.Layers.{IsLayer, IsFile, IsSymlink}
 use Rattle.snap_layer.proofs.Setting.{dir_stays, file_body}
 use Rattle.snap_layer.proofs.Kept.{IsLayer-with_body}
+use Rattle.snap_layer.specs.Contents.{edited, IsShort}
 use Rattle.snap_usage.specs.declared.usage.Usage.{Usage}
 use Rattle.snap_layer.specs.Edits.{with_entry, with_new, with_body, with_mode, with_file_mode, HasMode}
 use Rattle.snap_layer.proofs.Looks.{Sets-with_entry}
@@ -29,10 +30,10 @@ use Rattle.snap_copyup.proofs.Wholes.{IsWholeObject, whole_seen, vacant}
 use Rattle.snap_copyup.proofs.Layers.{no_missing}
 use Rattle.snap_upper.specs.declared.op.Op.TheVariants as op
 use Rattle.snap_copyup.specs.declared.parents.Last.TheVariants as last
-use Rattle.snap_upper.specs.declared.change.Edit.{Edit}
+use Rattle.snap_layer.specs.declared.bytes.Edit.{Edit}
 use Rattle.snap_upper.specs.declared.change.New.{New}
 use Rattle.snap_upper.specs.declared.change.New.TheVariants as new
-use Rattle.snap_upper.specs.Changes.{as_last, edited, IsShort, IsSound, IsWithMode}
+use Rattle.snap_upper.specs.Changes.{as_last, IsSound, IsWithMode}
 use Rattle.snap_upper.specs.After.{after, limited, planned, tests, first_error, error_if}
 use Rattle.snap_upper.proofs.KindErrors.{mode_error}
 use Rattle.snap_upper.proofs.Outcomes.{test_passes, error_if_passes, after_passes, planned_fits}

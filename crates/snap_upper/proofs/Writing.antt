@@ -23,6 +23,7 @@ use Rattle.snap_layer.proofs.Counting.{weight_of_body, inode_count-with_body, bl
 use Rattle.snap_layer.proofs.Filling.{file_there}
 use Rattle.snap_layer.proofs.Kept.{IsLayer-with_body}
 use Rattle.snap_layer.proofs.Laws.{Replaces-with_new, SetsBody-with_new}
+use Rattle.snap_layer.specs.Contents.{written, resized, body_bytes}
 use Rattle.snap_merge.specs.Objects.{Object, dir, file, symlink, seen, shown_body}
 use Rattle.snap_merge.specs.Walk.{walk}
 use Rattle.snap_merge.specs.declared.error.FsError.TheVariants.{TooBig}
@@ -34,7 +35,7 @@ use Rattle.snap_copyup.proofs.Alone.{copied_there, copied_missing, below_seen}
 use Rattle.snap_copyup.proofs.ParentDirs.{adds_parents}
 use Rattle.snap_copyup.proofs.Layers.{no_missing}
 use Rattle.snap_upper.specs.declared.op.Op.TheVariants as op
-use Rattle.snap_upper.specs.After.{tests, first_error, error_if, written, resized, body_bytes, with_content}
+use Rattle.snap_upper.specs.After.{tests, first_error, error_if, with_content}
 use Rattle.snap_upper.proofs.KindErrors.{file_error}
 use Rattle.snap_upper.proofs.Outcomes.{test_passes, error_if_passes}
 
@@ -61,10 +62,6 @@ IsWritable-passed s p offset bytes passes =
 
 -- ---- bytes
 
-pub written_short : (old : List ℕ) (offset : ℕ) (bytes : List ℕ) (m : ℕ) → length old ≤ m → offset + length bytes ≤ m → length (written old offset bytes) ≤ m
-written_short old offset [] m a b = a
-written_short old offset (x ∷ xs) m a b = grind (arith, common_steps)
-
 -- the tests of a truncation have passed
 pub record IsSizable (s : List Tree) (p : Names) (size : ℕ) : Type 0 where
   pub way : walk s p ≡ None
@@ -82,9 +79,6 @@ IsSizable-passed s p size passes =
       file = second.0;
       short = short_end size (error_if_passes (nat_lt 1048576 size) TooBig third.0);
     }
-
-pub resized_length : (old : List ℕ) (size : ℕ) → length (resized old size) ≡ size
-resized_length old size = grind (arith, common_steps)
 
 -- a value put twice under one key
 insert_twice : {K X : Type 0} (R : K → K → Ordering) → IsTotalOrder R → (es : List (K × X)) (k : K) (v w : X) → insert_entry R (insert_entry R es k v) k w ≡ insert_entry R es k w

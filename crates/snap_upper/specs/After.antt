@@ -9,6 +9,7 @@ use Rattle.snap_layer.specs.declared.node.Body.{Body}
 use Rattle.snap_layer.specs.declared.node.Body.TheVariants as body_kinds
 use Rattle.snap_layer.specs.Tree.{Tree, at, body, number_at, is_whiteout}
 use Rattle.snap_layer.specs.Counts.{is_within}
+use Rattle.snap_layer.specs.Contents.{written, resized, body_bytes}
 use Rattle.snap_layer.specs.Edits.{with_entry, with_node, with_new, with_name, with_bytes, with_mode, with_opaque, with_moved, without, inside, relocated}
 use Rattle.snap_usage.specs.declared.usage.Usage.{Usage}
 use Rattle.snap_usage.specs.Counted.{count_of, covers}
@@ -107,20 +108,6 @@ first_error (Some e ∷ later) = Some e
 -- a whiteout stands there
 abbrev pub is_whiteout_at : Option Node → Bool
 is_whiteout_at o = option_map_or is_whiteout o false
-
--- the bytes put into the old ones at an offset; a gap before them has zero bytes, and no bytes change nothing (pwrite(2), lseek(2))
-abbrev pub written : List ℕ → ℕ → List ℕ → List ℕ
-written old offset [] = old
-written old offset (b ∷ bs) = take offset old ++ replicate (offset - length old) 0 ++ (b ∷ bs) ++ drop (offset + length (b ∷ bs)) old
-
--- the first bytes of the old ones, or all of them and zero bytes after them (truncate(2))
-abbrev pub resized : List ℕ → ℕ → List ℕ
-resized old size = take size old ++ replicate (size - length old) 0
-
--- the bytes of a file
-abbrev pub body_bytes : Option Body → List ℕ
-body_bytes (Some (body_kinds.File mode bytes)) = bytes
-body_bytes other = []
 
 -- the layer with other bytes of the file with the number, for all its names
 abbrev pub with_content : Tree → Option ℕ → (List ℕ → List ℕ) → Tree

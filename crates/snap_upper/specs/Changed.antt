@@ -7,7 +7,8 @@ use Rattle.snap_layer.specs.Tree.{Tree, number_at}
 use Rattle.snap_merge.specs.Objects.{Object, dir, file, symlink, seen, AreLayers}
 use Rattle.snap_upper.specs.declared.op.Op.{Op}
 use Rattle.snap_upper.specs.declared.op.Op.TheVariants.{Mkdir, Create, Write, Truncate, SetMode, Symlink, Link, Unlink, Rmdir, Rename}
-use Rattle.snap_upper.specs.After.{written, resized, after}
+use Rattle.snap_layer.specs.Contents.{written, resized}
+use Rattle.snap_upper.specs.After.{after}
 
 -- what is seen at each path
 abbrev pub View : Type 0

@@ -2,6 +2,8 @@
 -- Cited by invariants and private clauses alone.
 use Rattle.std.specs.Prelude.{◌≡◌, ◌+◌, ◌≤◌, ℕ, ◌∷◌, ◌++◌, [], Bool, true, false, List, length, Option, Some, None, Ok, is_some}
 use Rattle.snap_layer.specs.Tree.{Tree, at, body}
+use Rattle.snap_layer.specs.declared.bytes.Edit.TheVariants.{Keep}
+use Rattle.snap_layer.specs.Contents.{edited, IsShort}
 use Rattle.snap_layer.specs.Edits.{HasMode, with_mode}
 use Rattle.snap_merge.specs.Objects.{Object, file, seen, is_shown_dir, AreLayers}
 use Rattle.snap_layer.specs.declared.node.Body.TheVariants as body_kinds
@@ -12,25 +14,11 @@ use Rattle.snap_copyup.specs.Copying.{below, with_parents}
 use Rattle.snap_copyup.specs.Places.{with_last, CanStand}
 use Rattle.snap_upper.specs.declared.op.Op.{Op}
 use Rattle.snap_upper.specs.declared.op.Op.TheVariants as op
-use Rattle.snap_upper.specs.declared.change.Edit.{Edit}
-use Rattle.snap_upper.specs.declared.change.Edit.TheVariants.{Keep, Write, Resize}
 use Rattle.snap_upper.specs.declared.change.New.{New}
 use Rattle.snap_upper.specs.declared.change.New.TheVariants.{Dir, File, Symlink}
 use Rattle.snap_upper.specs.declared.change.Change.{Change}
 use Rattle.snap_upper.specs.declared.change.Change.TheVariants.{Nothing, Put, Fill, SetMode, Erase, Link, Move}
-use Rattle.snap_upper.specs.After.{Outcome, after, limited, written, resized, with_content, erased, renamed, next_layer, first_error, tests, is_same_name}
-
--- the bytes after the edit
-abbrev pub edited : Edit → List ℕ → List ℕ
-edited Keep old = old
-edited (Write offset bytes) old = written old offset bytes.now
-edited (Resize size) old = resized old size
-
--- the edit makes no file of too many bytes
-abbrev pub IsShort : Edit → Type 0
-IsShort Keep = Unit {0}
-IsShort (Write offset bytes) = offset + length bytes.now ≤ 1048576
-IsShort (Resize size) = size ≤ 1048576
+use Rattle.snap_upper.specs.After.{Outcome, after, limited, with_content, erased, renamed, next_layer, first_error, tests, is_same_name}
 
 -- what is put, with its bytes
 abbrev pub as_last : New → Last
@@ -54,7 +42,7 @@ IsSound (Symlink target) = Unit {0}
 abbrev pub outcome : Change → Tree → List Tree → Outcome
 outcome Nothing u lowers = Ok u
 outcome (Put path new) u lowers = limited (with_last (as_last new) (with_parents u lowers path.now) path.now)
-outcome (Fill number edit) u lowers = limited (with_content u (Some number) (edited edit))
+outcome (Fill number size edit) u lowers = limited (with_content u (Some number) (edited edit))
 outcome (SetMode path mode) u lowers = limited (with_mode u path.now (at u path.now) mode)
 outcome (Erase path covers) u lowers = limited (erased u lowers path.now)
 outcome (Link from to) u lowers = limited (next_layer (op.Link from.now to.now) u lowers)
@@ -64,7 +52,7 @@ outcome (Move from to leaves covers) u lowers = limited (renamed u lowers from.n
 abbrev pub IsReady : Change → Tree → List Tree → Type 0
 IsReady Nothing u lowers = Unit {0}
 IsReady (Put path new) u lowers = (walk (u ∷ lowers) path.now ≡ None) × CanStand (as_last new) u path.now × IsSound new
-IsReady (Fill number edit) u lowers = (m : ℕ) × (old : List ℕ) × (body u number ≡ Some (body_kinds.File m old)) × IsShort edit × (length (edited edit old) ≤ 1048576)
+IsReady (Fill number size edit) u lowers = (m : ℕ) × (old : List ℕ) × (body u number ≡ Some (body_kinds.File m old)) × (size ≡ length old) × IsShort edit × (length (edited edit old) ≤ 1048576)
 IsReady (SetMode path mode) u lowers = HasMode (at u path.now) × (mode ≤ 4095)
 IsReady (Erase path covers) u lowers = (walk (u ∷ lowers) path.now ≡ None) × (is_some (seen (u ∷ lowers) path.now) ≡ true) × (path.now ≡ [] → ⊥) × ((n : List ℕ) → is_some (seen (u ∷ lowers) (path.now ++ n ∷ [])) ≡ false) × (covers ≡ is_some (below u lowers path.now))
 IsReady (Link from to) u lowers = first_error (tests (op.Link from.now to.now) (u ∷ lowers)) ≡ None

@@ -1,26 +1,16 @@
 // What an operation does to the layer, once its tests have passed.
 ghost use Rattle.std.specs.Prelude.{◌≡◌, ◌≤◌, ℕ, Bool, List, IfOk, length, ◌+◌};
 ghost use Rattle.snap_layer.specs.Tree.{number_at};
+ghost use Rattle.snap_layer.specs.Contents.{written, resized, edited, IsShort};
 ghost use Rattle.snap_upper.specs.Adding.{Takes};
-ghost use Rattle.snap_upper.specs.Changes.{edited, as_last, is_numbered, IsShort, IsSound};
-ghost use Rattle.snap_upper.specs.After.{is_whiteout_at, written, resized};
+ghost use Rattle.snap_upper.specs.Changes.{as_last, is_numbered, IsSound};
+ghost use Rattle.snap_upper.specs.After.{is_whiteout_at};
 
 use snap_copyup::Last;
-use snap_layer::{Bytes, Layer, Node};
+use snap_layer::{Bytes, Edit, Layer, Node};
 use snap_path::Path;
 use snap_usage::blocks_of;
 use std::alloc::{AllocError, Global};
-
-/// How the bytes of a file change.
-#[derive(Clone, Copy)]
-pub(crate) enum Edit<'a> {
-    /// They stay.
-    Keep,
-    /// The bytes are put at the offset.
-    Write { offset: usize, bytes: &'a [u8] },
-    /// The file is cut, or filled with zero bytes, to so many.
-    Resize { size: usize },
-}
 
 /// What is put at a path: as `Last`, whose bytes and targets aren't made yet.
 #[derive(Clone, Copy)]
@@ -50,9 +40,10 @@ pub(crate) enum Change<'a> {
         path: &'a Path,
         new: New<'a>,
     },
-    /// The bytes of the layer's own file with the number change.
+    /// The bytes of the layer's own file with the number, which has so many, change.
     Fill {
         number: u32,
+        size: usize,
         edit: Edit<'a>,
     },
     /// The mode of the layer's own directory or file changes.
@@ -78,37 +69,6 @@ pub(crate) enum Change<'a> {
         leaves: bool,
         covers: bool,
     },
-}
-
-impl<'a> Edit<'a> {
-    /// The size of a file of `old` bytes afterwards.
-    pub(crate) fn size(self, old: usize) -> usize
-        requires { IsShort self }
-        ensures { (was : List ℕ) → length was ≡ old → result ≡ length (edited self.entry was) }
-    {
-        match self {
-            Edit::Keep => old,
-            Edit::Write { offset, bytes } => {
-                if bytes.is_empty() {
-                    return old;
-                }
-                old.max(offset + bytes.len())
-            }
-            Edit::Resize { size } => size,
-        }
-    }
-
-    /// The bytes afterwards.
-    pub(crate) fn content(self, alloc: Global, old: &[u8]) -> Result<Bytes, AllocError>
-        requires { IsShort self }
-        ensures { IfOk result (λ b. b ≡ edited self.entry old.now) }
-    {
-        match self {
-            Edit::Keep => Bytes::copy_of(alloc, old),
-            Edit::Write { offset, bytes } => written(alloc, old, offset, bytes),
-            Edit::Resize { size } => resized(alloc, old, size),
-        }
-    }
 }
 
 impl<'a> New<'a> {
@@ -169,38 +129,4 @@ pub(crate) fn own_number(layer: &Layer, path: &Path) -> Option<u32>
     ensures { result ≡ number_at layer.now path.now }
 {
     layer.at(path)?.number()
-}
-
-/// The old bytes with the new ones put at the offset, over a gap of zero bytes.
-pub(crate) fn written(
-    alloc: Global,
-    old: &[u8],
-    offset: usize,
-    bytes: &[u8],
-) -> Result<Bytes, AllocError>
-    requires { offset + length bytes.now ≤ 1048576 }
-    ensures { IfOk result (λ b. b ≡ written old.now offset bytes.now) }
-{
-    if bytes.is_empty() {
-        return Bytes::copy_of(alloc, old);
-    }
-    let mut items = Vec::new(alloc);
-    items.extend_from_slice(&old[..offset.min(old.len())])?;
-    items.resize(offset, 0)?;
-    items.extend_from_slice(bytes)?;
-    let end = offset + bytes.len();
-    if end < old.len() {
-        items.extend_from_slice(&old[end..])?;
-    }
-    Ok(Bytes::new(items))
-}
-
-/// The old bytes cut to so many, or with zero bytes after them.
-pub(crate) fn resized(alloc: Global, old: &[u8], size: usize) -> Result<Bytes, AllocError>
-    ensures { IfOk result (λ b. b ≡ resized old.now size) }
-{
-    let mut items = Vec::new(alloc);
-    items.extend_from_slice(&old[..size.min(old.len())])?;
-    items.resize(size, 0)?;
-    Ok(Bytes::new(items))
 }

@@ -1,12 +1,12 @@
 // The tests that an operation has to pass.
-ghost use Rattle.std.specs.Prelude.{◌≡◌, ◌⊎◌, ◌==◌, [], ◌∷◌, is_some, true, false, None, Some, OnOk, IfErr, MatchOption, ◌||◌, ◌&&◌, not, IfOk, Ok, Err};
+ghost use Rattle.std.specs.Prelude.{◌≡◌, ℕ, List, length, ◌⊎◌, ◌==◌, [], ◌∷◌, is_some, true, false, None, Some, OnOk, IfErr, MatchOption, ◌||◌, ◌&&◌, not, IfOk, Ok, Err};
 ghost use Rattle.std.specs.Option.{option_map};
 ghost use Rattle.std.specs.Result.{result_err};
 ghost use Rattle.std.specs.List.{list_any};
 ghost use Rattle.snap_path.specs.Memory.{no_memory};
 ghost use Rattle.snap_path.specs.Text.{begins};
 ghost use Rattle.snap_merge.specs.declared.error.FsError.{FsError};
-ghost use Rattle.snap_merge.specs.Objects.{object, seen, is_shown_dir, AreLayers};
+ghost use Rattle.snap_merge.specs.Objects.{object, file, seen, is_shown_dir, AreLayers};
 ghost use Rattle.snap_merge.specs.Walk.{walk};
 ghost use Rattle.snap_copyup.specs.Copying.{below};
 ghost use Rattle.snap_upper.specs.After.{tests, first_error, error_if, has_names, is_no_target, move_tests, kind_error, is_root, is_same_name, is_same_path, is_same_number, moves_too_long, is_late, lists_names, error_by_kind};
@@ -43,34 +43,36 @@ pub(crate) fn check_new(stack: &Stack<'_>, path: &Path, mode: u32) -> Result<(),
     Ok(())
 }
 
-/// Tests whether the bytes can be put at the offset of the file at the path.
+/// Tests whether the bytes can be put at the offset of the file at the path, and gives the file's size.
 pub(crate) fn check_write(
     stack: &Stack<'_>,
     path: &Path,
     offset: u64,
     bytes: &Bytes,
-) -> Result<(), FsError>
+) -> Result<usize, FsError>
     ensures error { result_err result ≡ first_error (tests (op.Write path.now offset bytes.now) stack.now) }
+    ensures size { IfOk result (λ n. (m : ℕ) (old : List ℕ) → seen stack.now path.now ≡ Some (file m old) → n ≡ length old) }
     ensures layers { AreLayers stack.now }
 {
-    check_file(stack.walk_to(path)?)?;
+    let size = check_file(stack.walk_to(path)?)?;
     let end = offset.saturating_add(bytes.as_slice().len() as u64);
     if end > MAX_FILE_BYTES {
         return Err(FsError::TooBig);
     }
-    Ok(())
+    Ok(size)
 }
 
-/// Tests whether the file at the path can be given so many bytes.
-pub(crate) fn check_truncate(stack: &Stack<'_>, path: &Path, size: u64) -> Result<(), FsError>
+/// Tests whether the file at the path can be given so many bytes, and gives the file's size.
+pub(crate) fn check_truncate(stack: &Stack<'_>, path: &Path, size: u64) -> Result<usize, FsError>
     ensures error { result_err result ≡ first_error (tests (op.Truncate path.now size) stack.now) }
+    ensures size { IfOk result (λ n. (m : ℕ) (old : List ℕ) → seen stack.now path.now ≡ Some (file m old) → n ≡ length old) }
     ensures layers { AreLayers stack.now }
 {
-    check_file(stack.walk_to(path)?)?;
+    let old = check_file(stack.walk_to(path)?)?;
     if size > MAX_FILE_BYTES {
         return Err(FsError::TooBig);
     }
-    Ok(())
+    Ok(old)
 }
 
 /// Tests whether the directory or file at the path can be given the mode.
@@ -114,12 +116,13 @@ fn has_nul(bytes: &[u8]) -> bool
     bytes.iter().any(|byte| *byte == 0)
 }
 
-/// Tests whether a regular file is seen.
-fn check_file(found: Option<Seen<'_>>) -> Result<(), FsError>
-    ensures { result_err result ≡ error_by_kind (Some FsError.IsDir) None (Some FsError.Invalid) (option_map object found.entry) }
+/// Tests whether a regular file is seen, and gives its size.
+fn check_file(found: Option<Seen<'_>>) -> Result<usize, FsError>
+    ensures error { result_err result ≡ error_by_kind (Some FsError.IsDir) None (Some FsError.Invalid) (option_map object found.entry) }
+    ensures size { IfOk result (λ n. (m : ℕ) (old : List ℕ) → option_map object found.entry ≡ Some (file m old) → n ≡ length old) }
 {
     match found {
-        Some(Seen::File { .. }) => Ok(()),
+        Some(Seen::File { bytes, .. }) => Ok(bytes.len()),
         Some(Seen::Dir { .. }) => Err(FsError::IsDir),
         Some(Seen::Symlink { .. }) => Err(FsError::Invalid),
         None => Err(FsError::NotFound),

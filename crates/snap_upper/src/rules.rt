@@ -1,23 +1,24 @@
 // The rule of each operation: its tests, and the change that it makes where they pass.
-ghost use Rattle.std.specs.Prelude.{◌≡◌, ◌⊎◌, ◌∷◌, ℕ, List, Some, None, IfOk, IfErr, Err, false, is_some};
+ghost use Rattle.std.specs.Prelude.{◌≡◌, ◌⊎◌, ◌∷◌, ℕ, List, Some, None, IfOk, IfErr, Err, false, is_some, length};
 ghost use Rattle.snap_path.specs.Memory.{no_memory};
 ghost use Rattle.snap_layer.specs.Tree.{at, number_at};
+ghost use Rattle.snap_layer.specs.Contents.{edited, IsShort};
 ghost use Rattle.snap_merge.specs.declared.error.FsError.{FsError};
 ghost use Rattle.snap_merge.specs.Objects.{file, seen, AreLayers};
 ghost use Rattle.snap_merge.specs.Walk.{walk};
 ghost use Rattle.snap_copyup.specs.Copying.{below, copied_up};
 ghost use Rattle.snap_upper.specs.After.{after, limited, with_content, lists_names, error_by_kind};
-ghost use Rattle.snap_upper.specs.Changes.{edited, outcome, IsChange, IsReady, IsShort, IsWithMode};
+ghost use Rattle.snap_upper.specs.Changes.{outcome, IsChange, IsReady, IsWithMode};
 ghost use Rattle.snap_upper.specs.declared.op.Op.TheVariants as op;
 
-use super::change::{Change, Edit, New, is_whiteout, own_number};
+use super::change::{Change, New, is_whiteout, own_number};
 use super::checks::{
     check_link, check_mode, check_new, check_rename, check_rmdir, check_symlink, check_truncate,
     check_unlink, check_write, is_below,
 };
 use super::op::Op;
 use snap_copyup::below;
-use snap_layer::{Bytes, Layer, Shared};
+use snap_layer::{Bytes, Edit, Layer, Shared};
 use snap_merge::{FsError, Seen, Stack};
 use snap_path::Path;
 
@@ -108,13 +109,13 @@ fn write<'a>(
     ensures ok { IfOk result (λ c. IsChange c (op.Write path.now offset bytes.now) layer.now lowers.now) }
     ensures error { IfErr result (λ e. after (op.Write path.now offset bytes.now) layer.now lowers.now ≡ Err e) }
 {
-    check_write(&Stack::over(layer, lowers), path, offset, bytes)?;
+    let old = check_write(&Stack::over(layer, lowers), path, offset, bytes)?;
     let _ = &layer.is_layer;
     let edit = Edit::Write {
         offset: offset as usize,
         bytes: bytes.as_slice(),
     };
-    editing(layer, lowers, path, edit)
+    editing(layer, lowers, path, old, edit)
 }
 
 fn truncate<'a>(
@@ -126,32 +127,34 @@ fn truncate<'a>(
     ensures ok { IfOk result (λ c. IsChange c (op.Truncate path.now size) layer.now lowers.now) }
     ensures error { IfErr result (λ e. after (op.Truncate path.now size) layer.now lowers.now ≡ Err e) }
 {
-    check_truncate(&Stack::over(layer, lowers), path, size)?;
+    let old = check_truncate(&Stack::over(layer, lowers), path, size)?;
     let _ = &layer.is_layer;
     let edit = Edit::Resize {
         size: size as usize,
     };
-    editing(layer, lowers, path, edit)
+    editing(layer, lowers, path, old, edit)
 }
 
-/// The change of the bytes of the regular file that is seen at the path: of the layer's own, or of a lower
-/// one, which is copied up with the new bytes in place of its own.
+/// The change of the bytes of the regular file that is seen at the path and has so many: of the layer's own, or of
+/// a lower one, which is copied up with the new bytes in place of its own.
 fn editing<'a>(
     layer: &Layer,
     lowers: &'a [Shared],
     path: &'a Path,
+    size: usize,
     edit: Edit<'a>,
 ) -> Result<Change<'a>, FsError>
     requires layers { AreLayers lowers.now }
     requires way { walk (layer.now ∷ lowers.now) path.now ≡ None }
     requires there { (m : ℕ) × (old : List ℕ) × (seen (layer.now ∷ lowers.now) path.now ≡ Some (file m old)) }
+    requires size { (m : ℕ) (old : List ℕ) → seen (layer.now ∷ lowers.now) path.now ≡ Some (file m old) → size ≡ length old }
     requires short { IsShort edit }
     ensures ok { IfOk result (λ c. IsReady c layer.now lowers.now × (outcome c layer.now lowers.now ≡ limited (with_content (copied_up layer.now lowers.now path.now) (number_at (copied_up layer.now lowers.now path.now) path.now) (edited edit.entry)))) }
     ensures sure { IfErr result (λ e. ⊥) }
 {
     let _ = &layer.is_layer;
     if let Some(number) = own_number(layer, path) {
-        return Ok(Change::Fill { number, edit });
+        return Ok(Change::Fill { number, size, edit });
     }
     let Some(Seen::File { mode, bytes }) = below(layer, lowers, path) else {
         return Err(FsError::NotFound);

@@ -3,6 +3,7 @@ ghost use Rattle.std.specs.Prelude.{◌≡◌, ◌⊎◌, ◌∷◌, OnOk, OnErr
 ghost use Rattle.snap_path.specs.Memory.{no_memory};
 ghost use Rattle.snap_layer.specs.Tree.{body};
 ghost use Rattle.snap_layer.specs.declared.node.Body.TheVariants as body_kinds;
+ghost use Rattle.snap_layer.specs.Contents.{edited, IsShort};
 ghost use Rattle.snap_usage.specs.Counted.{count_of, Covers};
 ghost use Rattle.snap_merge.specs.declared.error.FsError.{FsError};
 ghost use Rattle.snap_merge.specs.Objects.{seen, AreLayers};
@@ -11,19 +12,18 @@ ghost use Rattle.snap_copyup.specs.Copying.{below, with_parents};
 ghost use Rattle.snap_copyup.specs.Places.{with_last, CanStand};
 ghost use Rattle.snap_upper.specs.After.{after, lists_names, within_share, limited, with_content, erased};
 ghost use Rattle.snap_upper.specs.Changed.{changed, Changes};
-ghost use Rattle.snap_upper.specs.Changes.{outcome, IsReady, as_last, edited, IsShort, IsSound};
+ghost use Rattle.snap_upper.specs.Changes.{outcome, IsReady, as_last, IsSound};
 
-use super::change::{Change, Edit, New};
+use super::change::{Change, New};
 use super::names::{link, shift};
 use super::op::Op;
 use super::rules::rule;
 use super::usage::weigh;
 use snap_copyup::{Last, put};
-use snap_layer::{Body, Bytes, Layer, Shared};
+use snap_layer::{Edit, Layer, Shared};
 use snap_merge::FsError;
 use snap_path::Path;
 use snap_usage::Usage;
-use std::alloc::AllocError;
 
 /// Does the operation on the layer, over the lower layers, which stand nearest first and stay as they
 /// are. What is changed in a lower layer is copied up first, and missing directories above it are added
@@ -52,8 +52,8 @@ use std::alloc::AllocError;
 /// - `OutOfMemory`: a growth was refused, which may be found before `LayerFull` is.
 ///
 /// After any of them the layer is as it was. Cost: for each name of the path a look through the layers, for each
-/// directory that is missing in the upper layer a walk to it, and the bytes of a file that is written, cut or
-/// copied up; for a rename to a longer path also the paths that move, and for a directory that is removed or replaced the list of its names. A link or a rename also lists
+/// directory that is missing in the upper layer a walk to it, the bytes that are written, and those of a file that
+/// grows or is copied up; for a rename to a longer path also the paths that move, and for a directory that is removed or replaced the list of its names. A link or a rename also lists
 /// the paths of the directories that it adds.
 pub fn apply(layer: &mut Layer, lowers: &[Shared], op: &Op) -> Result<(), FsError>
     ensures ok { OnOk result (after op.now layer.old lowers.now ≡ Ok layer.new) }
@@ -111,7 +111,7 @@ fn perform(layer: &mut Layer, lowers: &[Shared], change: Change<'_>) -> Result<(
     match change {
         Change::Nothing => Ok(()),
         Change::Put { path, new } => put_new(layer, lowers, path, new),
-        Change::Fill { number, edit } => fill(layer, number, edit),
+        Change::Fill { number, edit, .. } => fill(layer, number, edit),
         Change::SetMode { path, mode } => {
             layer.set_mode(path, mode);
             let _ = &layer.is_layer;
@@ -156,30 +156,16 @@ fn put_new(layer: &mut Layer, lowers: &[Shared], path: &Path, new: New<'_>) -> R
     grow(layer, lowers, path, last)
 }
 
-/// Edits the bytes of the layer's file with the number.
+/// Edits the bytes of the layer's file with the number, in place.
 fn fill(layer: &mut Layer, number: u32, edit: Edit<'_>) -> Result<(), FsError>
-    requires there { (m : ℕ) × (old : List ℕ) × (body layer.old number ≡ Some (body_kinds.File m old)) × IsShort edit × (length (edited edit old) ≤ 1048576) }
+    requires there { (m : ℕ) × (old : List ℕ) × (body layer.old number ≡ Some (body_kinds.File m old)) × IsShort edit }
     ensures ok { OnOk result (limited (with_content layer.old (Some number) (edited edit.entry)) ≡ Ok layer.new) }
     ensures error { IfErr result (λ e. e ≡ FsError.OutOfMemory no_memory) }
     ensures unchanged { OnErr result (layer.new ≡ layer.old) }
 {
-    let content = edited_bytes(layer, number, edit)?;
-    layer.set_bytes(number, content);
+    layer.edit_bytes(number, edit)?;
     let _ = &layer.is_layer;
     Ok(())
-}
-
-/// The bytes of the layer's file with the number after the edit.
-fn edited_bytes(layer: &Layer, number: u32, edit: Edit<'_>) -> Result<Bytes, AllocError>
-    requires { IsShort edit }
-    ensures { (m : ℕ) (old : List ℕ) → body layer.now number ≡ Some (body_kinds.File m old) → IfOk result (λ b. b ≡ edited edit.entry old) }
-{
-    let alloc = layer.alloc();
-    match layer.body(number) {
-        Some(Body::File { bytes, .. }) => edit.content(alloc, bytes.as_slice()),
-        Some(Body::Symlink { .. }) => Ok(Bytes::new(Vec::new(alloc))),
-        None => Ok(Bytes::new(Vec::new(alloc))),
-    }
 }
 
 /// Takes what the layer has at the path, a name or a directory with whiteouts alone, and puts a whiteout

@@ -5,21 +5,22 @@ ghost use Rattle.snap_layer.specs.Tree.{Tree, at, body};
 ghost use Rattle.snap_layer.specs.Counts.{block_count, inode_count};
 ghost use Rattle.snap_layer.specs.Edits.{IsFree, HasMode, with_mode, without};
 ghost use Rattle.snap_layer.specs.declared.node.Body.TheVariants as body_kinds;
+ghost use Rattle.snap_layer.specs.Contents.{edited, IsShort};
 ghost use Rattle.snap_merge.specs.Objects.{object, seen, AreLayers};
 ghost use Rattle.snap_merge.specs.Walk.{walk, Answers};
 ghost use Rattle.snap_copyup.specs.declared.parents.Last.{Last};
 ghost use Rattle.snap_copyup.specs.Copying.{below, with_parents};
 ghost use Rattle.snap_copyup.specs.Places.{with_last, CanStand};
 ghost use Rattle.snap_upper.specs.After.{after, first_error, tests, planned, limited, next_layer, erased, before_move, renamed, is_same_name, with_content, lists_names};
-ghost use Rattle.snap_upper.specs.Changes.{edited, outcome, IsReady, IsShort};
+ghost use Rattle.snap_upper.specs.Changes.{outcome, IsReady};
 ghost use Rattle.snap_upper.specs.Adding.{Takes, weight_of, last_blocks, object_blocks, IsPlaceable, IsNext};
 ghost use Rattle.snap_upper.specs.declared.op.Op.TheVariants as op;
 
-use super::change::{Change, Edit, is_whiteout};
+use super::change::{Change, is_whiteout};
 use super::op::Op;
 use super::rules::rule;
 use snap_copyup::{missing_dirs, missing_dirs_of_both};
-use snap_layer::{Body, Layer, Node, Shared};
+use snap_layer::{Edit, Layer, Node, Shared};
 use snap_merge::{FsError, Seen, Stack};
 use snap_path::Path;
 use snap_path::limits::MAX_INODES;
@@ -63,7 +64,7 @@ pub(crate) fn weigh(
     match change {
         Change::Nothing => Ok(counted(layer)),
         Change::Put { path, new } => plan_growth(layer, path, new.blocks(), new.is_numbered()),
-        Change::Fill { number, edit } => plan_filling(layer, number, edit),
+        Change::Fill { number, size, edit } => plan_filling(layer, number, size, edit),
         Change::SetMode { path, mode } => Ok(counted_with_mode(layer, path, mode)),
         Change::Erase { path, covers } => plan_erasing(layer, path, covers),
         Change::Link { from, to } => plan_link(layer, lowers, from, to),
@@ -275,14 +276,13 @@ fn fitting(layer: &Layer, after: Usage, numbered: bool) -> Result<Planned, FsErr
     Ok(Planned { after })
 }
 
-/// How much the layer takes where its file with the number is edited.
-fn plan_filling(layer: &Layer, number: u32, edit: Edit<'_>) -> Result<Planned, FsError>
-    requires there { (m : ℕ) × (old : List ℕ) × (body layer.now number ≡ Some (body_kinds.File m old)) × IsShort edit × (length (edited edit old) ≤ 1048576) }
+/// How much the layer takes where its file with the number, which has so many bytes, is edited.
+fn plan_filling(layer: &Layer, number: u32, size: usize, edit: Edit<'_>) -> Result<Planned, FsError>
+    requires there { (m : ℕ) × (old : List ℕ) × (body layer.now number ≡ Some (body_kinds.File m old)) × (size ≡ length old) × IsShort edit × (length (edited edit old) ≤ 1048576) }
     ensures { result ≡ planned (limited (with_content layer.now (Some number) (edited edit.entry))) }
 {
     let _ = &layer.is_layer;
     let now = count(layer);
-    let size = file_size(layer, number);
     let new = blocks_of(edit.size(size) as u64);
     let old = blocks_of(size as u64);
     let after = Usage {
@@ -290,15 +290,4 @@ fn plan_filling(layer: &Layer, number: u32, edit: Edit<'_>) -> Result<Planned, F
         inodes: now.inodes,
     };
     Ok(Planned { after })
-}
-
-/// The size of the layer's file with the number.
-fn file_size(layer: &Layer, number: u32) -> usize
-    ensures { (m : ℕ) (old : List ℕ) → body layer.now number ≡ Some (body_kinds.File m old) → result ≡ length old }
-{
-    match layer.body(number) {
-        Some(Body::File { bytes, .. }) => bytes.as_slice().len(),
-        Some(Body::Symlink { .. }) => 0,
-        None => 0,
-    }
 }

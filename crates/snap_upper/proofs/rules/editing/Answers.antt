@@ -5,7 +5,7 @@ use Rattle.snap_upper.proofs.rules.editing.Goals as goal
 
 pub returns-in-Some-clause-ok : goal.returns-in-Some-clause-ok
 returns-in-Some-clause-ok c =
-    own_edit c.args.layer.now c.args.lowers.now c.args.path.now c.args.edit (subst IsLayer c.layer.view_is c.layer.invariant.1) c.requires.layers c.requires.there.0 c.requires.there.1 c.requires.there.2 c.requires.short c.in-Some.number (sym c.own_number.ensures ∙ c.in-Some.is)
+    own_edit c.args.layer.now c.args.lowers.now c.args.path.now c.args.edit (subst IsLayer c.layer.view_is c.layer.invariant.1) c.requires.layers c.requires.there.0 c.requires.there.1 c.requires.there.2 c.requires.short c.in-Some.number c.args.size (c.requires.size c.requires.there.0 c.requires.there.1 c.requires.there.2) (sym c.own_number.ensures ∙ c.in-Some.is)
 
 pub returns-clause-ok : goal.returns-clause-ok
 returns-clause-ok c =

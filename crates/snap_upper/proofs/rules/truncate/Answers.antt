@@ -9,5 +9,5 @@ pub editing-requires-clause-there : goal.editing-requires-clause-there
 editing-requires-clause-there c =
     let s = c.args.layer.now ∷ c.args.lowers.now in
     let p = c.args.path.now in
-    let passes = stack_passes (op.Truncate p c.args.size) _ s c.over.ensures c.in_ok-check_truncate.ensures.error in
+    let passes = stack_passes (op.Truncate p c.args.size) _ s c.over.ensures c.in_ok-old.ensures.error in
     seen_file (seen s p) (IsSizable-passed s p c.args.size passes).file

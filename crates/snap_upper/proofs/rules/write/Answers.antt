@@ -9,5 +9,5 @@ pub editing-requires-clause-there : goal.editing-requires-clause-there
 editing-requires-clause-there c =
     let s = c.args.layer.now ∷ c.args.lowers.now in
     let p = c.args.path.now in
-    let passes = stack_passes (op.Write p c.args.offset c.args.bytes.now) _ s c.over.ensures c.in_ok-check_write.ensures.error in
+    let passes = stack_passes (op.Write p c.args.offset c.args.bytes.now) _ s c.over.ensures c.in_ok-old.ensures.error in
     seen_file (seen s p) (IsWritable-passed s p c.args.offset c.args.bytes.now passes).file

@@ -3,9 +3,9 @@ use Rattle.snap_layer.specs.Counts.{blocks_of}
 use Rattle.snap_layer.specs.declared.node.Body.{Body}
 use Rattle.snap_layer.specs.declared.node.Body.TheVariants as body_kinds
 use Rattle.snap_layer.specs.Edits.{with_body, with_bytes}
+use Rattle.snap_layer.specs.Contents.{body_bytes, edited}
 use Rattle.snap_usage.specs.declared.usage.Usage.{Usage}
-use Rattle.snap_upper.specs.After.{limited, with_content, body_bytes}
-use Rattle.snap_upper.specs.Changes.{edited}
+use Rattle.snap_upper.specs.After.{limited, with_content}
 use Rattle.snap_upper.proofs.Outcomes.{planned_fits}
 use Rattle.snap_upper.proofs.Writing.{rewrites, few_blocks}
 use Rattle.snap_layer.specs.Layers.{IsLayer}
@@ -15,16 +15,16 @@ pub overflow_sub-after : goal.overflow_sub-after
 overflow_sub-after c =
     let ok = subst IsLayer c.layer.view_is c.layer.invariant.1 in
     let t = c.requires.there in
-    let size = c.file_size-size.ensures t.0 t.1 t.2 in
-    let before = (rewrites c.args.layer.now c.args.number t.0 t.1 (edited c.args.edit t.1) ok t.2 t.4).blocks in
+    let size = t.3 in
+    let before = (rewrites c.args.layer.now c.args.number t.0 t.1 (edited c.args.edit t.1) ok t.2 t.5).blocks in
     let none = (rewrites c.args.layer.now c.args.number t.0 t.1 [] ok t.2 (omega arith)).blocks in
     omega (arith, c.blocks_of-old.ensures ∙ ap blocks_of size, ap (λ (n : Usage). n.blocks) c.count-now.ensures.bodies, none)
 
 pub overflow_add-after : goal.overflow_add-after
 overflow_add-after c =
     let t = c.requires.there in
-    let size = c.file_size-size.ensures t.0 t.1 t.2 in
-    omega (arith, c.blocks_of-new.ensures, c.size.ensures t.1 (sym size), t.4, ap (λ (n : Usage). n.blocks) c.count-now.ensures.bodies, few_blocks c.args.layer.now (subst IsLayer c.layer.view_is c.layer.invariant.1))
+    let size = t.3 in
+    omega (arith, c.blocks_of-new.ensures, c.size.ensures t.1 (sym size), t.5, ap (λ (n : Usage). n.blocks) c.count-now.ensures.bodies, few_blocks c.args.layer.now (subst IsLayer c.layer.view_is c.layer.invariant.1))
 
 pub returns : goal.returns
 returns c =
@@ -32,9 +32,9 @@ returns c =
     let k = c.args.number in
     let ok = subst IsLayer c.layer.view_is c.layer.invariant.1 in
     let t = c.requires.there in
-    let size = c.file_size-size.ensures t.0 t.1 t.2 in
+    let size = t.3 in
     let new = edited c.args.edit t.1 in
-    let next = rewrites u k t.0 t.1 new ok t.2 t.4 in
+    let next = rewrites u k t.0 t.1 new ok t.2 t.5 in
     let none = (rewrites u k t.0 t.1 [] ok t.2 (omega arith)).blocks in
     let now = ap (λ (n : Usage). n.blocks) c.count-now.ensures.bodies in
     let before : c.blocks_of-old.result ≡ blocks_of (length t.1) = c.blocks_of-old.ensures ∙ ap blocks_of size in

@@ -1,7 +1,0 @@
-use Rattle.std.proofs.Common.{◌≡◌, map, take}
-use Rattle.std.specs.Map.Iter.{deref}
-use Rattle.snap_call.specs.Spaces.{joined}
-use Rattle.snap_call.proofs.ordered.Ordered.list.Given as goal
-
-abbrev pub invariant-loop-space : goal.invariant-loop-space
-invariant-loop-space l = map deref l.list.items ≡ joined (take l.space-index l.space-items)

@@ -1,0 +1,78 @@
+use Rattle.std.proofs.Common.{◌≡◌, ℕ, Option, Some, refl, sym, ap, subst, ◌∙◌, arith}
+use Rattle.snap_layer.specs.declared.node.Body.{Body}
+use Rattle.snap_layer.specs.declared.node.Body.TheVariants as body_kinds
+use Rattle.snap_layer.specs.Tree.{Tree, body}
+use Rattle.snap_layer.specs.Counts.{body_blocks}
+use Rattle.snap_layer.specs.Layers.{IsLayer, IsFile}
+use Rattle.snap_layer.specs.Edits.{with_body, with_bytes, IsRegular}
+use Rattle.snap_layer.specs.Contents.{edited, body_bytes, body_edited}
+use Rattle.snap_layer.specs.Totals.{IsCounted}
+use Rattle.snap_layer.proofs.Setting.{file_body}
+use Rattle.snap_layer.proofs.Totaling.{counts_body, few_blocks, body_few}
+use Rattle.snap_layer.proofs.Contents.{regular_there, file_edited, with_edited, edited_short}
+use Rattle.snap_layer.proofs.layer.Layer.edit_bytes.Goals as goal
+
+pub edit_bytes-requires-clause-file : goal.edit_bytes-requires-clause-file
+edit_bytes-requires-clause-file c =
+    let u = c.self.inside.table in
+    let ok : IsLayer u = c.self.invariant.1 in
+    let file = regular_there u ok c.args.number (body u c.args.number) refl (subst (λ (t : Tree). IsRegular (body t c.args.number)) (sym c.self.view_is) c.requires.file) in
+    file
+
+pub overflow_sub-self : goal.overflow_sub-self
+overflow_sub-self c =
+    let u = c.self.inside.table in
+    let ok : IsLayer u = c.self.invariant.1 in
+    let file = regular_there u ok c.args.number (body u c.args.number) refl (subst (λ (t : Tree). IsRegular (body t c.args.number)) (sym c.self.view_is) c.requires.file) in
+    let had = file_body (body u c.args.number) file in
+    let b : Body = body_kinds.File had.0 had.1 in
+    let low : IsFile (Some b) = subst IsFile had.2 file in
+    let blocks = c.in_ok-freed.ensures.blocks b had.2 in
+    let freed : c.in_ok-freed.freed ≡ body_blocks b = ap (λ (p : ℕ × ℕ). p.0) blocks in
+    let taken : c.in_ok-freed.taken ≡ body_blocks (body_edited b c.args.edit) = ap (λ (p : ℕ × ℕ). p.1) blocks in
+    let few = body_few u ok c.args.number b had.2 in
+    omega (arith, c.self.invariant.0.blocks, freed, few)
+
+pub overflow_add-self : goal.overflow_add-self
+overflow_add-self c =
+    let u = c.self.inside.table in
+    let ok : IsLayer u = c.self.invariant.1 in
+    let file = regular_there u ok c.args.number (body u c.args.number) refl (subst (λ (t : Tree). IsRegular (body t c.args.number)) (sym c.self.view_is) c.requires.file) in
+    let had = file_body (body u c.args.number) file in
+    let b : Body = body_kinds.File had.0 had.1 in
+    let low : IsFile (Some b) = subst IsFile had.2 file in
+    let blocks = c.in_ok-freed.ensures.blocks b had.2 in
+    let freed : c.in_ok-freed.freed ≡ body_blocks b = ap (λ (p : ℕ × ℕ). p.0) blocks in
+    let taken : c.in_ok-freed.taken ≡ body_blocks (body_edited b c.args.edit) = ap (λ (p : ℕ × ℕ). p.1) blocks in
+    let few = body_few u ok c.args.number b had.2 in
+    omega (arith, c.self.invariant.0.blocks, freed, taken, few, edited_short c.args.edit had.1 c.requires.short low.1, few_blocks u ok)
+
+pub invariant_of-self-2 : goal.invariant_of-self-2
+invariant_of-self-2 c =
+    let u = c.self.inside.table in
+    let ok : IsLayer u = c.self.invariant.1 in
+    let file = regular_there u ok c.args.number (body u c.args.number) refl (subst (λ (t : Tree). IsRegular (body t c.args.number)) (sym c.self.view_is) c.requires.file) in
+    let had = file_body (body u c.args.number) file in
+    let b : Body = body_kinds.File had.0 had.1 in
+    let low : IsFile (Some b) = subst IsFile had.2 file in
+    let blocks = c.in_ok-freed.ensures.blocks b had.2 in
+    let freed : c.in_ok-freed.freed ≡ body_blocks b = ap (λ (p : ℕ × ℕ). p.0) blocks in
+    let taken : c.in_ok-freed.taken ≡ body_blocks (body_edited b c.args.edit) = ap (λ (p : ℕ × ℕ). p.1) blocks in
+    let few = body_few u ok c.args.number b had.2 in
+    let is : c.edit_bytes.new.self ≡ with_body u c.args.number (body_edited b c.args.edit) = c.in_ok-freed.ensures.ok b had.2 in
+    let edits = file_edited u ok c.args.number b c.args.edit had.2 low c.requires.short in
+    subst (IsCounted _) (sym is) (counts_body u ok c.args.number b (body_edited b c.args.edit) c.self.inside.totals _ had.2 c.self.invariant.0 refl refl (omega (arith, c.self.invariant.0.blocks, freed, taken, few)), edits.layer)
+
+pub returns-clause-ok : goal.returns-clause-ok
+returns-clause-ok c =
+    let u = c.self.inside.table in
+    let ok : IsLayer u = c.self.invariant.1 in
+    let file = regular_there u ok c.args.number (body u c.args.number) refl (subst (λ (t : Tree). IsRegular (body t c.args.number)) (sym c.self.view_is) c.requires.file) in
+    let had = file_body (body u c.args.number) file in
+    let b : Body = body_kinds.File had.0 had.1 in
+    let low : IsFile (Some b) = subst IsFile had.2 file in
+    let is : c.edit_bytes.new.self ≡ with_body u c.args.number (body_edited b c.args.edit) = c.in_ok-freed.ensures.ok b had.2 in
+    is
+    ∙ with_edited u c.args.number b c.args.edit low
+    ∙ ap (λ (o : Option Body). with_bytes u c.args.number o (edited c.args.edit (body_bytes o))) (sym had.2)
+    ∙ ap (λ (t : Tree). with_bytes t c.args.number (body t c.args.number) (edited c.args.edit (body_bytes (body t c.args.number)))) c.self.view_is
