@@ -22,7 +22,7 @@ use Rattle.snap_layer.proofs.Replacing.{clears_place, IsLayer-with_node, inode_c
 use Rattle.snap_layer.proofs.Laws.{without-with_entry}
 use Rattle.snap_layer.specs.declared.inode.Target.{Target}
 use Rattle.snap_layer.specs.declared.inode.Target.TheVariants as target
-use Rattle.snap_layer.specs.Walk.{View, walk, seen, Same, Frees, Releases, Covers, Adds, Enters}
+use Rattle.snap_layer.specs.Walk.{View, walk, seen, Same, Frees, Releases, Adds, Enters}
 use Rattle.snap_layer.specs.Walk as tables
 use Rattle.snap_layer.proofs.Slots.{puts_other}
 use Rattle.snap_layer.specs.Holds.{Places, place}

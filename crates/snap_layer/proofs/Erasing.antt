@@ -21,7 +21,7 @@ use Rattle.snap_layer.proofs.Moves.{apart_below, not_of_parent, HasParent-withou
 use Rattle.snap_layer.proofs.Replacing.{clears_place, without_nothing}
 use Rattle.snap_layer.specs.declared.inode.Target.{Target}
 use Rattle.snap_layer.specs.declared.inode.Target.TheVariants as target
-use Rattle.snap_layer.specs.Walk.{View, Table, walk, seen, Puts, Links, Same, Frees, Releases, Drops, Covers, Gains, Shifted, Renames, Relocates}
+use Rattle.snap_layer.specs.Walk.{View, Table, walk, seen, Links, Frees, Releases, Drops, Covers, Gains, Shifted, Renames, Relocates}
 use Rattle.snap_layer.specs.Walk as tables
 use Rattle.snap_layer.specs.Holds.{Places, place}
 use Rattle.snap_layer.proofs.Frames.{split_ℕ, split_name, walk_push}

@@ -32,7 +32,7 @@ use Rattle.snap_layer.proofs.Makes.{Makes}
 use Rattle.snap_layer.proofs.Beside.{Beside, Leaves, by_walk, table, shows}
 use Rattle.snap_layer.proofs.Putting.{Spot, adds_beside, adds_fresh, not_new, entry_leaves, entry_names, housed_some}
 use Rattle.snap_layer.proofs.Shifting as shifting
-use Rattle.snap_layer.proofs.Shifting.{Shifts, shifts}
+use Rattle.snap_layer.proofs.Shifting.{shifts}
 
 no_some : {A : Type 0} (x : A) → None ≡ Some x → ⊥
 no_some x e = cc

@@ -8,11 +8,20 @@ use std::marker::Model;
 use std::sync::Arc;
 
 /// A layer that several stacks hold: it is not copied, and it does not change. Contracts see the layer.
-#[derive(Debug, Drop)]
+#[derive(Debug)]
 pub struct Shared {
     layer: Arc<Layer>,
     /// Nothing, as `Layer::is_layer`: it tells a proof that the shared layer is one by `IsLayer`.
     pub is_layer: (),
+}
+
+impl Drop for Shared {
+    fn drop(self) {
+        let Shared {
+            layer: _,
+            is_layer: _,
+        } = self;
+    }
 }
 
 impl Model for Shared {

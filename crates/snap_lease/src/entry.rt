@@ -12,12 +12,22 @@ use std::alloc::{AllocError, Global};
 use std::marker::Model;
 
 /// One lease. Contracts see it as a record of its texts.
-#[derive(Drop)]
 pub(crate) struct LeaseEntry {
     namespace: String,
     name: String,
     until: Option<u64>,
     names: IndexMap<String, ()>,
+}
+
+impl Drop for LeaseEntry {
+    fn drop(self) {
+        let LeaseEntry {
+            namespace: _,
+            name: _,
+            until: _,
+            names: _,
+        } = self;
+    }
 }
 
 impl Model for LeaseEntry {

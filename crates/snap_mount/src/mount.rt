@@ -29,7 +29,7 @@ impl MountKind {
 }
 
 /// One mount, as containerd's `mount.Mount` describes it.
-#[derive(Debug, Drop, PartialEq, Eq)]
+#[derive(Debug, PartialEq, Eq)]
 pub struct Mount {
     /// The file system type.
     pub kind: MountKind,
@@ -37,6 +37,16 @@ pub struct Mount {
     pub source: Text,
     /// The options of mount(8), in order.
     pub options: Sequence<Text>,
+}
+
+impl Drop for Mount {
+    fn drop(self) {
+        let Mount {
+            kind: _,
+            source: _,
+            options: _,
+        } = self;
+    }
 }
 
 /// A copy of the texts. Its cost and its memory grow with their bytes.

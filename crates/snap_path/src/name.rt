@@ -48,9 +48,15 @@ impl<T: Drop> From<AllocFailed<T>> for PathError {
 ///
 /// A contract sees it as its bytes. Names are ordered by their bytes. A comparison takes no memory,
 /// and its cost grows with the shorter name. A clone takes memory for the bytes.
-#[derive(Debug, Drop)]
+#[derive(Debug)]
 pub struct Name {
     text: String,
+}
+
+impl Drop for Name {
+    fn drop(self) {
+        let Name { text: _ } = self;
+    }
 }
 
 impl Model for Name {

@@ -12,12 +12,18 @@ use crate::text::Text;
 use std::alloc::AllocError;
 
 /// A label that a snapshot has to have.
-#[derive(Debug, Drop, PartialEq, Eq)]
+#[derive(Debug, PartialEq, Eq)]
 pub struct LabelFilter {
     /// The key that the label has to have.
     pub key: Text,
     /// The value that is asked for. `None` asks only that the label is there, with any value.
     pub value: Option<Text>,
+}
+
+impl Drop for LabelFilter {
+    fn drop(self) {
+        let LabelFilter { key: _, value: _ } = self;
+    }
 }
 
 impl Clone for LabelFilter {
@@ -33,7 +39,7 @@ impl Clone for LabelFilter {
 
 /// Which snapshots are asked for: those that have every part that is given. Parts may be of any
 /// form, and a filter without parts asks for all snapshots.
-#[derive(Debug, Drop, PartialEq, Eq)]
+#[derive(Debug, PartialEq, Eq)]
 pub struct Filter {
     /// The key of an active snapshot or a view, the name of a committed snapshot.
     pub name: Option<Text>,
@@ -43,6 +49,17 @@ pub struct Filter {
     pub kind: Option<Kind>,
     /// The labels that the snapshot has to have, all of them.
     pub labels: Sequence<LabelFilter>,
+}
+
+impl Drop for Filter {
+    fn drop(self) {
+        let Filter {
+            name: _,
+            parent: _,
+            kind: _,
+            labels: _,
+        } = self;
+    }
 }
 
 impl Clone for Filter {

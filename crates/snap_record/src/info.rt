@@ -9,7 +9,7 @@ use std::alloc::AllocError;
 /// id.
 ///
 /// `clone` copies the texts and the labels: its cost and its memory grow with their bytes.
-#[derive(Debug, Drop, PartialEq, Eq)]
+#[derive(Debug, PartialEq, Eq)]
 pub struct Info {
     /// What the snapshot is.
     pub kind: Kind,
@@ -25,6 +25,20 @@ pub struct Info {
     pub updated: u64,
     /// The number that its directories are named by.
     pub id: u32,
+}
+
+impl Drop for Info {
+    fn drop(self) {
+        let Info {
+            kind: _,
+            name: _,
+            parent: _,
+            labels: _,
+            created: _,
+            updated: _,
+            id: _,
+        } = self;
+    }
 }
 
 impl Clone for Info {

@@ -20,9 +20,15 @@ pub const MAX_LABEL_BYTES: usize = 4096;
 /// its allocator.
 ///
 /// Contracts see the list of pairs. Labels are equal where these lists are.
-#[derive(Debug, Drop)]
+#[derive(Debug)]
 pub struct Labels {
     map: IndexMap<Text, Text>,
+}
+
+impl Drop for Labels {
+    fn drop(self) {
+        let Labels { map: _ } = self;
+    }
 }
 
 impl Model for Labels {

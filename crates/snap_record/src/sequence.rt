@@ -6,9 +6,15 @@ use std::marker::Model;
 /// A list that grows at its end. It keeps its allocator.
 ///
 /// Contracts see its items, and nothing of the memory that it holds.
-#[derive(Debug, Drop)]
+#[derive(Debug)]
 pub struct Sequence<T> {
     items: Vec<T>,
+}
+
+impl<T> Drop for Sequence<T> {
+    fn drop(self) {
+        let Sequence { items: _ } = self;
+    }
 }
 
 impl<T> Model for Sequence<T> {

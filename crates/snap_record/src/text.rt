@@ -10,9 +10,15 @@ use std::marker::Model;
 /// A text of any length: a key, a name, a label, a path of labels. It keeps its allocator.
 ///
 /// Contracts see its bytes. Texts are equal where their bytes are, and ordered by their bytes.
-#[derive(Debug, Drop)]
+#[derive(Debug)]
 pub struct Text {
     text: String,
+}
+
+impl Drop for Text {
+    fn drop(self) {
+        let Text { text: _ } = self;
+    }
 }
 
 impl Model for Text {

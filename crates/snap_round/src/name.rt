@@ -61,7 +61,9 @@ impl Model for NewStore {
 impl NewStore {
     /// Makes both tables, whose names are those of a store to come. It takes memory for the two tables alone; the
     /// error says that there was none, and nothing is left then.
-    pub fn new(alloc: Global) -> Result<NewStore, AllocError> {
+    pub fn new(alloc: Global) -> Result<NewStore, AllocError>
+        ensures { IfOk result (λ t. (t.0.words ≡ 1) × (t.0.slots ≡ 0) × (t.1.words ≡ 1) × (t.1.slots ≡ 0)) }
+    {
         let charges = NewTable::new(alloc)?;
         let (rounds, seat) = Table::of_words(alloc, &[0], &())?;
         Ok(NewStore {

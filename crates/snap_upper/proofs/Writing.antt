@@ -7,7 +7,6 @@ use Rattle.std.specs.Ordering.{nat_cmp, match_ordering}
 use Rattle.std.specs.Cmp.{IsTotalOrder, nat_cmp_total}
 use Rattle.std.proofs.lemmas.Cmp.{tied_itself}
 use Rattle.std.specs.BTreeMap.{insert_entry}
-use Rattle.std.proofs.lemmas.Grind.{common_steps}
 use Rattle.snap_path.specs.Text.{Names}
 use Rattle.snap_layer.specs.declared.node.Node.{Node}
 use Rattle.snap_layer.specs.declared.node.Node.TheVariants.{Dir, File, Symlink, Whiteout}
@@ -23,7 +22,7 @@ use Rattle.snap_layer.proofs.Counting.{weight_of_body, inode_count-with_body, bl
 use Rattle.snap_layer.proofs.Filling.{file_there}
 use Rattle.snap_layer.proofs.Kept.{IsLayer-with_body}
 use Rattle.snap_layer.proofs.Laws.{Replaces-with_new, SetsBody-with_new}
-use Rattle.snap_layer.specs.Contents.{written, resized, body_bytes}
+use Rattle.snap_layer.specs.Contents.{body_bytes}
 use Rattle.snap_merge.specs.Objects.{Object, dir, file, symlink, seen, shown_body}
 use Rattle.snap_merge.specs.Walk.{walk}
 use Rattle.snap_merge.specs.declared.error.FsError.TheVariants.{TooBig}

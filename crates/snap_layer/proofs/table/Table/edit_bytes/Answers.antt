@@ -10,7 +10,7 @@ use Rattle.snap_layer.specs.Contents.{body_edited}
 use Rattle.snap_layer.specs.Walk.{view_of}
 use Rattle.snap_layer.specs.Holds.{place}
 use Rattle.snap_layer.proofs.Slots.{on_ok, on_err}
-use Rattle.snap_layer.proofs.Makes.{Makes, opens, makes_holds, makes_view, makes_kept, either}
+use Rattle.snap_layer.proofs.Makes.{opens, makes_holds, makes_view, makes_kept, either}
 use Rattle.snap_layer.proofs.Putting.{makes_same}
 use Rattle.snap_layer.proofs.Changing.{body_set_made, place_there, body_found}
 use Rattle.snap_layer.proofs.Setting.{file_body}
