@@ -26,6 +26,7 @@ use snap_usage::{Usage, difference};
 use std::alloc::{AllocError, Global};
 
 /// What a plain call changes beside the journal.
+#[derive(Drop)]
 pub enum Change {
     Nothing,
     /// A view more.
@@ -72,46 +73,6 @@ pub enum Change {
         keys: Sequence<Text>,
         freed: Usage,
     },
-}
-
-impl Drop for Change {
-    fn drop(self) {
-        match self {
-            Change::Nothing => {}
-            Change::View(_) => {}
-            Change::Removal { place: _, key: _ } => {}
-            Change::Labels {
-                place: _,
-                key: _,
-                labels: _,
-            } => {}
-            Change::Limit {
-                place: _,
-                namespace: _,
-            } => {}
-            Change::Lease {
-                namespace: _,
-                lease: _,
-                until: _,
-            } => {}
-            Change::LeaseName {
-                namespace: _,
-                lease: _,
-                name: _,
-            } => {}
-            Change::LeaseEnd {
-                namespace: _,
-                lease: _,
-            } => {}
-            Change::Sweep {
-                place: _,
-                namespace: _,
-                moment: _,
-                keys: _,
-                freed: _,
-            } => {}
-        }
-    }
 }
 
 // An empty layer.

@@ -18,22 +18,12 @@ use snap_ledger::StoreName;
 use std::alloc::{AllocError, Global};
 
 // What a plain call takes memory for beside its change: its entry for the two holders, and its reply.
+#[derive(Drop)]
 pub(crate) struct Plan {
     pub(crate) entry: SharedEntry,
     pub(crate) copy: SharedEntry,
     pub(crate) reply: Reply,
     pub(crate) change: Change,
-}
-
-impl Drop for Plan {
-    fn drop(self) {
-        let Plan {
-            entry: _,
-            copy: _,
-            reply: _,
-            change: _,
-        } = self;
-    }
 }
 
 // The plan of a plain call.

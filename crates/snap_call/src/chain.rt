@@ -10,15 +10,10 @@ use snap_record::{Content, Record, Sequence};
 use std::alloc::{AllocError, Global};
 
 /// The committed ancestors of a snapshot, nearest first.
+#[derive(Drop)]
 pub struct Chain {
     pub ids: Sequence<u32>,
     pub layers: Sequence<Shared>,
-}
-
-impl Drop for Chain {
-    fn drop(self) {
-        let Chain { ids: _, layers: _ } = self;
-    }
 }
 
 /// Whether the snapshot is a committed one. Takes no memory.

@@ -9,7 +9,7 @@ use snap_usage::Usage;
 use std::alloc::AllocError;
 
 /// A namespace of a store: it has keys, leases and a limit of its own.
-#[derive(Debug, PartialEq, Eq)]
+#[derive(Debug, Drop, PartialEq, Eq)]
 pub struct Namespace {
     /// 1 to 255 bytes without NUL.
     pub name: Text,
@@ -17,14 +17,8 @@ pub struct Namespace {
     pub limit: Usage,
 }
 
-impl Drop for Namespace {
-    fn drop(self) {
-        let Namespace { name: _, limit: _ } = self;
-    }
-}
-
 /// What a store is opened with.
-#[derive(Debug)]
+#[derive(Debug, Drop)]
 pub struct Config {
     /// The directory that the snapshots' directories lie in, as mount descriptions name it.
     pub root: Text,
@@ -34,17 +28,6 @@ pub struct Config {
     pub journal: u64,
     /// The id of the first snapshot, from 1.
     pub first_id: u32,
-}
-
-impl Drop for Config {
-    fn drop(self) {
-        let Config {
-            root: _,
-            namespaces: _,
-            journal: _,
-            first_id: _,
-        } = self;
-    }
 }
 
 /// A copy of the name.

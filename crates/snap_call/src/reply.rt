@@ -7,7 +7,7 @@ use snap_usage::Usage;
 use std::alloc::AllocError;
 
 /// What a call answers.
-#[derive(Debug, PartialEq, Eq)]
+#[derive(Debug, Drop, PartialEq, Eq)]
 pub enum Reply {
     Opened,
     /// The active snapshot's id and slot, and the ids of its ancestors, nearest first.
@@ -50,36 +50,6 @@ pub enum Reply {
         freed: Usage,
     },
     Refused(Refusal),
-}
-
-impl Drop for Reply {
-    fn drop(self) {
-        match self {
-            Reply::Opened => {}
-            Reply::Prepared {
-                id: _,
-                slot: _,
-                chain: _,
-            } => {}
-            Reply::Viewed { id: _, chain: _ } => {}
-            Reply::Charged { now: _ } => {}
-            Reply::Trimmed => {}
-            Reply::Committed { id: _, usage: _ } => {}
-            Reply::Discarded(_) => {}
-            Reply::Removed(_) => {}
-            Reply::Info(_) => {}
-            Reply::Usage(_) => {}
-            Reply::Mounts(_) => {}
-            Reply::Page(_) => {}
-            Reply::Done => {}
-            Reply::Swept {
-                removed: _,
-                leases: _,
-                freed: _,
-            } => {}
-            Reply::Refused(_) => {}
-        }
-    }
 }
 
 /// A copy of each id, each text and each label.

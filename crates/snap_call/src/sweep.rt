@@ -20,20 +20,12 @@ use std::alloc::{AllocError, Global};
 use std::cmp::Ordering;
 
 /// What a sweep takes away.
+#[derive(Drop)]
 pub struct Sweep {
     /// The names of the snapshots, in the order of their bytes.
     pub removed: Sequence<Text>,
     /// What their namespace is charged for them.
     pub freed: Usage,
-}
-
-impl Drop for Sweep {
-    fn drop(self) {
-        let Sweep {
-            removed: _,
-            freed: _,
-        } = self;
-    }
 }
 
 impl Sweep {

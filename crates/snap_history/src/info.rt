@@ -9,7 +9,7 @@ use snap_usage::Usage;
 use std::alloc::AllocError;
 
 /// What is told of an entry of the journal, for one namespace.
-#[derive(Debug)]
+#[derive(Debug, Drop)]
 pub struct EntryInfo {
     /// The entries of a store are numbered from 1, through all its rounds.
     pub number: u64,
@@ -25,20 +25,6 @@ pub struct EntryInfo {
     pub refused: Option<Refusal>,
     /// What the namespace is charged after the entry.
     pub charge: Usage,
-}
-
-impl Drop for EntryInfo {
-    fn drop(self) {
-        let EntryInfo {
-            number: _,
-            session: _,
-            call: _,
-            key: _,
-            id: _,
-            refused: _,
-            charge: _,
-        } = self;
-    }
 }
 
 fn key_in(call: &Call) -> Option<&Text>

@@ -192,21 +192,12 @@ impl Eq for Node {
 }
 
 /// A file or a symlink, apart from its names.
-#[derive(Clone, Debug)]
+#[derive(Clone, Debug, Drop)]
 pub enum Body {
     /// A regular file: a mode of at most octal 7777, and at most 1,048,576 bytes.
     File { mode: u32, bytes: Bytes },
     /// A symlink, with a target of 1 to 4095 bytes without NUL.
     Symlink { target: Bytes },
-}
-
-impl Drop for Body {
-    fn drop(self) {
-        match self {
-            Body::File { mode: _, bytes: _ } => {}
-            Body::Symlink { target: _ } => {}
-        }
-    }
 }
 
 impl Body {

@@ -11,7 +11,7 @@ use snap_usage::Usage;
 use std::alloc::AllocError;
 
 /// What a snapshot holds, by its kind.
-#[derive(Debug)]
+#[derive(Debug, Drop)]
 pub enum Content {
     /// A view has no layer of its own, but the layers that it shows, nearest first.
     View { layers: Sequence<Shared> },
@@ -21,21 +21,8 @@ pub enum Content {
     Committed { layer: Shared, usage: Usage },
 }
 
-impl Drop for Content {
-    fn drop(self) {
-        match self {
-            Content::View { layers: _ } => {}
-            Content::Active {
-                slot: _,
-                charged: _,
-            } => {}
-            Content::Committed { layer: _, usage: _ } => {}
-        }
-    }
-}
-
 /// A snapshot of a store: containerd's `snapshots.Info` with what the snapshot holds.
-#[derive(Debug)]
+#[derive(Debug, Drop)]
 pub struct Record {
     /// The place of its namespace among the store's namespaces, from 0.
     pub namespace: usize,
@@ -53,21 +40,6 @@ pub struct Record {
     pub updated: u64,
     /// What it holds, by its kind.
     pub content: Content,
-}
-
-impl Drop for Record {
-    fn drop(self) {
-        let Record {
-            namespace: _,
-            key: _,
-            parent: _,
-            id: _,
-            labels: _,
-            created: _,
-            updated: _,
-            content: _,
-        } = self;
-    }
 }
 
 impl Content {

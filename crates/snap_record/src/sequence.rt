@@ -11,7 +11,7 @@ pub struct Sequence<T> {
     items: Vec<T>,
 }
 
-impl<T> Drop for Sequence<T> {
+impl<T: Drop> Drop for Sequence<T> {
     fn drop(self) {
         let Sequence { items: _ } = self;
     }

@@ -19,6 +19,7 @@ use snap_usage::Usage;
 use std::alloc::{AllocError, Global};
 
 /// What a snapshot shows at a path.
+#[derive(Drop)]
 pub enum Shown {
     /// A directory.
     Dir { mode: u32 },
@@ -28,17 +29,8 @@ pub enum Shown {
     Symlink { target: Bytes },
 }
 
-impl Drop for Shown {
-    fn drop(self) {
-        match self {
-            Shown::Dir { mode: _ } => {}
-            Shown::File { mode: _, size: _ } => {}
-            Shown::Symlink { target: _ } => {}
-        }
-    }
-}
-
 /// A snapshot as one of the forest of its namespace.
+#[derive(Drop)]
 pub struct TreeNode {
     pub key: Text,
     pub kind: Kind,
@@ -49,19 +41,6 @@ pub struct TreeNode {
     pub parent: Text,
     /// How many snapshots of the namespace stand on it.
     pub children: u64,
-}
-
-impl Drop for TreeNode {
-    fn drop(self) {
-        let TreeNode {
-            key: _,
-            kind: _,
-            id: _,
-            usage: _,
-            parent: _,
-            children: _,
-        } = self;
-    }
 }
 
 /// What a line of a script is answered, and the lines of a script of jobs together.

@@ -8,6 +8,7 @@ use snap_usage::Usage;
 use std::alloc::{AllocError, Global};
 
 /// A command of a script.
+#[derive(Drop)]
 pub enum Command {
     /// Opens a store, and its session 0.
     Open {
@@ -75,56 +76,6 @@ pub enum Command {
     },
     /// Asks for the store's totals.
     Report,
-}
-
-impl Drop for Command {
-    fn drop(self) {
-        match self {
-            Command::Open { config: _ } => {}
-            Command::Session => {}
-            Command::Reopen { journal: _ } => {}
-            Command::Call(_) => {}
-            Command::Charge {
-                namespace: _,
-                key: _,
-                need: _,
-                want: _,
-            } => {}
-            Command::Trim {
-                namespace: _,
-                key: _,
-            } => {}
-            Command::Commit {
-                namespace: _,
-                key: _,
-                name: _,
-                lease: _,
-            } => {}
-            Command::Discard {
-                namespace: _,
-                key: _,
-            } => {}
-            Command::File {
-                namespace: _,
-                key: _,
-                operation: _,
-                extra: _,
-            } => {}
-            Command::Lookup {
-                namespace: _,
-                key: _,
-                lookup: _,
-                path: _,
-            } => {}
-            Command::Tree { namespace: _ } => {}
-            Command::Journal {
-                namespace: _,
-                after: _,
-                most: _,
-            } => {}
-            Command::Report => {}
-        }
-    }
 }
 
 /// What is asked of a path.

@@ -16,23 +16,12 @@ use std::alloc::Global;
 pub const MAX_LINE_BYTES: usize = 16_777_216;
 
 /// What a line of a script is.
+#[derive(Drop)]
 pub enum Line {
     /// Nothing but spaces, tabs and carriage returns.
     Empty,
     /// A command, and the number of the session that makes its calls.
     Command { session: u64, command: Command },
-}
-
-impl Drop for Line {
-    fn drop(self) {
-        match self {
-            Line::Empty => {}
-            Line::Command {
-                session: _,
-                command: _,
-            } => {}
-        }
-    }
 }
 
 /// Whether a line, without its line feed, has nothing but spaces, tabs and carriage returns.

@@ -16,23 +16,14 @@ use std::alloc::{AllocError, Global};
 use thiserror::Error;
 
 /// The namespace and the key of a snapshot that is open.
-#[derive(Debug)]
+#[derive(Debug, Drop)]
 pub struct OpenKey {
     pub namespace: Text,
     pub key: Text,
 }
 
-impl Drop for OpenKey {
-    fn drop(self) {
-        let OpenKey {
-            namespace: _,
-            key: _,
-        } = self;
-    }
-}
-
 /// Why a store is not closed. The causes are tested in this order.
-#[derive(Debug, Error)]
+#[derive(Debug, Drop, Error)]
 pub enum Cause {
     /// Active snapshots are open: these, in the order of their namespaces in the configuration, and of the
     /// bytes of their keys. Each is ended by a commit or a discard.
@@ -48,17 +39,6 @@ pub enum Cause {
     /// Memory was refused for the list of what is open.
     #[error("out of memory")]
     OutOfMemory(NoMemory),
-}
-
-impl Drop for Cause {
-    fn drop(self) {
-        match self {
-            Cause::StillOut(_) => {}
-            Cause::SessionsMissing => {}
-            Cause::TapeMismatch(_) => {}
-            Cause::OutOfMemory(_) => {}
-        }
-    }
 }
 
 fn is_active(snapshot: &Record) -> bool

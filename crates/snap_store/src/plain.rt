@@ -20,21 +20,11 @@ use std::sync::Wait;
 
 /// What a sweep took away: the keys of the committed snapshots, in the order of their bytes, the number of
 /// leases, and what the snapshots were charged, in blocks of 4096 bytes and inodes.
-#[derive(Debug)]
+#[derive(Debug, Drop)]
 pub struct Swept {
     pub removed: Sequence<Text>,
     pub leases: u64,
     pub freed: Usage,
-}
-
-impl Drop for Swept {
-    fn drop(self) {
-        let Swept {
-            removed: _,
-            leases: _,
-            freed: _,
-        } = self;
-    }
 }
 
 fn removal_of(reply: Reply) -> Result<Usage, Refusal>

@@ -9,7 +9,7 @@ use std::alloc::AllocError;
 ///
 /// Modes are permission bits, at most octal 7777, and are taken as given: there is no umask, and a
 /// parent's set-group-ID bit isn't inherited. No mode refuses an operation.
-#[derive(Debug)]
+#[derive(Debug, Drop)]
 pub enum Op {
     /// Makes a directory (mkdir(2)). It is opaque exactly where it takes the place of a whiteout, so
     /// that what the whiteout hid stays hidden (overlayfs.rst, "whiteouts and opaque directories").
@@ -74,27 +74,6 @@ pub enum Op {
         from: Path,
         to: Path,
     },
-}
-
-impl Drop for Op {
-    fn drop(self) {
-        match self {
-            Op::Mkdir { path: _, mode: _ } => {}
-            Op::Create { path: _, mode: _ } => {}
-            Op::Write {
-                path: _,
-                offset: _,
-                bytes: _,
-            } => {}
-            Op::Truncate { path: _, size: _ } => {}
-            Op::SetMode { path: _, mode: _ } => {}
-            Op::Symlink { path: _, target: _ } => {}
-            Op::Link { from: _, to: _ } => {}
-            Op::Unlink { path: _ } => {}
-            Op::Rmdir { path: _ } => {}
-            Op::Rename { from: _, to: _ } => {}
-        }
-    }
 }
 
 impl Clone for Op {

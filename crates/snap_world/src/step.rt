@@ -25,7 +25,7 @@ use snap_upper::Op;
 use snap_usage::Usage;
 
 /// A step of a world.
-#[derive(Debug)]
+#[derive(Debug, Drop)]
 pub enum Step {
     /// A call on the store, by the session of this number. On a store that is used from threads the
     /// session holds the store's lock meanwhile.
@@ -35,17 +35,8 @@ pub enum Step {
     Hand(u64, Op),
 }
 
-impl Drop for Step {
-    fn drop(self) {
-        match self {
-            Step::Locked(_, _) => {}
-            Step::Hand(_, _) => {}
-        }
-    }
-}
-
 /// What a step answers.
-#[derive(Debug, PartialEq, Eq)]
+#[derive(Debug, Drop, PartialEq, Eq)]
 pub enum Answer {
     /// The store's reply to a call.
     Reply(Reply),
@@ -56,17 +47,6 @@ pub enum Answer {
     /// The slot isn't open, or not under the id; or its layer is sealed, and the step would change the
     /// snapshot's layer or share.
     NoHand,
-}
-
-impl Drop for Answer {
-    fn drop(self) {
-        match self {
-            Answer::Reply(_) => {}
-            Answer::File(_) => {}
-            Answer::NoSession => {}
-            Answer::NoHand => {}
-        }
-    }
 }
 
 // A charge of the snapshot.

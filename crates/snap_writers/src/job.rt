@@ -11,7 +11,7 @@ use snap_usage::Usage;
 use std::thread::Promise;
 
 /// What becomes of a job's snapshot once all its operations are done.
-#[derive(Debug)]
+#[derive(Debug, Drop)]
 pub enum End {
     /// It is committed under the name, and named in the lease where one is given.
     Commit { name: Text, lease: Option<Text> },
@@ -19,17 +19,8 @@ pub enum End {
     Discard,
 }
 
-impl Drop for End {
-    fn drop(self) {
-        match self {
-            End::Commit { name: _, lease: _ } => {}
-            End::Discard => {}
-        }
-    }
-}
-
 /// A snapshot that is prepared, written and ended by one worker.
-#[derive(Debug)]
+#[derive(Debug, Drop)]
 pub struct Job {
     /// The name of its namespace.
     pub namespace: Text,
@@ -42,19 +33,6 @@ pub struct Job {
     pub end: End,
     /// What each charge wants beyond its need, in blocks of 4096 bytes and inodes.
     pub extra: Usage,
-}
-
-impl Drop for Job {
-    fn drop(self) {
-        let Job {
-            namespace: _,
-            key: _,
-            parent: _,
-            ops: _,
-            end: _,
-            extra: _,
-        } = self;
-    }
 }
 
 /// How a job ended.
@@ -87,6 +65,7 @@ pub trait Gate: Sync {
 }
 
 /// What a worker gives back.
+#[derive(Drop)]
 pub struct Worked {
     /// Its session of the store, where it got one.
     pub session: Option<Session>,
@@ -94,16 +73,6 @@ pub struct Worked {
     pub ends: Ends,
     /// Whether the gate stopped it.
     pub refused: bool,
-}
-
-impl Drop for Worked {
-    fn drop(self) {
-        let Worked {
-            session: _,
-            ends: _,
-            refused: _,
-        } = self;
-    }
 }
 
 // What a worker's thread promises of that.
