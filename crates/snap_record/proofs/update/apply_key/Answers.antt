@@ -12,8 +12,7 @@ returns-in_ok-clone-in-Some-clause-first c =
     on_ok_weaker c.insert.result
     (λ ok keys.
     with_named-set c.args.next.now c.args.given.now c.args.key value keys c.requires is
-    ∙ ap (λ labels. with_named labels c.args.given.now keys)
-    (ap (λ key. with_label c.args.next.now key value) (sym c.key.view_is) ∙ sym ok))
+    ∙ ap (λ labels. with_named labels c.args.given.now keys) (sym ok))
     c.insert.ensures.ok
 
 pub returns-in-None-clause-first : goal.returns-in-None-clause-first
