@@ -2,8 +2,9 @@
 //! of snapshots as maps of records, without proofs and without care for refused memory.
 //!
 //! `plain layers` carries out lists of lookups and edits (`edits.rs`), and `plain script` the lines of a script
-//! that the benchmark uses (`script.rs`). Both read standard input, and each answer is out before the next
-//! line is read. It has no symlinks, hard links, leases, views or sessions.
+//! that the benchmark uses (`script.rs`). Both read standard input. Of a list each answer is out before the next line
+//! is read; of a script all answers are out before the program waits for more input, as the product does it. It has no
+//! symlinks, hard links, leases, views or sessions.
 
 mod edits;
 mod json;
@@ -16,10 +17,9 @@ use std::io;
 use std::process::ExitCode;
 
 fn main() -> ExitCode {
-    let lines = io::stdin().lines();
     let ended = match std::env::args().nth(1).as_deref() {
-        Some("layers") => edits::run(lines),
-        Some("script") => script::run(lines),
+        Some("layers") => edits::run(io::stdin().lines()),
+        Some("script") => script::run(io::stdin().lock()),
         _ => Err("usage: plain layers|script".into()),
     };
     match ended {

@@ -6,18 +6,36 @@ use crate::operation::Operation;
 use crate::store::{Content, Namespace, Refused, Store};
 use std::collections::BTreeMap;
 use std::error::Error;
-use std::io;
+use std::io::{self, BufRead, BufReader, BufWriter, Read, Write};
 
-pub fn run(mut lines: impl Iterator<Item = io::Result<String>>) -> Result<(), Box<dyn Error>> {
-    let first = lines.next().ok_or("no line")??;
-    let mut store = open(&first).ok_or("the first line is no `open`")?;
-    println!(r#"{{"ok":true}}"#);
-    for line in lines {
-        let line = line?;
-        let answer = answer(&mut store, &line).ok_or_else(|| format!("no such line: {line}"))?;
-        println!("{answer}");
+pub fn run(input: impl Read) -> Result<(), Box<dyn Error>> {
+    let mut input = BufReader::new(input);
+    let mut output = BufWriter::new(io::stdout());
+    let mut line = String::new();
+    let mut store = None;
+    while next_line(&mut input, &mut output, &mut line)? {
+        let line = line.trim_end_matches('\n');
+        match &mut store {
+            Some(store) => {
+                let answer = answer(store, line).ok_or_else(|| format!("no such line: {line}"))?;
+                writeln!(output, "{answer}")?;
+            }
+            None => {
+                store = Some(open(line).ok_or("the first line is no `open`")?);
+                writeln!(output, r#"{{"ok":true}}"#)?;
+            }
+        }
     }
-    Ok(())
+    store.map(drop).ok_or("no line".into())
+}
+
+/// Reads a line, and answers whether there was one. Before it waits for input, it writes all answers so far.
+fn next_line(input: &mut BufReader<impl Read>, output: &mut impl Write, line: &mut String) -> io::Result<bool> {
+    if !input.buffer().contains(&b'\n') {
+        output.flush()?;
+    }
+    line.clear();
+    Ok(input.read_line(line)? > 0)
 }
 
 fn open(line: &str) -> Option<Store> {
