@@ -19,7 +19,6 @@ returns g c =
     let ids = ids_of (ancestors r.namespace r.parent s.records) in
     let root_is : c.as_str-root.result.now ≡ s.root = c.as_str-root.ensures ∙ ap (λ (u : State). u.root) c.state-state.ensures.same in
     let slice_is = c.as_slice.ensures in
-    let view_is = c.parents.view_is in
     let found = c.in_ok-parents.ensures in
     let parent_is = c.as_str-parent.ensures in
     let state_is = c.state-state.ensures.same in
