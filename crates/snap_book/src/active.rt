@@ -63,6 +63,24 @@ impl<N: StoreName> Model for Sealed<N> {
     ghost invariant = { λ a. (a.share.slot < 64) × Covers a.share.usage (count_of a.layer) };
 }
 
+/// What is left of an open snapshot whose layer is let go: its share, and the room for the entry of its discard. It
+/// has no `Drop`: [`Book::take_back`](crate::Book::take_back) takes it. Contracts see its share.
+pub struct Released<N: StoreName> {
+    pub(crate) share: Share<N>,
+    pub(crate) discard_room: EntryRoom,
+}
+
+impl<N: StoreName> Model for Released<N> {
+    ghost use Rattle.std.specs.Prelude.{◌<◌};
+    ghost use Rattle.snap_ledger.specs.States.{ShareState};
+
+    ghost Value = { ShareState };
+
+    ghost view = { λ r. r.share };
+
+    ghost invariant = { λ r. r.share.slot < 64 };
+}
+
 /// A snapshot that is given back, sealed or not.
 pub enum Held<N: StoreName> {
     Active(Active<N>),
@@ -191,10 +209,10 @@ impl<N: StoreName> Sealed<N> {
 }
 
 impl<N: StoreName> Held<N> {
-    // Its share, and the room for the entry of its discard. The layer goes.
-    pub(crate) fn into_parts(self) -> (Share<N>, EntryRoom)
-        ensures share { result.0 ≡ share_of self }
-        ensures slot { result.0.slot < 64 }
+    /// Lets its layer, its key and its lower layers go, without the book. Takes no memory. Its cost grows with the
+    /// inodes of the layer, and of each lower one of which this was the last holder.
+    pub fn release(self) -> Released<N>
+        ensures { result ≡ share_of self }
     {
         match self {
             Held::Active(
@@ -207,7 +225,10 @@ impl<N: StoreName> Held<N> {
                     share,
                     discard_room,
                 },
-            ) => (share, discard_room),
+            ) => Released {
+                share,
+                discard_room,
+            },
             Held::Sealed(
                 Sealed {
                     namespace: _,
@@ -217,7 +238,10 @@ impl<N: StoreName> Held<N> {
                     share,
                     discard_room,
                 },
-            ) => (share, discard_room),
+            ) => Released {
+                share,
+                discard_room,
+            },
         }
     }
 }

@@ -11,7 +11,7 @@ ghost use Rattle.snap_book.specs.Book.{Recorded, RefusedBy};
 ghost use Rattle.snap_book.specs.Held.{share_of};
 ghost use Rattle.snap_book.specs.Wanted.{more, needed_by, wanted};
 
-use crate::active::{Active, Held};
+use crate::active::{Active, Held, Released};
 use crate::book::Book;
 use crate::journal::{charge_entry, discard_entry, trim_entry};
 use snap_call::limits::MAX_LIMIT;
@@ -125,18 +125,33 @@ impl<N: StoreName> Book<N> {
 
     /// Drops the snapshot and frees its slot; the answer is what it was charged.
     ///
-    /// It has no refusal and takes no memory: the room for its entry was kept when it was prepared.
+    /// It has no refusal and takes no memory: the room for its entry was kept when it was prepared. Its cost is that
+    /// of [`Held::release`] and of [`Book::take_back`].
     pub fn discard(&mut self, session: u64, held: Held<N>) -> Usage
         ensures granted { Recorded self.old self.new session (calls.Discard (share_of held).slot (share_of held).id) Nothing (Discarded result) }
         ensures held { result ≡ (share_of held).usage }
     {
-        let (share, room) = held.into_parts();
+        self.take_back(session, held.release())
+    }
+
+    /// Frees the slot of a snapshot whose layer is let go; the answer is what it was charged. So a store lets the
+    /// layer go before it takes its lock.
+    ///
+    /// It has no refusal and takes no memory. Its cost grows with the logarithm of the number of records.
+    pub fn take_back(&mut self, session: u64, released: Released<N>) -> Usage
+        ensures granted { Recorded self.old self.new session (calls.Discard released.slot released.id) Nothing (Discarded result) }
+        ensures held { result ≡ released.usage }
+    {
+        let Released {
+            share,
+            discard_room,
+        } = released;
         let slot = share.slot();
         let id = share.id();
         let held = self.accounts.discard(share);
         let copy = discard_entry(session, slot, id, held);
         self.journal
-            .push_into(room, discard_entry(session, slot, id, held), copy);
+            .push_into(discard_room, discard_entry(session, slot, id, held), copy);
         held
     }
 }

@@ -30,7 +30,7 @@ mod round;
 mod view;
 mod viewed;
 
-pub use active::{Active, Held, Sealed};
+pub use active::{Active, Held, Released, Sealed};
 pub use book::Book;
 pub use charge::{needed_by, wanted};
 pub use snap_call::{Call, Config, Entry, Given, Namespace, Refusal, Reply, SharedEntry};

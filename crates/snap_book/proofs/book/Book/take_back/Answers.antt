@@ -5,11 +5,11 @@ use Rattle.snap_call.specs.declared.call.Call.TheVariants as calls
 use Rattle.snap_call.specs.declared.call.Given.TheVariants.{Nothing}
 use Rattle.snap_call.specs.declared.reply.Reply.TheVariants.{Discarded}
 use Rattle.snap_book.proofs.Keeping.{kept_push}
-use Rattle.snap_book.proofs.book.Book.discard.Goals as goal
+use Rattle.snap_book.proofs.book.Book.take_back.Goals as goal
 
 pub invariant_of-self : goal.invariant_of-self
 invariant_of-self g c =
-    let share = c.into_parts-share.result.0 in
+    let share = c.released.inside.share in
     let e : Entry = entry c.args.session (calls.Discard share.slot share.id) Nothing (Discarded c.discard-held.result) in
     let is : c.discard_entry.result ≡ e = c.discard_entry.ensures ∙ (λ i. entry c.args.session (calls.Discard (c.slot-slot.ensures i) (c.id-id.ensures i)) Nothing (Discarded c.discard-held.result)) in
     kept_push _ _ c.self.inside.journal c.self.inside.journal _ e _ c.self.invariant refl c.push_into.ensures.entry is c.discard-held.ensures.allowed c.discard-held.ensures.step
