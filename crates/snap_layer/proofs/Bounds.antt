@@ -16,7 +16,7 @@ use Rattle.snap_layer.specs.declared.node.Body.{Body}
 use Rattle.snap_layer.specs.declared.node.Body.TheVariants as body_kinds
 use Rattle.snap_layer.specs.Tree.{Tree, Bodies, at, body, number_of}
 use Rattle.snap_layer.specs.Counts.{body_blocks}
-use Rattle.snap_layer.specs.Layers.{IsLayer, IsFile, IsSymlink, IsWhole}
+use Rattle.snap_layer.specs.Layers.{IsLayer, IsFile, IsSymlink, IsWhole, IsBody}
 use Rattle.snap_layer.proofs.Lists.{lookup_below, at_itself}
 use Rattle.snap_layer.proofs.Looks.{split_number}
 use Rattle.snap_layer.proofs.Kept.{node_with_number}
@@ -29,6 +29,10 @@ file_blocks (body_kinds.Symlink target) file = absurd file
 symlink_blocks : (b : Body) → IsSymlink (Some b) → body_blocks b ≤ 256
 symlink_blocks (body_kinds.File mode bytes) link = absurd link
 symlink_blocks (body_kinds.Symlink target) link = omega arith
+
+pub body_small : (b : Body) → IsBody b → body_blocks b ≤ 256
+body_small (body_kinds.File mode bytes) fits = file_blocks (body_kinds.File mode bytes) fits
+body_small (body_kinds.Symlink target) fits = symlink_blocks (body_kinds.Symlink target) fits
 
 whole_blocks : (t : Tree) (n : Node) (k : ℕ) (b : Body) → IsWhole t n → number_of n ≡ Some k → body t k ≡ Some b → body_blocks b ≤ 256
 whole_blocks t (Dir m o) k b whole e is = absurd (cc)

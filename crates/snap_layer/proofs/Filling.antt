@@ -23,7 +23,7 @@ use Rattle.snap_layer.proofs.Replacing.{inode_count-with_node, inode_count-with_
 
 -- ---- the inodes that are left
 
-abbrev one_if : Bool → ℕ
+abbrev pub one_if : Bool → ℕ
 one_if b = cond b 1 0
 
 pub dropped_last : (o : Option ℕ) (k c : ℕ) (es : Entries) → o ≡ Some k → c ≡ name_count k es → c ≡ 0 → dropped o es ≡ 1

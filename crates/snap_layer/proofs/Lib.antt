@@ -38,3 +38,4 @@ pub mod Ranges
 pub mod Leaves
 pub mod Numbers
 pub mod Linked
+pub mod Rooms

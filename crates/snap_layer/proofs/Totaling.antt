@@ -51,7 +51,7 @@ some_path p [] some = absurd (cc)
 some_path p (e ∷ es) some = omega (arith, sum_by-cons ones e.1 (values_of es))
 
 -- what stands at a path goes before something is put there
-path_put : (t : Tree) (p : Names) → path_count (without t p) + 1 ≤ path_count t + if_none (at t p)
+pub path_put : (t : Tree) (p : Names) → path_count (without t p) + 1 ≤ path_count t + if_none (at t p)
 path_put t p = by (at t p) refl
   where
     by : (o : Option Node) → at t p ≡ o → path_count (without t p) + 1 ≤ path_count t + if_none o
@@ -63,7 +63,7 @@ path_put t p = by (at t p) refl
 pub path_count-with_node : (t : Tree) (p : Names) (n : Node) → IsStrictlySortedBy path_cmp (keys_of t.entries) → path_count (with_node t p n) ≡ path_count (without t p) + 1
 path_count-with_node t p n sorted = omega (arith, path_count-with_entry (without t p) p n (sorted-without t p sorted), ap (weight ones) (at_taken t p))
 
-path_count-with_moved : (t : Tree) (from to : Names) (leaves : Bool) → IsStrictlySortedBy path_cmp (keys_of t.entries) → path_count (with_moved t from to leaves) ≤ path_count (without t to) + 1
+pub path_count-with_moved : (t : Tree) (from to : Names) (leaves : Bool) → IsStrictlySortedBy path_cmp (keys_of t.entries) → path_count (with_moved t from to leaves) ≤ path_count (without t to) + 1
 path_count-with_moved t from to true sorted =
     omega (arith, path_count-with_entry (with_moved t from to false) from node.Whiteout (sorted-moved (without t to) from to (sorted-without t to sorted)), sum_by-moved ones (without t to) from to (sorted-without t to sorted) (IsVacant-without t to))
 path_count-with_moved t from to false sorted = omega (arith, sum_by-moved ones (without t to) from to (sorted-without t to sorted) (IsVacant-without t to))

@@ -1,10 +1,11 @@
 // The edits of a layer.
 ghost use Rattle.std.specs.Prelude.{◌≡◌, ◌↔◌, ◌<◌, ◌≤◌, ◌+◌, ◌-◌, ℕ, List, Some, None, is_none, if◌then◌else◌, IfOk, IfSome, IfNone, OnOk, OnErr, IsErrOf, IsSome, length, true, false};
 ghost use Rattle.snap_path.specs.Memory.{no_memory};
+ghost use Rattle.snap_path.specs.Text.{IsPath};
 ghost use Rattle.snap_layer.specs.Tree.{at, body, number_at, IsDirAt, leaf_node};
 ghost use Rattle.snap_layer.specs.Counts.{inode_count, block_count, body_blocks, is_within};
 ghost use Rattle.snap_layer.specs.Contents.{body_bytes, edited, IsShort};
-ghost use Rattle.snap_layer.specs.Totals.{path_count};
+ghost use Rattle.snap_layer.specs.Totals.{path_count, fits, IsRoom};
 ghost use Rattle.snap_layer.specs.Layers.{IsLayer, IsFile, IsBody, is_target};
 ghost use Rattle.snap_layer.specs.Edits.{with_body, with_entry, with_node, with_new, with_name, name_of, with_bytes, with_mode, with_file_mode, with_opaque, with_moved, with_linked, without, HasRoom, HasRooms, HasPlace, IsTakeable, IsMovable, IsRegular, HasMode};
 
@@ -13,8 +14,8 @@ use super::error::LayerError;
 use super::layer::Layer;
 use super::node::{Body, Bytes, Node};
 use super::totals::{Totals, more_paths};
+use snap_path::Path;
 use snap_path::limits::MAX_INODES;
-use snap_path::{NoMemory, Path};
 use std::alloc::AllocError;
 
 impl Layer {
@@ -30,12 +31,10 @@ impl Layer {
         ensures full { IsErrOf result LayerError.LayerFull ↔ (is_within (with_entry self.old path.now (Node.Dir mode opaque)) ≡ false) }
         ensures err { OnErr result (self.new ≡ self.old) }
     {
-        let (rest, blocks) = self.left(path);
-        let inodes = rest + 1;
-        if inodes > MAX_INODES {
-            return Err(LayerError::LayerFull);
-        }
-        Ok(self.put_dir(path, mode, opaque, inodes, blocks)?)
+        let room = self.room_for(path, 0, 1, 1)?;
+        self.table.put_dir(path, mode, opaque)?;
+        self.totals = room;
+        Ok(())
     }
 
     /// Adds a regular file with the next number, in place of what stands at the path, and gives the number.
@@ -81,15 +80,9 @@ impl Layer {
         ensures err { OnErr result (self.new ≡ self.old) }
     {
         let number = self.next_number();
-        let (rest, blocks) = self.left(path);
-        let inodes = rest + 1;
-        if number == u32::MAX {
-            return Err(LayerError::LayerFull);
-        }
-        if inodes > MAX_INODES {
-            return Err(LayerError::LayerFull);
-        }
-        self.insert(path, body, inodes, blocks)?;
+        let room = self.room_for(path, 1, 1, body.blocks())?;
+        self.table.put_leaf(path, body)?;
+        self.totals = room;
         Ok(number)
     }
 
@@ -107,7 +100,14 @@ impl Layer {
         ensures err { OnErr result (self.new ≡ self.old) }
     {
         let (inodes, blocks) = self.left(path);
-        self.put_name(path, number, inodes, blocks)
+        let paths = self.paths_at(path)?;
+        self.table.put_name(path, number)?;
+        self.totals = Totals {
+            inodes,
+            blocks,
+            paths,
+        };
+        Ok(())
     }
 
     /// Adds a new file or symlink with the next number at `path`, where nothing stands, and one more name of
@@ -124,16 +124,11 @@ impl Layer {
         ensures err { OnErr result (self.new ≡ self.old) }
     {
         let _ = path.names();
-        let number = self.next_number();
-        let (rest, blocks) = self.left(link);
-        let inodes = rest + 1;
-        if number == u32::MAX {
-            return Err(LayerError::LayerFull);
-        }
-        if inodes > MAX_INODES {
-            return Err(LayerError::LayerFull);
-        }
-        Ok(self.insert_linked(path, link, body, inodes, blocks)?)
+        let room = self.room_for(link, 1, 1, body.blocks())?;
+        let paths = more_paths(room.paths, 1)?;
+        self.table.put_linked(path, link, body)?;
+        self.totals = Totals { paths, ..room };
+        Ok(())
     }
 
     /// Adds a whiteout, in place of what stands at the path: nothing, a name, a whiteout, or a directory
@@ -149,12 +144,10 @@ impl Layer {
         ensures sure { IsErrOf result (LayerError.OutOfMemory no_memory) → at self.old path.now ≡ None }
         ensures err { OnErr result (self.new ≡ self.old) }
     {
-        let (rest, blocks) = self.left(path);
-        let inodes = rest + 1;
-        if inodes > MAX_INODES {
-            return Err(LayerError::LayerFull);
-        }
-        Ok(self.put_whiteout(path, inodes, blocks)?)
+        let room = self.room_for(path, 0, 1, 0)?;
+        self.table.whiteout(path)?;
+        self.totals = room;
+        Ok(())
     }
 
     /// Takes a name, a whiteout, or a directory with its whiteouts. A file or symlink goes with its last
@@ -166,7 +159,12 @@ impl Layer {
         ensures { self.new ≡ without self.old path.now }
     {
         let (inodes, blocks) = self.left(path);
-        self.uncover(path, inodes, blocks);
+        self.table.take(path);
+        self.totals = Totals {
+            inodes,
+            blocks,
+            paths: self.totals.paths,
+        };
     }
 
     /// Moves what stands at `from`, and all below it, to `to`, in place of what stands there, and leaves a
@@ -184,12 +182,10 @@ impl Layer {
         ensures full { IsErrOf result LayerError.LayerFull ↔ (is_within (with_moved self.old from.now to.now leaves) ≡ false) }
         ensures err { OnErr result (self.new ≡ self.old) }
     {
-        let (rest, blocks) = self.left(to);
-        let inodes = rest + usize::from(leaves);
-        if inodes > MAX_INODES {
-            return Err(LayerError::LayerFull);
-        }
-        Ok(self.relocate(from, to, leaves, inodes, blocks)?)
+        let room = self.room_for(to, 0, usize::from(leaves), 0)?;
+        self.table.relocate(from, to, leaves)?;
+        self.totals = room;
+        Ok(())
     }
 
     /// Gives a file other bytes, for all its names.
@@ -273,8 +269,37 @@ impl Layer {
         self.table.set_file_mode(number, mode);
     }
 
+    /// What the layer takes once something that takes so much stands at the path in place of what stands there:
+    /// `LayerFull` where that would pass a limit.
+    fn room_for(
+        &self,
+        path: &Path,
+        numbers: u32,
+        inodes: usize,
+        blocks: u64,
+    ) -> Result<Totals, LayerError>
+        requires { blocks ≤ 256 }
+        ensures room { IfOk result (λ v. IsRoom v self.now path.now inodes blocks) }
+        ensures fits { OnOk result (fits self.now path.now numbers inodes ≡ true) }
+        ensures full { IsErrOf result LayerError.LayerFull ↔ (fits self.now path.now numbers inodes ≡ false) }
+        ensures sure { IsErrOf result (LayerError.OutOfMemory no_memory) → at self.now path.now ≡ None }
+        ensures path { IsPath path.now }
+        ensures layer { IsLayer self.now }
+    {
+        let (left, kept) = self.left(path);
+        if inodes > MAX_INODES - left || numbers > u32::MAX - self.next_number() {
+            return Err(LayerError::LayerFull);
+        }
+        let paths = self.paths_at(path)?;
+        Ok(Totals {
+            inodes: left + inodes,
+            blocks: kept + blocks,
+            paths,
+        })
+    }
+
     /// A bound on the number of paths once something stands at the path.
-    fn paths_at(&self, path: &Path) -> Result<usize, NoMemory>
+    fn paths_at(&self, path: &Path) -> Result<usize, AllocError>
         ensures paths { IfOk result (λ n. path_count self.now + (if is_none (at self.now path.now) then 1 else 0) < n) }
         ensures sure { OnErr result (at self.now path.now ≡ None) }
         ensures layer { IsLayer self.now }
@@ -284,181 +309,6 @@ impl Layer {
             Some(_) => Ok(self.totals.paths),
             None => more_paths(self.totals.paths, 1),
         }
-    }
-
-    /// Puts a directory where nothing or a whiteout stands.
-    fn put_dir(
-        &mut self,
-        path: &Path,
-        mode: u32,
-        opaque: bool,
-        inodes: usize,
-        blocks: u64,
-    ) -> Result<(), AllocError>
-        requires blocks { blocks ≡ block_count (without self.old path.now) }
-        requires room { HasRoom self.old path.now }
-        requires layer { IsLayer (with_node self.old path.now (Node.Dir mode opaque)) }
-        requires count { inodes ≡ inode_count (with_node self.old path.now (Node.Dir mode opaque)) }
-        ensures ok { OnOk result (self.new ≡ with_node self.old path.now (Node.Dir mode opaque)) }
-        ensures err { OnErr result (self.new ≡ self.old) }
-    {
-        let paths = self.paths_at(path)?;
-        let blocks = blocks + 1;
-        self.table.put_dir(path, mode, opaque)?;
-        self.totals = Totals {
-            inodes,
-            blocks,
-            paths,
-        };
-        Ok(())
-    }
-
-    /// Puts a whiteout in place of what stands at the path.
-    fn put_whiteout(&mut self, path: &Path, inodes: usize, blocks: u64) -> Result<(), AllocError>
-        requires blocks { blocks ≡ block_count (without self.old path.now) }
-        requires place { HasPlace self.old path.now }
-        requires layer { IsLayer (with_node self.old path.now Node.Whiteout) }
-        requires count { inodes ≡ inode_count (with_node self.old path.now Node.Whiteout) }
-        ensures ok { OnOk result (self.new ≡ with_node self.old path.now Node.Whiteout) }
-        ensures sure { OnErr result (at self.old path.now ≡ None) }
-        ensures err { OnErr result (self.new ≡ self.old) }
-    {
-        let paths = self.paths_at(path)?;
-        self.table.whiteout(path)?;
-        self.totals = Totals {
-            inodes,
-            blocks,
-            paths,
-        };
-        Ok(())
-    }
-
-    /// Puts one more name of the file or symlink in place of what stands at the path.
-    fn put_name(
-        &mut self,
-        path: &Path,
-        number: u32,
-        inodes: usize,
-        blocks: u64,
-    ) -> Result<(), AllocError>
-        requires blocks { blocks ≡ block_count (without self.old path.now) }
-        requires place { HasPlace self.old path.now }
-        requires there { IsSome (body self.old number) }
-        requires apart { number_at self.old path.now ≡ Some number → ⊥ }
-        requires count { inodes ≡ inode_count (without self.old path.now) }
-        ensures ok { OnOk result (self.new ≡ with_name self.old path.now (name_of number (body self.old number))) }
-        ensures sure { OnErr result (at self.old path.now ≡ None) }
-        ensures err { OnErr result (self.new ≡ self.old) }
-    {
-        let _ = path.names();
-        let paths = self.paths_at(path)?;
-        self.table.put_name(path, number)?;
-        self.totals = Totals {
-            inodes,
-            blocks,
-            paths,
-        };
-        Ok(())
-    }
-
-    /// Puts a new file or symlink, which has the next number, in place of what stands at the path.
-    fn insert(
-        &mut self,
-        path: &Path,
-        body: Body,
-        inodes: usize,
-        blocks: u64,
-    ) -> Result<(), AllocError>
-        requires blocks { blocks ≡ block_count (without self.old path.now) }
-        requires place { HasPlace self.old path.now }
-        requires last { self.old.next < 4294967295 }
-        requires layer { IsLayer (with_new self.old path.now (leaf_node self.old.next body) body) }
-        requires count { inodes ≡ inode_count (with_new self.old path.now (leaf_node self.old.next body) body) }
-        ensures ok { OnOk result (self.new ≡ with_new self.old path.now (leaf_node self.old.next body) body) }
-        ensures err { OnErr result (self.new ≡ self.old) }
-    {
-        let paths = self.paths_at(path)?;
-        let blocks = blocks + body.blocks();
-        self.table.put_leaf(path, body)?;
-        self.totals = Totals {
-            inodes,
-            blocks,
-            paths,
-        };
-        Ok(())
-    }
-
-    /// Puts a new file or symlink, which has the next number, and one more name of it at the link.
-    fn insert_linked(
-        &mut self,
-        path: &Path,
-        link: &Path,
-        body: Body,
-        inodes: usize,
-        blocks: u64,
-    ) -> Result<(), AllocError>
-        requires blocks { blocks ≡ block_count (without self.old link.now) }
-        requires rooms { HasRooms self.old path.now link.now }
-        requires last { self.old.next < 4294967295 }
-        requires layer { IsLayer (with_linked self.old path.now link.now body) }
-        requires count { inodes ≡ inode_count (with_linked self.old path.now link.now body) }
-        ensures ok { OnOk result (self.new ≡ with_linked self.old path.now link.now body) }
-        ensures err { OnErr result (self.new ≡ self.old) }
-    {
-        let _ = &self.is_layer;
-        let blocks = blocks + body.blocks();
-        let paths = more_paths(self.totals.paths, 2)?;
-        self.table.put_linked(path, link, body)?;
-        self.totals = Totals {
-            inodes,
-            blocks,
-            paths,
-        };
-        Ok(())
-    }
-
-    /// Takes what stands at the path.
-    fn uncover(&mut self, path: &Path, inodes: usize, blocks: u64)
-        requires takeable { IsTakeable self.old path.now }
-        requires inodes { inodes ≡ inode_count (without self.old path.now) }
-        requires blocks { blocks ≡ block_count (without self.old path.now) }
-        ensures { self.new ≡ without self.old path.now }
-    {
-        let _ = &self.is_layer;
-        let _ = path.names();
-        self.table.take(path);
-        let paths = self.totals.paths;
-        self.totals = Totals {
-            inodes,
-            blocks,
-            paths,
-        };
-    }
-
-    /// Moves what stands at `from` and below it to `to`, in place of what stands there.
-    fn relocate(
-        &mut self,
-        from: &Path,
-        to: &Path,
-        leaves: bool,
-        inodes: usize,
-        blocks: u64,
-    ) -> Result<(), AllocError>
-        requires blocks { blocks ≡ block_count (without self.old to.now) }
-        requires movable { IsMovable self.old from.now to.now }
-        requires layer { IsLayer (with_moved self.old from.now to.now leaves) }
-        requires count { inodes ≡ inode_count (with_moved self.old from.now to.now leaves) }
-        ensures ok { OnOk result (self.new ≡ with_moved self.old from.now to.now leaves) }
-        ensures err { OnErr result (self.new ≡ self.old) }
-    {
-        let paths = self.paths_at(to)?;
-        self.table.relocate(from, to, leaves)?;
-        self.totals = Totals {
-            inodes,
-            blocks,
-            paths,
-        };
-        Ok(())
     }
 
     /// Sets the mode and the mark of the directory at the path.

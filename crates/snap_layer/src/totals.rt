@@ -1,6 +1,7 @@
 ghost use Rattle.std.specs.Prelude.{◌≡◌, ◌≤◌, ◌+◌, IfOk};
 
 use snap_path::NoMemory;
+use std::alloc::AllocError;
 
 /// What a layer takes, and a bound on the number of its paths, which only rises.
 #[derive(Clone, Copy)]
@@ -14,12 +15,12 @@ pub(crate) struct Totals {
 }
 
 /// A bound on the number of paths, with so many more.
-pub(crate) fn more_paths(paths: usize, more: usize) -> Result<usize, NoMemory>
+pub(crate) fn more_paths(paths: usize, more: usize) -> Result<usize, AllocError>
     requires { more ≤ 2 }
     ensures { IfOk result (λ n. n ≡ paths + more) }
 {
     match paths.checked_add(more) {
         Some(sum) => Ok(sum),
-        None => Err(NoMemory::of_last_address(paths)),
+        None => Err(NoMemory::of_last_address(paths).into()),
     }
 }

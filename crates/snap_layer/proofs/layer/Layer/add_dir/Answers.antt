@@ -1,61 +1,48 @@
-use Rattle.std.proofs.Common.{sym, ap, ◌∙◌, refl}
-use Rattle.std.proofs.lemmas.Result.{err_from_is_err_and}
+use Rattle.std.proofs.Common.{◌≡◌, sym, ap, subst, ◌∙◌, refl, arith}
+use Rattle.snap_layer.specs.Tree.{Tree}
+use Rattle.snap_layer.specs.Layers.{IsLayer}
+use Rattle.snap_layer.specs.Totals.{IsCounted}
+use Rattle.snap_layer.proofs.Slots.{on_err_by}
 use Rattle.snap_layer.specs.declared.node.Node.TheVariants.{Dir}
-use Rattle.snap_layer.specs.Counts.{is_within}
 use Rattle.snap_layer.specs.Edits.{with_entry}
 use Rattle.snap_layer.proofs.Replacing.{with_node-free}
-use Rattle.snap_layer.proofs.Filling.{dir_becomes, full_said, memory_said, ok_said}
-use Rattle.snap_layer.proofs.Slots.{on_err_by}
+use Rattle.snap_layer.specs.Totals.{path_count}
+use Rattle.snap_layer.proofs.Rooms.{costs_full, costs_layer, costs_counted, costs_memory, costs_done, path_node, dir_costs}
 use Rattle.snap_layer.proofs.layer.Layer.add_dir.Goals as goal
 
-pub returns-then-inodes-gt-MAX_INODES-clause-full : goal.returns-then-inodes-gt-MAX_INODES-clause-full
-returns-then-inodes-gt-MAX_INODES-clause-full c =
-    let b = dir_becomes c.args.self.now c.left-rest.ensures.layer c.args.path.now c.left-rest.ensures.path _ c.left-rest.ensures.inodes c.args.mode c.args.opaque c.requires.room c.requires.mode in
-    let same = with_node-free c.args.self.now c.left-rest.ensures.layer c.args.path.now (Dir c.args.mode c.args.opaque) c.requires.room.free in
-    full_said (with_entry c.args.self.now c.args.path.now (Dir c.args.mode c.args.opaque)) (ap is_within (sym same) ∙ b.full c.if-inodes-gt-MAX_INODES.true)
+pub returns-in_err-room-clause-full : goal.returns-in_err-room-clause-full
+returns-in_err-room-clause-full c =
+    let ok : IsLayer c.args.self.now = c.room_for.ensures.layer in
+    let costs = dir_costs c.args.self.now ok c.args.path.now c.room_for.ensures.path c.args.mode c.args.opaque c.requires.room c.requires.mode in
+    costs_full (c.args.self.now) (with_entry c.args.self.now c.args.path.now (Dir c.args.mode c.args.opaque)) c.args.path.now 0 1 1 costs c.from_residual.result c.in_err-room.field-0.0 c.from_residual.ensures.1 c.in_err-room.ensures.full
 
 pub put_dir-requires-clause-layer : goal.put_dir-requires-clause-layer
 put_dir-requires-clause-layer c =
-    let b = dir_becomes c.args.self.now c.left-rest.ensures.layer c.args.path.now c.left-rest.ensures.path _ c.left-rest.ensures.inodes c.args.mode c.args.opaque c.requires.room c.requires.mode in
-    b.layer c.if-inodes-gt-MAX_INODES.false
-
-pub put_dir-requires-clause-count : goal.put_dir-requires-clause-count
-put_dir-requires-clause-count c =
-    let b = dir_becomes c.args.self.now c.left-rest.ensures.layer c.args.path.now c.left-rest.ensures.path _ c.left-rest.ensures.inodes c.args.mode c.args.opaque c.requires.room c.requires.mode in
-    b.count
+    let ok : IsLayer c.args.self.now = c.room_for.ensures.layer in
+    let costs = dir_costs c.args.self.now ok c.args.path.now c.room_for.ensures.path c.args.mode c.args.opaque c.requires.room c.requires.mode in
+    subst (λ (u : Tree). IsLayer (with_entry u c.args.path.now (Dir c.args.mode c.args.opaque))) (sym c.self.view_is) (costs_layer (c.args.self.now) (with_entry c.args.self.now c.args.path.now (Dir c.args.mode c.args.opaque)) c.args.path.now 0 1 1 costs c.in_ok-room.ensures.fits)
 
 pub returns-in_err-put_dir-clause-full : goal.returns-in_err-put_dir-clause-full
 returns-in_err-put_dir-clause-full c =
-    let b = dir_becomes c.args.self.now c.left-rest.ensures.layer c.args.path.now c.left-rest.ensures.path _ c.left-rest.ensures.inodes c.args.mode c.args.opaque c.requires.room c.requires.mode in
-    let same = with_node-free c.args.self.now c.left-rest.ensures.layer c.args.path.now (Dir c.args.mode c.args.opaque) c.requires.room.free in
-    let p = err_from_is_err_and c.from_residual.result c.from_residual.ensures.1 in
-    memory_said c.from_residual.result _ (with_entry c.args.self.now c.args.path.now (Dir c.args.mode c.args.opaque)) p.1 p.2 (ap is_within (sym same) ∙ b.fits c.if-inodes-gt-MAX_INODES.false)
+    let ok : IsLayer c.args.self.now = c.room_for.ensures.layer in
+    let costs = dir_costs c.args.self.now ok c.args.path.now c.room_for.ensures.path c.args.mode c.args.opaque c.requires.room c.requires.mode in
+    costs_memory (c.args.self.now) (with_entry c.args.self.now c.args.path.now (Dir c.args.mode c.args.opaque)) c.args.path.now 0 1 1 costs c.in_ok-room.ensures.fits c.from_residual-in_err-put_dir.result c.from_residual-in_err-put_dir.ensures.1
+
+pub returns-in_err-put_dir-clause-err : goal.returns-in_err-put_dir-clause-err
+returns-in_err-put_dir-clause-err c = on_err_by c.from_residual-in_err-put_dir.result (c.in_err-put_dir.ensures.err ∙ c.self.view_is)
+
+pub invariant_of-self-2 : goal.invariant_of-self-2
+invariant_of-self-2 c =
+    let ok : IsLayer c.args.self.now = c.room_for.ensures.layer in
+    let costs = dir_costs c.args.self.now ok c.args.path.now c.room_for.ensures.path c.args.mode c.args.opaque c.requires.room c.requires.mode in
+    let is : c.put_dir.new.self ≡ with_entry c.args.self.now c.args.path.now (Dir c.args.mode c.args.opaque) = c.in_ok-put_dir.ensures.ok ∙ ap (λ (u : Tree). with_entry u c.args.path.now (Dir c.args.mode c.args.opaque)) c.self.view_is in
+    subst (IsCounted _) (sym is) (costs_counted (c.args.self.now) (with_entry c.args.self.now c.args.path.now (Dir c.args.mode c.args.opaque)) c.args.path.now 0 1 1 costs c.in_ok-room.ensures.fits _ _ c.in_ok-room.ensures.room refl refl (omega (arith, path_node c.args.self.now ok c.args.path.now (Dir c.args.mode c.args.opaque), ap path_count (with_node-free c.args.self.now ok c.args.path.now (Dir c.args.mode c.args.opaque) c.requires.room.free), c.in_ok-room.ensures.room.paths)))
 
 pub returns-clause-ok : goal.returns-clause-ok
-returns-clause-ok c =
-    let same = with_node-free c.args.self.now c.left-rest.ensures.layer c.args.path.now (Dir c.args.mode c.args.opaque) c.requires.room.free in
-    c.in_ok-put_dir.ensures.ok ∙ same
+returns-clause-ok c = c.in_ok-put_dir.ensures.ok ∙ ap (λ (u : Tree). with_entry u c.args.path.now (Dir c.args.mode c.args.opaque)) c.self.view_is
 
 pub returns-clause-full : goal.returns-clause-full
 returns-clause-full c =
-    let b = dir_becomes c.args.self.now c.left-rest.ensures.layer c.args.path.now c.left-rest.ensures.path _ c.left-rest.ensures.inodes c.args.mode c.args.opaque c.requires.room c.requires.mode in
-    let same = with_node-free c.args.self.now c.left-rest.ensures.layer c.args.path.now (Dir c.args.mode c.args.opaque) c.requires.room.free in
-    ok_said _ (with_entry c.args.self.now c.args.path.now (Dir c.args.mode c.args.opaque)) (ap is_within (sym same) ∙ b.fits c.if-inodes-gt-MAX_INODES.false)
-
-pub put_dir-requires-clause-blocks : goal.put_dir-requires-clause-blocks
-put_dir-requires-clause-blocks c = c.left-rest.ensures.blocks
-
-pub put_dir-requires-clause-room : goal.put_dir-requires-clause-room
-put_dir-requires-clause-room c = c.requires.room
-
-pub returns-clause-err : goal.returns-clause-err
-returns-clause-err c = tt
-
-pub returns-then-inodes-gt-MAX_INODES-clause-ok : goal.returns-then-inodes-gt-MAX_INODES-clause-ok
-returns-then-inodes-gt-MAX_INODES-clause-ok c = tt
-
-pub returns-then-inodes-gt-MAX_INODES-clause-err : goal.returns-then-inodes-gt-MAX_INODES-clause-err
-returns-then-inodes-gt-MAX_INODES-clause-err c = refl
-
-pub returns-in_err-put_dir-clause-err : goal.returns-in_err-put_dir-clause-err
-returns-in_err-put_dir-clause-err c = on_err_by c.from_residual.result c.in_err-put_dir.ensures.err
+    let ok : IsLayer c.args.self.now = c.room_for.ensures.layer in
+    let costs = dir_costs c.args.self.now ok c.args.path.now c.room_for.ensures.path c.args.mode c.args.opaque c.requires.room c.requires.mode in
+    costs_done (c.args.self.now) (with_entry c.args.self.now c.args.path.now (Dir c.args.mode c.args.opaque)) c.args.path.now 0 1 1 costs c.in_ok-room.ensures.fits _

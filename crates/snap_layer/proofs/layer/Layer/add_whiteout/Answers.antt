@@ -1,54 +1,46 @@
-use Rattle.std.proofs.lemmas.Result.{err_from_is_err_and}
+use Rattle.std.proofs.Common.{◌≡◌, sym, ap, subst, ◌∙◌, refl, arith}
+use Rattle.snap_layer.specs.Tree.{Tree}
+use Rattle.snap_layer.specs.Layers.{IsLayer}
+use Rattle.snap_layer.specs.Totals.{IsCounted}
+use Rattle.snap_layer.proofs.Slots.{on_err_by}
 use Rattle.snap_layer.specs.declared.node.Node.TheVariants.{Whiteout}
 use Rattle.snap_layer.specs.Edits.{with_node}
-use Rattle.snap_layer.proofs.Filling.{whiteout_becomes, full_said, memory_said, ok_said}
-use Rattle.snap_layer.proofs.Slots.{on_err_by}
-use Rattle.std.proofs.Common.{refl}
+use Rattle.snap_layer.proofs.Rooms.{costs_full, costs_layer, costs_counted, costs_memory, costs_done, path_node, whiteout_costs}
 use Rattle.snap_layer.proofs.layer.Layer.add_whiteout.Goals as goal
 
-pub returns-then-inodes-gt-MAX_INODES-clause-full : goal.returns-then-inodes-gt-MAX_INODES-clause-full
-returns-then-inodes-gt-MAX_INODES-clause-full c =
-    let b = whiteout_becomes c.args.self.now c.left-rest.ensures.layer c.args.path.now c.left-rest.ensures.path _ c.left-rest.ensures.inodes c.requires in
-    full_said (with_node c.args.self.now c.args.path.now Whiteout) (b.full c.if-inodes-gt-MAX_INODES.true)
+pub returns-in_err-room-clause-full : goal.returns-in_err-room-clause-full
+returns-in_err-room-clause-full c =
+    let ok : IsLayer c.args.self.now = c.room_for.ensures.layer in
+    let costs = whiteout_costs c.args.self.now ok c.args.path.now c.room_for.ensures.path c.requires in
+    costs_full (c.args.self.now) (with_node c.args.self.now c.args.path.now Whiteout) c.args.path.now 0 1 0 costs c.from_residual.result c.in_err-room.field-0.0 c.from_residual.ensures.1 c.in_err-room.ensures.full
 
-pub put_whiteout-requires-clause-layer : goal.put_whiteout-requires-clause-layer
-put_whiteout-requires-clause-layer c =
-    let b = whiteout_becomes c.args.self.now c.left-rest.ensures.layer c.args.path.now c.left-rest.ensures.path _ c.left-rest.ensures.inodes c.requires in
-    b.layer c.if-inodes-gt-MAX_INODES.false
+pub whiteout-requires-clause-layer : goal.whiteout-requires-clause-layer
+whiteout-requires-clause-layer c =
+    let ok : IsLayer c.args.self.now = c.room_for.ensures.layer in
+    let costs = whiteout_costs c.args.self.now ok c.args.path.now c.room_for.ensures.path c.requires in
+    subst (λ (u : Tree). IsLayer (with_node u c.args.path.now Whiteout)) (sym c.self.view_is) (costs_layer (c.args.self.now) (with_node c.args.self.now c.args.path.now Whiteout) c.args.path.now 0 1 0 costs c.in_ok-room.ensures.fits)
 
-pub put_whiteout-requires-clause-count : goal.put_whiteout-requires-clause-count
-put_whiteout-requires-clause-count c =
-    let b = whiteout_becomes c.args.self.now c.left-rest.ensures.layer c.args.path.now c.left-rest.ensures.path _ c.left-rest.ensures.inodes c.requires in
-    b.count
+pub returns-in_err-whiteout-clause-full : goal.returns-in_err-whiteout-clause-full
+returns-in_err-whiteout-clause-full c =
+    let ok : IsLayer c.args.self.now = c.room_for.ensures.layer in
+    let costs = whiteout_costs c.args.self.now ok c.args.path.now c.room_for.ensures.path c.requires in
+    costs_memory (c.args.self.now) (with_node c.args.self.now c.args.path.now Whiteout) c.args.path.now 0 1 0 costs c.in_ok-room.ensures.fits c.from_residual-in_err-whiteout.result c.from_residual-in_err-whiteout.ensures.1
 
-pub returns-in_err-put_whiteout-clause-full : goal.returns-in_err-put_whiteout-clause-full
-returns-in_err-put_whiteout-clause-full c =
-    let b = whiteout_becomes c.args.self.now c.left-rest.ensures.layer c.args.path.now c.left-rest.ensures.path _ c.left-rest.ensures.inodes c.requires in
-    let p = err_from_is_err_and c.from_residual.result c.from_residual.ensures.1 in
-    memory_said c.from_residual.result _ (with_node c.args.self.now c.args.path.now Whiteout) p.1 p.2 (b.fits c.if-inodes-gt-MAX_INODES.false)
+pub returns-in_err-whiteout-clause-err : goal.returns-in_err-whiteout-clause-err
+returns-in_err-whiteout-clause-err c = on_err_by c.from_residual-in_err-whiteout.result (c.in_err-whiteout.ensures.err ∙ c.self.view_is)
+
+pub invariant_of-self-2 : goal.invariant_of-self-2
+invariant_of-self-2 c =
+    let ok : IsLayer c.args.self.now = c.room_for.ensures.layer in
+    let costs = whiteout_costs c.args.self.now ok c.args.path.now c.room_for.ensures.path c.requires in
+    let is : c.whiteout.new.self ≡ with_node c.args.self.now c.args.path.now Whiteout = c.in_ok-whiteout.ensures.ok ∙ ap (λ (u : Tree). with_node u c.args.path.now Whiteout) c.self.view_is in
+    subst (IsCounted _) (sym is) (costs_counted (c.args.self.now) (with_node c.args.self.now c.args.path.now Whiteout) c.args.path.now 0 1 0 costs c.in_ok-room.ensures.fits _ _ c.in_ok-room.ensures.room refl refl (omega (arith, path_node c.args.self.now ok c.args.path.now Whiteout, c.in_ok-room.ensures.room.paths)))
+
+pub returns-clause-ok : goal.returns-clause-ok
+returns-clause-ok c = c.in_ok-whiteout.ensures.ok ∙ ap (λ (u : Tree). with_node u c.args.path.now Whiteout) c.self.view_is
 
 pub returns-clause-full : goal.returns-clause-full
 returns-clause-full c =
-    let b = whiteout_becomes c.args.self.now c.left-rest.ensures.layer c.args.path.now c.left-rest.ensures.path _ c.left-rest.ensures.inodes c.requires in
-    ok_said _ (with_node c.args.self.now c.args.path.now Whiteout) (b.fits c.if-inodes-gt-MAX_INODES.false)
-
-pub put_whiteout-requires-clause-blocks : goal.put_whiteout-requires-clause-blocks
-put_whiteout-requires-clause-blocks c = c.left-rest.ensures.blocks
-
-pub put_whiteout-requires-clause-place : goal.put_whiteout-requires-clause-place
-put_whiteout-requires-clause-place c = c.requires
-
-pub returns-clause-ok : goal.returns-clause-ok
-returns-clause-ok c = c.in_ok-put_whiteout.ensures.ok
-
-pub returns-clause-err : goal.returns-clause-err
-returns-clause-err c = tt
-
-pub returns-then-inodes-gt-MAX_INODES-clause-ok : goal.returns-then-inodes-gt-MAX_INODES-clause-ok
-returns-then-inodes-gt-MAX_INODES-clause-ok c = tt
-
-pub returns-then-inodes-gt-MAX_INODES-clause-err : goal.returns-then-inodes-gt-MAX_INODES-clause-err
-returns-then-inodes-gt-MAX_INODES-clause-err c = refl
-
-pub returns-in_err-put_whiteout-clause-err : goal.returns-in_err-put_whiteout-clause-err
-returns-in_err-put_whiteout-clause-err c = on_err_by c.from_residual.result c.in_err-put_whiteout.ensures.err
+    let ok : IsLayer c.args.self.now = c.room_for.ensures.layer in
+    let costs = whiteout_costs c.args.self.now ok c.args.path.now c.room_for.ensures.path c.requires in
+    costs_done (c.args.self.now) (with_node c.args.self.now c.args.path.now Whiteout) c.args.path.now 0 1 0 costs c.in_ok-room.ensures.fits _
