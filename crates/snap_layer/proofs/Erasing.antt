@@ -18,7 +18,7 @@ use Rattle.snap_layer.proofs.Lists.{lookup-remove_entry, apart_from}
 use Rattle.snap_layer.proofs.Paths.{begins_from}
 use Rattle.snap_layer.proofs.Laws.{Takes-without}
 use Rattle.snap_layer.proofs.Moves.{apart_below, not_of_parent, HasParent-without}
-use Rattle.snap_layer.proofs.Replacing.{clears_place, without_nothing}
+use Rattle.snap_layer.proofs.Replacing.{clears_place, with_node-free, without_nothing}
 use Rattle.snap_layer.specs.declared.inode.Target.{Target}
 use Rattle.snap_layer.specs.declared.inode.Target.TheVariants as target
 use Rattle.snap_layer.specs.Walk.{View, Table, walk, seen, Links, Frees, Releases, Drops, Covers, Gains, Shifted, Renames, Relocates}
@@ -26,9 +26,9 @@ use Rattle.snap_layer.specs.Walk as tables
 use Rattle.snap_layer.specs.Holds.{Places, place}
 use Rattle.snap_layer.proofs.Frames.{split_ℕ, split_name, walk_push}
 use Rattle.snap_layer.proofs.Makes.{Makes}
-use Rattle.snap_layer.proofs.Putting.{Spot, makes_same}
+use Rattle.snap_layer.proofs.Putting.{Spot, makes_same, white_made}
 use Rattle.snap_layer.proofs.Files.{leaf_number, nothing_there, moved_made}
-use Rattle.snap_layer.proofs.Covering.{dropped_made, nothing_closed, left_taken}
+use Rattle.snap_layer.proofs.Covering.{covered_made, dropped_made, nothing_closed, left_taken}
 use Rattle.snap_layer.proofs.Changing.{name_made, node_found}
 
 no_some : {A : Type 0} (x : A) → None ≡ Some x → ⊥
@@ -175,6 +175,18 @@ shown s root ps next u path q n d spot y is = subst IsSome (sym (ap (at u) spot.
     by : (z : Target) → s.entries d n ≡ Some z → IsSome (seen s.nodes (Some z))
     by target.Whiteout at_z = refl
     by (target.Inode c) at_z = spot.makes.table.there (q ++ n ∷ []) c (walk_push s.entries root d q n spot.leads ∙ at_z)
+
+-- a whiteout in place of what stood at a path
+pub whitened_made : (s t : View) (root : ℕ) (ps qs : Places) (next : ℕ) (u : Tree) (path q : Names) (n : List ℕ) (d : ℕ) → Spot s root ps next u path q n d → HasPlace u path → ((c : ℕ) → s.nodes c ≡ Some node.Whiteout → ⊥) → Covers s t ps qs d n → Makes t root qs next (with_node u path node.Whiteout)
+whitened_made s t root ps qs next u path q n d spot fits plain covers = by (s.entries d n) refl
+  where
+    by : (o : Option Target) → s.entries d n ≡ o → Makes t root qs next (with_node u path node.Whiteout)
+    by None at_o =
+        let free : IsFree (at u path) = subst IsFree (sym (nothing_there s root ps next u path q n d spot.makes spot.splits spot.leads at_o)) tt in
+        let same = subst (Releases covers.between t ps qs) at_o covers.releases in
+        let made = white_made s covers.between root ps next u path q n d spot free covers.links in
+        subst (λ (z : Tree). Makes t root qs next z) (sym (with_node-free u spot.layer path node.Whiteout free)) (makes_same covers.between t root same.0 ps qs next (with_entry u path node.Whiteout) same.1 made)
+    by (Some y) at_o = covered_made s t root ps qs next u path q n d spot fits (shown s root ps next u path q n d spot y at_o) plain covers
 
 -- one more name in place of what stood at a path
 pub renamed_made : (s t : View) (root : ℕ) (ps qs : Places) (next : ℕ) (u : Tree) (path q : Names) (n : List ℕ) (d : ℕ) → Spot s root ps next u path q n d → HasPlace u path → ((c : ℕ) → s.nodes c ≡ Some node.Whiteout → ⊥)

@@ -255,21 +255,23 @@ fn release(slots: &mut Slab<Inode>, places: &mut BTreeMap<u32, usize>, target: O
     }
 }
 
-/// Puts a whiteout in place of what stands at the entry, which goes.
-pub(crate) fn cover_entry(
+/// Puts a whiteout at the entry, in place of what stands there.
+pub(crate) fn cover(
     slots: &mut Slab<Inode>,
     places: &mut BTreeMap<u32, usize>,
     dir: usize,
     name: &Name,
-)
-    requires dir { IsDirAt (node_at slots.old dir) }
-    requires there { IsSome (entry_at slots.old dir name.now) }
-    ensures covers { Covers (view_of slots.old) (view_of slots.new) places.old.entries places.new.entries dir name.now }
+) -> Result<(), AllocError>
+    requires { IsDirAt (node_at slots.old dir) }
+    ensures ok { OnOk result (Covers (view_of slots.old) (view_of slots.new) places.old.entries places.new.entries dir name.now) }
+    ensures err { OnErr result (Same (view_of slots.old) (view_of slots.new) × (places.new.entries ≡ places.old.entries)) }
+    ensures sure { OnErr result (entry_at slots.old dir name.now ≡ None) }
     ensures room { HasRoomFor slots.old 1 → HasRoomFor slots.new 1 }
 {
     let target = entry(slots, dir, name);
-    let _ = link(slots, dir, name, Target::Whiteout);
+    link(slots, dir, name, Target::Whiteout)?;
     release(slots, places, target);
+    Ok(())
 }
 
 /// Puts a whiteout in place of what stands at the entry, if anything does.
@@ -280,7 +282,7 @@ fn clear_entry(slots: &mut Slab<Inode>, places: &mut BTreeMap<u32, usize>, dir: 
     ensures ordered { IsOrdered nat_cmp places.new }
 {
     if entry(slots, dir, name).is_some() {
-        cover_entry(slots, places, dir, name);
+        let _ = cover(slots, places, dir, name);
     }
     let _ = places.len();
 }

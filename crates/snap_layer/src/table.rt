@@ -19,8 +19,8 @@ mod same;
 use super::bytes::Edit;
 use super::dir::Dir;
 use super::edit::{
-    body_at, copied, cover_entry, edit_body, link, links_at, next_place, place_of, put_inode,
-    put_leaf, relocate, replace_name, set_body, set_dir, set_mode, take_target,
+    body_at, copied, cover, edit_body, links_at, next_place, place_of, put_inode, put_leaf,
+    relocate, replace_name, set_body, set_dir, set_mode, take_target,
 };
 use super::inode::{Inode, Target};
 use super::node::{Body, Node};
@@ -133,11 +133,6 @@ impl Table {
         }
     }
 
-    /// The allocator that the table keeps.
-    pub fn alloc(&self) -> Global {
-        self.alloc
-    }
-
     /// The number that the next file or symlink gets.
     pub fn next_number(&self) -> u32
         ensures next { result ≡ self.now.next }
@@ -237,7 +232,7 @@ impl Table {
     {
         let _ = self.next_number();
         if covers {
-            self.cover(path);
+            let _ = self.whiteout(path);
         } else {
             self.take(path);
         }
@@ -254,33 +249,7 @@ impl Table {
         self.next -= 1;
     }
 
-    /// Puts a whiteout where nothing or a whiteout stands.
-    pub fn put_whiteout(&mut self, path: &Path) -> Result<(), AllocError>
-        requires free { IsFree (at self.old path.now) }
-        requires above { HasParent self.old path.now }
-        requires layer { IsLayer (with_entry self.old path.now Node.Whiteout) }
-        ensures ok { OnOk result (self.new ≡ with_entry self.old path.now Node.Whiteout) }
-        ensures sure { OnErr result (at self.old path.now ≡ None) }
-        ensures err { OnErr result (self.new ≡ self.old) }
-    {
-        let _ = &self.slots;
-        let (dir, name) = parent_at(&self.slots, self.root, path);
-        link(&mut self.slots, dir, name, Target::Whiteout)
-    }
-
     /// Puts a whiteout in place of what stands at the path. A file or symlink goes with its last name.
-    pub fn cover(&mut self, path: &Path)
-        requires place { HasPlace self.old path.now }
-        requires there { IsSome (at self.old path.now) }
-        requires layer { IsLayer (with_node self.old path.now Node.Whiteout) }
-        ensures { self.new ≡ with_node self.old path.now Node.Whiteout }
-    {
-        let _ = &self.slots;
-        let (dir, name) = parent_at(&self.slots, self.root, path);
-        cover_entry(&mut self.slots, &mut self.places, dir, name);
-    }
-
-    /// Puts a whiteout in place of what stands at the path, if anything does.
     pub fn whiteout(&mut self, path: &Path) -> Result<(), AllocError>
         requires place { HasPlace self.old path.now }
         requires layer { IsLayer (with_node self.old path.now Node.Whiteout) }
@@ -288,12 +257,9 @@ impl Table {
         ensures sure { OnErr result (at self.old path.now ≡ None) }
         ensures err { OnErr result (self.new ≡ self.old) }
     {
-        let _ = self.next_number();
-        if self.at(path).is_some() {
-            self.cover(path);
-            return Ok(());
-        }
-        self.put_whiteout(path)
+        let _ = &self.slots;
+        let (dir, name) = parent_at(&self.slots, self.root, path);
+        cover(&mut self.slots, &mut self.places, dir, name)
     }
 
     /// Takes a name, a whiteout, or a directory that has whiteouts alone. A file or symlink goes with its last
