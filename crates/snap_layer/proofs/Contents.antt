@@ -70,7 +70,7 @@ pub record IsEdited (t : Tree) (k : ℕ) (b : Body) (e : Edit) : Type 0 where
   pub kind : (x : Body) → body t k ≡ Some x → leaf_node k x ≡ leaf_node k (body_edited b e)
   pub layer : IsLayer (with_body t k (body_edited b e))
 
-same_leaf : (k : ℕ) (x : Body) (e : Edit) → leaf_node k x ≡ leaf_node k (body_edited x e)
+pub same_leaf : (k : ℕ) (x : Body) (e : Edit) → leaf_node k x ≡ leaf_node k (body_edited x e)
 same_leaf k (body_kinds.File mode bytes) e = refl
 same_leaf k (body_kinds.Symlink target) e = refl
 

@@ -22,7 +22,7 @@ use Rattle.snap_layer.proofs.Replacing.{clears_place, IsLayer-with_node, inode_c
 use Rattle.snap_layer.proofs.Laws.{without-with_entry}
 use Rattle.snap_layer.specs.declared.inode.Target.{Target}
 use Rattle.snap_layer.specs.declared.inode.Target.TheVariants as target
-use Rattle.snap_layer.specs.Walk.{View, walk, seen, Same, Frees, Releases, Adds, Enters}
+use Rattle.snap_layer.specs.Walk.{View, walk, seen, Links, Raises, Gains, Same, Frees, Releases, Adds, Enters}
 use Rattle.snap_layer.specs.Walk as tables
 use Rattle.snap_layer.proofs.Slots.{puts_other}
 use Rattle.snap_layer.specs.Holds.{Places, place}
@@ -160,6 +160,21 @@ clears_other s t ps qs d n k apart clears = by (s.entries d n) refl clears
         let freed = subst (Releases r.between t ps qs) is r.releases in
         let other : k ≡ c → ⊥ = λ e. apart (is ∙ ap (λ (y : ℕ). Some (target.Inode y)) (sym e)) in
         (freed.nodes k other ∙ r.links.nodes k, freed.bodies k other ∙ r.links.bodies k, freed.counts k other ∙ r.links.counts k)
+
+-- an entry for a leaf, and a link more of it
+pub gained : (s b t : View) (d : ℕ) (n : List ℕ) (k : ℕ) → Links s b d n (Some (target.Inode k)) → Raises b t k → Gains s t d n k
+gained s b t d n k links raises = record {
+  entries = record {
+    here = raises.entries d n ∙ links.entries.here;
+    names = λ m apart. raises.entries d m ∙ links.entries.names m apart;
+    dirs = λ c m apart. raises.entries c m ∙ links.entries.dirs c m apart;
+  };
+  bare = raises.bare;
+  nodes = λ c. raises.nodes c ∙ links.nodes c;
+  bodies = λ c. raises.bodies c ∙ links.bodies c;
+  counts = λ c apart. raises.counts c apart ∙ links.counts c;
+  count = raises.raise ∙ ap (λ (l : ℕ). l + 1) (links.counts k);
+}
 
 -- and so is each other entry of another inode
 pub clears_entry : (s t : View) (ps qs : Places) (d : ℕ) (n : List ℕ) (k : ℕ) (m : List ℕ) → (s.entries d n ≡ Some (target.Inode k) → ⊥) → (k ≡ d → m ≡ n → ⊥) → tables.Clears s t ps qs d n (s.entries d n) → t.entries k m ≡ s.entries k m

@@ -24,22 +24,6 @@ use std::alloc::AllocError;
 use std::collections::BTreeMap;
 use std::ops::Bound;
 
-/// Puts the entry into the directory. Where one stands there it takes no memory.
-fn put_entry(inode: &mut Inode, name: &Name, target: Target) -> Result<(), AllocError>
-    requires { IsDirAt (node_of (Some inode.old)) }
-    ensures ok { OnOk result ((m : List ℕ) → entry_of (Some inode.new) m ≡ cond (is_at (slice_cmp nat_cmp name.now) m) (Some target) (entry_of (Some inode.old) m)) }
-    ensures err { OnErr result ((m : List ℕ) → entry_of (Some inode.new) m ≡ entry_of (Some inode.old) m) }
-    ensures sure { OnErr result (entry_of (Some inode.old) name.now ≡ None) }
-    ensures node { node_of (Some inode.new) ≡ node_of (Some inode.old) }
-    ensures body { body_of (Some inode.new) ≡ body_of (Some inode.old) }
-    ensures count { count_of (Some inode.new) ≡ count_of (Some inode.old) }
-{
-    match inode {
-        Inode::Dir { entries, .. } => set_entry(entries, name, target),
-        Inode::Leaf { .. } => unreachable!(),
-    }
-}
-
 /// Puts the target at the name. Where one stands there it takes no memory.
 fn set_entry(
     entries: &mut BTreeMap<Name, Target>,
@@ -73,24 +57,11 @@ pub(crate) fn link(
     ensures capacity { slots.new.capacity ≡ slots.old.capacity }
     ensures vacant { slots.new.vacant_key ≡ slots.old.vacant_key }
 {
-    match slots.get_mut(dir) {
-        Some(inode) => put_entry(inode, name, target),
-        None => unreachable!(),
-    }
-}
-
-/// Takes the name's entry from the directory.
-fn take_entry(inode: &mut Inode, name: &Name)
-    requires { IsDirAt (node_of (Some inode.old)) }
-    ensures entries { (m : List ℕ) → entry_of (Some inode.new) m ≡ cond (is_at (slice_cmp nat_cmp name.now) m) None (entry_of (Some inode.old) m) }
-    ensures node { node_of (Some inode.new) ≡ node_of (Some inode.old) }
-    ensures body { body_of (Some inode.new) ≡ body_of (Some inode.old) }
-    ensures count { count_of (Some inode.new) ≡ count_of (Some inode.old) }
-{
+    let Some(inode) = slots.get_mut(dir) else {
+        unreachable!()
+    };
     match inode {
-        Inode::Dir { entries, .. } => {
-            entries.remove(name);
-        }
+        Inode::Dir { entries, .. } => set_entry(entries, name, target),
         Inode::Leaf { .. } => unreachable!(),
     }
 }
@@ -100,9 +71,14 @@ pub(crate) fn unlink(slots: &mut Slab<Inode>, dir: usize, name: &Name)
     requires { IsDirAt (node_at slots.old dir) }
     ensures { Links (view_of slots.old) (view_of slots.new) dir name.now None }
 {
-    match slots.get_mut(dir) {
-        Some(inode) => take_entry(inode, name),
-        None => unreachable!(),
+    let Some(inode) = slots.get_mut(dir) else {
+        unreachable!()
+    };
+    match inode {
+        Inode::Dir { entries, .. } => {
+            entries.remove(name);
+        }
+        Inode::Leaf { .. } => unreachable!(),
     }
 }
 
@@ -190,29 +166,18 @@ fn has_more_links(slots: &Slab<Inode>, key: usize) -> bool
     }
 }
 
-/// One link fewer.
-fn lower(inode: &mut Inode)
-    requires { 1 < count_of (Some inode.old) }
-    ensures entries { (m : List ℕ) → entry_of (Some inode.new) m ≡ entry_of (Some inode.old) m }
-    ensures node { node_of (Some inode.new) ≡ node_of (Some inode.old) }
-    ensures body { body_of (Some inode.new) ≡ body_of (Some inode.old) }
-    ensures count { count_of (Some inode.new) + 1 ≡ count_of (Some inode.old) }
-{
-    match inode {
-        Inode::Leaf { links, .. } => *links -= 1,
-        Inode::Dir { .. } => unreachable!(),
-    }
-}
-
 /// One link fewer of the leaf at the key.
 fn drop_link(slots: &mut Slab<Inode>, key: usize)
     requires { 1 < count_at slots.old key }
     ensures lowers { Lowers (view_of slots.old) (view_of slots.new) key }
     ensures room { HasRoomFor slots.old 1 → HasRoomFor slots.new 1 }
 {
-    match slots.get_mut(key) {
-        Some(inode) => lower(inode),
-        None => unreachable!(),
+    let Some(inode) = slots.get_mut(key) else {
+        unreachable!()
+    };
+    match inode {
+        Inode::Leaf { links, .. } => *links -= 1,
+        Inode::Dir { .. } => unreachable!(),
     }
 }
 
@@ -344,50 +309,19 @@ pub(crate) fn take_target(
     release(slots, places, target);
 }
 
-/// One link more.
-fn raise(inode: &mut Inode)
-    requires leaf { IsSome (body_of (Some inode.old)) }
-    requires few { count_of (Some inode.old) + 1 < 2 ^ 64 }
-    ensures entries { (m : List ℕ) → entry_of (Some inode.new) m ≡ entry_of (Some inode.old) m }
-    ensures node { node_of (Some inode.new) ≡ node_of (Some inode.old) }
-    ensures body { body_of (Some inode.new) ≡ body_of (Some inode.old) }
-    ensures count { count_of (Some inode.new) ≡ count_of (Some inode.old) + 1 }
-{
-    match inode {
-        Inode::Leaf { links, .. } => *links += 1,
-        Inode::Dir { .. } => unreachable!(),
-    }
-}
-
 /// One link more of the leaf at the key.
 fn raise_link(slots: &mut Slab<Inode>, key: usize)
     requires leaf { IsSome (body_at slots.old key) }
     requires few { count_at slots.old key + 1 < 2 ^ 64 }
     ensures { Raises (view_of slots.old) (view_of slots.new) key }
 {
-    match slots.get_mut(key) {
-        Some(inode) => raise(inode),
-        None => unreachable!(),
+    let Some(inode) = slots.get_mut(key) else {
+        unreachable!()
+    };
+    match inode {
+        Inode::Leaf { links, .. } => *links += 1,
+        Inode::Dir { .. } => unreachable!(),
     }
-}
-
-/// Puts one more name of the leaf with the key.
-pub(crate) fn add_link(
-    slots: &mut Slab<Inode>,
-    dir: usize,
-    name: &Name,
-    key: usize,
-) -> Result<(), AllocError>
-    requires dir { IsDirAt (node_at slots.old dir) }
-    requires leaf { IsSome (body_at slots.old key) }
-    requires few { count_at slots.old key + 1 < 2 ^ 64 }
-    ensures ok { OnOk result (Gains (view_of slots.old) (view_of slots.new) dir name.now key) }
-    ensures err { OnErr result (Same (view_of slots.old) (view_of slots.new)) }
-    ensures sure { OnErr result (entry_at slots.old dir name.now ≡ None) }
-{
-    link(slots, dir, name, Target::Inode(key))?;
-    raise_link(slots, key);
-    Ok(())
 }
 
 /// Puts one more name of the leaf with the key in place of what stands at the entry.
@@ -408,7 +342,9 @@ pub(crate) fn replace_name(
     ensures sure { OnErr result (entry_at slots.old dir name.now ≡ None) }
 {
     clear_entry(slots, places, dir, name);
-    add_link(slots, dir, name, key)
+    link(slots, dir, name, Target::Inode(key))?;
+    raise_link(slots, key);
+    Ok(())
 }
 
 /// The body of the leaf with the key.
@@ -433,46 +369,18 @@ pub(crate) fn links_at(slots: &Slab<Inode>, key: usize) -> usize
     }
 }
 
-/// Gives the leaf another body.
-fn set_leaf(inode: &mut Inode, new: Body)
-    requires leaf { IsSome (body_of (Some inode.old)) }
-    requires kind { (b : BodyValue) (k : ℕ) → body_of (Some inode.old) ≡ Some b → leaf_node k new ≡ leaf_node k b }
-    ensures entries { (m : List ℕ) → entry_of (Some inode.new) m ≡ entry_of (Some inode.old) m }
-    ensures node { node_of (Some inode.new) ≡ node_of (Some inode.old) }
-    ensures body { body_of (Some inode.new) ≡ Some new }
-    ensures count { count_of (Some inode.new) ≡ count_of (Some inode.old) }
-{
-    match inode {
-        Inode::Leaf { body, .. } => *body = new,
-        Inode::Dir { .. } => unreachable!(),
-    }
-}
-
 /// Gives the leaf with the key another body.
 pub(crate) fn set_body(slots: &mut Slab<Inode>, key: usize, body: Body)
     requires leaf { IsSome (body_at slots.old key) }
     requires kind { (b : BodyValue) (k : ℕ) → body_at slots.old key ≡ Some b → leaf_node k body ≡ leaf_node k b }
     ensures { Rebodies (view_of slots.old) (view_of slots.new) key body }
 {
-    match slots.get_mut(key) {
-        Some(inode) => set_leaf(inode, body),
-        None => unreachable!(),
-    }
-}
-
-/// Changes the bytes of the leaf in place, and gives the blocks that it took and those that it takes.
-fn edit_leaf(inode: &mut Inode, edit: Edit<'_>) -> Result<(u64, u64), AllocError>
-    requires { IsShort edit }
-    ensures entries { (m : List ℕ) → entry_of (Some inode.new) m ≡ entry_of (Some inode.old) m }
-    ensures node { node_of (Some inode.new) ≡ node_of (Some inode.old) }
-    ensures ok { (b : BodyValue) → body_of (Some inode.old) ≡ Some b → OnOk result (body_of (Some inode.new) ≡ Some (body_edited b edit.entry)) }
-    ensures blocks { (b : BodyValue) → body_of (Some inode.old) ≡ Some b → IfOk result (λ n. n ≡ (body_blocks b, body_blocks (body_edited b edit.entry))) }
-    ensures err { OnErr result (body_of (Some inode.new) ≡ body_of (Some inode.old)) }
-    ensures count { count_of (Some inode.new) ≡ count_of (Some inode.old) }
-{
+    let Some(inode) = slots.get_mut(key) else {
+        unreachable!()
+    };
     match inode {
-        Inode::Leaf { body, .. } => body.edit(edit),
-        Inode::Dir { .. } => Ok((0, 0)),
+        Inode::Leaf { body: own, .. } => *own = body,
+        Inode::Dir { .. } => unreachable!(),
     }
 }
 
@@ -488,22 +396,12 @@ pub(crate) fn edit_body(
     ensures blocks { (b : BodyValue) → body_at slots.old key ≡ Some b → IfOk result (λ n. n ≡ (body_blocks b, body_blocks (body_edited b edit.entry))) }
     ensures err { OnErr result (Same (view_of slots.old) (view_of slots.new)) }
 {
-    match slots.get_mut(key) {
-        Some(inode) => edit_leaf(inode, edit),
-        None => unreachable!(),
-    }
-}
-
-/// Sets the mode of the leaf.
-fn set_leaf_mode(inode: &mut Inode, mode: u32)
-    ensures entries { (m : List ℕ) → entry_of (Some inode.new) m ≡ entry_of (Some inode.old) m }
-    ensures node { node_of (Some inode.new) ≡ node_of (Some inode.old) }
-    ensures body { (b : BodyValue) → body_of (Some inode.old) ≡ Some b → body_of (Some inode.new) ≡ Some (body_with_mode b mode) }
-    ensures count { count_of (Some inode.new) ≡ count_of (Some inode.old) }
-{
+    let Some(inode) = slots.get_mut(key) else {
+        unreachable!()
+    };
     match inode {
-        Inode::Leaf { body, .. } => body.set_mode(mode),
-        Inode::Dir { .. } => {}
+        Inode::Leaf { body, .. } => body.edit(edit),
+        Inode::Dir { .. } => unreachable!(),
     }
 }
 
@@ -512,20 +410,23 @@ pub(crate) fn set_mode(slots: &mut Slab<Inode>, key: usize, mode: u32)
     requires { IsSome (body_at slots.old key) }
     ensures { (b : BodyValue) → body_at slots.old key ≡ Some b → Rebodies (view_of slots.old) (view_of slots.new) key (body_with_mode b mode) }
 {
-    match slots.get_mut(key) {
-        Some(inode) => set_leaf_mode(inode, mode),
-        None => unreachable!(),
+    let Some(inode) = slots.get_mut(key) else {
+        unreachable!()
+    };
+    match inode {
+        Inode::Leaf { body, .. } => body.set_mode(mode),
+        Inode::Dir { .. } => unreachable!(),
     }
 }
 
-/// Sets the mode and the mark of the directory.
-fn set_node(inode: &mut Inode, mode: u32, opaque: bool)
-    requires { IsDirAt (node_of (Some inode.old)) }
-    ensures entries { (m : List ℕ) → entry_of (Some inode.new) m ≡ entry_of (Some inode.old) m }
-    ensures node { node_of (Some inode.new) ≡ Some (Node.Dir mode opaque) }
-    ensures body { body_of (Some inode.new) ≡ body_of (Some inode.old) }
-    ensures count { count_of (Some inode.new) ≡ count_of (Some inode.old) }
+/// Sets the mode and the mark of the directory at the key.
+pub(crate) fn set_dir(slots: &mut Slab<Inode>, key: usize, mode: u32, opaque: bool)
+    requires { IsDirAt (node_at slots.old key) }
+    ensures { Renodes (view_of slots.old) (view_of slots.new) key (Node.Dir mode opaque) }
 {
+    let Some(inode) = slots.get_mut(key) else {
+        unreachable!()
+    };
     match inode {
         Inode::Dir {
             mode: own,
@@ -536,17 +437,6 @@ fn set_node(inode: &mut Inode, mode: u32, opaque: bool)
             *mark = opaque;
         }
         Inode::Leaf { .. } => unreachable!(),
-    }
-}
-
-/// Sets the mode and the mark of the directory at the key.
-pub(crate) fn set_dir(slots: &mut Slab<Inode>, key: usize, mode: u32, opaque: bool)
-    requires { IsDirAt (node_at slots.old key) }
-    ensures { Renodes (view_of slots.old) (view_of slots.new) key (Node.Dir mode opaque) }
-{
-    match slots.get_mut(key) {
-        Some(inode) => set_node(inode, mode, opaque),
-        None => unreachable!(),
     }
 }
 

@@ -1,28 +1,27 @@
-use Rattle.std.proofs.Common.{◌+◌, ◌<◌, ◌^◌, IsSome, ℕ, sym, subst, ◌∙◌}
+use Rattle.std.proofs.Common.{◌+◌, ◌<◌, ◌^◌, IsSome, ℕ, sym, ap, subst, ◌∙◌}
+use Rattle.std.specs.Prelude.{is_some}
 use Rattle.snap_layer.specs.Tree.{IsDirAt}
 use Rattle.snap_layer.specs.Walk.{view_of}
-use Rattle.snap_layer.proofs.Slots.{on_ok, on_err, on_err_both, same_trans}
-use Rattle.snap_layer.proofs.Entering.{clears_other, clears_none}
+use Rattle.snap_layer.proofs.Slots.{on_err_by, same_trans}
+use Rattle.snap_layer.proofs.Entering.{clears_other, clears_none, gained}
 use Rattle.snap_layer.proofs.edit.replace_name.Goals as goal
 
-pub add_link-requires-clause-dir : goal.add_link-requires-clause-dir
-add_link-requires-clause-dir c = subst IsDirAt (sym (clears_other (view_of c.args.slots.now) (view_of c.clear_entry.new.slots) c.args.places.now.entries c.clear_entry.new.places.entries c.args.dir c.args.name.now c.args.dir c.requires.apart c.clear_entry.ensures.clears).0) c.requires.dir
+pub link-requires : goal.link-requires
+link-requires c = subst IsDirAt (sym (clears_other (view_of c.args.slots.now) (view_of c.clear_entry.new.slots) c.args.places.now.entries c.clear_entry.new.places.entries c.args.dir c.args.name.now c.args.dir c.requires.apart c.clear_entry.ensures.clears).0) c.requires.dir
 
-pub add_link-requires-clause-leaf : goal.add_link-requires-clause-leaf
-add_link-requires-clause-leaf c = subst IsSome (sym (clears_other (view_of c.args.slots.now) (view_of c.clear_entry.new.slots) c.args.places.now.entries c.clear_entry.new.places.entries c.args.dir c.args.name.now c.args.key c.requires.other c.clear_entry.ensures.clears).1) c.requires.leaf
+pub raise_link-requires-clause-leaf : goal.raise_link-requires-clause-leaf
+raise_link-requires-clause-leaf c = subst IsSome (sym (c.in_ok-link.ensures.ok.bodies c.args.key ∙ (clears_other (view_of c.args.slots.now) (view_of c.clear_entry.new.slots) c.args.places.now.entries c.clear_entry.new.places.entries c.args.dir c.args.name.now c.args.key c.requires.other c.clear_entry.ensures.clears).1)) c.requires.leaf
 
-pub add_link-requires-clause-few : goal.add_link-requires-clause-few
-add_link-requires-clause-few c = subst (λ (k : ℕ). k + 1 < 2 ^ 64) (sym (clears_other (view_of c.args.slots.now) (view_of c.clear_entry.new.slots) c.args.places.now.entries c.clear_entry.new.places.entries c.args.dir c.args.name.now c.args.key c.requires.other c.clear_entry.ensures.clears).2) c.requires.few
+pub raise_link-requires-clause-few : goal.raise_link-requires-clause-few
+raise_link-requires-clause-few c = subst (λ (k : ℕ). k + 1 < 2 ^ 64) (sym (c.in_ok-link.ensures.ok.counts c.args.key ∙ (clears_other (view_of c.args.slots.now) (view_of c.clear_entry.new.slots) c.args.places.now.entries c.clear_entry.new.places.entries c.args.dir c.args.name.now c.args.key c.requires.other c.clear_entry.ensures.clears).2)) c.requires.few
 
 pub returns-clause-ok : goal.returns-clause-ok
-returns-clause-ok c = on_ok c.add_link.result (λ done. record { cleared = view_of c.clear_entry.new.slots; clears = c.clear_entry.ensures.clears; gains = done }) c.add_link.ensures.ok
+returns-clause-ok c = record { cleared = view_of c.clear_entry.new.slots; clears = c.clear_entry.ensures.clears; gains = gained _ _ _ _ _ _ c.in_ok-link.ensures.ok c.raise_link.ensures }
 
-pub returns-clause-err : goal.returns-clause-err
-returns-clause-err c = on_err_both c.add_link.result (
-    λ alike none.
-    let was = clears_none (view_of c.args.slots.now) (view_of c.clear_entry.new.slots) c.args.places.now.entries c.clear_entry.new.places.entries c.args.dir c.args.name.now c.requires.apart c.clear_entry.ensures.clears none in
-    (same_trans _ _ _ was.0 alike, was.1)
-    ) c.add_link.ensures.err c.add_link.ensures.sure
+pub returns-in_err-link-clause-err : goal.returns-in_err-link-clause-err
+returns-in_err-link-clause-err c =
+    let was = clears_none (view_of c.args.slots.now) (view_of c.clear_entry.new.slots) c.args.places.now.entries c.clear_entry.new.places.entries c.args.dir c.args.name.now c.requires.apart c.clear_entry.ensures.clears c.in_err-link.ensures.sure in
+    on_err_by c.from_residual.result (same_trans _ _ _ was.0 c.in_err-link.ensures.err, was.1)
 
-pub returns-clause-sure : goal.returns-clause-sure
-returns-clause-sure c = on_err c.add_link.result (λ none. sym ((clears_none (view_of c.args.slots.now) (view_of c.clear_entry.new.slots) c.args.places.now.entries c.clear_entry.new.places.entries c.args.dir c.args.name.now c.requires.apart c.clear_entry.ensures.clears none).0.entries c.args.dir c.args.name.now) ∙ none) c.add_link.ensures.sure
+pub returns-in_err-link-clause-sure : goal.returns-in_err-link-clause-sure
+returns-in_err-link-clause-sure c = on_err_by c.from_residual.result (sym ((clears_none (view_of c.args.slots.now) (view_of c.clear_entry.new.slots) c.args.places.now.entries c.clear_entry.new.places.entries c.args.dir c.args.name.now c.requires.apart c.clear_entry.ensures.clears c.in_err-link.ensures.sure).0.entries c.args.dir c.args.name.now) ∙ c.in_err-link.ensures.sure)
