@@ -155,17 +155,6 @@ fn shift(
     Ok(())
 }
 
-/// Whether the leaf has more than one link.
-fn has_more_links(slots: &Slab<Inode>, key: usize) -> bool
-    ensures { IsTrue result ↔ (1 < count_at slots.now key) }
-{
-    match slots.get(key) {
-        Some(Inode::Leaf { links, .. }) => *links > 1,
-        Some(Inode::Dir { .. }) => false,
-        None => false,
-    }
-}
-
 /// One link fewer of the leaf at the key.
 fn drop_link(slots: &mut Slab<Inode>, key: usize)
     requires { 1 < count_at slots.old key }
@@ -187,7 +176,7 @@ fn drop_name(slots: &mut Slab<Inode>, places: &mut BTreeMap<u32, usize>, key: us
     ensures frees { Frees (view_of slots.old) (view_of slots.new) places.old.entries places.new.entries key }
     ensures room { HasRoomFor slots.old 1 → HasRoomFor slots.new 1 }
 {
-    if has_more_links(slots, key) {
+    if links_at(slots, key) > 1 {
         drop_link(slots, key);
         return;
     }

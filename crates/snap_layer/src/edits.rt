@@ -252,21 +252,11 @@ impl Layer {
         let _ = &self.is_layer;
         match self.at(path) {
             Some(Node::Dir { opaque, .. }) => self.set_dir(path, mode, opaque),
-            Some(Node::File { number }) => self.set_file_mode(number, mode),
+            Some(Node::File { number }) => self.table.set_file_mode(number, mode),
             Some(Node::Symlink { .. }) => {}
             Some(Node::Whiteout) => {}
             None => {}
         }
-    }
-
-    /// Sets the mode of the file with the number.
-    fn set_file_mode(&mut self, number: u32, mode: u32)
-        requires file { IsFile (body self.old number) }
-        requires mode { mode ≤ 4095 }
-        ensures { self.new ≡ with_file_mode self.old number (body self.old number) mode }
-    {
-        let _ = &self.is_layer;
-        self.table.set_file_mode(number, mode);
     }
 
     /// What the layer takes once something that takes so much stands at the path in place of what stands there:
