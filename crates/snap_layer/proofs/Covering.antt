@@ -465,14 +465,3 @@ covered_made s t root ps qs next u path q n d spot fits there plain covers = (co
 pub taken_made : (s t : View) (root : ℕ) (ps qs : Places) (next : ℕ) (u : Tree) (path q : Names) (n : List ℕ) (d : ℕ) → Spot s root ps next u path q n d → IsTakeable u path → ((c : ℕ) → s.nodes c ≡ Some node.Whiteout → ⊥) → Drops s t ps qs d n None → Makes t root qs next (without u path)
 taken_made s t root ps qs next u path q n d spot fits plain drops =
     (dropped_made s t root ps qs next u path q n d spot fits.clear fits.there plain None nothing_closed (without u path) (left_taken u path) drops).makes
-
--- where something stands at a path, its directory has an entry
-pub there_entry : (s : View) (root : ℕ) (ps : Places) (next : ℕ) (u : Tree) (path q : Names) (n : List ℕ) (d : ℕ) → Spot s root ps next u path q n d → IsSome (at u path) → IsSome (s.entries d n)
-there_entry s root ps next u path q n d spot there = by (s.entries d n) refl
-  where
-    nothing : IsSome {T = Node} None → ⊥
-    nothing e = cc
-
-    by : (o : Option Target) → s.entries d n ≡ o → IsSome o
-    by None is = absurd (nothing (subst IsSome (ap (at u) spot.splits ∙ sym (spot.makes.shows (q ++ n ∷ [])) ∙ ap (seen s.nodes) (walk_push s.entries root d q n spot.leads ∙ is)) there))
-    by (Some x) is = refl

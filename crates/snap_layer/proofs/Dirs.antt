@@ -47,9 +47,6 @@ not_none o some none = cc
 pub dir_at : (o : Option Node) (x : Node) → o ≡ Some x → is_dir x ≡ true → IsDirAt o
 dir_at o x is dir = subst IsDirAt (sym is) dir
 
-pub is_dir_node : (o : Option Node) (x : Node) → o ≡ Some x → IsDirAt o → is_dir x ≡ true
-is_dir_node o x is dir = subst IsDirAt is dir
-
 module _ (s : Slots Inode) (root key : ℕ) (h : Holds s root) (p : OnlyPath s root key) (t : Tree) (same : map.entries h.0 ≡ t.entries) (v : Directory) (view : ◌≡◌ {A = Directory} (record { layer = t; path = p.0 }) v) where
   stood : (q : Names) → at t q ≡ stands (view_of s) root q
   stood q = ap (lookup (is_at (path_cmp q))) (sym same) ∙ lookup_find path_cmp q (map.entries h.0) ∙ sym (map.get-entries h.0 q) ∙ h.1 q

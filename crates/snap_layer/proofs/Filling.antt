@@ -19,7 +19,7 @@ use Rattle.snap_layer.specs.Edits.{with_node, with_new, without, HasRoom, HasPla
 use Rattle.snap_layer.proofs.Counting.{dropped}
 use Rattle.snap_layer.proofs.Looks.{SetsBody-insert_entry, is_dropped, split_number}
 use Rattle.snap_layer.proofs.Kept.{body-without, node_with_number}
-use Rattle.snap_layer.proofs.Replacing.{inode_count-with_node, inode_count-with_new, IsLayer-with_node, IsLayer-with_new, HasPlace-from_room, is_within_yes, is_within_many, is_within_last}
+use Rattle.snap_layer.proofs.Replacing.{inode_count-with_node, inode_count-with_new, IsLayer-with_node, IsLayer-with_new, HasPlace-from_room, is_within_yes, is_within_many}
 
 -- ---- the inodes that are left
 
@@ -48,9 +48,6 @@ no_bool e = cc
 -- LayerFull is answered exactly where the layer would not be within the limits
 abbrev pub SaysFull : {A : Type 0} → Result A LayerError → Tree → Type 0
 SaysFull r u = (IsErrOf r LayerFull → is_within u ≡ false) × (is_within u ≡ false → IsErrOf r LayerFull)
-
-pub full_said : {A : Type 0} (u : Tree) → is_within u ≡ false → SaysFull {A = A} (Err LayerFull) u
-full_said u full = (λ e. full, λ e. refl)
 
 pub memory_said : {A : Type 0} (r : Result A LayerError) (x : LayerError) (u : Tree) → r ≡ Err x → x ≡ OutOfMemory no_memory → is_within u ≡ true → SaysFull r u
 memory_said r x u is memory within = (λ e. absurd (cc), λ f. absurd (no_bool (sym within ∙ f)))
@@ -131,10 +128,6 @@ module _ (t : Tree) (ok : IsLayer t) (p : Names) (path : IsPath p) (r : ℕ) (le
     pub body_becomes : (b : Body) → IsBody b → Becomes (with_new t p (leaf_node t.next b) b) (r + 1)
     body_becomes (body_kinds.File mode bytes) fits = file_becomes mode bytes fits.0 fits.1
     body_becomes (body_kinds.Symlink target) fits = symlink_becomes target fits
-
--- the file numbers are used up
-pub new_full : (t : Tree) (p : Names) (n : Node) (b : Body) → t.next ≡ 4294967295 → is_within (with_new t p n b) ≡ false
-new_full t p n b last = is_within_last (with_new t p n b) (omega arith)
 
 -- a number's body tells its kind
 pub file_kind : (m : ℕ) (bytes : List ℕ) (n : Node) (t : Tree) (k : ℕ) → IsWhole t n → number_of n ≡ Some k → body t k ≡ Some (body_kinds.File m bytes) → IsFile (body t k)

@@ -13,7 +13,7 @@ use Rattle.snap_layer.specs.declared.node.Node.TheVariants.{Dir, File, Symlink, 
 use Rattle.snap_layer.specs.declared.node.Body.{Body}
 use Rattle.snap_layer.specs.declared.node.Body.TheVariants as body_kinds
 use Rattle.snap_layer.specs.Tree.{Tree, Entries, IsDirAt, path_cmp, at, body, number_of, number_at, name_below, names_below}
-use Rattle.snap_layer.specs.Counts.{inode_count, block_count, blocks_of, body_blocks}
+use Rattle.snap_layer.specs.Counts.{inode_count, block_count, body_blocks}
 use Rattle.snap_layer.specs.Layers.{IsLayer}
 use Rattle.snap_layer.specs.Edits.{with_entry, with_node, with_new, with_bytes, with_body, with_mode, with_file_mode, body_with_mode, with_opaque, without, outside, bodies_without}
 use Rattle.std.proofs.lemmas.Bool.{cond-true, cond-false}
@@ -136,42 +136,7 @@ block_count-with_new t p n b ok named =
     let fresh : body u t.next ≡ None = body-without t ok p t.next ∙ ap (λ l. cond gone None l) (next_is_fresh t ok) ∙ body_dropped gone in
     omega (arith, block_count-with_body u t.next b sorted, ap (weight_of_body body_blocks) fresh, block_count-with_node t p n ok, name_is_no_dir n t.next named)
 
--- other bytes change the blocks by those of the file, and no inode
-pub inode_count-with_bytes : (t : Tree) → IsLayer t → (k : ℕ) (bytes : List ℕ) → inode_count (with_bytes t k (body t k) bytes) ≡ inode_count t
-inode_count-with_bytes t ok k bytes = by (body t k) refl
-  where
-    by : (o : Option Body) → body t k ≡ o → inode_count (with_bytes t k o bytes) ≡ inode_count t
-    by None e = refl
-    by (Some (body_kinds.File mode old)) e = inode_count-with_body t k (body_kinds.File mode bytes) ok.sorted_numbers (subst IsSome (sym e) refl)
-    by (Some (body_kinds.Symlink target)) e = refl
-
-pub block_count-with_bytes : (t : Tree) → IsLayer t → (k mode : ℕ) (old bytes : List ℕ) → body t k ≡ Some (body_kinds.File mode old) → block_count (with_bytes t k (body t k) bytes) + blocks_of (length old) ≡ block_count t + blocks_of (length bytes)
-block_count-with_bytes t ok k mode old bytes e =
-    let counted : block_count (with_body t k (body_kinds.File mode bytes)) + blocks_of (length old) ≡ block_count t + blocks_of (length bytes)
-    = ap (λ n. block_count (with_body t k (body_kinds.File mode bytes)) + n) (sym (ap (weight_of_body body_blocks) e)) ∙ block_count-with_body t k (body_kinds.File mode bytes) ok.sorted_numbers in
-    ap (λ o. block_count (with_bytes t k o bytes) + blocks_of (length old)) e ∙ counted
-
--- a change of mode or of the mark counts nothing
-pub inode_count-with_opaque : (t : Tree) → IsLayer t → (p : Names) (opaque : Bool) → inode_count (with_opaque t p (at t p) opaque) ≡ inode_count t
-inode_count-with_opaque t ok p opaque = by (at t p) refl
-  where
-    by : (o : Option Node) → at t p ≡ o → inode_count (with_opaque t p o opaque) ≡ inode_count t
-    by None e = refl
-    by (Some (Dir mode old)) e = omega (arith, inode_count-with_entry t p (Dir mode opaque) ok.sorted_paths, ap inodes_of e)
-    by (Some (File k)) e = refl
-    by (Some (Symlink k)) e = refl
-    by (Some Whiteout) e = refl
-
-pub block_count-with_opaque : (t : Tree) → IsLayer t → (p : Names) (opaque : Bool) → block_count (with_opaque t p (at t p) opaque) ≡ block_count t
-block_count-with_opaque t ok p opaque = by (at t p) refl
-  where
-    by : (o : Option Node) → at t p ≡ o → block_count (with_opaque t p o opaque) ≡ block_count t
-    by None e = refl
-    by (Some (Dir mode old)) e = omega (arith, block_count-with_entry t p (Dir mode opaque) ok.sorted_paths, ap (weight dirs) e)
-    by (Some (File k)) e = refl
-    by (Some (Symlink k)) e = refl
-    by (Some Whiteout) e = refl
-
+-- a change of mode counts nothing
 inode_count-with_file_mode : (t : Tree) → IsLayer t → (k mode : ℕ) (o : Option Body) → body t k ≡ o → inode_count (with_file_mode t k o mode) ≡ inode_count t
 inode_count-with_file_mode t ok k mode None e = refl
 inode_count-with_file_mode t ok k mode (Some b) e = inode_count-with_body t k (body_with_mode b mode) ok.sorted_numbers (subst IsSome (sym e) refl)

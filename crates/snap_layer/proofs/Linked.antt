@@ -10,10 +10,8 @@ use Rattle.snap_layer.specs.declared.node.Node.{Node}
 use Rattle.snap_layer.specs.declared.node.Node.TheVariants as node
 use Rattle.snap_layer.specs.declared.node.Body.{Body}
 use Rattle.snap_layer.specs.declared.node.Body.TheVariants as body_kinds
-use Rattle.snap_layer.specs.declared.totals.Totals.{Totals}
 use Rattle.snap_layer.specs.Tree.{Tree, IsDirAt, path_cmp, at, body, number_at, number_of, has_number, leaf_node}
 use Rattle.snap_layer.specs.Counts.{inode_count, block_count, body_blocks, name_count}
-use Rattle.snap_layer.specs.Totals.{Counts, path_count}
 use Rattle.snap_layer.specs.Layers.{IsLayer, IsBody}
 use Rattle.snap_layer.specs.Edits.{with_entry, with_linked, with_new, with_node, without, outside, bodies_without, IsFree, IsTakeable, HasParent, HasPlace, HasRooms}
 use Rattle.snap_layer.specs.Undoing.{with_next, stood_at, IsNew}
@@ -28,7 +26,7 @@ use Rattle.snap_layer.proofs.Moves.{apart_below, not_of_parent, sorted-without}
 use Rattle.snap_layer.proofs.Replacing.{inode_count-with_new, name_has_no_inode, HasPlace-from_room, IsLayer-with_new}
 use Rattle.snap_layer.proofs.Filling.{Becomes, becomes, file_becomes, symlink_becomes, whiteout_becomes}
 use Rattle.snap_layer.proofs.Files.{leaf_number, free_names}
-use Rattle.snap_layer.proofs.Totaling.{name_becomes, name_no_dir, fewer_inodes, path_count-with_node, path_count-without}
+use Rattle.snap_layer.proofs.Totaling.{name_becomes, name_no_dir, fewer_inodes}
 use Rattle.snap_layer.proofs.Numbers.{given_back, last_gone}
 
 no_bool : true ≡ false → ⊥
@@ -162,12 +160,6 @@ module _ (t : Tree) (ok : IsLayer t) (path link : Names) (rooms : HasRooms t pat
 
   pub linked_blocks : block_count (with_linked t path link b) ≡ block_count (without t link) + body_blocks b
   linked_blocks = omega (arith, ap block_count linked_is, block_count-with_entry w path n w_sorted, ap (weight dirs) w_none, name_no_dir t.next b, block_count-with_new t link n b ok numbered)
-
-  linked_paths : path_count (with_linked t path link b) ≤ path_count t + 2
-  linked_paths = omega (arith, path_count-with_node x link n (sorted-with_node t path n ok.sorted_paths), path_count-without x link, path_count-with_node t path n ok.sorted_paths, path_count-without t path)
-
-  pub linked_counts : (v : Totals) (paths : ℕ) → path_count t < paths → v.paths ≡ paths + 2 → v.inodes ≡ inode_count (with_linked t path link b) → v.blocks ≡ block_count (without t link) + body_blocks b → Counts v (with_linked t path link b)
-  linked_counts v paths more are inodes blocks = record { inodes = inodes; blocks = blocks ∙ sym linked_blocks; paths = omega (arith, linked_paths, more, are) }
 
   pub link_place : HasPlace t link
   link_place = HasPlace-from_room t link ok rooms.room

@@ -1,5 +1,5 @@
 -- A write to one inode, as the walks see it.
-use Rattle.std.proofs.Common.{◌≡◌, ℕ, ◌+◌, Bool, true, false, cond, List, [], Option, Some, None, IsSome, refl, sym, ap, subst, ◌∙◌, ◌⊎◌, inl, inr}
+use Rattle.std.proofs.Common.{◌≡◌, ℕ, Bool, true, false, cond, List, [], Option, Some, None, IsSome, refl, sym, ap, subst, ◌∙◌, ◌⊎◌, inl, inr}
 use Rattle.std.specs.Prelude.{Result, OnOk, OnErr}
 use Rattle.std.specs.declared.result.Result.TheVariants.{Ok, Err}
 use Rattle.std.specs.Ordering.{nat_cmp}
@@ -9,7 +9,6 @@ use Rattle.std.specs.BTreeMap.{is_at}
 use Rattle.slab.specs.Slab.{Slab as Slots, get, with_value}
 use Rattle.slab.proofs.SlabLemmas.{Updates-with_value}
 use Rattle.snap_layer.proofs.Lists.{split_key}
-use Rattle.snap_layer.specs.declared.node.Node.{Node}
 use Rattle.snap_layer.specs.declared.node.Node.TheVariants as node
 use Rattle.snap_layer.specs.declared.node.Body.{Body}
 use Rattle.snap_layer.specs.declared.node.Body.TheVariants as body_kinds
@@ -19,7 +18,7 @@ use Rattle.snap_layer.specs.declared.inode.Inode.TheVariants as inode
 use Rattle.snap_layer.specs.declared.inode.Inode.{Inode}
 use Rattle.snap_layer.specs.declared.inode.Target.{Target}
 use Rattle.snap_layer.specs.Tree.{leaf_node}
-use Rattle.snap_layer.specs.Walk.{entry_of, node_of, body_of, count_of, node_at, View, Table, view_of, left_at, Puts, Links, Shifted, Same, Lowers, Raises, Renodes, Rebodies}
+use Rattle.snap_layer.specs.Walk.{entry_of, node_of, body_of, count_of, node_at, View, Table, view_of, left_at, Puts, Links, Shifted, Same, Rebodies}
 use Rattle.snap_layer.proofs.Frames.{split_ℕ}
 
 pub on_ok : {A E P Q : Type 0} (r : Result A E) → (P → Q) → OnOk r P → OnOk r Q
@@ -94,59 +93,9 @@ reserved s t e =
     let g : (c : ℕ) → get t c ≡ get s c = λ c. ap (λ (x : Slots Inode). get x c) e in
     record { entries = λ c m. ap (λ o. entry_of o m) (g c); nodes = λ c. ap node_of (g c); bodies = λ c. ap body_of (g c); counts = λ c. ap count_of (g c) }
 
-pub same_refl : (s : View) → Same s s
-same_refl s = record { entries = λ c m. refl; nodes = λ c. refl; bodies = λ c. refl; counts = λ c. refl }
-
 -- an empty directory has no names
 pub no_names : (es : BTreeMap (List ℕ) Target) → es.entries ≡ [] → (m : ℕ) (o : Bool) (n : List ℕ) → entry_of (Some (inode.Dir m o es)) n ≡ None
 no_names es empty m o n = ap (lookup (is_at (slice_cmp nat_cmp n))) empty
-
--- a link fewer
-pub lowers : (s : Slots Inode) (d : ℕ) (old new : Inode) → get s d ≡ Some old
-    → ((m : List ℕ) → entry_of (Some new) m ≡ entry_of (Some old) m)
-    → node_of (Some new) ≡ node_of (Some old) → body_of (Some new) ≡ body_of (Some old) → count_of (Some new) + 1 ≡ count_of (Some old) → Lowers (view_of s) (view_of (with_value s d new)) d
-lowers s d old new is entries node body count =
-    let up = Updates-with_value s d new (some_is _ old is) in
-    record {
-      entries = λ c m. reads (λ o. entry_of o m) s d old new is (entries m) c;
-      nodes = reads node_of s d old new is node;
-      bodies = reads body_of s d old new is body;
-      counts = λ c apart. ap count_of (up.others c apart);
-      lower = ap (λ o. count_of o + 1) up.changed ∙ count ∙ sym (ap count_of is);
-    }
-
--- the node set
-pub renodes : (s : Slots Inode) (d : ℕ) (v : Node) (old new : Inode) → get s d ≡ Some old
-    → ((m : List ℕ) → entry_of (Some new) m ≡ entry_of (Some old) m)
-    → node_of (Some new) ≡ Some v → body_of (Some new) ≡ body_of (Some old) → count_of (Some new) ≡ count_of (Some old) → Renodes (view_of s) (view_of (with_value s d new)) d v
-renodes s d v old new is entries node body count =
-    let up = Updates-with_value s d new (some_is _ old is) in
-    record {
-      entries = λ c m. reads (λ o. entry_of o m) s d old new is (entries m) c;
-      node = ap node_of up.changed ∙ node;
-      nodes = λ c apart. ap node_of (up.others c apart);
-      bodies = reads body_of s d old new is body;
-      counts = reads count_of s d old new is count;
-    }
-
--- a link more
-pub raises : (s : Slots Inode) (d : ℕ) (old new : Inode) → get s d ≡ Some old → IsSome (body_of (Some old))
-    → ((m : List ℕ) → entry_of (Some new) m ≡ entry_of (Some old) m)
-    → node_of (Some new) ≡ node_of (Some old) → body_of (Some new) ≡ body_of (Some old) → count_of (Some new) ≡ count_of (Some old) + 1 → Raises (view_of s) (view_of (with_value s d new)) d
-raises s d old new is leaf entries node body count =
-    let up = Updates-with_value s d new (some_is _ old is) in
-    record {
-      entries = λ c m. reads (λ o. entry_of o m) s d old new is (entries m) c;
-      bare = λ m. ap (λ o. entry_of o m) up.changed ∙ entries m ∙ leaf_bare old m leaf;
-      nodes = reads node_of s d old new is node;
-      bodies = reads body_of s d old new is body;
-      counts = λ c apart. ap count_of (up.others c apart);
-      raise = ap count_of up.changed ∙ count ∙ sym (ap (λ o. count_of o + 1) is);
-    }
-  where
-    leaf_bare : (x : Inode) (m : List ℕ) → IsSome (body_of (Some x)) → entry_of (Some x) m ≡ None
-    leaf_bare (inode.Dir mode o es) m some = absurd (cc)
-    leaf_bare (inode.Leaf number links_ body_) m some = refl
 
 -- the body set
 pub rebodies : (s : Slots Inode) (d : ℕ) (b : Body) (old new : Inode) → get s d ≡ Some old

@@ -82,9 +82,6 @@ pub free_test : (o : Option Node) → IsTrue (is_none o) → IsFree o
 free_test None e = tt
 free_test (Some n) e = absurd (no_bool e)
 
-pub IsFree-none : (o : Option Node) → o ≡ None → IsFree o
-IsFree-none o e = subst IsFree (sym e) tt
-
 -- ---- the lengths of moved paths
 
 -- the entry doesn't lie at `from` or below it, or its new path's text has at most 4095 bytes

@@ -1,6 +1,6 @@
 -- What an edit does to what a layer keeps beside its inodes.
-use Rattle.std.proofs.Common.{◌≡◌, ℕ, ◌+◌, ◌*◌, ◌<◌, ◌≤◌, Bool, true, false, cond, [], ◌∷◌, length, Option, Some, None, IsSome, refl, sym, ap, subst, ◌∙◌, arith}
-use Rattle.std.specs.Prelude.{is_none, if◌then◌else◌, is_some, ◌==◌, count_by}
+use Rattle.std.proofs.Common.{◌≡◌, ℕ, ◌+◌, ◌*◌, ◌<◌, ◌≤◌, Bool, true, false, cond, [], ◌∷◌, length, Option, Some, None, IsSome, refl, ap, subst, ◌∙◌, arith}
+use Rattle.std.specs.Prelude.{is_none, is_some, ◌==◌, count_by, if◌then◌else◌}
 use Rattle.std.proofs.lemmas.Bool.Decides.{nat_tests}
 use Rattle.std.specs.List.{sum_by}
 use Rattle.std.specs.List.Sorted.{IsStrictlySortedBy}
@@ -15,10 +15,10 @@ use Rattle.snap_layer.specs.declared.node.Node.TheVariants as node
 use Rattle.snap_layer.specs.declared.node.Body.{Body}
 use Rattle.snap_layer.specs.declared.node.Body.TheVariants as body_kinds
 use Rattle.snap_layer.specs.declared.totals.Totals.{Totals}
-use Rattle.snap_layer.specs.Tree.{Tree, Entries, path_cmp, at, body, number_of, number_at, has_number, is_dir, is_whiteout, IsDirAt, leaf_node}
+use Rattle.snap_layer.specs.Tree.{Tree, Entries, path_cmp, at, body, number_at, has_number, is_dir, is_whiteout, IsDirAt, leaf_node}
 use Rattle.snap_layer.specs.Counts.{dir_count, whiteout_count, inode_count, block_count, name_count, body_blocks}
 use Rattle.snap_layer.specs.Layers.{IsLayer}
-use Rattle.snap_layer.specs.Edits.{with_entry, with_body, with_node, with_new, with_moved, without, outside, inside, HasPlace, IsFree}
+use Rattle.snap_layer.specs.Edits.{with_entry, with_body, with_node, with_moved, without, outside, inside, HasPlace}
 use Rattle.snap_layer.specs.Totals.{path_count, Counts}
 use Rattle.snap_layer.proofs.Lists.{lookup-filter, sum_by-filter}
 use Rattle.snap_layer.proofs.Paths.{begins_itself, path_cmp_total, path_cmp-IsAntisymmetric}
@@ -27,10 +27,10 @@ use Rattle.snap_layer.proofs.Filling.{dropped_last, dropped_other, Becomes, file
 use Rattle.snap_layer.proofs.Kept.{has_body, node_with_number}
 use Rattle.snap_layer.proofs.Looks.{has_its_number}
 use Rattle.snap_layer.proofs.Covering.{names_taken}
-use Rattle.snap_layer.proofs.Bounds.{blocks_of_bodies, blocks_of_body}
+use Rattle.snap_layer.proofs.Bounds.{blocks_of_bodies}
 use Rattle.snap_layer.proofs.Replacing.{at_taken}
-use Rattle.snap_layer.proofs.Laws.{block_count-with_node, block_count-with_new, SetsBody-with_new}
-use Rattle.snap_layer.proofs.Moves.{sorted-without, sorted-moved, sum_by-moved, IsVacant-without, block_count-with_moved}
+use Rattle.snap_layer.proofs.Laws.{block_count-with_node}
+use Rattle.snap_layer.proofs.Moves.{sorted-without, sorted-moved, sum_by-moved, IsVacant-without}
 use Rattle.snap_layer.proofs.Setting.{dir_stays}
 
 abbrev ones : Node → ℕ
@@ -82,12 +82,6 @@ names_few k (e ∷ es) = omega (arith, sum_by-cons ones e.1 (values_of es), sum_
 module _ (t : Tree) (ok : IsLayer t) (p : Names) (v : Totals) (paths : path_count t + if_none (at t p) < v.paths) where
   pub counts_node : (n : Node) → v.inodes ≡ inode_count (with_node t p n) → v.blocks ≡ block_count (without t p) + dirs n → Counts v (with_node t p n)
   counts_node n inodes blocks = record { inodes = inodes; blocks = omega (arith, blocks, block_count-with_node t p n ok); paths = omega (arith, path_count-with_node t p n ok.sorted_paths, path_put t p, paths) }
-
-  pub counts_new : (n : Node) (b : Body) → number_of n ≡ Some t.next → v.inodes ≡ inode_count (with_new t p n b) → v.blocks ≡ block_count (without t p) + body_blocks b → Counts v (with_new t p n b)
-  counts_new n b named inodes blocks = record { inodes = inodes; blocks = omega (arith, blocks, block_count-with_new t p n b ok named); paths = omega (arith, path_count-with_node t p n ok.sorted_paths, path_put t p, paths) }
-
-  pub counts_moved : (from : Names) (leaves : Bool) → begins p from ≡ false → v.inodes ≡ inode_count (with_moved t from p leaves) → v.blocks ≡ block_count (without t p) → Counts v (with_moved t from p leaves)
-  counts_moved from leaves not_around inodes blocks = record { inodes = inodes; blocks = omega (arith, blocks, block_count-with_moved t from p ok.sorted_paths not_around leaves); paths = omega (arith, path_count-with_moved t from p leaves ok.sorted_paths, path_put t p, paths) }
 
 pub counts_without : (t : Tree) (p : Names) (v : Totals) → path_count t < v.paths → v.inodes ≡ inode_count (without t p) → v.blocks ≡ block_count (without t p) → Counts v (without t p)
 counts_without t p v paths inodes blocks = record { inodes = inodes; blocks = blocks; paths = omega (arith, paths, path_count-without t p) }
@@ -195,10 +189,6 @@ left_is t v same p q path totals had many whites files freed dirs_are whites_are
 pub fewer_inodes : (t : Tree) → IsLayer t → (p : Names) → inode_count (without t p) ≤ 65536
 fewer_inodes t ok p = omega (arith, ok.few, inode_count-without t p (has_body t ok p))
 
--- a new body takes few blocks
-pub new_few : (b : Body) (t : Tree) (p : Names) → IsLayer (with_new t p (leaf_node t.next b) b) → body_blocks b ≤ 256
-new_few b t p ok = blocks_of_body (with_new t p (leaf_node t.next b) b) ok t.next b (SetsBody-with_new t p (leaf_node t.next b) b).here
-
 -- ---- one more name
 
 pub name_becomes : (t : Tree) (ok : IsLayer t) (p : Names) → IsPath p → HasPlace t p → (k : ℕ) (b : Body) → (number_at t p ≡ Some k → ⊥) → body t k ≡ Some b → Becomes (with_node t p (leaf_node k b)) (inode_count (without t p))
@@ -208,14 +198,3 @@ name_becomes t ok p path place k (body_kinds.Symlink target) apart is = symlink_
 pub name_no_dir : (k : ℕ) (b : Body) → dirs (leaf_node k b) ≡ 0
 name_no_dir k (body_kinds.File m bytes) = refl
 name_no_dir k (body_kinds.Symlink target) = refl
-
--- where the test fails nothing stands there
-pub not_some : {A : Type 0} (b : Bool) (o : Option A) → b ≡ is_some o → b ≡ false → o ≡ None
-not_some b None test fails = refl
-not_some b (Some x) test fails = absurd (clash (sym test ∙ fails))
-  where
-    clash : true ≡ false → ⊥
-    clash e = cc
-
-pub none_free : (o : Option Node) → o ≡ None → IsFree o
-none_free o none = subst IsFree (sym none) tt

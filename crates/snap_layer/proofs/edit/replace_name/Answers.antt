@@ -1,5 +1,4 @@
-use Rattle.std.proofs.Common.{◌+◌, ◌<◌, ◌^◌, IsSome, ℕ, sym, ap, subst, ◌∙◌}
-use Rattle.std.specs.Prelude.{is_some}
+use Rattle.std.proofs.Common.{◌+◌, ◌<◌, ◌^◌, IsSome, ℕ, sym, subst, ◌∙◌}
 use Rattle.snap_layer.specs.Tree.{IsDirAt}
 use Rattle.snap_layer.specs.Walk.{view_of}
 use Rattle.snap_layer.proofs.Slots.{on_err_by, same_trans}

@@ -1,7 +1,7 @@
-use Rattle.std.proofs.Common.{◌≡◌, sym, ap, subst, ◌∙◌, arith, Some, IsSome}
-use Rattle.snap_layer.specs.Tree.{body, leaf_node, at, number_at}
+use Rattle.std.proofs.Common.{◌≡◌, sym, ap, subst, ◌∙◌, arith}
+use Rattle.snap_layer.specs.Tree.{body, leaf_node, at}
 use Rattle.snap_layer.specs.Layers.{IsLayer}
-use Rattle.snap_layer.specs.Edits.{with_node, with_name, name_of, HasPlace}
+use Rattle.snap_layer.specs.Edits.{with_node, with_name, name_of}
 use Rattle.snap_layer.specs.Totals.{IsCounted}
 use Rattle.snap_layer.proofs.Totaling.{names_few, counts_node, name_becomes, name_no_dir, fewer_inodes}
 use Rattle.snap_layer.proofs.Changing.{body_some}
