@@ -1,5 +1,5 @@
 -- What an edit does to what a layer keeps beside its inodes.
-use Rattle.std.proofs.Common.{◌≡◌, ℕ, ◌+◌, ◌*◌, ◌<◌, ◌≤◌, Bool, true, false, cond, [], ◌∷◌, length, Option, Some, None, IsSome, refl, ap, subst, ◌∙◌, arith}
+use Rattle.std.proofs.Common.{◌≡◌, ℕ, ◌+◌, ◌*◌, ◌<◌, ◌≤◌, Bool, true, false, cond, [], ◌∷◌, length, Option, Some, None, IsSome, refl, sym, ap, subst, ◌∙◌, arith}
 use Rattle.std.specs.Prelude.{is_none, is_some, ◌==◌, count_by, if◌then◌else◌}
 use Rattle.std.proofs.lemmas.Bool.Decides.{nat_tests}
 use Rattle.std.specs.List.{sum_by}
@@ -198,3 +198,11 @@ name_becomes t ok p path place k (body_kinds.Symlink target) apart is = symlink_
 pub name_no_dir : (k : ℕ) (b : Body) → dirs (leaf_node k b) ≡ 0
 name_no_dir k (body_kinds.File m bytes) = refl
 name_no_dir k (body_kinds.Symlink target) = refl
+
+-- where the test fails nothing stands there
+pub not_some : {A : Type 0} (b : Bool) (o : Option A) → b ≡ is_some o → b ≡ false → o ≡ None
+not_some b None test fails = refl
+not_some b (Some x) test fails = absurd (clash (sym test ∙ fails))
+  where
+    clash : true ≡ false → ⊥
+    clash e = cc

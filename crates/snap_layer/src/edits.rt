@@ -13,7 +13,7 @@ use super::bytes::Edit;
 use super::error::LayerError;
 use super::layer::Layer;
 use super::node::{Body, Bytes, Node};
-use super::totals::{Totals, more_paths};
+use super::totals::{Totals, one_path_more};
 use snap_path::Path;
 use snap_path::limits::MAX_INODES;
 use std::alloc::AllocError;
@@ -125,7 +125,7 @@ impl Layer {
     {
         let _ = path.names();
         let room = self.room_for(link, 1, 1, body.blocks())?;
-        let paths = more_paths(room.paths, 1)?;
+        let paths = one_path_more(room.paths)?;
         self.table.put_linked(path, link, body)?;
         self.totals = Totals { paths, ..room };
         Ok(())
@@ -297,7 +297,7 @@ impl Layer {
         let _ = &self.is_layer;
         match self.at(path) {
             Some(_) => Ok(self.totals.paths),
-            None => more_paths(self.totals.paths, 1),
+            None => one_path_more(self.totals.paths),
         }
     }
 

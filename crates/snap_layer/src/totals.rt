@@ -1,4 +1,4 @@
-ghost use Rattle.std.specs.Prelude.{◌≡◌, ◌≤◌, ◌+◌, IfOk};
+ghost use Rattle.std.specs.Prelude.{◌≡◌, ◌+◌, IfOk};
 
 use snap_path::NoMemory;
 use std::alloc::AllocError;
@@ -14,12 +14,11 @@ pub(crate) struct Totals {
     pub(crate) paths: usize,
 }
 
-/// A bound on the number of paths, with so many more.
-pub(crate) fn more_paths(paths: usize, more: usize) -> Result<usize, AllocError>
-    requires { more ≤ 2 }
-    ensures { IfOk result (λ n. n ≡ paths + more) }
+/// A bound on the number of paths, with one more.
+pub(crate) fn one_path_more(paths: usize) -> Result<usize, AllocError>
+    ensures { IfOk result (λ n. n ≡ paths + 1) }
 {
-    match paths.checked_add(more) {
+    match paths.checked_add(1) {
         Some(sum) => Ok(sum),
         None => Err(NoMemory::of_last_address(paths).into()),
     }
