@@ -2,6 +2,7 @@ pub mod Alone
 pub mod Elsewhere
 pub mod ParentDirs
 pub mod Growing
+pub mod Standing
 pub mod Wholes
 pub mod Steps
 pub mod Copies

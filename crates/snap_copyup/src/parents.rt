@@ -5,7 +5,7 @@ ghost use Rattle.snap_layer.specs.Tree.{Tree, at};
 ghost use Rattle.snap_merge.specs.Objects.{seen, is_shown_dir, AreLayers};
 ghost use Rattle.snap_merge.specs.Walk.{walk, walk_from};
 ghost use Rattle.snap_copyup.specs.Copying.{copied, with_parents, with_parents_from};
-ghost use Rattle.snap_copyup.specs.Places.{with_last, missing_from, CanStand, IsRefusal, ParentStands, TakesMore};
+ghost use Rattle.snap_copyup.specs.Places.{with_last, CanStand, IsRefusal, ParentStands, StandsAbove, TakesMore};
 
 use super::lower::below;
 use snap_layer::{Bytes, Layer, Shared};
@@ -154,41 +154,49 @@ pub(crate) fn put_parent(layer: &mut Layer, lowers: &[Shared], path: &Path) -> R
 /// How many directories above the path the layer doesn't have. So many inodes, and as many blocks, it takes
 /// more once `ensure_dirs` has added them, whatever the lower layers are.
 ///
-/// Takes no memory. Cost: for each name of the path a walk to it in the layer.
+/// Takes no memory. Cost: for each name of the path, as far as the layer has a node, the logarithm of a
+/// directory's entries.
 pub fn missing_dirs(layer: &Layer, path: &Path) -> usize
     ensures count { (lowers : List Tree) → walk (layer.now ∷ lowers) path.now ≡ None → TakesMore result layer.now (with_parents layer.now lowers path.now) }
     ensures few { result ≤ length path.now }
 {
     let _ = &layer.is_layer;
-    missing_after(layer, path, 0)
+    path.names().len() - standing_dirs(layer, path)
 }
 
 /// How many directories above the one path or the other the layer doesn't have; what is above both counts
 /// once. So many inodes, and as many blocks, it takes more once `ensure_dirs` has added them for both.
 ///
-/// Takes no memory. Cost: for each name of both paths a walk to it in the layer.
+/// Takes no memory. Cost: for each name of both paths, as far as the layer has a node, the logarithm of a
+/// directory's entries.
 pub fn missing_dirs_of_both(layer: &Layer, one: &Path, other: &Path) -> usize
     ensures count { (lowers : List Tree) → walk (layer.now ∷ lowers) one.now ≡ None → walk (layer.now ∷ lowers) other.now ≡ None → TakesMore result layer.now (with_parents (with_parents layer.now lowers one.now) lowers other.now) }
     ensures few { result ≤ length one.now + length other.now }
 {
     let _ = &layer.is_layer;
     let shared = shared_names(one.names(), other.names());
-    let first = one.names().len().min(shared + 1);
-    missing_after(layer, one, 0) + missing_after(layer, other, first)
+    let counted = one.names().len().min(shared + 1);
+    let passed = counted.max(standing_dirs(layer, other));
+    let more = other.names().len().saturating_sub(passed);
+    missing_dirs(layer, one) + more
 }
 
-/// How many directories above the path that have at least so many names the layer doesn't have.
-fn missing_after(layer: &Layer, path: &Path, first: usize) -> usize
-    ensures count { result ≡ missing_from layer.now (take first path.now) (drop first path.now) }
-    ensures few { result ≤ length path.now }
+/// At how many paths above the path the layer has a node, from the root on: one look-up in one directory for each
+/// name, and none after the first at which it has nothing.
+pub(crate) fn standing_dirs(layer: &Layer, path: &Path) -> usize
+    ensures { StandsAbove layer.now path.now result }
 {
-    let mut missing = 0;
-    for names in first..path.names().len() {
-        if layer.at_front(path, names).is_none() {
-            missing += 1;
+    let _ = &layer.is_layer;
+    let names = path.names();
+    let mut dir = layer.root_dir();
+    for (front, name) in names.iter().enumerate() {
+        match dir.entry(name) {
+            Some((_, Some(next))) => dir = next,
+            Some((_, None)) => return names.len().min(front + 2),
+            None => return front + 1,
         }
     }
-    missing
+    names.len()
 }
 
 /// How many names the lists have in common at their front.

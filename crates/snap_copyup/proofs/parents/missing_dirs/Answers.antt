@@ -1,7 +1,8 @@
-use Rattle.std.proofs.Common.{ℕ, sym, subst}
+use Rattle.std.proofs.Common.{◌≡◌, ℕ, ◌-◌, [], length, ap, subst, arith}
 use Rattle.snap_copyup.specs.Copying.{with_parents}
-use Rattle.snap_copyup.specs.Places.{TakesMore}
+use Rattle.snap_copyup.specs.Places.{TakesMore, missing_from}
 use Rattle.snap_copyup.proofs.Growing.{takes_missing}
+use Rattle.snap_copyup.proofs.Standing.{missing_left}
 use Rattle.snap_layer.specs.Layers.{IsLayer}
 use Rattle.snap_copyup.proofs.parents.missing_dirs.Goals as goal
 
@@ -9,4 +10,7 @@ pub returns-clause-count : goal.returns-clause-count
 returns-clause-count c = λ lowers way.
     let u = c.args.layer.now in
     let p = c.args.path.now in
-    subst (λ (n : ℕ). TakesMore n u (with_parents u lowers p)) (sym c.missing_after.ensures.count) (takes_missing u lowers p (subst IsLayer c.layer.view_is c.layer.invariant.1) way)
+    let n = c.standing_dirs.result in
+    let ok = subst IsLayer c.layer.view_is c.layer.invariant.1 in
+    let left : missing_from u [] p ≡ length c.names.result.now - n = omega (arith, missing_left u p n ok c.standing_dirs.ensures 0, ap length c.names.ensures.names) in
+    subst (λ (k : ℕ). TakesMore k u (with_parents u lowers p)) left (takes_missing u lowers p ok way)
