@@ -2,9 +2,9 @@ pub mod Alone
 pub mod Elsewhere
 pub mod ParentDirs
 pub mod Growing
-pub mod Standing
 pub mod Wholes
 pub mod Steps
+pub mod Standing
 pub mod Copies
 pub mod Layers
 pub mod Both

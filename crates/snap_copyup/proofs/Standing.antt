@@ -1,5 +1,5 @@
 -- The paths above a path at which a layer has a node: those from the root on, up to the first at which it has none.
-use Rattle.std.proofs.Common.{◌≡◌, inl, inr, ◌⊎◌, ℕ, zero, suc, ◌+◌, ◌-◌, ◌<◌, ◌≤◌, max, min, Bool, true, false, List, [], ◌∷◌, ◌++◌, length, take, drop, get_or, Option, Some, None, is_some, refl, sym, ap, subst, ◌∙◌, append-nil, below_more, arith}
+use Rattle.std.proofs.Common.{◌≡◌, inl, inr, ◌⊎◌, ℕ, zero, suc, ◌+◌, ◌-◌, ◌<◌, ◌≤◌, max, min, Bool, true, false, List, [], ◌∷◌, ◌++◌, length, take, drop, get_or, Option, Some, None, is_some, refl, sym, ap, subst, ◌∙◌, append-nil, length-append, add-one, below_more, arith}
 use Rattle.std.specs.Prelude.{◌||◌, nat_lt, if◌then◌else◌}
 use Rattle.std.proofs.lemmas.Bool.Decides.{nat_tests}
 use Rattle.std.proofs.lemmas.List.{take_more, take-take, take-append-drop}
@@ -11,9 +11,12 @@ use Rattle.snap_layer.specs.Layers.{IsLayer}
 use Rattle.snap_layer.proofs.Kept.{nothing_below}
 use Rattle.snap_merge.specs.Reach.{Traced}
 use Rattle.snap_merge.proofs.Reaching.{traced_none, traced_leaf, goes_on}
-use Rattle.snap_copyup.specs.Places.{StandsAbove, missing_from}
+use Rattle.snap_merge.specs.Walk.{walk, walk_from}
+use Rattle.snap_copyup.specs.Copying.{with_parents, with_parents_from}
+use Rattle.snap_copyup.specs.Places.{ParentStands, StandsAbove, missing_from}
 use Rattle.snap_copyup.proofs.Alone.{some_dir}
 use Rattle.snap_copyup.proofs.Growing.{missing_more, missing_end}
+use Rattle.snap_copyup.proofs.Steps.{present}
 
 split_lt : (a b : ℕ) → (a < b) ⊎ (b ≤ a)
 split_lt a b = elim (nat_lt a b) as (λ t. nat_lt a b ≡ t → (a < b) ⊎ (b ≤ a)) [ true ↦ λ e. inl (grind (arith, nat_tests)) | false ↦ λ e. inr (grind (arith, nat_tests)) ] refl
@@ -71,6 +74,25 @@ stands_all t p i same dirs = record {
   there = λ k less. some_dir (at t (take k p)) (dirs k (omega arith));
   end = λ less. absurd (omega arith);
 }
+
+-- ---- where they stand
+
+-- the walk goes on from the first k names, and nothing is added above
+pub record Stood (u : Tree) (ls : List Tree) (p : Names) (k : ℕ) : Type 0 where
+  pub way : walk_from (u ∷ ls) (take k p) (drop k p) ≡ None
+  pub parent : ParentStands u (take k p)
+  pub same : with_parents u ls p ≡ with_parents_from u ls (take k p) (drop k p)
+
+pub stood : (u : Tree) (ls : List Tree) (p : Names) (k : ℕ) → walk (u ∷ ls) p ≡ None → k ≤ length p → ((j : ℕ) → j < k → is_some (at u (take j p)) ≡ true) → Stood u ls p k
+stood u ls p zero way within there = record {
+  way = way;
+  parent = λ q n e. absurd (omega (arith, ap length e, length-append q (n ∷ [])));
+  same = refl;
+}
+stood u ls p (suc j) way within there =
+    let before = stood u ls p j way (omega (arith, within)) (λ i less. there i (omega (arith, less))) in
+    let step = present u ls p j (omega (arith, within)) before.way (there j (omega arith)) in
+    subst (λ (k : ℕ). Stood u ls p k) (add-one j) (record { way = step.way; parent = step.parent; same = before.same ∙ step.more })
 
 -- ---- what is missing
 

@@ -80,6 +80,7 @@ present u ls p k lt way some =
 pub record Missing (u v : Tree) (ls : List Tree) (p : Names) (k : ℕ) (front : Names) (last : Last) : Type 0 where
   pub way : walk_from (v ∷ ls) (take (k + 1) p) (drop (k + 1) p) ≡ None
   pub parent : ParentStands v (take (k + 1) p)
+  pub next : at v (take (k + 1) p) ≡ None
   pub fit : CanStand last u p → CanStand last v p
   pub takeable : IsTakeable v front
   pub back : without v front ≡ u
@@ -102,6 +103,10 @@ module _ (u : Tree) (ls : List Tree) (p : Names) (k : ℕ) (lt : k < length p) (
 
   short : length (take k p) < length p
   short = omega (arith, length-take k p)
+
+  -- nor anything below it
+  bare : at u (take (k + 1) p) ≡ None
+  bare = ap (at u) (take_more p k [] lt) ∙ nothing_below u ok (take k p) (λ is. subst IsDirAt none is) (get_or p k []) []
 
   adds : AddsParents u (copied u ls (take k p)) ls (length (take k p) + 1)
   adds = dir_copied u ls (take k p) (length (take k p) + 1) (walk_step u ls p k lt way).0 (omega arith)
@@ -149,6 +154,7 @@ module _ (u : Tree) (ls : List Tree) (p : Names) (k : ℕ) (lt : k < length p) (
   missing_here last = record {
     way = after_step;
     parent = parent_next v p k lt (copied_stands u ls front (walk_step u ls p k lt way).0);
+    next = adds.leaves (take (k + 1) p) (omega (arith, length-take k p, length-take (k + 1) p)) ∙ bare;
     fit = fits_same last u v p (adds.leaves p (omega (arith, short)));
     takeable = record {
       there = some_dir (at v front) (copied_stands u ls front (walk_step u ls p k lt way).0);
@@ -160,7 +166,7 @@ module _ (u : Tree) (ls : List Tree) (p : Names) (k : ℕ) (lt : k < length p) (
     full = many last;
   }
 
-pub missing : (u v : Tree) (ls : List Tree) (p : Names) (k : ℕ) (f : Names) (last : Last) → k < length p → IsLayer u → walk_from (u ∷ ls) (take k p) (drop k p) ≡ None → is_some (at u (take k p)) ≡ false → f ≡ take k p → v ≡ copied u ls f → Missing u v ls p k f last
+pub missing : (u v : Tree) (ls : List Tree) (p : Names) (k : ℕ) (f : Names) (last : Last) → k < length p → IsLayer u → walk_from (u ∷ ls) (take k p) (drop k p) ≡ None → at u (take k p) ≡ None → f ≡ take k p → v ≡ copied u ls f → Missing u v ls p k f last
 missing u v ls p k f last lt ok way none is added =
     subst (λ g. Missing u v ls p k g last) (sym is)
-    (subst (λ w. Missing u w ls p k (take k p) last) (sym (added ∙ ap (λ g. copied u ls g) is)) (missing_here u ls p k lt ok way (none_from (at u (take k p)) none) last))
+    (subst (λ w. Missing u w ls p k (take k p) last) (sym (added ∙ ap (λ g. copied u ls g) is)) (missing_here u ls p k lt ok way none last))

@@ -1,5 +1,5 @@
 -- What was added is taken back.
-use Rattle.std.proofs.Common.{◌≡◌, ℕ, ◌+◌, ◌<◌, Bool, true, false, cond, List, [], ◌∷◌, ◌++◌, length, take, drop, get_or, Option, Some, None, is_some, refl, sym, ap, subst, ◌∙◌, arith, append_assoc, append-nil, length-append}
+use Rattle.std.proofs.Common.{◌≡◌, ℕ, zero, suc, ◌+◌, ◌<◌, ◌≤◌, Bool, true, false, cond, List, [], ◌∷◌, ◌++◌, length, take, drop, get_or, Option, Some, None, is_some, refl, sym, ap, subst, ◌∙◌, arith, append_assoc, append-nil, length-append, add-one}
 use Rattle.std.specs.Prelude.{option_and_then, not}
 use Rattle.std.specs.List.Sorted.{IsStrictlySortedBy}
 use Rattle.std.specs.Map.{keys_of}
@@ -135,6 +135,13 @@ module _ (u : Tree) (ls : List Tree) (p : Names) (k : ℕ) (lt : k < length p) (
 
     pub front_taken : without (with_parents u ls (take (k + 1) p)) (take k p) ≡ with_parents u ls (take k p)
     front_taken = ap (λ (t : Tree). without t f) added_is ∙ taken_entry m f (node.Dir is_dir_with.0 false) (grows_from u ls [] f ok.sorted_paths parts.0).sorted vacant refl
+
+-- where the layer has a node at each path above a front, nothing is added above it
+pub fronts_there : (u : Tree) (ls : List Tree) (p : Names) (k : ℕ) → IsLayer u → walk (u ∷ ls) p ≡ None → k ≤ length p → ((j : ℕ) → j < k → is_some (at u (take j p)) ≡ true) → with_parents u ls (take k p) ≡ u
+fronts_there u ls p zero ok way within there = refl
+fronts_there u ls p (suc j) ok way within there =
+    subst (λ (k : ℕ). with_parents u ls (take k p) ≡ u) (add-one j)
+    (front_there u ls p j (omega (arith, within)) ok way (there j (omega arith)) ∙ fronts_there u ls p j ok way (omega (arith, within)) (λ i less. there i (omega (arith, less))))
 
 -- ---- nothing is missing
 

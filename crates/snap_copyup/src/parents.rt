@@ -33,9 +33,9 @@ pub enum Last {
 /// The condition is that each directory above the path is seen as one over the lower layers, the nearest
 /// first, so that `Stack::walk` finds no error. `LayerFull` where the layer would have more than 65,536
 /// inodes. `OutOfMemory` where memory for a path or an entry is refused. After either the layer is as it
-/// was: what had been added is taken back, which takes no memory. Cost: where the path's directory stands, a
-/// walk to it in the layer. Else for each name of the path a walk to it, and for each directory that is missing
-/// also that of `below`; the calls then nest as deep as the path has names.
+/// was: what had been added is taken back, which takes no memory. Cost: a walk to the path in the layer, as far as
+/// it has a node. For each directory that is missing also a walk to it, that of `below`, and the text of its path;
+/// the calls then nest as deep as directories are missing.
 pub fn ensure_dirs(layer: &mut Layer, lowers: &[Shared], path: &Path) -> Result<(), FsError>
     requires { walk (layer.old ∷ lowers.now) path.now ≡ None }
     ensures ok { OnOk result (layer.new ≡ with_parents layer.old lowers.now path.now) }
@@ -63,15 +63,13 @@ pub fn put(layer: &mut Layer, lowers: &[Shared], path: &Path, last: Last) -> Res
     ensures unchanged { OnErr result (layer.new ≡ layer.old) }
 {
     let _ = &layer.is_layer;
-    if layer.has_parent(path) {
-        return put_last(layer, path, last);
-    }
     show_are_layers(lowers);
-    put_from(layer, lowers, path, 0, last)
+    let names = standing_dirs(layer, path);
+    put_from(layer, lowers, path, names, last)
 }
 
-/// Does what `put` does, where the directories of fewer names stand. Where it fails later, it takes back
-/// what it has added.
+/// Does what `put` does, where the directories of fewer names stand, and that of so many is missing, if it is
+/// above the path. Where it fails later, it takes back what it has added.
 fn put_from(
     layer: &mut Layer,
     lowers: &[Shared],
@@ -83,6 +81,7 @@ fn put_from(
     requires layers { AreLayers lowers.now }
     requires way { walk_from (layer.old ∷ lowers.now) (take names path.now) (drop names path.now) ≡ None }
     requires parent { ParentStands layer.old (take names path.now) }
+    requires missing { names < length path.now → at layer.old (take names path.now) ≡ None }
     requires fit { CanStand last layer.old path.now }
     ensures ok { OnOk result (layer.new ≡ with_last last (with_parents_from layer.old lowers.now (take names path.now) (drop names path.now)) path.now) }
     ensures error { IfErr result (λ e. IsRefusal (with_last last (with_parents_from layer.old lowers.now (take names path.now) (drop names path.now)) path.now) e) }
@@ -90,9 +89,6 @@ fn put_from(
 {
     if names == path.names().len() {
         return put_last(layer, path, last);
-    }
-    if layer.at_front(path, names).is_some() {
-        return put_from(layer, lowers, path, names + 1, last);
     }
     let front = path.front(names)?;
     let _ = &layer.is_layer;

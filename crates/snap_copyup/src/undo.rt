@@ -6,7 +6,7 @@ ghost use Rattle.snap_copyup.specs.Copying.{with_parents};
 ghost use Rattle.snap_copyup.specs.Places.{IsRefusal};
 ghost use Rattle.snap_copyup.specs.Undoing.{Undoes};
 
-use super::parents::ensure_dirs;
+use super::parents::{ensure_dirs, standing_dirs};
 use snap_layer::{Layer, Shared};
 use snap_merge::FsError;
 use snap_path::Path;
@@ -18,11 +18,10 @@ fn missing_paths(layer: &Layer, path: &Path) -> Result<Vec<Path>, AllocError>
     ensures { IfOk result (λ dirs. (lowers : List Tree) → walk (layer.now ∷ lowers) path.now ≡ None → Undoes dirs.items (with_parents layer.now lowers path.now) layer.now) }
 {
     let _ = &layer.is_layer;
+    let first = standing_dirs(layer, path);
     let mut missing = Vec::new(layer.alloc());
-    for names in (0..path.names().len()).rev() {
-        if layer.at_front(path, names).is_none() {
-            missing.push(path.front(names)?)?;
-        }
+    for names in (first..path.names().len()).rev() {
+        missing.push(path.front(names)?)?;
     }
     Ok(missing)
 }
@@ -31,7 +30,8 @@ fn missing_paths(layer: &Layer, path: &Path) -> Result<Vec<Path>, AllocError>
 /// their paths, the lowest first: so `take_all` takes them back.
 ///
 /// The condition, the errors and what stands after them are those of `ensure_dirs`. Cost: where the directory
-/// of the path stands, a walk to it in the layer. Else as `ensure_dirs`, and the text of each path.
+/// of the path stands, a walk to it in the layer. Else as `ensure_dirs`, and once more the walk and the text of each
+/// path.
 pub fn add_dirs(layer: &mut Layer, lowers: &[Shared], path: &Path) -> Result<Vec<Path>, FsError>
     requires { walk (layer.old ∷ lowers.now) path.now ≡ None }
     ensures ok { OnOk result (layer.new ≡ with_parents layer.old lowers.now path.now) }

@@ -1,16 +1,23 @@
-use Rattle.std.proofs.Common.{◌≡◌, OnOk, IfErr, sym, subst}
+use Rattle.std.proofs.Common.{OnOk, IfErr, ◌≡◌, sym, subst}
 use Rattle.snap_layer.specs.Tree.{Tree}
 use Rattle.snap_copyup.specs.Places.{with_last, IsRefusal}
-use Rattle.snap_copyup.proofs.Undoing.{parents_there}
-use Rattle.snap_layer.specs.Layers.{IsLayer}
+use Rattle.snap_copyup.proofs.Standing.{stood}
 use Rattle.snap_copyup.proofs.parents.put.Goals as goal
 
-pub returns-then-has_parent-clause-ok : goal.returns-then-has_parent-clause-ok
-returns-then-has_parent-clause-ok c =
-    let there = parents_there c.args.layer.now c.args.lowers.now c.args.path.now (subst IsLayer c.layer.view_is c.layer.invariant.1) (c.has_parent.ensures.0 c.if-has_parent.true) in
-    subst (λ (t : Tree). OnOk c.put_last.result (c.put_last.new.layer ≡ with_last c.args.last t c.args.path.now)) (sym there) c.put_last.ensures.ok
+pub put_from-requires : goal.put_from-requires
+put_from-requires c =
+    let stands = c.standing_dirs-names.ensures in
+    let above = stood c.args.layer.now c.args.lowers.now c.args.path.now c.standing_dirs-names.result c.requires.way stands.few stands.there in
+    record { within = stands.few; layers = c.show_are_layers.ensures; way = above.way; parent = above.parent; missing = stands.end; fit = c.requires.fit }
 
-pub returns-then-has_parent-clause-error : goal.returns-then-has_parent-clause-error
-returns-then-has_parent-clause-error c =
-    let there = parents_there c.args.layer.now c.args.lowers.now c.args.path.now (subst IsLayer c.layer.view_is c.layer.invariant.1) (c.has_parent.ensures.0 c.if-has_parent.true) in
-    subst (λ (t : Tree). IfErr c.put_last.result (λ e. IsRefusal (with_last c.args.last t c.args.path.now) e)) (sym there) c.put_last.ensures.error
+pub returns-clause-ok : goal.returns-clause-ok
+returns-clause-ok c =
+    let stands = c.standing_dirs-names.ensures in
+    let above = stood c.args.layer.now c.args.lowers.now c.args.path.now c.standing_dirs-names.result c.requires.way stands.few stands.there in
+    subst (λ (t : Tree). OnOk c.put_from.result (c.put_from.new.layer ≡ with_last c.args.last t c.args.path.now)) (sym above.same) c.put_from.ensures.ok
+
+pub returns-clause-error : goal.returns-clause-error
+returns-clause-error c =
+    let stands = c.standing_dirs-names.ensures in
+    let above = stood c.args.layer.now c.args.lowers.now c.args.path.now c.standing_dirs-names.result c.requires.way stands.few stands.there in
+    subst (λ (t : Tree). IfErr c.put_from.result (λ e. IsRefusal (with_last c.args.last t c.args.path.now) e)) (sym above.same) c.put_from.ensures.error

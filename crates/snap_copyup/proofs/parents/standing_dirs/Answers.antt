@@ -1,7 +1,6 @@
-use Rattle.std.proofs.Common.{◌≡◌, ℕ, ◌+◌, ◌<◌, length, take, subst, sym, ap, ◌∙◌, min, Some, arith}
+use Rattle.std.proofs.Common.{◌≡◌, ◌+◌, length, subst, sym, ap, ◌∙◌, Some, arith}
 use Rattle.std.specs.Prelude.{Option}
 use Rattle.snap_path.specs.Text.{Names}
-use Rattle.snap_layer.specs.Tree.{at, IsDirAt}
 use Rattle.snap_layer.specs.Layers.{IsLayer}
 use Rattle.snap_layer.specs.Directory.{Directory}
 use Rattle.snap_copyup.specs.Places.{StandsAbove}
