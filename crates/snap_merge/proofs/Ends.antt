@@ -1,11 +1,11 @@
 -- Where a way ends.
-use Rattle.std.proofs.Common.{◌≡◌, ℕ, ◌+◌, ◌≤◌, Bool, true, false, not, List, [], ◌∷◌, ◌++◌, Option, Some, None, Ok, Err, length, take, get_or, refl, sym, ap, inr, subst, ◌∙◌, append_assoc, append-nil, arith}
+use Rattle.std.proofs.Common.{◌≡◌, ℕ, ◌+◌, ◌-◌, ◌<◌, ◌≤◌, Bool, true, false, not, List, [], ◌∷◌, ◌++◌, Option, Some, None, Ok, Err, length, take, drop, get_or, refl, sym, ap, inr, subst, ◌∙◌, append_assoc, append-nil, add-one, arith}
 use Rattle.std.specs.Prelude.{if◌then◌else◌, is_some, zero, suc, nat_lt, nat_le, ◌&&◌, ◌||◌, ◌==◌}
 use Rattle.std.specs.Result.{IsErrAnd}
 use Rattle.std.specs.List.{list_all}
 use Rattle.std.specs.Str.{bytes_eq}
 use Rattle.std.proofs.lemmas.Bool.Decides.{nat_tests}
-use Rattle.std.proofs.lemmas.List.{take_more, take_all}
+use Rattle.std.proofs.lemmas.List.{at_drop_more, take_more, take_all, take-append-drop}
 use Rattle.snap_path.specs.Text.{Names, IsPath, is_name, is_name_byte, text_below}
 use Rattle.snap_path.proofs.Texts.{IsPath-front}
 use Rattle.snap_layer.specs.Tree.{Tree}
@@ -138,6 +138,23 @@ way_plain follow s (n ∷ rest) front ok e f =
     way_enters follow s front n rest here.0 enters.0 enters.1 enters.2
     ∙ goes_on _ _ _ (next_end s (front ++ n ∷ []) rest here.1 (subst (IsEnd s) (sym whole) f))
     ∙ later ∙ ap (λ (p : Names). Ok p) whole
+
+-- as far as directories are seen, the way leads through them
+pub way_dirs : (follow : Names → Names → Answer) (s : List Tree) (p : Names) (m : ℕ) → IsPath p → ((j : ℕ) → j < m → is_shown_dir (seen s (take j p)) ≡ true) → (k : ℕ) → k ≤ length p → k ≤ m - 1 → way follow s (take k p) (drop k p) ≡ way follow s [] p
+way_dirs follow s p m path dirs zero within few = refl
+way_dirs follow s p m path dirs (suc j) within few =
+    let lt : j < length p = omega (arith, within) in
+    let n = get_or p j [] in
+    let rest = drop (j + 1) p in
+    let next : take (j + 1) p ≡ take j p ++ n ∷ [] = take_more p j [] lt in
+    let whole : p ≡ take j p ++ n ∷ rest = sym (take-append-drop j p) ∙ at_drop_more (λ (q : Names). take j p ++ q) p j [] lt in
+    let enters = names_enter (take j p) n rest (subst IsPath whole path) in
+    let further : is_shown_dir (seen s (take j p ++ n ∷ [])) ≡ true = subst (λ (q : Names). is_shown_dir (seen s q) ≡ true) next (dirs (j + 1) (omega (arith, few))) in
+    subst (λ (i : ℕ). way follow s (take i p) (drop i p) ≡ way follow s [] p) (add-one j)
+    (ap (λ (q : Names). way follow s q rest) next
+    ∙ sym (way_enters follow s (take j p) n rest (dirs j (omega (arith, few))) enters.0 enters.1 enters.2 ∙ goes_on _ _ _ (dir_is_end _ further))
+    ∙ sym (at_drop_more (way follow s (take j p)) p j [] lt)
+    ∙ way_dirs follow s p m path dirs j (omega (arith, within)) (omega (arith, few)))
 
 -- a name leads to the error that is met, where it leads to one before a symlink
 met_error : (follow : Names → Names → Answer) (s : List Tree) (place : Names) (w : List ℕ) (ws : Names) (e : FsError)

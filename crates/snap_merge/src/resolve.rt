@@ -12,8 +12,8 @@ ghost use Rattle.snap_merge.specs.Arrivals.{Leads, Ends};
 use super::error::FsError;
 use super::look::Seen;
 use super::stack::Stack;
-use snap_path::Path;
 use snap_path::limits::{MAX_LINKS, MAX_NAME_BYTES, MAX_PATH_BYTES};
+use snap_path::{Name, Path};
 use std::alloc::{AllocError, Global};
 use std::marker::Model;
 
@@ -62,12 +62,15 @@ fn met(seen: Option<Seen<'_>>, is_last: bool) -> Result<(), FsError>
     }
 }
 
-/// Where the path leads from the root.
+/// Where the path leads from the root. As far as its names lead through directories one look says so, and from there
+/// on the way goes word by word.
 pub(crate) fn resolve(stack: &Stack<'_>, alloc: Global, path: &Path) -> Result<Path, FsError>
     ensures { Answers (resolution stack.now path.now) result }
 {
-    let mut words = Words::of(alloc, path)?;
-    let mut place = Path::root(alloc);
+    let names = path.names();
+    let dirs = names.len().min(stack.reach(names).dirs.saturating_sub(1));
+    let mut words = Words::of(alloc, &names[dirs..])?;
+    let mut place = path.front(dirs)?;
     let mut links = MAX_LINKS;
     loop {
         match advance(stack, alloc, place, &mut words)? {
@@ -211,12 +214,12 @@ impl<'w> Model for Words<'w> {
 }
 
 impl<'w> Words<'w> {
-    /// The names of a path.
-    pub(crate) fn of(alloc: Global, path: &'w Path) -> Result<Words<'w>, AllocError>
-        ensures { IfOk result (λ words. words ≡ path.now) }
+    /// The names.
+    pub(crate) fn of(alloc: Global, names: &'w [Name]) -> Result<Words<'w>, AllocError>
+        ensures { IfOk result (λ words. words ≡ names.now) }
     {
         let mut parts = Vec::new(alloc);
-        for name in path.names() {
+        for name in names {
             parts.push(name.as_str().as_bytes())?;
         }
         Ok(Words { parts, next: 0 })

@@ -261,9 +261,9 @@ impl<'a> Stack<'a> {
     /// Word by word, and in this order: `NotDir` where the way goes on from something else than a
     /// directory; `BadPath` where the word has more than 255 bytes, or the path with it more than 4095;
     /// `NotFound` where nothing is seen; `TooManyLinks` at the 41st symlink. `OutOfMemory` where memory
-    /// for names, words or paths is refused, but not for an error before the first symlink. Cost: for each
-    /// word that of two looks and the bytes of the path so far; for a word that is no UTF-8 text also the names
-    /// that the layers have in the directory.
+    /// for names, words or paths is refused, but not for an error before the first symlink. Cost: that of two looks
+    /// at the path, and its bytes; for each word from the first on that leads to no directory, that of two looks and
+    /// the bytes of the path so far, and for one that is no UTF-8 text the names that the layers have in the directory.
     pub fn resolve(&self, alloc: Global, path: &Path) -> Result<Path, FsError>
         ensures answer { Answers (resolution self.now path.now) result }
         // Want of memory never stands for an error before the first symlink.
