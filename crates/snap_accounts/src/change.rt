@@ -341,8 +341,8 @@ impl<N: StoreName> Accounts<N> {
     /// cost grows with the logarithm of the number of records and with the texts and labels of those that
     /// are found; that of mounts and of a view with that logarithm times the ancestors, that of a walk with
     /// the records that it passes over, that of a removal with the logarithm of the number of names in leases
-    /// too, that of a limit with the namespaces, that of a call on a lease with the namespaces and the leases, and
-    /// that of a sweep is that of [`plan_sweep`](snap_call::State::plan_sweep).
+    /// too, that of a limit with the namespaces, that of a call on a lease with the namespaces and the logarithm of
+    /// the number of leases, and that of a sweep is that of [`plan_sweep`](snap_call::State::plan_sweep).
     pub fn plan(&self, alloc: Global, call: &Call) -> Result<(Reply, Change), AllocError>
         requires plain { IsPlain call.now }
         requires entries { self.now.entries < 2 ^ 63 }
@@ -432,9 +432,9 @@ impl<N: StoreName> Accounts<N> {
 
     /// Makes the change, and counts an entry. Takes memory for the place of a view, for a lease and for a
     /// name that is new to its lease; where that is refused, nothing changes. The cost grows with the logarithm
-    /// of the number of records; that of a call on a lease with the leases, and with the logarithm of the number
-    /// of names that the namespace's leases have, for a release once for each name of the lease; that of a sweep
-    /// with the leases and their names, and with the records times the logarithm of their number.
+    /// of the number of records; that of a call on a lease with the logarithms of the number of leases and of the
+    /// number of names that the namespace's leases have, for a release once for each name of the lease; that of a
+    /// sweep with the leases and their names, and with the records times the logarithm of their number.
     pub fn carry_out(&mut self, change: Change) -> Result<(), AllocError>
         requires possible { CanChange self.old change }
         requires entries { self.old.entries < 2 ^ 63 }

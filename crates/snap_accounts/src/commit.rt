@@ -41,8 +41,8 @@ impl<N: StoreName> Accounts<N> {
 
     /// Why the snapshot of an open slot can't be committed under the name, if it can't. In this order:
     /// `BadArgument` for a name or a lease that has not its form; `AlreadyExists` where its namespace has
-    /// the name; `NoLease` where it has not the lease. Takes no memory. The cost grows with the logarithm of
-    /// the number of records, and with the leases.
+    /// the name; `NoLease` where it has not the lease. Takes no memory. The cost grows with the logarithms of
+    /// the number of records and of the number of leases.
     pub fn check_commit(&self, slot: u64, name: &str, lease: &Option<Text>) -> Result<(), Refusal>
         requires { (charge_at slot self.now.records).issued ≡ true }
         ensures ok { OnOk result (CanCommit self.now slot name.now lease.now) }
@@ -80,7 +80,7 @@ impl<N: StoreName> Accounts<N> {
     ///
     /// Takes memory for the committed record, with copies of its name, its parent and its labels, and for a
     /// name that is new to the lease; where that is refused, nothing changes, and the share comes back. The
-    /// cost grows with the logarithm of the number of records, with these texts, and with the leases.
+    /// cost grows with the logarithms of the number of records and of the number of leases, and with these texts.
     pub fn commit(
         &mut self,
         share: Share<N>,

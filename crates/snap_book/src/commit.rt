@@ -110,8 +110,8 @@ impl<N: StoreName> Book<N> {
     /// are not recorded. Then, in this order: `BadArgument` for a name or a lease that has not its
     /// form; `AlreadyExists` where the namespace has the name, the snapshot's own key among them;
     /// `NoLease` where the namespace has not the lease. Each refusal gives the snapshot back as it was.
-    /// The cost grows with the texts and the labels, with the leases, and with the logarithm of the number
-    /// of records.
+    /// The cost grows with the texts and the labels, and with the logarithms of the number of leases and of
+    /// the number of records.
     pub fn commit(
         &mut self,
         session: u64,

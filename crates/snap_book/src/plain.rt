@@ -114,8 +114,9 @@ impl<N: StoreName> Book<N> {
     /// that are found; that of mounts and of a view with that logarithm times the ancestors, that of a walk
     /// with the records that it passes over, that of a removal with the logarithm of the number of names that the
     /// namespace's leases have too, that of a limit with the namespaces, that of a call on a lease with the
-    /// namespaces and the leases, for a release also with that logarithm times the names of the lease, that of a
-    /// sweep with the leases and their names, and with the records times the logarithm of their number.
+    /// namespaces and the logarithm of the number of leases, for a release also with that logarithm of names times
+    /// the names of the lease, that of a sweep with the leases and their names, and with the records times the
+    /// logarithm of their number.
     pub fn do_call(&mut self, session: u64, call: Call) -> Reply
         requires { IsPlain call }
         ensures answered { AnsweredBy self.old self.new session call Nothing result }

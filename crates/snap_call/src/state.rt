@@ -102,7 +102,7 @@ impl State {
     }
 
     /// Whether the namespace at the place has the lease, where one is given. Takes no memory. The cost
-    /// grows with the number of leases.
+    /// grows with the logarithm of the number of leases.
     pub fn has_named(&self, place: usize, lease: &Option<Text>) -> bool
         ensures { result ≡ has_named self.now place lease.now }
     {
@@ -142,8 +142,8 @@ impl State {
     /// entries are not counted.
     ///
     /// Takes memory for a record, with copies of the name, the parent and the labels, for its place, and for a
-    /// name that is new to the lease; where that is refused, nothing changes. The cost grows with the logarithm
-    /// of the number of records, with these texts, and with the leases.
+    /// name that is new to the lease; where that is refused, nothing changes. The cost grows with the logarithms
+    /// of the number of records and of the number of leases, and with these texts.
     pub fn commit(
         &mut self,
         slot: u64,

@@ -2,7 +2,7 @@
 use Rattle.std.proofs.Common.{◌≡◌, ℕ, zero, suc, ◌+◌, ◌-◌, ◌<◌, Bool, true, false, not, cond, List, [], ◌∷◌, ◌++◌, ◌&&◌, ◌||◌, map, count_by, length, get_or, set, take, Option, refl, sym, ap, ◌∙◌, arith, true≢false, bytes_eq}
 use Rattle.std.proofs.lemmas.List.{map-append, take_more}
 use Rattle.std.proofs.lemmas.List.Folds.{list_any_at}
-use Rattle.std.proofs.lemmas.List.Sums.{sum_by-cons, sum_by-set, sum_by_more, sum_by_push}
+use Rattle.std.proofs.lemmas.List.Sums.{sum_by-cons, sum_by-set, sum_by_push}
 use Rattle.std.proofs.lemmas.Slice.Eq.{bytes_eq-Decides}
 use Rattle.std.specs.List.{AllByRecursion, IsDistinct}
 use Rattle.snap_counts.specs.Counts.{count_within}
@@ -97,10 +97,6 @@ module _ {X : Type 0} where
           let gone : one_if (t x && p x) ≡ 0 = ap (λ b. one_if (b && p x)) e in
           omega (arith, rest, kept, gone, sum_by-cons (λ y. one_if (not (t y) && p y)) x xs, sum_by-cons (λ y. one_if (t y && p y)) x xs, sum_by-cons (λ y. one_if (p y)) x xs)
 
-  -- one element more of a list that is gone through
-  pub count_by_more : (p : X → Bool) (xs : List X) (i : ℕ) (d : X) → i < length xs → count_by p (take (i + 1) xs) ≡ count_by p (take i xs) + one_if (p (get_or xs i d))
-  count_by_more p xs i d within = sum_by_more (λ x. one_if (p x)) xs i d within
-
 -- what is so of each element is so of one at a place
 pub all-at : {X : Type 0} (P : X → Type 0) (xs : List X) (i : ℕ) (d : X) → AllByRecursion P xs → i < length xs → P (get_or xs i d)
 all-at P [] i d all within = absurd (omega arith)
@@ -159,17 +155,3 @@ counts-released namespace lease ls place old d before after are distinct within 
 pub counts-ended : (namespace : List ℕ) (now : ℕ) (ls : List Lease) (before after : NameCounts) → AreNameCounts ls before → AreUncounted (has_ended namespace now) ls before after → AreNameCounts (without_ended ls namespace now) after
 counts-ended namespace now ls before after are uncounted space name =
     omega (arith, are space name, uncounted space name, count_by-split (has_ended namespace now) (guards space name) ls, count_by-filter (guards space name) (λ l. not (has_ended namespace now l)) ls)
-
--- a lease more was gone through: its names were taken back where it passes the test
-module _ (test : Lease → Bool) (ls : List Lease) (i : ℕ) (d l : Lease) (initial during after : NameCounts) where
-  pub uncounted-passed : i < length ls → l ≡ get_or ls i d → test l ≡ true → AreUncounted test (take i ls) initial during → IsUncounted l during after → AreUncounted test (take (i + 1) ls) initial after
-  uncounted-passed within at passes so_far uncounted space name =
-      let one : one_if (test (get_or ls i d) && guards space name (get_or ls i d)) ≡ one_if (guards space name l) =
-      ap (λ k. one_if (test k && guards space name k)) (sym at) ∙ ap (λ b. one_if (b && guards space name l)) passes in
-      omega (arith, so_far space name, uncounted space name, one, count_by_more (λ k. test k && guards space name k) ls i d within)
-
-  pub uncounted-failed : i < length ls → l ≡ get_or ls i d → test l ≡ false → AreUncounted test (take i ls) initial during → AreUncounted test (take (i + 1) ls) initial during
-  uncounted-failed within at fails so_far space name =
-      let none : one_if (test (get_or ls i d) && guards space name (get_or ls i d)) ≡ 0 =
-      ap (λ k. one_if (test k && guards space name k)) (sym at) ∙ ap (λ b. one_if (b && guards space name l)) fails in
-      omega (arith, so_far space name, none, count_by_more (λ k. test k && guards space name k) ls i d within)

@@ -1,11 +1,8 @@
 -- Lemmas on lists of leases: which lease is meant, and that leases stay distinct.
-use Rattle.std.proofs.Common.{◌≡◌, ℕ, zero, suc, ◌+◌, ◌<◌, Bool, true, false, not, cond, List, [], ◌∷◌, ◌++◌, ◌&&◌, ◌||◌, Option, None, Some, map, filter, position, slice_get, find, nat_lt, is_some, set, length, get_or, refl, sym, ap, ◌∙◌, arith, true≢false, if◌then◌else◌, bytes_eq}
-use Rattle.std.proofs.lemmas.List.Folds.{find_at, list_any-append, list_any_at}
-use Rattle.std.proofs.lemmas.List.Quantifiers.{position-Some}
-use Rattle.std.proofs.lemmas.Option.{slice_get-get_or}
-use Rattle.std.proofs.lemmas.Bool.Decides.{nat_tests}
+use Rattle.std.proofs.Common.{◌≡◌, ℕ, zero, suc, ◌<◌, Bool, true, false, not, cond, List, [], ◌∷◌, ◌++◌, ◌&&◌, ◌||◌, Option, map, filter, set, length, get_or, refl, sym, ap, ◌∙◌, arith, true≢false, if◌then◌else◌, bytes_eq}
+use Rattle.std.proofs.lemmas.List.Folds.{list_any-append, list_any_at}
 use Rattle.std.proofs.lemmas.Slice.Eq.{bytes_eq-Decides}
-use Rattle.std.specs.List.{list_any, position_or_len, AllByRecursion, IsDistinct}
+use Rattle.std.specs.List.{list_any, AllByRecursion, IsDistinct}
 use Rattle.snap_lease.specs.Lease.{Lease, is_lease, does_name, empty_lease, with_lease_name, NamesOnce}
 use Rattle.snap_lease.specs.Leases.{has_lease, AreDistinct, with_name_added}
 
@@ -33,37 +30,6 @@ module _ {X : Type 0} (t : X → Bool) where
       by : (b : Bool) → p x ≡ b → list_any t (filter p xs) ≡ false → list_any t (filter p (x ∷ xs)) ≡ false
       by true e rest = ap (λ b. list_any t (cond b (x ∷ filter p xs) (filter p xs))) e ∙ ap (λ b. b || list_any t (filter p xs)) (list_any-tail x xs none).0 ∙ rest
       by false e rest = ap (λ b. list_any t (cond b (x ∷ filter p xs) (filter p xs))) e ∙ rest
-
-  -- there is a first place exactly where some element passes
-  pub is_within-position_or_len : (xs : List X) → nat_lt (position_or_len t xs) (length xs) ≡ list_any t xs
-  is_within-position_or_len [] = refl
-  is_within-position_or_len (x ∷ xs) = by (t x) refl (is_within-position_or_len xs)
-    where
-      by : (b : Bool) → t x ≡ b → nat_lt (position_or_len t xs) (length xs) ≡ list_any t xs → nat_lt (position_or_len t (x ∷ xs)) (length (x ∷ xs)) ≡ list_any t (x ∷ xs)
-      by true e rest = let at : position_or_len t (x ∷ xs) ≡ 0 = ap (λ b. cond (not b) (1 + position_or_len t xs) 0) e in grind (arith, nat_tests)
-      by false e rest = let at : position_or_len t (x ∷ xs) ≡ 1 + position_or_len t xs = ap (λ b. cond (not b) (1 + position_or_len t xs) 0) e in let any : list_any t (x ∷ xs) ≡ list_any t xs = ap (λ b. b || list_any t xs) e in grind (arith, nat_tests)
-
-  pub is_some-position : (xs : List X) → is_some (position t xs) ≡ list_any t xs
-  is_some-position xs = ap (λ b. is_some (cond b (Some (position_or_len t xs)) None)) (is_within-position_or_len xs) ∙ by (list_any t xs)
-    where
-      by : (b : Bool) → is_some (cond b (Some (position_or_len t xs)) None) ≡ b
-      by true = refl
-      by false = refl
-
-  -- the first place has the first element that passes
-  pub find-position : (xs : List X) (i : ℕ) (d : X) → position t xs ≡ Some i → find t xs ≡ Some (get_or xs i d)
-  find-position xs i d some = by (nat_lt (position_or_len t xs) (length xs)) refl
-    where
-      by : (b : Bool) → nat_lt (position_or_len t xs) (length xs) ≡ b → find t xs ≡ Some (get_or xs i d)
-      by true e =
-          let first : Some (position_or_len t xs) ≡ Some i = sym (ap (λ b. cond b (Some (position_or_len t xs)) None) e) ∙ some in
-          let same : position_or_len t xs ≡ i = cc in
-          find_at t xs ∙ ap (slice_get xs) same ∙ slice_get-get_or xs i d (position-Some t xs i d some).0
-      by false e = let none : None ≡ Some i = sym (ap (λ b. cond b (Some (position_or_len t xs)) None) e) ∙ some in cc
-
--- the namespace has the lease exactly where the lease has a place
-pub has_lease_at_place : (ls : List Lease) (namespace lease : List ℕ) (place : Option ℕ) → place ≡ position (is_lease namespace lease) ls → has_lease ls namespace lease ≡ is_some place
-has_lease_at_place ls namespace lease place at = sym (is_some-position (is_lease namespace lease) ls) ∙ ap is_some (sym at)
 
 -- the test of a lease finds its namespace and its name
 pub is_lease-parts : (namespace lease : List ℕ) (l : Lease) → is_lease namespace lease l ≡ true → (namespace ≡ l.namespace) × (lease ≡ l.name)

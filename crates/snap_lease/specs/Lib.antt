@@ -3,4 +3,5 @@ pub mod Lease
 pub mod Leases
 pub mod Live
 pub mod Marks
+pub mod Numbers
 pub mod Reach

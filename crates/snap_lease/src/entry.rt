@@ -1,11 +1,13 @@
 //! One lease, over texts that it owns.
-ghost use Rattle.std.specs.Prelude.{◌≡◌, ◌<◌, ◌+◌, ◌^◌, ◌||◌, false, List, ℕ, map, string_bytes, IsTrue, IsOk, IfOk, OnOk, OnErr};
+ghost use Rattle.std.specs.Prelude.{◌≡◌, ◌<◌, ◌+◌, ◌^◌, ◌||◌, false, List, ℕ, None, map, string_bytes, IsTrue, IsOk, IfOk, OnOk, OnErr, if◌then◌else◌};
 ghost use Rattle.snap_counts.specs.Counts.{count_within};
 ghost use Rattle.snap_lease.specs.Lease.{is_of, is_lease, does_name, is_live, empty_lease, with_lease_name, NamesOnce};
 ghost use Rattle.snap_lease.specs.Index.{IsSame, IsRecounted, IsUncounted};
 ghost use Rattle.snap_lease.specs.Live.{is_among};
+ghost use Rattle.snap_lease.specs.Numbers.{number_in};
 
 use crate::live::LiveNames;
+use crate::numbers::LeaseNumbers;
 use indexmap::IndexMap;
 use snap_counts::NamespaceCounts;
 use std::alloc::{AllocError, Global};
@@ -63,13 +65,6 @@ impl LeaseEntry {
         ensures { result ≡ is_of namespace.now self.now }
     {
         namespace == self.namespace.as_str()
-    }
-
-    /// Whether it is the namespace's lease of this name.
-    pub(crate) fn is_lease(&self, namespace: &str, lease: &str) -> bool
-        ensures { result ≡ is_lease namespace.now lease.now self.now }
-    {
-        self.is_of(namespace) && lease == self.name.as_str()
     }
 
     /// Whether it names the snapshot.
@@ -134,6 +129,13 @@ impl LeaseEntry {
         for name in self.names.keys().as_slice() {
             counts.take(namespace, name.as_str());
         }
+    }
+
+    /// Takes its number away.
+    pub(crate) fn take_number(&self, numbers: &mut LeaseNumbers)
+        ensures { (space name : List ℕ) → number_in space name numbers.new.map ≡ (if is_lease space name self.now then None else number_in space name numbers.old.map) }
+    {
+        numbers.take(self.namespace.as_str(), self.name.as_str());
     }
 
     /// A copy of the names, in order.

@@ -13,6 +13,7 @@ mod entry;
 mod error;
 mod list;
 mod live;
+mod numbers;
 mod sweep;
 
 pub use error::LeaseError;

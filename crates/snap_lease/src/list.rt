@@ -1,44 +1,55 @@
 //! The leases of all namespaces.
-ghost use Rattle.std.specs.Prelude.{◌≡◌, ◌≢◌, ◌↔◌, ◌<◌, ℕ, List, [], ◌∷◌, ◌++◌, map, false, count_by, position, string_bytes, Some, IsTrue, IfOk, OnOk, OnErr, IsErrOf, IsOkUnless};
+ghost use Rattle.std.specs.Prelude.{◌≡◌, ◌≢◌, ◌↔◌, ◌<◌, ℕ, List, [], ◌∷◌, ◌++◌, map, false, count_by, string_bytes, Some, IsTrue, IfOk, OnOk, OnErr, IsErrOf, IsOkUnless};
 ghost use Rattle.std.specs.List.{AllByRecursion};
+ghost use Rattle.std.specs.Map.{keys_of, values_of};
 ghost use Rattle.snap_path.specs.Memory.{no_memory};
-ghost use Rattle.snap_lease.specs.Lease.{empty_lease, is_lease, NamesOnce};
+ghost use Rattle.snap_lease.specs.Lease.{empty_lease, NamesOnce};
 ghost use Rattle.snap_lease.specs.Leases.{AreDistinct, has_lease, names_in_lease, lease_names, naming_count, is_guarded, is_guarded_at, has_ended, with_name_added, without_lease, without_ended, CountsAdded, CountsReleased, CountsLive};
 ghost use Rattle.snap_lease.specs.Index.{AreUncounted};
 ghost use Rattle.snap_lease.specs.Live.{is_among};
+ghost use Rattle.snap_lease.specs.Numbers.{AreUnnumbered};
 
 use crate::LeaseError;
 use crate::entry::LeaseEntry;
 use crate::live::LiveNames;
+use crate::numbers::LeaseNumbers;
 use snap_counts::NamespaceCounts;
+use snap_path::NoMemory;
 use std::alloc::{AllocError, Global};
+use std::collections::BTreeMap;
 use std::marker::Model;
 
 /// The leases of all namespaces.
 ///
 /// Contracts see them as a list of records, in the order in which the leases were created; a release and a sweep leave the
 /// others in their order. The names of a lease are in the order in which they were added, each once. No two leases of one
-/// namespace have the same name. Beside them stands how many leases of each namespace name a snapshot, so [`Leases::holds`]
-/// and [`Leases::count`] pass over no lease.
+/// namespace have the same name. Beside them stand the number of each lease by its namespace and name, so a lease is found
+/// without passing over others, and how many leases of each namespace name a snapshot, so [`Leases::holds`] and
+/// [`Leases::count`] pass over no lease.
 #[derive(Drop)]
 pub struct Leases {
     alloc: Global,
-    list: Vec<LeaseEntry>,
+    list: BTreeMap<usize, LeaseEntry>,
+    numbers: LeaseNumbers,
     counts: NamespaceCounts,
 }
 
 impl Model for Leases {
     ghost use Rattle.std.specs.Prelude.{List};
+    ghost use Rattle.std.specs.BTreeMap.{IsOrdered};
     ghost use Rattle.std.specs.List.{AllByRecursion};
+    ghost use Rattle.std.specs.Map.{values_of};
+    ghost use Rattle.std.specs.Ordering.{nat_cmp};
     ghost use Rattle.snap_lease.specs.Lease.{Lease, NamesOnce};
     ghost use Rattle.snap_lease.specs.Leases.{AreDistinct};
     ghost use Rattle.snap_lease.specs.Index.{AreNameCounts};
+    ghost use Rattle.snap_lease.specs.Numbers.{AreNumbers};
 
     ghost Value = { List Lease };
 
-    ghost view = { λ a. a.list.items };
+    ghost view = { λ a. values_of a.list.entries };
 
-    ghost invariant = { λ a. AreDistinct a.list.items × AllByRecursion NamesOnce a.list.items × AreNameCounts a.list.items a.counts };
+    ghost invariant = { λ a. AreDistinct (values_of a.list.entries) × AllByRecursion NamesOnce (values_of a.list.entries) × AreNameCounts (values_of a.list.entries) a.counts × AreNumbers a.list.entries a.numbers.map × IsOrdered nat_cmp a.list };
 }
 
 impl Leases {
@@ -48,32 +59,27 @@ impl Leases {
     {
         Leases {
             alloc,
-            list: Vec::new(alloc),
+            list: BTreeMap::new(alloc),
+            numbers: LeaseNumbers::new(alloc),
             counts: NamespaceCounts::new(alloc),
         }
     }
 
     /// Whether the namespace has a lease of this name, live or ended.
     ///
-    /// Takes no memory. Its cost grows with the number of leases.
+    /// Takes no memory. Its cost grows with the logarithm of the number of leases.
     pub fn has(&self, namespace: &str, lease: &str) -> bool
         ensures { result ≡ has_lease self.now namespace.now lease.now }
     {
-        self.list.iter().any(|l| l.is_lease(namespace, lease))
-    }
-
-    // The place of the namespace's lease of this name.
-    fn place_of(&self, namespace: &str, lease: &str) -> Option<usize>
-        ensures { result ≡ position (is_lease namespace.now lease.now) self.now }
-    {
-        self.list.iter().position(|l| l.is_lease(namespace, lease))
+        self.numbers.get(namespace, lease).is_some()
     }
 
     /// Makes a lease that names nothing, with a last moment or none, as containerd's `leases.Manager.Create` does.
     ///
     /// `LeaseExists` where the namespace has a lease of this name, live or ended. `OutOfMemory` where memory is refused, which
-    /// it takes for the two texts and for a place in the list. After either the leases are as they were. Its cost grows with
-    /// the number of leases.
+    /// it takes for two copies of both texts, for a place in the list and for one in its index, and where no number is left
+    /// above the last lease's. After either the leases are as they were. Its cost grows with the logarithm of the number of
+    /// leases.
     pub fn create(
         &mut self,
         namespace: &str,
@@ -92,18 +98,22 @@ impl Leases {
         if self.has(namespace, lease) {
             return Err(LeaseError::LeaseExists);
         }
+        let number = next_number(&self.list)?;
         let entry = LeaseEntry::new(self.alloc, namespace, lease, until)?;
-        self.list.push(entry)?;
-        Ok(())
+        self.numbers.put(namespace, lease, number)?;
+        let Err(refused) = self.list.insert(number, entry) else {
+            return Ok(());
+        };
+        self.numbers.take(namespace, lease);
+        Err(refused.into())
     }
 
     /// Names the snapshot in the lease too, as its last name. A name that is there already changes nothing.
     ///
     /// `NoLease` where the namespace has no lease of this name. `OutOfMemory` where memory is refused, which it takes for copies
     /// of the text, for a place in the set and for the count of the name, and not for a name that is there already. After
-    /// either the leases are as they were. Its cost grows with the number of leases, and with the logarithm of the number of
+    /// either the leases are as they were. Its cost grows with the logarithms of the number of leases and of the number of
     /// names that the namespace's leases have.
-    #[tactic(auto, using(crate::proofs::ListLemmas::has_lease_at_place))]
     pub fn add(&mut self, namespace: &str, lease: &str, name: &str) -> Result<(), LeaseError>
         // The lease has the name, once, and every other lease stays.
         ensures ok { OnOk result (self.new ≡ with_name_added self.old namespace.now lease.now name.now) }
@@ -115,12 +125,14 @@ impl Leases {
         ensures exists { result ≢ Err LeaseError.LeaseExists }
         ensures err { OnErr result (self.new ≡ self.old) }
     {
-        let Some(place) = self.place_of(namespace, lease) else {
+        let Some(number) = self.numbers.get(namespace, lease) else {
             return Err(LeaseError::NoLease);
         };
-        // With the length read, the proof knows that a count has room.
-        let _ = self.list.as_slice().len();
-        let entry = &mut self.list[place];
+        // With the length read, the proof knows that a count has room. Each number is one of a lease in the list.
+        let _ = self.list.len();
+        let Some(entry) = self.list.get_mut(&number) else {
+            return Err(LeaseError::NoLease);
+        };
         entry.add(self.alloc, name, &mut self.counts)?;
         Ok(())
     }
@@ -128,9 +140,8 @@ impl Leases {
     /// Takes the lease away with its names, as containerd's `leases.Manager.Delete` does.
     ///
     /// `NoLease`, and nothing changed, where the namespace has no lease of this name. Takes no memory. Its cost grows with the
-    /// number of leases, and for each name of the lease with the logarithm of the number of names that the namespace's leases
-    /// have.
-    #[tactic(auto, using(crate::proofs::ListLemmas::has_lease_at_place))]
+    /// logarithm of the number of leases, and for each name of the lease with the logarithm of the number of names that the
+    /// namespace's leases have.
     pub fn release(&mut self, namespace: &str, lease: &str) -> Result<(), LeaseError>
         // The others stay as they are, in their order.
         ensures ok { OnOk result (self.new ≡ without_lease self.old namespace.now lease.now) }
@@ -141,11 +152,12 @@ impl Leases {
         ensures only { IsOkUnless result LeaseError.NoLease }
         ensures err { OnErr result (self.new ≡ self.old) }
     {
-        let Some(place) = self.place_of(namespace, lease) else {
+        let Some(number) = self.numbers.get(namespace, lease) else {
             return Err(LeaseError::NoLease);
         };
-        self.list[place].take_counts(&mut self.counts);
-        self.list.retain(|l| !l.is_lease(namespace, lease));
+        self.list[&number].take_counts(&mut self.counts);
+        self.numbers.take(namespace, lease);
+        drop(self.list.remove(&number));
         Ok(())
     }
 
@@ -161,17 +173,16 @@ impl Leases {
     /// `leases.Manager.ListResources` gives them.
     ///
     /// `NoLease` where the namespace has no lease of this name. `OutOfMemory` where memory is refused, which it takes for the
-    /// copy. Its cost grows with the number of leases and with the length of the names.
-    #[tactic(auto, using(crate::proofs::ListLemmas::has_lease_at_place))]
+    /// copy. Its cost grows with the logarithm of the number of leases, and with the length of the names.
     pub fn of(&self, namespace: &str, lease: &str) -> Result<Vec<String>, LeaseError>
         ensures ok { IfOk result (λ v. names_in_lease self.now namespace.now lease.now ≡ Some (map string_bytes v.items)) }
         ensures no_lease { IsErrOf result LeaseError.NoLease ↔ (has_lease self.now namespace.now lease.now ≡ false) }
         ensures exists { result ≢ Err LeaseError.LeaseExists }
     {
-        let Some(place) = self.place_of(namespace, lease) else {
+        let Some(number) = self.numbers.get(namespace, lease) else {
             return Err(LeaseError::NoLease);
         };
-        let names = self.list[place].copy_names(self.alloc)?;
+        let names = self.list[&number].copy_names(self.alloc)?;
         Ok(names)
     }
 
@@ -196,7 +207,7 @@ impl Leases {
     pub fn live(&self, namespace: &str, name: &str, now: u64) -> bool
         ensures { result ≡ is_guarded_at self.now namespace.now name.now now }
     {
-        self.list.iter().any(|l| l.is_of(namespace) && l.does_name(name) && l.is_live(now))
+        self.list.values().any(|l| l.is_of(namespace) && l.does_name(name) && l.is_live(now))
     }
 
     /// The names in the namespace's leases that are live at the moment, as a set: [`Leases::live`] for
@@ -207,7 +218,7 @@ impl Leases {
         ensures { IfOk result (λ names. (name : List ℕ) → is_among name names ≡ is_guarded_at self.now namespace.now name now) }
     {
         let mut names = LiveNames::new(self.alloc);
-        for lease in &self.list {
+        for lease in self.list.values() {
             if lease.is_of(namespace) && lease.is_live(now) {
                 lease.put_names(self.alloc, &mut names)?;
             }
@@ -222,33 +233,61 @@ impl Leases {
         ensures { result ≡ count_by (has_ended namespace.now now) self.now }
     {
         self.list
-            .iter()
+            .values()
             .filter(|l| l.is_of(namespace) && !l.is_live(now))
             .count() as u64
     }
 
     /// Takes away the namespace's leases that have ended at the moment, with their names.
     ///
-    /// Takes no memory. Its cost grows with the number of leases, and for each name of a lease that goes with the logarithm of
-    /// the number of names that the namespace's leases have.
+    /// Takes no memory. Its cost grows with the number of leases, for each lease that goes with its logarithm, and for each name
+    /// of such a lease with the logarithm of the number of names that the namespace's leases have.
     pub fn drop_ended(&mut self, namespace: &str, now: u64)
         ensures leases { self.new ≡ without_ended self.old namespace.now now }
         ensures counts { CountsLive self.old self.new namespace.now now }
     {
-        take_ended(self.list.as_slice(), &mut self.counts, namespace, now);
+        take_ended(
+            &self.list,
+            &mut self.counts,
+            &mut self.numbers,
+            namespace,
+            now,
+        );
         self.list
-            .retain(|l| !(l.is_of(namespace) && !l.is_live(now)));
+            .retain(|_, l| !(l.is_of(namespace) && !l.is_live(now)));
     }
 }
 
-// Takes back the counts of the names in the namespace's leases that have ended at the moment.
-fn take_ended(list: &[LeaseEntry], counts: &mut NamespaceCounts, namespace: &str, now: u64)
-    requires { AllByRecursion NamesOnce list.now }
-    ensures { AreUncounted (has_ended namespace.now now) list.now counts.old counts.new }
+// A number above those of all leases.
+fn next_number(list: &BTreeMap<usize, LeaseEntry>) -> Result<usize, AllocError>
+    ensures { IfOk result (λ n. AllByRecursion (λ k. k < n) (keys_of list.now.entries)) }
 {
-    for lease in list {
+    let Some((last, _)) = list.last_key_value() else {
+        return Ok(0);
+    };
+    let last = *last;
+    match last.checked_add(1) {
+        Some(next) => Ok(next),
+        None => Err(NoMemory::of_last_address(last).into()),
+    }
+}
+
+// Takes back the counts of the names in the namespace's leases that have ended at the moment, and their numbers.
+fn take_ended(
+    list: &BTreeMap<usize, LeaseEntry>,
+    counts: &mut NamespaceCounts,
+    numbers: &mut LeaseNumbers,
+    namespace: &str,
+    now: u64,
+)
+    requires { AllByRecursion NamesOnce (values_of list.now.entries) }
+    ensures counted { AreUncounted (has_ended namespace.now now) (values_of list.now.entries) counts.old counts.new }
+    ensures numbered { AreUnnumbered (has_ended namespace.now now) (values_of list.now.entries) numbers.old.map numbers.new.map }
+{
+    for lease in list.values() {
         if lease.is_of(namespace) && !lease.is_live(now) {
             lease.take_counts(counts);
+            lease.take_number(numbers);
         }
     }
 }

@@ -1,75 +1,124 @@
-use Rattle.std.proofs.Common.{◌∙◌, ◌≡◌, ◌<◌, ℕ, List, Some, true, false, Bool, ap, get_or, length, position, refl, set, subst, sym}
-use Rattle.std.proofs.lemmas.List.Quantifiers.{position-Some}
+use Rattle.std.proofs.Common.{◌∙◌, ◌≡◌, Bool, Some, true, false, rules, ap, is_some, refl, subst, sym, true≢false}
+use Rattle.std.proofs.lemmas.Map.Steps.{set_value_same}
+use Rattle.std.specs.BTreeMap.{is_at}
 use Rattle.std.specs.List.{AllByRecursion}
-use Rattle.snap_lease.specs.Lease.{Lease, does_name, is_lease, with_lease_name, NamesOnce}
-use Rattle.snap_lease.specs.Leases.{AreDistinct, CountsAdded, lease_names, with_name_added}
+use Rattle.std.specs.Map.{set_value, values_of}
+use Rattle.std.specs.Option.{option_copied_mut}
+use Rattle.std.specs.Ordering.{nat_cmp}
+use Rattle.snap_lease.specs.Index.{AreNameCounts}
+use Rattle.snap_lease.specs.Lease.{NamesOnce, does_name, is_lease}
+use Rattle.snap_lease.specs.Leases.{AreDistinct, CountsAdded, has_lease, lease_names, with_name_added}
+use Rattle.snap_lease.specs.Numbers.{AreNumbers}
 use Rattle.snap_lease.proofs.CountLemmas.{CountsAdded-with_name_added, lease_names-at}
 use Rattle.snap_lease.proofs.IndexLemmas.{counts-changed}
-use Rattle.snap_lease.proofs.ListLemmas.{AreDistinct-with_name_added, NamesOnce-with_name_added, set-with_name_added}
+use Rattle.snap_lease.proofs.ListLemmas.{AreDistinct-with_name_added, NamesOnce-with_name_added}
+use Rattle.snap_lease.proofs.NumberLemmas.{Stands, found_at_number, has_lease_at_number, numbers-added, on_err, stands_at_number, values-added, values-written}
 use Rattle.snap_lease.proofs.list.Leases.add.Goals as goal
 
--- a place that `position` found is within the list, and the lease there is the one meant
-record IsAt (ls : List Lease) (namespace lease : List ℕ) (place : ℕ) (entry : Lease) : Type 0 where
-  distinct : AreDistinct ls
-  within : place < length ls
-  is : is_lease namespace lease (get_or ls place entry) ≡ true
-  entry_is : entry ≡ get_or ls place entry
+pub returns-in_default-clause-no_lease : goal.returns-in_default-clause-no_lease
+returns-in_default-clause-no_lease c =
+    let absent : has_lease c.args.self.now c.args.namespace.now c.args.lease.now ≡ false =
+    has_lease_at_number c.self.inside.list.entries c.args.self.now c.self.inside.numbers.map c.args.namespace.now c.args.lease.now c.get.result c.get.ensures c.self.invariant.3 c.self.view_is ∙ ap is_some c.in_default.is in
+    search rules
 
-at_place : (ls now : List Lease) (namespace lease : List ℕ) (place : ℕ) (entry : Lease) → ls ≡ now → AreDistinct ls
-    → Some place ≡ position (is_lease namespace lease) now → entry ≡ get_or ls place entry → IsAt ls namespace lease place entry
-at_place ls now namespace lease place entry same distinct found at =
-    let first = position-Some (is_lease namespace lease) ls place entry (ap (position (is_lease namespace lease)) same ∙ sym found) in
-    record { distinct = distinct; within = first.0; is = first.1; entry_is = at }
+pub returns-in_default-get_mut-clause-no_lease : goal.returns-in_default-get_mut-clause-no_lease
+returns-in_default-get_mut-clause-no_lease c =
+    let found = found_at_number c.self.inside.list.entries c.self.inside.numbers.map c.args.namespace.now c.args.lease.now c.in-Some.number c.self.invariant.4 c.self.invariant.0 c.self.invariant.3 c.in-Some.ensures in
+    absurd (true≢false (sym found ∙ ap is_some (sym c.get_mut.ensures.value ∙ ap option_copied_mut c.in_default-get_mut.is)))
 
 -- what is refused where it is new is not there
 refused_only_new : (b : Bool) → (b ≡ true → false ≡ true) → b ≡ false
 refused_only_new true refused = sym (refused refl)
 refused_only_new false refused = refl
 
-written : (ls : List Lease) (namespace lease name : List ℕ) (place : ℕ) (entry new : Lease) → IsAt ls namespace lease place entry → new ≡ with_lease_name name entry
-    → set ls place new ≡ with_name_added ls namespace lease name
-written ls namespace lease name place entry new at is =
-    ap (set ls place) (is ∙ ap (with_lease_name name) at.entry_is) ∙ set-with_name_added namespace lease name ls place entry at.distinct at.within at.is
+-- the lease is written as it was
+same : (c : goal.After-from_residual) → (c.get_mut.follows.lender c.add.new.self).entries ≡ c.self.inside.list.entries
+same c =
+    let test = is_at (nat_cmp c.in-Some.number) in
+    (c.get_mut.follows.holds c.add.new.self).0 ∙ ap (set_value test c.self.inside.list.entries) c.in_err-add.ensures.err
+    ∙ set_value_same test c.self.inside.list.entries c.in-Some-get_mut.entry.now (sym c.in-Some-get_mut.ensures.value)
 
-added : (c : goal.In_ok-add) → IsAt c.self.inside.list.items c.args.namespace.now c.args.lease.now c.in-Some.place c.index_mut-entry.result.now
-added c =
-    at_place c.self.inside.list.items c.args.self.now c.args.namespace.now c.args.lease.now c.in-Some.place c.index_mut-entry.result.now
-    c.self.view_is c.self.invariant.0 c.in-Some.ensures c.index_mut-entry.ensures.value
-
-new_items : (c : goal.In_ok-add) → set c.self.inside.list.items c.in-Some.place c.add.new.self ≡ with_name_added c.self.inside.list.items c.args.namespace.now c.args.lease.now c.args.name.now
-new_items c =
-    written c.self.inside.list.items c.args.namespace.now c.args.lease.now c.args.name.now c.in-Some.place c.index_mut-entry.result.now c.add.new.self (added c) c.in_ok-add.ensures.ok
-
-pub invariant_of-self-2 : goal.invariant_of-self-2
-invariant_of-self-2 c =
-    let distinct = AreDistinct-with_name_added c.args.namespace.now c.args.lease.now c.args.name.now c.self.inside.list.items c.self.invariant.0 in
-    let once = NamesOnce-with_name_added c.args.namespace.now c.args.lease.now c.args.name.now c.self.inside.list.items c.self.invariant.1 in
-    let at = added c in (
-      subst AreDistinct (sym (new_items c)) distinct,
-      subst (AllByRecursion NamesOnce) (sym (new_items c)) once,
-      counts-changed c.self.inside.list.items c.in-Some.place c.index_mut-entry.result.now c.add.new.self c.index_mut-entry.result.now c.self.inside.counts c.add.new.counts
-          c.self.invariant.2 at.within at.entry_is c.in_ok-add.ensures.counted,
+pub invariant_of-self-in_err-add : goal.invariant_of-self-in_err-add
+invariant_of-self-in_err-add c =
+    let e = sym (same c) in (
+      subst (λ xs. AreDistinct (values_of xs)) e c.self.invariant.0,
+      subst (λ xs. AllByRecursion NamesOnce (values_of xs)) e c.self.invariant.1,
+      subst (λ xs. AreNameCounts (values_of xs) c.add.new.counts) e (λ space name. c.in_err-add.ensures.err_counts space name ∙ c.self.invariant.2 space name),
+      subst (λ xs. AreNumbers xs c.self.inside.numbers.map) e c.self.invariant.3,
+      (c.get_mut.follows.holds c.add.new.self).4,
     )
 
-pub returns-clause-ok : goal.returns-clause-ok
-returns-clause-ok c = new_items c ∙ ap (λ ls. with_name_added ls c.args.namespace.now c.args.lease.now c.args.name.now) c.self.view_is
-
-pub returns-clause-counts : goal.returns-clause-counts
-returns-clause-counts c =
-    let at = added c in
-    let counts : CountsAdded c.self.inside.list.items (with_name_added c.self.inside.list.items c.args.namespace.now c.args.lease.now c.args.name.now) c.args.namespace.now c.args.lease.now c.args.name.now =
-    CountsAdded-with_name_added c.args.namespace.now c.args.lease.now c.args.name.now c.self.inside.list.items c.in-Some.place c.index_mut-entry.result.now at.distinct at.within at.is in
-    subst (λ old. CountsAdded old (set c.self.inside.list.items c.in-Some.place c.add.new.self) c.args.namespace.now c.args.lease.now c.args.name.now) c.self.view_is
-    (subst (λ new. CountsAdded c.self.inside.list.items new c.args.namespace.now c.args.lease.now c.args.name.now) (sym (new_items c)) counts)
+pub returns-in_err-add-clause-no_lease : goal.returns-in_err-add-clause-no_lease
+returns-in_err-add-clause-no_lease c =
+    let there : has_lease c.args.self.now c.args.namespace.now c.args.lease.now ≡ true =
+    has_lease_at_number c.self.inside.list.entries c.args.self.now c.self.inside.numbers.map c.args.namespace.now c.args.lease.now (Some c.in-Some.number) c.in-Some.ensures c.self.invariant.3 c.self.view_is in
+    search rules
 
 pub returns-in_err-add-clause-memory : goal.returns-in_err-add-clause-memory
 returns-in_err-add-clause-memory c =
-    let at =
-    at_place c.self.inside.list.items c.args.self.now c.args.namespace.now c.args.lease.now c.in-Some.place c.index_mut-entry.result.now
-    c.self.view_is c.self.invariant.0 c.in-Some.ensures c.index_mut-entry.ensures.value in
-    let named : lease_names c.args.self.now c.args.namespace.now c.args.lease.now c.args.name.now ≡ does_name c.args.name.now c.index_mut-entry.result.now =
-    ap (λ ls. lease_names ls c.args.namespace.now c.args.lease.now c.args.name.now) (sym c.self.view_is)
-    ∙ lease_names-at c.args.namespace.now c.args.lease.now c.args.name.now c.self.inside.list.items c.in-Some.place c.index_mut-entry.result.now at.distinct at.within at.is
-    ∙ ap (does_name c.args.name.now) (sym at.entry_is) in
-    let absent : does_name c.args.name.now c.index_mut-entry.result.now ≡ false = refused_only_new _ c.in_err-add.ensures.there in
+    let ls = values_of c.self.inside.list.entries in
+    let entry = c.in-Some-get_mut.entry.now in
+    let s =
+    stands_at_number c.self.inside.list.entries c.self.inside.numbers.map c.args.namespace.now c.args.lease.now c.in-Some.number c.self.invariant.4 c.self.invariant.0 c.self.invariant.3 c.in-Some.ensures
+    entry (sym c.in-Some-get_mut.ensures.value) in
+    let named : lease_names c.args.self.now c.args.namespace.now c.args.lease.now c.args.name.now ≡ does_name c.args.name.now entry =
+    ap (λ ks. lease_names ks c.args.namespace.now c.args.lease.now c.args.name.now) (sym c.self.view_is)
+    ∙ lease_names-at c.args.namespace.now c.args.lease.now c.args.name.now ls s.place entry c.self.invariant.0 s.within s.passes ∙ ap (does_name c.args.name.now) (sym s.at) in
+    let absent : does_name c.args.name.now entry ≡ false = refused_only_new _ c.in_err-add.ensures.there in
     λ _. named ∙ absent
+
+pub returns-in_err-add-clause-err : goal.returns-in_err-add-clause-err
+returns-in_err-add-clause-err c = on_err c.from_residual.result (ap values_of (same c) ∙ c.self.view_is)
+
+-- where the lease is
+at : (c : goal.In_ok-add) → Stands (is_at (nat_cmp c.in-Some.number)) (is_lease c.args.namespace.now c.args.lease.now) c.self.inside.list.entries c.in-Some-get_mut.entry.now
+at c =
+    stands_at_number c.self.inside.list.entries c.self.inside.numbers.map c.args.namespace.now c.args.lease.now c.in-Some.number c.self.invariant.4 c.self.invariant.0 c.self.invariant.3 c.in-Some.ensures
+    c.in-Some-get_mut.entry.now (sym c.in-Some-get_mut.ensures.value)
+
+-- what the call leaves
+new_values : (c : goal.In_ok-add) → values_of (c.get_mut.follows.lender c.add.new.self).entries ≡ with_name_added (values_of c.self.inside.list.entries) c.args.namespace.now c.args.lease.now c.args.name.now
+new_values c =
+    values-added c.args.namespace.now c.args.lease.now c.args.name.now c.in-Some.number c.self.inside.list.entries (c.get_mut.follows.lender c.add.new.self).entries c.in-Some-get_mut.entry.now c.add.new.self
+    (at c) (c.get_mut.follows.holds c.add.new.self).0 c.in_ok-add.ensures.ok c.self.invariant.0
+
+pub invariant_of-self-2 : goal.invariant_of-self-2
+invariant_of-self-2 c =
+    let namespace = c.args.namespace.now in
+    let lease = c.args.lease.now in
+    let name = c.args.name.now in
+    let es = c.self.inside.list.entries in
+    let new = (c.get_mut.follows.lender c.add.new.self).entries in
+    let entry = c.in-Some-get_mut.entry.now in
+    let w = c.add.new.self in
+    let s = at c in
+    let writes = (c.get_mut.follows.holds w).0 in
+    let written = values-written namespace lease name c.in-Some.number es new entry w s writes c.in_ok-add.ensures.ok in (
+      subst AreDistinct (sym (new_values c)) (AreDistinct-with_name_added namespace lease name (values_of es) c.self.invariant.0),
+      subst (AllByRecursion NamesOnce) (sym (new_values c)) (NamesOnce-with_name_added namespace lease name (values_of es) c.self.invariant.1),
+      subst (λ ls. AreNameCounts ls c.add.new.counts) (sym written)
+          (counts-changed (values_of es) s.place entry w entry c.self.inside.counts c.add.new.counts c.self.invariant.2 s.within s.at c.in_ok-add.ensures.counted),
+      numbers-added namespace lease name c.in-Some.number es new entry w s writes c.in_ok-add.ensures.ok c.self.inside.numbers.map (sym c.in-Some-get_mut.ensures.value) c.self.invariant.3,
+      (c.get_mut.follows.holds w).4,
+    )
+
+pub returns-clause-ok : goal.returns-clause-ok
+returns-clause-ok c = new_values c ∙ ap (λ ls. with_name_added ls c.args.namespace.now c.args.lease.now c.args.name.now) c.self.view_is
+
+pub returns-clause-counts : goal.returns-clause-counts
+returns-clause-counts c =
+    let namespace = c.args.namespace.now in
+    let lease = c.args.lease.now in
+    let name = c.args.name.now in
+    let ls = values_of c.self.inside.list.entries in
+    let s = at c in
+    let counts : CountsAdded ls (with_name_added ls namespace lease name) namespace lease name =
+    CountsAdded-with_name_added namespace lease name ls s.place c.in-Some-get_mut.entry.now c.self.invariant.0 s.within s.passes in
+    subst (λ old. CountsAdded old (values_of (c.get_mut.follows.lender c.add.new.self).entries) namespace lease name) c.self.view_is
+    (subst (λ new. CountsAdded ls new namespace lease name) (sym (new_values c)) counts)
+
+pub returns-clause-no_lease : goal.returns-clause-no_lease
+returns-clause-no_lease c =
+    let there : has_lease c.args.self.now c.args.namespace.now c.args.lease.now ≡ true =
+    has_lease_at_number c.self.inside.list.entries c.args.self.now c.self.inside.numbers.map c.args.namespace.now c.args.lease.now (Some c.in-Some.number) c.in-Some.ensures c.self.invariant.3 c.self.view_is in
+    search rules

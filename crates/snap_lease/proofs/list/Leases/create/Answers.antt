@@ -1,21 +1,63 @@
 use Rattle.std.proofs.Common.{◌∙◌, ◌≡◌, ◌++◌, ◌∷◌, [], false, ap, sym, subst}
 use Rattle.std.specs.List.{AllByRecursion}
+use Rattle.std.specs.Map.{values_of}
+use Rattle.snap_lease.specs.Index.{AreNameCounts}
 use Rattle.snap_lease.specs.Lease.{Lease, empty_lease, NamesOnce}
-use Rattle.snap_lease.specs.Leases.{has_lease, AreDistinct, guards}
+use Rattle.snap_lease.specs.Leases.{has_lease, AreDistinct, guards, naming_count}
+use Rattle.snap_lease.specs.Numbers.{AreNumbers}
 use Rattle.snap_lease.proofs.ListLemmas.{AreDistinct-push, NamesOnce-empty, all-push}
 use Rattle.snap_lease.proofs.IndexLemmas.{counts-created, guards-empty}
+use Rattle.snap_lease.proofs.NumberLemmas.{insert_entry-last, numbers-back, numbers-created, values-push}
 use Rattle.snap_lease.proofs.list.Leases.create.Goals as goal
+
+absent : (c : goal.Joined-this) → has_lease (values_of c.self.inside.list.entries) c.args.namespace.now c.args.lease.now ≡ false
+absent c = ap (λ ls. has_lease ls c.args.namespace.now c.args.lease.now) c.self.view_is ∙ sym c.has.ensures ∙ c.if-has.false
+
+-- what the call leaves
+items : (c : goal.Joined-this) → c.insert.new.self.entries ≡ c.self.inside.list.entries ++ (c.in_ok-number.number, c.in_ok-entry.entry) ∷ []
+items c = c.in_default.ensures.entries ∙ insert_entry-last c.in_ok-number.number c.in_ok-entry.entry c.self.inside.list.entries c.in_ok-number.ensures
+
+values : (c : goal.Joined-this) → values_of c.insert.new.self.entries ≡ values_of c.self.inside.list.entries ++ c.in_ok-entry.entry ∷ []
+values c = ap values_of (items c) ∙ values-push c.in_ok-number.number c.in_ok-entry.entry c.self.inside.list.entries
+
+counts : (c : goal.Joined-this) → AreNameCounts (values_of c.insert.new.self.entries) c.self.inside.counts
+counts c =
+    counts-created (values_of c.self.inside.list.entries) (values_of c.insert.new.self.entries) c.self.inside.counts c.in_ok-entry.entry c.self.invariant.2
+    (λ space name. ap (guards space name) c.in_ok-entry.ensures ∙ guards-empty space name c.args.namespace.now c.args.lease.now c.args.until) (values c)
+
+pub invariant_of-self-in_default : goal.invariant_of-self-in_default
+invariant_of-self-in_default c =
+    let es = c.self.inside.list.entries in
+    let entry = c.in_ok-entry.entry in
+    let is : entry ≡ empty_lease c.args.namespace.now c.args.lease.now c.args.until = c.in_ok-entry.ensures in
+    let new : has_lease (values_of es) entry.namespace entry.name ≡ false = ap (λ (l : Lease). has_lease (values_of es) l.namespace l.name) is ∙ absent c in
+    let once : NamesOnce entry = subst NamesOnce (sym is) (NamesOnce-empty c.args.namespace.now c.args.lease.now c.args.until) in (
+      subst AreDistinct (sym (values c)) (AreDistinct-push (values_of es) entry c.self.invariant.0 new),
+      subst (AllByRecursion NamesOnce) (sym (values c)) (all-push NamesOnce (values_of es) entry c.self.invariant.1 once),
+      counts c,
+      subst (λ xs. AreNumbers xs c.put.new.self.map) (sym (items c))
+          (numbers-created es c.self.inside.numbers.map c.put.new.self.map c.args.namespace.now c.args.lease.now c.args.until c.in_ok-number.number entry is (absent c) c.self.invariant.3 c.in_ok-put.ensures.ok),
+      c.insert.ensures.ordered,
+    )
+
+pub returns-in_default-clause-ok : goal.returns-in_default-clause-ok
+returns-in_default-clause-ok c =
+    values c ∙ ap (λ l. values_of c.self.inside.list.entries ++ l ∷ []) c.in_ok-entry.ensures
+    ∙ ap (λ ls. ls ++ empty_lease c.args.namespace.now c.args.lease.now c.args.until ∷ []) c.self.view_is
+
+pub returns-in_default-clause-counts : goal.returns-in_default-clause-counts
+returns-in_default-clause-counts c = λ space name.
+    sym (counts c space name) ∙ c.self.invariant.2 space name ∙ ap (λ ls. naming_count ls space name) c.self.view_is
 
 pub invariant_of-self-2 : goal.invariant_of-self-2
 invariant_of-self-2 c =
-    let entry : c.in_ok-entry.entry ≡ empty_lease c.args.namespace.now c.args.lease.now c.args.until = c.in_ok-entry.ensures in
-    let absent : has_lease c.args.self.now c.args.namespace.now c.args.lease.now ≡ false = sym c.has.ensures ∙ c.if-has.false in
-    let new : has_lease c.self.inside.list.items c.in_ok-entry.entry.namespace c.in_ok-entry.entry.name ≡ false =
-    ap (λ (l : Lease). has_lease c.self.inside.list.items l.namespace l.name) entry ∙ ap (λ ls. has_lease ls c.args.namespace.now c.args.lease.now) c.self.view_is ∙ absent in
-    let items : c.push.new.self.items ≡ c.self.inside.list.items ++ c.in_ok-entry.entry ∷ [] = c.in_ok-push.ensures.items in
-    let once : NamesOnce c.in_ok-entry.entry = subst NamesOnce (sym entry) (NamesOnce-empty c.args.namespace.now c.args.lease.now c.args.until) in (
-      subst AreDistinct (sym items) (AreDistinct-push c.self.inside.list.items c.in_ok-entry.entry c.self.invariant.0 new),
-      subst (AllByRecursion NamesOnce) (sym items) (all-push NamesOnce c.self.inside.list.items c.in_ok-entry.entry c.self.invariant.1 once),
-      counts-created c.self.inside.list.items c.push.new.self.items c.self.inside.counts c.in_ok-entry.entry c.self.invariant.2
-          (λ space name. ap (guards space name) entry ∙ guards-empty space name c.args.namespace.now c.args.lease.now c.args.until) items,
+    let none = ap (λ ls. has_lease ls c.args.namespace.now c.args.lease.now) c.self.view_is ∙ sym c.has.ensures ∙ c.if-has.false in
+    let e = sym c.in-Err.ensures.err in (
+      subst (λ xs. AreDistinct (values_of xs)) e c.self.invariant.0,
+      subst (λ xs. AllByRecursion NamesOnce (values_of xs)) e c.self.invariant.1,
+      subst (λ xs. AreNameCounts (values_of xs) c.self.inside.counts) e c.self.invariant.2,
+      subst (λ xs. AreNumbers xs c.take.new.self.map) e
+          (numbers-back c.self.inside.list.entries c.self.inside.numbers.map c.take.new.self.map c.put.new.self.map c.args.namespace.now c.args.lease.now c.in_ok-number.number none c.self.invariant.3
+          c.in_ok-put.ensures.ok c.take.ensures),
+      c.insert.ensures.ordered,
     )
