@@ -1,5 +1,4 @@
 pub mod Keeping
 pub mod Rooted
-pub mod Preparing
 pub mod Commits
 pub mod Viewing

@@ -2,18 +2,21 @@
 -- Cited by `Book::open_session`, `Book::take_entry`, `Book::records` and others.
 use Rattle.std.specs.Prelude.{◌≡◌, ℕ, ◌+◌, ◌≤◌, ◌^◌, List, [], ◌∷◌, ◌++◌, Option, None, Some, length, Result, Ok, Err}
 use Rattle.snap_usage.specs.declared.usage.Usage.{Usage}
+use Rattle.snap_record.specs.Labels.{Bytes}
 use Rattle.snap_call.specs.declared.call.Call.{Call}
 use Rattle.snap_call.specs.declared.call.Given.{Given}
 use Rattle.snap_call.specs.declared.entry.Entry.{Entry}
 use Rattle.snap_call.specs.declared.refusal.Refusal.{Refusal}
 use Rattle.snap_call.specs.declared.refusal.Refusal.TheVariants.{JournalFull, OutOfMemory}
 use Rattle.snap_call.specs.declared.reply.Reply.{Reply}
-use Rattle.snap_call.specs.declared.reply.Reply.TheVariants.{Committed, Refused}
+use Rattle.snap_call.specs.declared.reply.Reply.TheVariants.{Committed, Prepared, Refused}
 use Rattle.snap_call.specs.declared.state.State.{State}
 use Rattle.snap_call.specs.Good.{Good}
 use Rattle.snap_call.specs.Journal.{entry, Replays}
 use Rattle.snap_call.specs.Records.{open_count}
+use Rattle.snap_call.specs.State.{ancestors, ids_of}
 use Rattle.snap_call.specs.Step.{step, IsAllowed}
+use Rattle.snap_accounts.specs.declared.prepare.Vacancy.{Vacancy}
 
 -- what clauses see of the journal: its entries, the state that it began at, the most entries, the copy of the last entry until it is taken, and for how many entries more it has memory
 pub record JournalValue : Type 0 where
@@ -61,6 +64,11 @@ IsRefusedWith (Err back) why = back.0 ≡ why
 abbrev pub commit_reply : Result (Unit {0}) Refusal → ℕ → Usage → Reply
 commit_reply (Ok done) id usage = Committed id usage
 commit_reply (Err why) id usage = Refused why
+
+-- the reply to a prepare on this parent, which was tested
+abbrev pub prepare_reply : Result Vacancy Refusal → State → Bytes → Reply
+prepare_reply (Ok v) s parent = Prepared s.next_id v.slot (ids_of (ancestors v.place parent s.records))
+prepare_reply (Err why) s parent = Refused why
 
 -- a round begins at a good state without open snapshots and without sessions
 pub record IsOpening (s : State) : Type 0 where

@@ -1,5 +1,5 @@
 // A book: its state, its journal, and what is read of both.
-ghost use Rattle.std.specs.Prelude.{◌≡◌, ◌≤◌, ◌<◌, ◌+◌, ◌↔◌, None, length, Ok, Err, OnOk, IfErr, IsErrOf, ◌⊎◌, [], IfOk, OnErr, false};
+ghost use Rattle.std.specs.Prelude.{◌≡◌, ◌≤◌, ◌<◌, ◌+◌, ◌↔◌, None, length, Ok, Err, IfErr, IsErrOf, ◌⊎◌, [], IfOk, OnErr, false};
 ghost use Rattle.snap_call.specs.Good.{Good};
 ghost use Rattle.snap_call.specs.Journal.{Replays};
 ghost use Rattle.snap_call.specs.Records.{open_count, charge_of};
@@ -7,21 +7,19 @@ ghost use Rattle.snap_call.specs.declared.call.Call.TheVariants as calls;
 ghost use Rattle.snap_call.specs.declared.call.Given.TheVariants.{Nothing};
 ghost use Rattle.snap_call.specs.declared.reply.Reply.TheVariants.{Opened};
 ghost use Rattle.snap_call.specs.declared.refusal.Refusal.TheVariants.{JournalFull, BadArgument, NumbersSpent, OutOfMemory};
-ghost use Rattle.snap_book.specs.Book.{IsLast, IsOpening, Recorded, RefusedBy};
+ghost use Rattle.snap_book.specs.Book.{IsLast, IsOpening, Recorded};
 ghost use Rattle.snap_call.specs.Forms.{is_config};
 ghost use Rattle.snap_call.specs.State.{opening, place_of, name_at};
 ghost use Rattle.snap_call.specs.Totals.{counts_and_shares};
-ghost use Rattle.snap_accounts.specs.Changes.{CanChange, changed};
-ghost use Rattle.snap_accounts.specs.Entries.{IsUnrecorded, IsRecorded};
-ghost use Rattle.snap_call.specs.Step.{counted, refused, step, IsAllowed};
+ghost use Rattle.snap_accounts.specs.Entries.{IsUnrecorded};
 ghost use Rattle.std.specs.Option.{option_map};
 ghost use Rattle.snap_path.specs.Memory.{no_memory};
 ghost use Rattle.snap_book.specs.Slot.{found_of, slot_of};
 
 use crate::journal::{Journal, Opening, session_entry};
-use snap_accounts::{Accounts, Change};
+use snap_accounts::Accounts;
 use snap_call::limits::MAX_SESSIONS;
-use snap_call::{Call, Config, Entry, Given, Records, Refusal, Reply, SharedEntry};
+use snap_call::{Config, Records, Refusal, SharedEntry};
 use snap_ledger::{NewTable, StoreName};
 use snap_record::{Content, Record};
 use snap_usage::Usage;
@@ -213,55 +211,6 @@ impl<N: StoreName> Book<N> {
         match &found.content {
             Content::Active { slot, charged: _ } => Ok((*slot, found.id)),
             _ => Err(Refusal::NotActive),
-        }
-    }
-
-    // Makes a change and records the call that makes it.
-    pub(crate) fn note_change(&mut self, entry: Entry, change: Change) -> Result<(), Refusal>
-        requires allowed { IsAllowed self.old.state entry.call entry.given }
-        requires possible { CanChange self.old.state change }
-        requires changed { step self.old.state entry.call entry.given ≡ (changed self.old.state change, entry.reply) }
-        ensures noted { OnOk result (Recorded self.old self.new entry.session entry.call entry.given entry.reply) }
-        ensures unchanged { OnErr result (self.new ≡ self.old) }
-        ensures err { IfErr result IsUnrecorded }
-        ensures full { IsErrOf result JournalFull ↔ (self.old.limit ≤ length self.old.journal + open_count self.old.state.records) }
-    {
-        self.journal.admit(self.accounts.open_slots(), 1)?;
-        let (entry, copy) = SharedEntry::pair(self.alloc, entry)?;
-        self.accounts.carry_out(change)?;
-        self.journal.push(entry, copy);
-        Ok(())
-    }
-
-    // Records a call that leaves the state as it is, but for the number of entries.
-    pub(crate) fn note(&mut self, entry: Entry) -> Result<(), Refusal>
-        requires allowed { IsAllowed self.old.state entry.call entry.given }
-        requires same { step self.old.state entry.call entry.given ≡ (counted self.old.state, entry.reply) }
-        ensures noted { OnOk result (Recorded self.old self.new entry.session entry.call entry.given entry.reply) }
-        ensures unchanged { OnErr result (self.new ≡ self.old) }
-        ensures err { IfErr result IsUnrecorded }
-        ensures full { IsErrOf result JournalFull ↔ (self.old.limit ≤ length self.old.journal + open_count self.old.state.records) }
-    {
-        self.note_change(entry, Change::Nothing)
-    }
-
-    // Records a call that is refused. The answer is the refusal, or why there is no entry.
-    pub(crate) fn refuse(&mut self, session: u64, call: Call, given: Given, why: Refusal) -> Refusal
-        requires recorded { IsRecorded why }
-        requires allowed { IsAllowed self.old.state call given }
-        requires refused { step self.old.state call given ≡ refused self.old.state why }
-        ensures refused { RefusedBy self.old self.new session call given result }
-        ensures full { (result ≡ JournalFull) ↔ (self.old.limit ≤ length self.old.journal + open_count self.old.state.records) }
-    {
-        let entry = Entry {
-            session,
-            call,
-            given,
-            reply: Reply::Refused(why),
-        };
-        match self.note(entry) {
-            Ok(()) => why,
-            Err(unrecorded) => unrecorded,
         }
     }
 }

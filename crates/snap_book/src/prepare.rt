@@ -1,31 +1,45 @@
 // A new active snapshot.
-ghost use Rattle.std.specs.Prelude.{◌≡◌, ℕ, ◌<◌, ◌≤◌, ◌+◌, length, None, Some, [], ◌↔◌, IfOk, OnOk, OnErr, IfErr, IsErrOf};
+ghost use Rattle.std.specs.Prelude.{◌≡◌, ◌<◌, ◌≤◌, ◌+◌, ◌^◌, ◌↔◌, length, IfOk, OnOk, OnErr, IfErr, IsErrOf, Some, false};
+ghost use Rattle.snap_layer.specs.Edits.{root_only};
 ghost use Rattle.snap_call.specs.Records.{open_count};
-ghost use Rattle.snap_call.specs.State.{place_of, ancestors, ids_of, layers_of};
-ghost use Rattle.snap_call.specs.Step.{prepared, one, step, IsAllowed};
+ghost use Rattle.snap_call.specs.State.{place_of, ancestors, ids_of, is_too_deep, layers_of};
+ghost use Rattle.snap_call.specs.Step.{one, prepared};
 ghost use Rattle.snap_call.specs.Journal.{entry};
 ghost use Rattle.snap_call.specs.declared.call.Call.TheVariants as calls;
 ghost use Rattle.snap_call.specs.declared.call.Given.TheVariants.{Nothing};
 ghost use Rattle.snap_call.specs.declared.reply.Reply.TheVariants.{Prepared};
 ghost use Rattle.snap_call.specs.declared.refusal.Refusal.TheVariants.{JournalFull};
-ghost use Rattle.snap_layer.specs.Edits.{root_only};
-ghost use Rattle.snap_layer.specs.Tree.{at};
-ghost use Rattle.snap_accounts.specs.Entries.{IsUnrecorded};
 ghost use Rattle.snap_accounts.specs.Vacant.{IsVacant};
-ghost use Rattle.snap_book.specs.Active.{mode_of, root_mode};
-ghost use Rattle.snap_book.specs.Book.{Recorded, RefusedBy};
+ghost use Rattle.snap_book.specs.Active.{root_mode};
+ghost use Rattle.snap_book.specs.Book.{Recorded, RefusedBy, prepare_reply};
 
 use crate::active::Active;
 use crate::book::Book;
 use crate::journal::shared;
-use snap_accounts::Vacancy;
-use snap_call::{Call, Chain, EntryRoom, Given, Refusal, Reply, SharedEntry, State};
+use snap_accounts::{Accounts, Vacancy};
+use snap_call::{Call, Chain, EntryRoom, Given, Refusal, Reply, SharedEntry};
 use snap_layer::{Layer, Node, Shared};
-use snap_ledger::{Share, StoreName};
+use snap_ledger::StoreName;
 use snap_path::Path;
 use snap_path::limits::DEFAULT_MODE;
 use snap_record::{Labels, Sequence, Text};
 use std::alloc::{AllocError, Global};
+
+// The permission bits for the root of a new layer over these.
+fn root_mode(alloc: Global, lowers: &[Shared]) -> u32
+    ensures mode { result ≡ root_mode lowers.now }
+    ensures low { result ≤ 4095 }
+{
+    let Some(nearest) = lowers.first() else {
+        return DEFAULT_MODE;
+    };
+    let layer = nearest.layer();
+    let _ = &layer.is_layer;
+    match layer.at(&Path::root(alloc)) {
+        Some(Node::Dir { mode, .. }) => mode,
+        _ => DEFAULT_MODE,
+    }
+}
 
 // The call, with copies of its texts and labels.
 fn prepare_call(
@@ -45,226 +59,66 @@ fn prepare_call(
     })
 }
 
-// What the writer of a new snapshot gets beside the share.
-#[derive(Drop)]
-struct Upper {
-    key: Text,
-    lowers: Sequence<Shared>,
-    layer: Layer,
-    discard_room: EntryRoom,
-}
-
-// What a new snapshot takes memory for: its entry for the two holders, the reply, and what its writer gets.
-#[derive(Drop)]
-struct Addition {
-    entry: SharedEntry,
-    copy: SharedEntry,
-    reply: Reply,
-    upper: Upper,
-}
-
-// The permission bits of a directory.
-fn mode_of(node: Node) -> u32
-    ensures { result ≡ mode_of (Some node) }
-{
-    match node {
-        Node::Dir { mode, .. } => mode,
-        _ => DEFAULT_MODE,
-    }
-}
-
-// The permission bits of the layer's root.
-fn mode_at_root(layer: &Layer, root: &Path) -> u32
-    requires { root.now ≡ [] }
-    ensures mode { result ≡ mode_of (at layer.now []) }
-    ensures low { result ≤ 4095 }
-{
-    let _ = &layer.is_layer;
-    match layer.at(root) {
-        Some(node) => mode_of(node),
-        None => DEFAULT_MODE,
-    }
-}
-
-// The permission bits for the root of a new layer over these.
-pub(crate) fn root_mode(alloc: Global, lowers: &[Shared]) -> u32
-    ensures mode { result ≡ root_mode lowers.now }
-    ensures low { result ≤ 4095 }
-{
-    match lowers.first() {
-        Some(nearest) => mode_at_root(nearest.layer(), &Path::root(alloc)),
-        None => DEFAULT_MODE,
-    }
-}
-
-// A layer of a root alone, over the lower ones.
-fn upper_over(alloc: Global, key: &str, lowers: Sequence<Shared>) -> Result<Upper, AllocError>
-    ensures key { IfOk result (λ u. u.key ≡ key.now) }
-    ensures lowers { IfOk result (λ u. u.lowers ≡ lowers) }
-    ensures layer { IfOk result (λ u. u.layer ≡ root_only (root_mode lowers) 1) }
-{
-    let key = Text::copy_of(alloc, key)?;
-    let layer = Layer::empty(alloc, root_mode(alloc, lowers.as_slice()))?;
-    let discard_room = EntryRoom::new(alloc)?;
-    Ok(Upper {
-        key,
-        lowers,
-        layer,
-        discard_room,
-    })
-}
-
-// All that a new snapshot takes memory for beside its record.
-fn addition_of(
-    state: &State,
+// The reply to the call, which was tested, and the layers of the new snapshot's ancestors.
+fn reply_to<N: StoreName>(
     alloc: Global,
-    session: u64,
-    call: Call,
-    vacancy: Vacancy,
-    key: &str,
+    accounts: &Accounts<N>,
     parent: &str,
-) -> Result<Addition, AllocError>
-    requires { IsVacant state.now vacancy key.now parent.now }
-    ensures entry { IfOk result (λ k. k.entry ≡ entry session call Nothing (Prepared state.now.next_id vacancy.slot (ids_of (ancestors vacancy.place parent.now state.now.records)))) }
-    ensures copy { IfOk result (λ k. k.copy ≡ entry session call Nothing (Prepared state.now.next_id vacancy.slot (ids_of (ancestors vacancy.place parent.now state.now.records)))) }
-    ensures reply { IfOk result (λ k. k.reply ≡ Prepared state.now.next_id vacancy.slot (ids_of (ancestors vacancy.place parent.now state.now.records))) }
-    ensures key { IfOk result (λ k. k.upper.key ≡ key.now) }
-    ensures lowers { IfOk result (λ k. k.upper.lowers ≡ layers_of (ancestors vacancy.place parent.now state.now.records)) }
-    ensures layer { IfOk result (λ k. k.upper.layer ≡ root_only (root_mode (layers_of (ancestors vacancy.place parent.now state.now.records))) 1) }
+    found: Result<Vacancy, Refusal>,
+) -> Result<(Reply, Sequence<Shared>), AllocError>
+    requires { IfOk found (λ v. (is_too_deep v.place parent.now accounts.now.records ≡ false) × (accounts.now.next_id ≤ 4294967295)) }
+    ensures reply { IfOk result (λ p. p.0 ≡ prepare_reply found accounts.now parent.now) }
+    ensures lowers { IfOk result (λ p. IfOk found (λ v. p.1 ≡ layers_of (ancestors v.place parent.now accounts.now.records))) }
 {
+    let vacancy = match found {
+        Ok(vacancy) => vacancy,
+        Err(why) => return Ok((Reply::Refused(why), Sequence::new(alloc))),
+    };
+    let state = accounts.state();
     let Chain { ids, layers } = state.records.chain(alloc, vacancy.place, parent)?;
     let reply = Reply::Prepared {
         id: state.next_id as u32,
         slot: vacancy.slot,
         chain: ids,
     };
-    let recorded = reply.clone()?;
-    let (entry, copy) = shared(alloc, session, call, Given::Nothing, recorded)?;
-    let upper = upper_over(alloc, key, layers)?;
-    Ok(Addition {
-        entry,
-        copy,
-        reply,
-        upper,
-    })
+    Ok((reply, layers))
 }
 
 impl<N: StoreName> Active<N> {
-    // A new snapshot in its writer's hands.
-    fn fresh(alloc: Global, namespace: usize, upper: Upper, share: Share<N>) -> Active<N>
-        requires slot { share.slot < 64 }
-        requires usage { share.usage ≡ one }
-        requires layer { (mode : ℕ) × (upper.layer ≡ root_only mode 1) }
-        ensures { result ≡ record { namespace = namespace; key = upper.key; lowers = upper.lowers; layer = upper.layer; share = share } }
+    // Adds the snapshot to the accounts, over these layers. Where memory is refused they are as they were.
+    fn add(
+        accounts: &mut Accounts<N>,
+        alloc: Global,
+        vacancy: Vacancy,
+        key: &str,
+        parent: &str,
+        labels: &Labels,
+        lowers: Sequence<Shared>,
+    ) -> Result<Active<N>, AllocError>
+        requires entries { accounts.old.entries < 2 ^ 63 }
+        requires vacant { IsVacant accounts.old vacancy key.now parent.now }
+        ensures added { OnOk result (accounts.new ≡ (prepared accounts.old vacancy.place key.now parent.now labels.now vacancy.slot).0) }
+        ensures active { IfOk result (λ a. a ≡ record { namespace = vacancy.place; key = key.now; lowers = lowers; layer = root_only (root_mode lowers) 1; share = record { slot = vacancy.slot; id = accounts.old.next_id; usage = one } }) }
+        ensures open { OnOk result (open_count accounts.new.records ≡ open_count accounts.old.records + 1) }
+        ensures unchanged { OnErr result (accounts.new ≡ accounts.old) }
     {
-        let Upper {
-            key,
-            lowers,
-            layer,
-            discard_room,
-        } = upper;
-        Active {
+        let own_key = Text::copy_of(alloc, key)?;
+        let layer = Layer::empty(alloc, root_mode(alloc, lowers.as_slice()))?;
+        let discard_room = EntryRoom::new(alloc)?;
+        let share = accounts.add(alloc, vacancy, key, parent, labels)?;
+        Ok(Active {
             alloc,
-            namespace,
-            key,
+            namespace: vacancy.place,
+            key: own_key,
             lowers,
             layer,
             share,
             discard_room,
-        }
+        })
     }
 }
 
 impl<N: StoreName> Book<N> {
-    // Adds a snapshot where there is room for it, and its entry.
-    #[tactic(auto, using(crate::proofs::Keeping::kept_room))]
-    fn add(
-        &mut self,
-        vacancy: Vacancy,
-        key: &str,
-        parent: &str,
-        labels: &Labels,
-        entry: SharedEntry,
-        copy: SharedEntry,
-    ) -> Result<Share<N>, Refusal>
-        requires vacant { IsVacant self.old.state vacancy key.now parent.now }
-        requires copy { copy ≡ entry }
-        requires allowed { IsAllowed self.old.state entry.call entry.given }
-        requires granted { step self.old.state entry.call entry.given ≡ ((prepared self.old.state vacancy.place key.now parent.now labels.now vacancy.slot).0, entry.reply) }
-        ensures granted { OnOk result (Recorded self.old self.new entry.session entry.call entry.given entry.reply) }
-        ensures share { IfOk result (λ s. s ≡ record { slot = vacancy.slot; id = self.old.state.next_id; usage = one }) }
-        ensures unchanged { OnErr result (self.new ≡ self.old) }
-        ensures err { IfErr result IsUnrecorded }
-        ensures full { IsErrOf result JournalFull ↔ (self.old.limit < length self.old.journal + open_count self.old.state.records + 2) }
-    {
-        if let Err(why) = self.journal.admit(self.accounts.open_slots(), 2) {
-            return Err(why);
-        }
-        let share = self.accounts.add(self.alloc, vacancy, key, parent, labels)?;
-        self.journal.push(entry, copy);
-        Ok(share)
-    }
-
-    // A snapshot that nothing refuses but memory.
-    fn grant(
-        &mut self,
-        session: u64,
-        call: Call,
-        vacancy: Vacancy,
-        key: &str,
-        parent: &str,
-        labels: &Labels,
-    ) -> Result<(Active<N>, Reply), Refusal>
-        requires vacant { IsVacant self.old.state vacancy key.now parent.now }
-        requires allowed { IsAllowed self.old.state call Nothing }
-        requires granted { step self.old.state call Nothing ≡ prepared self.old.state vacancy.place key.now parent.now labels.now vacancy.slot }
-        ensures granted { IfOk result (λ p. Recorded self.old self.new session call Nothing (Prepared p.0.share.id p.0.share.slot (ids_of (ancestors vacancy.place parent.now self.old.state.records)))) }
-        ensures reply { IfOk result (λ p. p.1 ≡ Prepared p.0.share.id p.0.share.slot (ids_of (ancestors vacancy.place parent.now self.old.state.records))) }
-        ensures active { IfOk result (λ p. p.0 ≡ record { namespace = vacancy.place; key = key.now; lowers = layers_of (ancestors vacancy.place parent.now self.old.state.records); layer = root_only (root_mode (layers_of (ancestors vacancy.place parent.now self.old.state.records))) 1; share = record { slot = vacancy.slot; id = self.old.state.next_id; usage = one } }) }
-        ensures unchanged { OnErr result (self.new ≡ self.old) }
-        ensures err { IfErr result IsUnrecorded }
-        ensures full { IsErrOf result JournalFull → self.old.limit < length self.old.journal + open_count self.old.state.records + 2 }
-    {
-        let state = self.accounts.state();
-        let addition = addition_of(state, self.alloc, session, call, vacancy, key, parent)?;
-        let Addition {
-            entry,
-            copy,
-            reply,
-            upper,
-        } = addition;
-        let share = self.add(vacancy, key, parent, labels, entry, copy)?;
-        let active = Active::fresh(self.alloc, vacancy.place, upper, share);
-        Ok((active, reply))
-    }
-
-    // Makes the snapshot that the call asks for, or notes why not.
-    fn prepare_or_refuse(
-        &mut self,
-        session: u64,
-        call: Call,
-        namespace: &str,
-        key: &str,
-        parent: &str,
-        labels: &Labels,
-    ) -> Result<(Active<N>, Reply), Refusal>
-        requires { call ≡ calls.Prepare namespace.now key.now parent.now labels.now }
-        ensures granted { IfOk result (λ p. Recorded self.old self.new session call Nothing (Prepared p.0.share.id p.0.share.slot (ids_of (ancestors p.0.namespace parent.now self.old.state.records)))) }
-        ensures reply { IfOk result (λ p. p.1 ≡ Prepared p.0.share.id p.0.share.slot (ids_of (ancestors p.0.namespace parent.now self.old.state.records))) }
-        ensures namespace { IfOk result (λ p. place_of namespace.now self.old.state.namespaces ≡ Some p.0.namespace) }
-        ensures key { IfOk result (λ p. p.0.key ≡ key.now) }
-        ensures lowers { IfOk result (λ p. p.0.lowers ≡ layers_of (ancestors p.0.namespace parent.now self.old.state.records)) }
-        ensures layer { IfOk result (λ p. p.0.layer ≡ root_only (root_mode p.0.lowers) 1) }
-        ensures usage { IfOk result (λ p. p.0.share.usage ≡ one) }
-        ensures refused { IfErr result (λ why. RefusedBy self.old self.new session call Nothing why) }
-        ensures full { IsErrOf result JournalFull → self.old.limit < length self.old.journal + open_count self.old.state.records + 2 }
-    {
-        match self.accounts.vacancy(namespace, key, parent, labels) {
-            Ok(vacancy) => self.grant(session, call, vacancy, key, parent, labels),
-            Err(why) => Err(self.refuse(session, call, Given::Nothing, why)),
-        }
-    }
-
     /// Makes an active snapshot in the lowest free slot, and charges its namespace 1/1 for the layer's
     /// root (containerd's `Snapshotter.Prepare`). The parent is the empty text, or the name of a
     /// committed snapshot of the same namespace. The new layer's root has the permission bits of the
@@ -327,6 +181,28 @@ impl<N: StoreName> Book<N> {
     {
         self.journal.admit(self.accounts.open_slots(), 2)?;
         let call = prepare_call(self.alloc, namespace, key, parent, labels)?;
-        self.prepare_or_refuse(session, call, namespace, key, parent, labels)
+        let found = self.accounts.vacancy(namespace, key, parent, labels);
+        let (reply, lowers) = reply_to(self.alloc, &self.accounts, parent, found)?;
+        let (entry, copy) = shared(self.alloc, session, call, Given::Nothing, reply)?;
+        let vacancy = match found {
+            Ok(vacancy) => vacancy,
+            Err(why) => {
+                self.accounts.count_entry();
+                self.journal.push(entry, copy);
+                return Err(why);
+            }
+        };
+        let answer = entry.entry().reply.clone()?;
+        let active = Active::add(
+            &mut self.accounts,
+            self.alloc,
+            vacancy,
+            key,
+            parent,
+            labels,
+            lowers,
+        )?;
+        self.journal.push(entry, copy);
+        Ok((active, answer))
     }
 }
