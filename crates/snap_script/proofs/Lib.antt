@@ -1,4 +1,4 @@
 pub mod Items
 pub mod Texts
 pub mod LineValues
-pub mod Floats
+pub mod Maps

@@ -7,3 +7,4 @@ pub mod Commands
 pub mod Lines
 pub mod Gives
 pub mod Answers
+pub mod Written

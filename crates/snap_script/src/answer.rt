@@ -1,16 +1,13 @@
 ghost use Rattle.std.specs.Prelude.{◌≡◌, IfOk, string_bytes};
-ghost use Rattle.serde_json.specs.View.{view};
 ghost use Rattle.snap_call.specs.declared.reply.Reply.TheVariants as replies;
-ghost use Rattle.snap_script.specs.Answers.{answer_data, answer_line};
+ghost use Rattle.snap_script.specs.Answers.{answer_data, answer_line, node_data, shown_data};
 ghost use Rattle.snap_script.specs.declared.answer.Answer.TheVariants as answers;
 
-use crate::values::{
-    entries_value, error, error_name, jobs, names_value, nodes_value, only, pair, reply, report,
-    shown_value, usage_value,
-};
-use serde_json::Value;
+use crate::to_json::{ToJson, member, only, pair};
+use crate::values::{error, error_name, jobs, report};
 use snap_call::{Refusal, Reply};
 use snap_history::EntryInfo;
+use snap_json::{Token, Writer};
 use snap_layer::Bytes;
 use snap_merge::FsError;
 use snap_path::{Name, Path};
@@ -29,6 +26,20 @@ pub enum Shown {
     Symlink { target: Bytes },
 }
 
+/// What is seen, or null.
+impl ToJson for Option<Shown> {
+    ghost value = { shown_data };
+
+    fn write(&self, alloc: Global, out: &mut Writer) -> Result<(), AllocError> {
+        match self {
+            None => out.token(Token::Null),
+            Some(Shown::Dir { mode }) => only(alloc, out, "dir", mode),
+            Some(Shown::File { mode, size }) => pair(alloc, out, "file", mode, "size", size),
+            Some(Shown::Symlink { target }) => only(alloc, out, "symlink", target),
+        }
+    }
+}
+
 /// A snapshot as one of the forest of its namespace.
 #[derive(Drop)]
 pub struct TreeNode {
@@ -41,6 +52,21 @@ pub struct TreeNode {
     pub parent: Text,
     /// How many snapshots of the namespace stand on it.
     pub children: u64,
+}
+
+impl ToJson for TreeNode {
+    ghost value = { node_data };
+
+    fn write(&self, alloc: Global, out: &mut Writer) -> Result<(), AllocError> {
+        out.token(Token::BeginObject)?;
+        member(alloc, out, "children", &self.children)?;
+        member(alloc, out, "id", &self.id)?;
+        member(alloc, out, "key", &self.key)?;
+        member(alloc, out, "kind", &self.kind.as_str())?;
+        member(alloc, out, "parent", &self.parent)?;
+        member(alloc, out, "usage", &self.usage)?;
+        out.token(Token::EndObject)
+    }
 }
 
 /// What a line of a script is answered, and the lines of a script of jobs together.
@@ -159,57 +185,61 @@ impl Answer {
         Answer::Reply(Reply::Refused(why))
     }
 
-    fn value(&self, alloc: Global) -> Result<Value, AllocError>
-        ensures { IfOk result (λ v. view v ≡ answer_data self.now) }
+    /// The line of the answer: compact JSON, the keys of each object in byte order, texts escaped as
+    /// `serde_json` escapes them, and a line feed. Its cost and its memory grow with the line.
+    #[tactic(auto, unfolding(crate::specs::Answers::answer_line))]
+    pub fn line(&self, alloc: Global) -> Result<String, AllocError>
+        ensures { IfOk result (λ s. string_bytes s ≡ answer_line self.now) }
     {
+        let mut out = Writer::new(alloc)?;
+        self.write(alloc, &mut out)?;
+        let mut line = out.finish();
+        line.push('\n')?;
+        Ok(line)
+    }
+}
+
+impl ToJson for Answer {
+    ghost value = { answer_data };
+
+    fn write(&self, alloc: Global, out: &mut Writer) -> Result<(), AllocError> {
         match self {
-            Answer::Reply(own) => reply(alloc, own),
-            Answer::Session(number) => only(alloc, "session", Value::from(*number)),
-            Answer::Share(amount) => only(alloc, "share", usage_value(alloc, *amount)?),
-            Answer::Changed { count, share } => {
-                let count = usage_value(alloc, *count)?;
-                let share = usage_value(alloc, *share)?;
-                pair(alloc, "count", count, "share", share)
-            }
-            Answer::Seen(shown) => only(alloc, "seen", shown_value(alloc, shown)?),
-            Answer::Names(own) => only(alloc, "names", names_value(alloc, own.as_slice())?),
+            Answer::Reply(own) => own.write(alloc, out),
+            Answer::Session(number) => only(alloc, out, "session", number),
+            Answer::Share(amount) => only(alloc, out, "share", amount),
+            Answer::Changed { count, share } => pair(alloc, out, "count", count, "share", share),
+            Answer::Seen(shown) => only(alloc, out, "seen", shown),
+            Answer::Names(own) => only(alloc, out, "names", own),
             Answer::Head { head, size } => {
                 let head = hex::encode(alloc, head.as_slice())?;
-                let head = Value::try_from_str(alloc, head.as_str())?;
-                pair(alloc, "head", head, "size", Value::from(*size))
+                pair(alloc, out, "head", &head.as_str(), "size", size)
             }
-            Answer::Path(own) => only(alloc, "path", Value::try_from_str(alloc, own.as_str())?),
-            Answer::Tree(nodes) => only(alloc, "tree", nodes_value(alloc, nodes.as_slice())?),
-            Answer::Journal(entries) => {
-                only(alloc, "journal", entries_value(alloc, entries.as_slice())?)
-            }
+            Answer::Path(own) => only(alloc, out, "path", &own.as_str()),
+            Answer::Tree(nodes) => only(alloc, out, "tree", nodes),
+            Answer::Journal(entries) => only(alloc, out, "journal", entries),
             Answer::Report {
                 entries,
                 actives,
                 records,
                 totals,
-            } => report(alloc, *entries, *actives, *records, totals.as_slice()),
+            } => report(alloc, out, *entries, *actives, *records, totals.as_slice()),
             Answer::Jobs {
                 committed,
                 discarded,
                 refused,
                 totals,
-            } => jobs(alloc, *committed, *discarded, *refused, totals.as_slice()),
-            Answer::Failed(own) => error(alloc, error_name(*own), "file"),
-            Answer::NoSession => error(alloc, "NoSession", "world"),
-            Answer::NoHand => error(alloc, "NoHand", "world"),
-            Answer::StillOut => error(alloc, "StillOut", "world"),
+            } => jobs(
+                alloc,
+                out,
+                *committed,
+                *discarded,
+                *refused,
+                totals.as_slice(),
+            ),
+            Answer::Failed(own) => error(alloc, out, error_name(*own), "file"),
+            Answer::NoSession => error(alloc, out, "NoSession", "world"),
+            Answer::NoHand => error(alloc, out, "NoHand", "world"),
+            Answer::StillOut => error(alloc, out, "StillOut", "world"),
         }
-    }
-
-    /// The line of the answer: compact JSON, the keys of each object in byte order, texts escaped as
-    /// `serde_json` escapes them, and a line feed. Its cost and its memory grow with the line.
-    #[tactic(auto, using(crate::proofs::Floats::no_float), unfolding(crate::specs::Answers::answer_line))]
-    pub fn line(&self, alloc: Global) -> Result<String, AllocError>
-        ensures { IfOk result (λ s. string_bytes s ≡ answer_line self.now) }
-    {
-        let mut line = self.value(alloc)?.to_string(alloc)?;
-        line.push('\n')?;
-        Ok(line)
     }
 }

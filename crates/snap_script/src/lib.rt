@@ -13,6 +13,7 @@ pub mod fields;
 mod line;
 mod operation;
 mod parse;
+mod to_json;
 mod values;
 mod verb;
 
