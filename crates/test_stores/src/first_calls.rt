@@ -13,6 +13,7 @@ use snap_usage::Usage;
 use std::alloc::Global;
 use std::process::Abort;
 
+// A new store is charged nothing, and has no snapshot.
 fn opened<N: StoreName, R: Abort>(rt: &R, alloc: Global, table: NewTable) -> Book<N>
     requires { table ≡ N.table }
     ensures { result.state ≡ new_store }
@@ -22,28 +23,22 @@ fn opened<N: StoreName, R: Abort>(rt: &R, alloc: Global, table: NewTable) -> Boo
         inodes: 100,
     };
     let config = config(rt, alloc, limit, 100);
-    Book::<N>::open(alloc, table, config).expect(rt, "a book")
-}
-
-// A new store is charged nothing, and has no snapshot and no session.
-fn is_empty<N: StoreName>(book: &mut Book<N>) -> Result<(), Refusal>
-    requires { book.old.state ≡ new_store }
-{
+    let book = Book::<N>::open(alloc, table, config).expect(rt, "a book");
     let (total, none) = (book.totals("a"), book.totals("z"));
     prove!(total == Some(Usage::ZERO));
     prove!(none == None);
     let (open, found) = (book.open_slots(), book.slot_of("a", "k"));
     prove!(open == 0);
     prove!(found == Err(Refusal::NotFound));
-    let first = book.open_session()?;
-    prove!(first == 0);
-    Ok(())
+    book
 }
 
-// A new snapshot is charged 1/1 for its root, and gives it back.
+// The first session has the number 0. A new snapshot is charged 1/1 for its root, and gives it back.
 fn prepared<N: StoreName>(alloc: Global, book: &mut Book<N>) -> Result<(), Refusal>
     requires { book.old.state ≡ new_store }
 {
+    let first = book.open_session()?;
+    prove!(first == 0);
     let active = book.prepare(0, "a", "k", "", &Labels::new(alloc))?;
     let (share, spare) = (active.share(), active.spare());
     let freed = book.discard(0, Held::Active(active));
@@ -53,7 +48,8 @@ fn prepared<N: StoreName>(alloc: Global, book: &mut Book<N>) -> Result<(), Refus
     Ok(())
 }
 
-// The view q of nothing in the namespace a has the first id and no ancestors. The answer is whether it is there.
+// The view q of nothing in the namespace a has the first id and no ancestors; it is charged nothing, and takes no
+// slot. The answer is whether it is there.
 fn viewed<N: StoreName, R: Abort>(rt: &R, alloc: Global, book: &mut Book<N>) -> bool
     requires { book.old.state ≡ new_store }
     ensures { result ≡ true → book.new.state ≡ with_view }
@@ -69,19 +65,13 @@ fn viewed<N: StoreName, R: Abort>(rt: &R, alloc: Global, book: &mut Book<N>) -> 
             let ancestors = chain.len();
             prove!(id == 1);
             prove!(ancestors == 0);
+            let (total, open) = (book.totals("a"), book.open_slots());
+            prove!(total == Some(Usage::ZERO));
+            prove!(open == 0);
             true
         }
         _ => false,
     }
-}
-
-// It is charged nothing, and takes no slot.
-fn is_free<N: StoreName>(book: &Book<N>)
-    requires { book.now.state ≡ with_view }
-{
-    let (total, open) = (book.totals("a"), book.open_slots());
-    prove!(total == Some(Usage::ZERO));
-    prove!(open == 0);
 }
 
 // The first view of a new store has the id 1, and without a parent it shows one empty layer.
@@ -116,27 +106,22 @@ fn removed<N: StoreName, R: Abort>(rt: &R, alloc: Global, book: &mut Book<N>)
     }
 }
 
-// An update of the first snapshot is the second entry.
-fn updated<N: StoreName, R: Abort>(rt: &R, alloc: Global, book: &mut Book<N>)
-    requires { book.old.state ≡ with_view }
+// Of two books with the view alone: its update is the second entry, and a walk is a page of its info.
+fn told<N: StoreName, R: Abort>(rt: &R, alloc: Global, updated: &mut Book<N>, walked: &mut Book<N>)
+    requires update { updated.old.state ≡ with_view }
+    requires walk { walked.old.state ≡ with_view }
 {
-    let call = Call::Update {
+    let update = Call::Update {
         namespace: text(rt, alloc, "a"),
         key: text(rt, alloc, "q"),
         labels: Labels::new(alloc),
         paths: Sequence::new(alloc),
     };
-    if let Reply::Info(info) = book.do_call(0, call) {
+    if let Reply::Info(info) = updated.do_call(0, update) {
         prove!(info.created == 1);
         prove!(info.updated == 2);
     }
-}
-
-// A walk of one snapshot is a page of one info.
-fn walked<N: StoreName, R: Abort>(rt: &R, alloc: Global, book: &mut Book<N>)
-    requires { book.old.state ≡ with_view }
-{
-    let call = Call::Walk {
+    let walk = Call::Walk {
         namespace: text(rt, alloc, "a"),
         after: Text::new(alloc),
         most: 64,
@@ -147,7 +132,7 @@ fn walked<N: StoreName, R: Abort>(rt: &R, alloc: Global, book: &mut Book<N>)
             labels: Sequence::new(alloc),
         },
     };
-    if let Reply::Page(infos) = book.do_call(0, call) {
+    if let Reply::Page(infos) = walked.do_call(0, walk) {
         let found = infos.len();
         prove!(found == 1);
     }

@@ -9,8 +9,6 @@ mod closes;
 #[cfg(test)]
 mod first_calls;
 #[cfg(test)]
-mod full;
-#[cfg(test)]
 mod gates;
 #[cfg(test)]
 mod jobs;

@@ -1,8 +1,5 @@
 // Forms, the state of a new store, and records. Witnesses: they are proved, and not run. A state and records
 // are handed back, since to let them go is dear to prove.
-ghost use Rattle.std.specs.Prelude.{◌≡◌, []};
-ghost use Rattle.snap_record.specs.declared.record.Content.TheVariants.{Active};
-
 use crate::setup::{config, text};
 use snap_call::{Records, State, is_key, is_limit, is_parent};
 use snap_record::{Content, Labels, Record, Text};
@@ -10,8 +7,9 @@ use snap_usage::Usage;
 use std::alloc::Global;
 use std::process::Abort;
 
-// A key is not empty, and a parent may be. A limit is at most 2^40 of each quantity.
-fn keys_and_limits() {
+// A key is not empty, and a parent may be. A limit is at most 2^40 of each quantity. A root begins with a slash. A
+// store is opened with its namespaces.
+fn opened<R: Abort>(rt: &R, alloc: Global) -> State {
     let (key, no_key, parent) = (is_key("k"), is_key(""), is_parent(""));
     prove!(key && !no_key && parent);
     let most = is_limit(Usage {
@@ -23,16 +21,11 @@ fn keys_and_limits() {
         inodes: 1_099_511_627_777,
     });
     prove!(most && !more);
-}
-
-const HUNDRED: Usage = Usage {
-    blocks: 100,
-    inodes: 100,
-};
-
-// A root begins with a slash. A store is opened with its namespaces.
-fn opened<R: Abort>(rt: &R, alloc: Global) -> State {
-    let mut config = config(rt, alloc, HUNDRED, 100);
+    let hundred = Usage {
+        blocks: 100,
+        inodes: 100,
+    };
+    let mut config = config(rt, alloc, hundred, 100);
     config.root = text(rt, alloc, "r");
     let is_valid = config.is_valid();
     prove!(!is_valid);
@@ -43,54 +36,45 @@ fn opened<R: Abort>(rt: &R, alloc: Global) -> State {
     let (first, none) = (state.place_of("a"), state.place_of("z"));
     prove!(first == Some(0) && none == None);
     let limit = state.limit_at(0);
-    prove!(limit == HUNDRED);
+    prove!(limit == hundred);
     prove!(state.next_id == 1);
     state
 }
 
-// An active record of the first namespace.
-fn active<R: Abort>(rt: &R, alloc: Global, key: &str, slot: u64) -> Record
-    ensures { result ≡ record { namespace = 0; key = key.now; parent = []; id = 1; labels = []; created = 1; updated = 1; content = Active slot (record { blocks = 1; inodes = 1 }) } }
-{
-    let charged = Usage {
+// A record stands in its namespace and in its slot, and its charge is that of the slot.
+fn placed<R: Abort>(rt: &R, alloc: Global) -> Records {
+    let one = Usage {
         blocks: 1,
         inodes: 1,
     };
-    Record {
+    let mut records = Records::new(alloc);
+    let added = records.insert(Record {
         namespace: 0,
-        key: text(rt, alloc, key),
+        key: text(rt, alloc, "k"),
         parent: Text::new(alloc),
         id: 1,
         labels: Labels::new(alloc),
         created: 1,
         updated: 1,
-        content: Content::Active { slot, charged },
-    }
-}
-
-// A record stands in its namespace and in its slot.
-fn placed<R: Abort>(rt: &R, alloc: Global) -> Records {
-    let mut records = Records::new(alloc);
-    let added = records.insert(active(rt, alloc, "k", 5));
+        content: Content::Active {
+            slot: 5,
+            charged: one,
+        },
+    });
     added.expect(rt, "memory for a record");
     let (there, other) = (records.has_key(0, "k"), records.has_key(1, "k"));
     prove!(there && !other);
     let (open, free) = (records.is_open(5), records.is_open(0));
     prove!(open && !free);
-    records
-}
-
-// A charge is that of its slot.
-fn recharged<R: Abort>(rt: &R, alloc: Global) -> Records {
-    let mut records = Records::new(alloc);
-    let added = records.insert(active(rt, alloc, "k", 0));
-    added.expect(rt, "memory for a record");
     let more = Usage {
         blocks: 4,
         inodes: 3,
     };
-    records.recharge(0, more);
-    let charged = records.active_at(0).map(|r| r.content.usage());
-    prove!(charged == Some(more));
+    records.recharge(5, more);
+    let Some(record) = records.active_at(5) else {
+        unreachable!()
+    };
+    let charged = record.content.usage();
+    prove!(charged == more);
     records
 }

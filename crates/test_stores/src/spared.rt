@@ -1,10 +1,11 @@
-// Calls that take no memory.
+// Lookups, of which some take memory, and calls that take none.
 ghost use Rattle.std.specs.Prelude.{◌≡◌};
 
 use crate::setup::{config, equal, new_table, path, usage};
-use snap_book::{Active, Book, Held};
+use snap_book::{Active, Book, Held, Refusal};
 use snap_ledger::{NewTable, StoreName};
 use snap_merge::FsError;
+use snap_path::Path;
 use snap_record::Labels;
 use snap_tape::{Mismatch, Session, first_mismatch};
 use snap_upper::Op;
@@ -22,7 +23,18 @@ fn mark<R: Abort>(rt: &R, alloc: Global) -> String {
     text
 }
 
-// An active snapshot with a file, and with what is charged beforehand.
+// A view, which shows an empty root. It has the last id but one.
+fn view<N: StoreName, R: Abort>(rt: &R, alloc: Global, book: &mut Book<N>) {
+    let viewed = book.view(0, "a", "v", "", &Labels::new(alloc));
+    let viewed = viewed.expect(rt, "a view");
+    let names = viewed.list(&Path::root(alloc)).expect(rt, "names");
+    equal(rt, "an empty root", names.len(), 0);
+    let place = viewed.resolve(&path(rt, alloc, "/no"));
+    equal(rt, "nothing is there", place.err(), Some(FsError::NotFound));
+}
+
+// An active snapshot of the last id, with a file, which its root lists and which leads to itself, and with what is
+// charged beforehand. No snapshot can be made after it.
 fn filled<N: StoreName, R: Abort>(
     rt: &R,
     alloc: Global,
@@ -31,9 +43,17 @@ fn filled<N: StoreName, R: Abort>(
 ) -> Active<N> {
     let prepared = book.prepare(0, "a", "k", "", &Labels::new(alloc));
     let mut active = prepared.expect(rt, "a snapshot");
+    equal(rt, "the last id", active.id(), 4_294_967_295);
+    let next = book.view(0, "a", "w", "", &Labels::new(alloc)).err();
+    equal(rt, "no id is left", next, Some(Refusal::NumbersSpent));
     let charged = book.charge(0, &mut active, usage(9, 9), usage(9, 9));
     equal(rt, "it is charged", charged, Ok(()));
     equal(rt, "it has a file", active.apply(create), Ok(()));
+    let names = active.list(&Path::root(alloc)).expect(rt, "names");
+    equal(rt, "one name", names.len(), 1);
+    let file = path(rt, alloc, "/f");
+    let place = active.resolve(&file).expect(rt, "a path");
+    equal(rt, "it leads to itself", place, file);
     active
 }
 
@@ -42,12 +62,14 @@ fn filled<N: StoreName, R: Abort>(
 fn spare<N: StoreName, R: Abort + Print>(rt: &R, alloc: Global, table: NewTable)
     requires { table ≡ N.table }
 {
-    let config = config(rt, alloc, usage(9, 9), 9);
+    let mut config = config(rt, alloc, usage(9, 9), 9);
+    config.first_id = 4_294_967_294;
     let mut book = Book::<N>::open(alloc, table, config).expect(rt, "a book");
     let create = Op::Create {
         path: path(rt, alloc, "/f"),
         mode: 420,
     };
+    view(rt, alloc, &mut book);
     let mut active = filled(rt, alloc, &mut book, &create);
     let (file, below) = (path(rt, alloc, "/f"), path(rt, alloc, "/f/g"));
     let unlink = Op::Unlink {

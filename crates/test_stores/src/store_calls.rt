@@ -6,17 +6,29 @@ use snap_usage::Usage;
 use std::sync::Wait;
 use std::test::Fail;
 
-// A granted call leaves one entry on the tape. A session's tape begins with its own entry.
+// A granted call leaves one entry on the tape. Where 2/2 are needed and wanted of a snapshot that is charged no more,
+// it is charged 2/2. A session's tape begins with its own entry.
 fn taped<N: RoundName, R: Wait>(
     rt: &R,
     store: &Store<N>,
     session: &mut Session,
+    active: &mut Active<N>,
 ) -> Result<Session, Fail> {
     let before = session.tape().len();
-    let usage = store.usage(rt, session, "a", "k")?;
+    store.usage(rt, session, "a", "k")?;
     let after = session.tape().len();
     prove!(after == before + 1);
-    let _usage = usage;
+    let two = Usage {
+        blocks: 2,
+        inodes: 2,
+    };
+    let before = active.share();
+    if before.blocks <= 2 && before.inodes <= 2 {
+        store.charge(rt, session, active, two, two)?;
+        let after = active.share();
+        prove!(after.blocks == 2);
+        prove!(after.inodes == 2);
+    }
     let begun = store.session(rt)?;
     let entries = begun.tape().len();
     prove!(entries == 1);
@@ -38,27 +50,5 @@ fn freed<N: RoundName, R: Wait>(
     prove!(spare.inodes == 0);
     prove!(freed.blocks == 1);
     prove!(freed.inodes == 1);
-    Ok(())
-}
-
-// Where 2/2 are needed and wanted of a snapshot that is charged no more, it is charged 2/2.
-fn charged<N: RoundName, R: Wait>(
-    rt: &R,
-    store: &Store<N>,
-    session: &mut Session,
-    active: &mut Active<N>,
-) -> Result<(), Fail> {
-    let two = Usage {
-        blocks: 2,
-        inodes: 2,
-    };
-    let before = active.share();
-    if before.blocks > 2 || before.inodes > 2 {
-        return Ok(());
-    }
-    store.charge(rt, session, active, two, two)?;
-    let after = active.share();
-    prove!(after.blocks == 2);
-    prove!(after.inodes == 2);
     Ok(())
 }

@@ -35,35 +35,21 @@ impl io::Read for Repeated {
     }
 }
 
-/// Takes one write, and then nothing.
-#[derive(Drop)]
-struct Full(usize);
-
-impl io::Write for Full {
-    fn write(&mut self, buf: &[u8]) -> io::Result<usize> {
-        self.0 = self.0.saturating_add(1);
-        if self.0 > 1 {
-            return Err(io::Error::from(io::ErrorKind::StorageFull));
-        }
-        Ok(buf.len())
-    }
-
-    fn flush(&mut self) -> io::Result<()> {
-        Ok(())
-    }
-}
-
-/// Takes at most five bytes at every second write, and is interrupted at the others.
+/// Takes at most five bytes at every second write, and is interrupted at the others. It fails after so many writes.
 #[derive(Drop)]
 struct Slow {
-    is_ready: bool,
+    writes: usize,
+    most: usize,
     bytes: Vec<u8>,
 }
 
 impl io::Write for Slow {
     fn write(&mut self, buf: &[u8]) -> io::Result<usize> {
-        self.is_ready = !self.is_ready;
-        if self.is_ready {
+        self.writes = self.writes.saturating_add(1);
+        if self.writes > self.most {
+            return Err(io::Error::from(io::ErrorKind::StorageFull));
+        }
+        if self.writes % 2 == 1 {
             return Err(io::Error::from(io::ErrorKind::Interrupted));
         }
         let count = buf.len().min(5);
@@ -88,23 +74,34 @@ fn streams_that_fail(rt: HostRuntime) {
     let wanted = (Err(Stop::InputFailed), ANSWERS);
     equal(&rt, "answers are out before a read fails", found, wanted);
 
-    let (mut three, mut full) = (THREE, Full(0));
-    let ended = replay(alloc, &mut three, &mut full);
-    let wanted = (Err(Stop::OutputFailed), 2);
-    equal(&rt, "a second write fails", (ended, full.0), wanted);
-
-    let mut three = THREE;
-    let mut slow = Slow {
-        is_ready: false,
-        bytes: Vec::new(alloc),
-    };
-    let ended = replay(alloc, &mut three, &mut slow);
-    let found = (ended, slow.bytes.as_slice());
-    equal(&rt, "short writes", found, (Ok(()), ANSWERS));
+    let all = (Ok(()), ANSWERS);
+    let five = (Err(Stop::OutputFailed), b"{\"ok\"".as_slice());
+    for (shown, most, wanted, past) in [
+        ("short writes", 100, all, 0),
+        ("a write that fails is the last", 2, five, 1),
+    ] {
+        let mut three = THREE;
+        let mut slow = Slow {
+            writes: 0,
+            most,
+            bytes: Vec::new(alloc),
+        };
+        let ended = replay(alloc, &mut three, &mut slow);
+        let found = (ended, slow.bytes.as_slice());
+        let past_most = slow.writes.saturating_sub(most);
+        equal(&rt, shown, (found, past_most), (wanted, past));
+    }
 }
 
+// The statuses of want of memory and of a store that isn't closed, and a field's name, follow from the contracts.
 #[test]
 fn streams_without_end(rt: HostRuntime) {
+    let memory = Stop::OutOfMemory(Shortage::Library).status();
+    let open = JobsStop::NotClosed.status();
+    prove!(memory == 4 && open == 5);
+    let name = Field::Namespace.name();
+    prove!(name == "ns");
+
     let alloc = rt.alloc();
     let mut spaces = Repeated {
         bytes: b" ",
@@ -123,14 +120,4 @@ fn streams_without_end(rt: HostRuntime) {
     let ended = replay_within(alloc, &mut three, &mut output, 1);
     let wanted = (Err(Stop::InputFailed), ANSWERS);
     equal(&rt, "a read too many", (ended, output.as_slice()), wanted);
-}
-
-// The statuses of want of memory and of a store that isn't closed, and a field's name.
-#[test]
-fn statuses_and_names(rt: HostRuntime) {
-    let memory = Stop::OutOfMemory(Shortage::Library).status();
-    let open = JobsStop::NotClosed.status();
-    prove!(memory == 4 && open == 5);
-    let name = Field::Namespace.name();
-    prove!(name == "ns");
 }
