@@ -1,11 +1,10 @@
 // The calls that a line has all of.
-use crate::hand::{Hand, Room};
-use crate::known::{Kept, Key};
+use crate::hand::Hand;
 use crate::refused::Refused;
-use crate::round::{Round, session_at};
+use crate::round::{Round, View, session_at};
 use snap_book::{Call, Held, Refusal, Reply};
-use snap_record::{Labels, Sequence};
-use snap_store::{RoundName, Session, Swept};
+use snap_record::{Labels, Sequence, Text};
+use snap_store::{RoundName, Session};
 use std::alloc::{AllocError, Global};
 use std::sync::Wait;
 
@@ -36,8 +35,10 @@ impl<'a, N: RoundName, R: Wait> Round<'a, N, R> {
     ) -> Result<Reply, Refused> {
         let session = session_at(&mut self.sessions, n)?;
         self.hands.reserve(1)?;
-        let room = Room::new(self.alloc)?;
-        let own_key = Key::new(self.alloc, namespace, key)?;
+        let mut room = Session::of(0, Vec::new(self.alloc));
+        room.reserve(1)?;
+        let own_namespace = Text::copy_of(self.alloc, namespace)?;
+        let own_key = Text::copy_of(self.alloc, key)?;
         let active = self
             .store
             .prepare(self.rt, session, namespace, key, parent, labels)?;
@@ -45,6 +46,7 @@ impl<'a, N: RoundName, R: Wait> Round<'a, N, R> {
         self.hands.push(Hand {
             rt: self.rt,
             store: self.store,
+            namespace: own_namespace,
             key: own_key,
             id,
             room,
@@ -63,49 +65,20 @@ impl<'a, N: RoundName, R: Wait> Round<'a, N, R> {
         labels: &Labels,
     ) -> Result<Reply, Refused> {
         let session = session_at(&mut self.sessions, n)?;
-        self.known.kept.reserve(1)?;
-        let own_key = Key::new(self.alloc, namespace, key)?;
-        let view = self
+        self.views.reserve(1)?;
+        let own_namespace = Text::copy_of(self.alloc, namespace)?;
+        let own_key = Text::copy_of(self.alloc, key)?;
+        let viewed = self
             .store
             .view(self.rt, session, namespace, key, parent, labels)?;
-        let id = view.id();
-        self.known.kept.push(Kept {
+        let id = viewed.id();
+        self.views.push(View {
+            namespace: own_namespace,
             key: own_key,
-            view: Some(view),
+            viewed,
         })?;
         let chain = chain_of(self.alloc, session)?;
         Ok(Reply::Viewed { id, chain })
-    }
-
-    // The calls that take snapshots away.
-    fn take_away(&mut self, n: u64, call: &Call) -> Result<Reply, Refused> {
-        let session = session_at(&mut self.sessions, n)?;
-        match call {
-            Call::Remove { namespace, key } => {
-                let (namespace, key) = (namespace.as_str(), key.as_str());
-                let freed = self.store.remove(self.rt, session, namespace, key)?;
-                self.known.forget(namespace, key);
-                Ok(Reply::Removed(freed))
-            }
-            Call::Sweep { namespace, moment } => {
-                let namespace = namespace.as_str();
-                let Swept {
-                    removed,
-                    leases,
-                    freed,
-                } = self.store.sweep(self.rt, session, namespace, *moment)?;
-                for key in removed.as_slice() {
-                    self.known.forget(namespace, key.as_str());
-                }
-                Ok(Reply::Swept {
-                    removed,
-                    leases,
-                    freed,
-                })
-            }
-            // No line has the others as calls.
-            _ => Err(Refused::Book(Refusal::BadArgument)),
-        }
     }
 
     // The calls on labels, and those that change nothing.
@@ -150,33 +123,47 @@ impl<'a, N: RoundName, R: Wait> Round<'a, N, R> {
         }
     }
 
-    // The calls on leases and limits.
+    // The calls on leases and limits, and those that take snapshots away. A sweep takes no views.
     fn set(&mut self, n: u64, call: &Call) -> Result<Reply, Refused> {
         let session = session_at(&mut self.sessions, n)?;
         let (store, rt) = (self.store, self.rt);
-        let set = match call {
+        match call {
             Call::SetLimit { namespace, limit } => {
-                store.set_limit(rt, session, namespace.as_str(), *limit)
+                store.set_limit(rt, session, namespace.as_str(), *limit)?;
             }
             Call::LeaseCreate {
                 namespace,
                 lease,
                 until,
-            } => store.lease_create(rt, session, namespace.as_str(), lease.as_str(), *until),
+            } => store.lease_create(rt, session, namespace.as_str(), lease.as_str(), *until)?,
             Call::LeaseAdd {
                 namespace,
                 lease,
                 name,
             } => {
                 let (namespace, lease) = (namespace.as_str(), lease.as_str());
-                store.lease_add(rt, session, namespace, lease, name.as_str())
+                store.lease_add(rt, session, namespace, lease, name.as_str())?;
             }
             Call::LeaseRelease { namespace, lease } => {
-                store.lease_release(rt, session, namespace.as_str(), lease.as_str())
+                store.lease_release(rt, session, namespace.as_str(), lease.as_str())?;
             }
-            _ => Err(Refusal::BadArgument),
-        };
-        set?;
+            Call::Remove { namespace, key } => {
+                let (namespace, key) = (namespace.as_str(), key.as_str());
+                let freed = store.remove(rt, session, namespace, key)?;
+                self.views.retain(|view| !view.is(namespace, key));
+                return Ok(Reply::Removed(freed));
+            }
+            Call::Sweep { namespace, moment } => {
+                let swept = store.sweep(rt, session, namespace.as_str(), *moment)?;
+                return Ok(Reply::Swept {
+                    removed: swept.removed,
+                    leases: swept.leases,
+                    freed: swept.freed,
+                });
+            }
+            // No line has the others as calls.
+            _ => return Err(Refused::Book(Refusal::BadArgument)),
+        }
         Ok(Reply::Done)
     }
 
@@ -194,12 +181,12 @@ impl<'a, N: RoundName, R: Wait> Round<'a, N, R> {
                 parent,
                 labels,
             } => self.view(n, namespace.as_str(), key.as_str(), parent.as_str(), labels),
-            Call::Remove { .. } | Call::Sweep { .. } => self.take_away(n, call),
-            Call::SetLimit { .. }
-            | Call::LeaseCreate { .. }
-            | Call::LeaseAdd { .. }
-            | Call::LeaseRelease { .. } => self.set(n, call),
-            _ => self.ask(n, call),
+            Call::Stat { .. }
+            | Call::Update { .. }
+            | Call::Usage { .. }
+            | Call::Mounts { .. }
+            | Call::Walk { .. } => self.ask(n, call),
+            _ => self.set(n, call),
         }
     }
 }

@@ -1,39 +1,24 @@
 // An open snapshot as a script holds it.
 ghost use Rattle.std.specs.Prelude.{◌<◌};
 
-use crate::known::Key;
 use snap_book::{Held, Refusal, Reply, Sealed};
 use snap_path::NoMemory;
 use snap_record::Text;
 use snap_store::{RoundName, Session, Store};
 use snap_usage::Usage;
-use std::alloc::{AllocError, Global};
 use std::sync::Wait;
 
-// A session that calls nothing, with memory for the entry of one discard.
-#[derive(Drop)]
-pub(crate) struct Room {
-    session: Session,
-    ghost has_room: { 0 < session.spare },
-}
-
-impl Room {
-    pub(crate) fn new(alloc: Global) -> Result<Room, AllocError> {
-        let mut session = Session::of(0, Vec::new(alloc));
-        session.reserve(1)?;
-        Ok(Room { session })
-    }
-}
-
-// The snapshot, with its key. One that is dropped is discarded, in memory that was taken before, since the
-// snapshot has to be spent where a run ends for want of memory.
+// The snapshot, with its namespace and its key. One that is dropped is discarded by a session that calls nothing
+// else, in memory that was taken before, since the snapshot has to be spent where a run ends for want of memory.
 pub(crate) struct Hand<'a, N: RoundName, R: Wait> {
     pub(crate) rt: &'a R,
     pub(crate) store: &'a Store<N>,
-    pub(crate) key: Key,
+    pub(crate) namespace: Text,
+    pub(crate) key: Text,
     pub(crate) id: u32,
-    pub(crate) room: Room,
+    pub(crate) room: Session,
     pub(crate) held: Held<N>,
+    ghost has_room: { 0 < room.spare },
 }
 
 impl<'a, N: RoundName, R: Wait> Drop for Hand<'a, N, R> {
@@ -41,13 +26,13 @@ impl<'a, N: RoundName, R: Wait> Drop for Hand<'a, N, R> {
         let Hand {
             rt,
             store,
+            namespace: _,
             key: _,
             id: _,
-            room,
+            mut room,
             held,
         } = self;
-        let Room { mut session } = room;
-        let _ = store.discard(rt, &mut session, held);
+        let _ = store.discard(rt, &mut room, held);
     }
 }
 
@@ -73,6 +58,7 @@ impl<'a, N: RoundName, R: Wait> Hand<'a, N, R> {
         let Hand {
             rt,
             store,
+            namespace,
             key,
             id,
             room,
@@ -88,6 +74,7 @@ impl<'a, N: RoundName, R: Wait> Hand<'a, N, R> {
         let hand = Hand {
             rt,
             store,
+            namespace,
             key,
             id,
             room,
@@ -103,6 +90,7 @@ impl<'a, N: RoundName, R: Wait> Hand<'a, N, R> {
         let Hand {
             rt,
             store,
+            namespace: _,
             key: _,
             id: _,
             room: _,

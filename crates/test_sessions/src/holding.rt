@@ -1,6 +1,4 @@
 // The commands on snapshots that the script holds.
-use crate::hand::Hand;
-use crate::known::{Kept, Key};
 use crate::refused::Refused;
 use crate::round::{Round, session_at};
 use snap_book::{Held, Reply};
@@ -10,20 +8,8 @@ use snap_script::Answer;
 use snap_store::RoundName;
 use snap_upper::Op;
 use snap_usage::Usage;
-use snap_writers::run;
+use snap_writers::{RunError, run};
 use std::sync::Wait;
-
-// The hand goes out of its place.
-fn take<'a, N: RoundName, R: Wait>(
-    hands: &mut Vec<Hand<'a, N, R>>,
-    place: usize,
-) -> Result<Hand<'a, N, R>, Refused> {
-    if place < hands.len() {
-        Ok(hands.swap_remove(place))
-    } else {
-        Err(Refused::NoHand)
-    }
-}
 
 impl<'a, N: RoundName, R: Wait> Round<'a, N, R> {
     // Charges for the wanted amount, or for the needed one; trims where there are none.
@@ -66,14 +52,11 @@ impl<'a, N: RoundName, R: Wait> Round<'a, N, R> {
     ) -> Result<Answer, Refused> {
         let place = self.found(namespace, key)?;
         let session = session_at(&mut self.sessions, n)?;
-        self.known.kept.reserve(1)?;
-        let key = Key::new(self.alloc, namespace, name)?;
-        let hand = take(&mut self.hands, place)?;
-        match hand.commit(session, name, lease) {
-            Ok(reply) => {
-                self.known.kept.push(Kept { key, view: None })?;
-                Ok(Answer::Reply(reply))
-            }
+        if place >= self.hands.len() {
+            return Err(Refused::NoHand);
+        }
+        match self.hands.swap_remove(place).commit(session, name, lease) {
+            Ok(reply) => Ok(Answer::Reply(reply)),
             Err((why, hand)) => {
                 self.hands.push(hand)?;
                 Err(Refused::Book(why))
@@ -90,44 +73,47 @@ impl<'a, N: RoundName, R: Wait> Round<'a, N, R> {
         let place = self.found(namespace, key)?;
         let session = session_at(&mut self.sessions, n)?;
         session.reserve(1)?;
-        let hand = take(&mut self.hands, place)?;
-        Ok(Answer::Reply(Reply::Discarded(hand.discard(session))))
+        if place >= self.hands.len() {
+            return Err(Refused::NoHand);
+        }
+        let freed = self.hands.swap_remove(place).discard(session);
+        Ok(Answer::Reply(Reply::Discarded(freed)))
     }
 
     // The operation, with the charge that it needs. A session that isn't open can't charge.
-    fn apply(&mut self, n: u64, place: usize, op: &Op, extra: Usage) -> Result<Answer, Refused> {
+    pub(crate) fn file(
+        &mut self,
+        n: u64,
+        namespace: &str,
+        key: &str,
+        operation: &Option<Op>,
+        extra: Usage,
+    ) -> Result<Answer, Refused> {
+        let place = self.found(namespace, key)?;
+        let Some(op) = operation else {
+            return Err(Refused::File(FsError::BadPath));
+        };
         let Some(hand) = self.hands.get_mut(place) else {
             return Err(Refused::NoHand);
         };
         let Held::Active(active) = &mut hand.held else {
             return Err(Refused::NoHand);
         };
-        match self.sessions.get_mut(n as usize) {
-            Some(session) => run(self.store, self.rt, session, active, op, extra)?,
+        let done = match self.sessions.get_mut(n as usize) {
+            Some(session) => run(self.store, self.rt, session, active, op, extra),
             None => match active.apply(op) {
-                Ok(()) => {}
+                Ok(()) => Ok(()),
                 Err(FsError::NeedsCharge(_)) => return Err(Refused::NoSession),
-                Err(error) => return Err(Refused::File(error)),
+                Err(error) => Err(RunError::File(error)),
             },
-        }
-        Ok(Answer::Changed {
-            count: active.count(),
-            share: active.share(),
-        })
-    }
-
-    pub(crate) fn file(
-        &mut self,
-        n: u64,
-        namespace: &str,
-        key: &str,
-        operation: Option<Op>,
-        extra: Usage,
-    ) -> Result<Answer, Refused> {
-        let place = self.found(namespace, key)?;
-        match operation {
-            Some(op) => self.apply(n, place, &op, extra),
-            None => Err(Refused::File(FsError::BadPath)),
+        };
+        match done {
+            Ok(()) => Ok(Answer::Changed {
+                count: active.count(),
+                share: active.share(),
+            }),
+            Err(RunError::File(error)) => Err(Refused::File(error)),
+            Err(RunError::Book(why)) => Err(Refused::Book(why)),
         }
     }
 }

@@ -1,5 +1,4 @@
 // What a snapshot shows at a path.
-use crate::known::Kept;
 use crate::refused::Refused;
 use crate::round::Round;
 use snap_book::Held;
@@ -9,27 +8,13 @@ use snap_path::Path;
 use snap_record::Sequence;
 use snap_script::{Answer, Lookup, Shown};
 use snap_store::RoundName;
-use std::alloc::{AllocError, Global};
+use std::alloc::Global;
 use std::sync::Wait;
 
 // How many of a file's bytes are shown.
 const HEAD_BYTES: usize = 16;
 
-// What is seen, with its own target.
-fn shown_of(alloc: Global, seen: Seen<'_>) -> Result<Shown, AllocError> {
-    match seen {
-        Seen::Dir { mode } => Ok(Shown::Dir { mode }),
-        Seen::File { mode, bytes } => Ok(Shown::File {
-            mode,
-            size: bytes.len() as u64,
-        }),
-        Seen::Symlink { target } => Ok(Shown::Symlink {
-            target: Bytes::copy_of(alloc, target)?,
-        }),
-    }
-}
-
-// Of a file that is read, the first bytes, and how many it has.
+// What is seen, with its own target. Of a file that is read, the first bytes, and how many it has.
 fn looked_up(
     alloc: Global,
     lookup: Lookup,
@@ -38,7 +23,15 @@ fn looked_up(
 ) -> Result<Answer, Refused> {
     match lookup {
         Lookup::Look => match stack.look(path) {
-            Some(seen) => Ok(Answer::Seen(Some(shown_of(alloc, seen)?))),
+            Some(Seen::Dir { mode }) => Ok(Answer::Seen(Some(Shown::Dir { mode }))),
+            Some(Seen::File { mode, bytes }) => {
+                let size = bytes.len() as u64;
+                Ok(Answer::Seen(Some(Shown::File { mode, size })))
+            }
+            Some(Seen::Symlink { target }) => {
+                let target = Bytes::copy_of(alloc, target)?;
+                Ok(Answer::Seen(Some(Shown::Symlink { target })))
+            }
             None => Ok(Answer::Seen(None)),
         },
         Lookup::List => Ok(Answer::Names(Sequence::from(stack.list(alloc, path)?))),
@@ -57,17 +50,12 @@ fn looked_up(
 impl<'a, N: RoundName, R: Wait> Round<'a, N, R> {
     // The layers of an open snapshot, or of a view.
     fn stack(&self, namespace: &str, key: &str) -> Result<Stack<'_>, Refused> {
-        if let Some(
-            Kept {
-                view: Some(view),
-                ..
-            },
-        ) = self.known.find(namespace, key)
-        {
-            return Ok(view.stack());
+        for view in &self.views {
+            if view.is(namespace, key) {
+                return Ok(view.viewed.stack());
+            }
         }
-        let place = self.found(namespace, key)?;
-        match self.hands.get(place) {
+        match self.hands.get(self.found(namespace, key)?) {
             Some(hand) => match &hand.held {
                 Held::Active(active) => Ok(active.stack()),
                 Held::Sealed(sealed) => Ok(sealed.stack()),

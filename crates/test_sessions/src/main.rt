@@ -4,10 +4,10 @@
 //! product's program carries it out on a `World`. Its answers are the same, so the scripts and outputs of
 //! `examples/` show the store's own surface: calls by sessions with their tapes, open snapshots that are held as
 //! values, operations through `run`, and the close. `report` is not answered, nor are `tree` and `journal`, since a
-//! store lends no records. At the end of the input what is still held is discarded, the store is closed with all
-//! sessions, and the report of the closed store is written. Where memory is refused to a line of an open store, the
-//! line is carried out once more: so a run in which one allocation is refused there writes what a run with ample
-//! memory writes.
+//! store lends no records; nor is a command on a snapshot that the script doesn't hold, since it would be no call. At
+//! the end of the input what is still held is discarded, the store is closed with all sessions, and the report of the
+//! closed store is written. Where memory is refused to a line of an open store, the line is carried out once more: so a
+//! run in which one allocation is refused there writes what a run with ample memory writes.
 //!
 //! With the word `steps` it carries the script out as the product's program does, on a `World`, line by line. Where
 //! memory is refused to a line of an open store it writes `refused`, and carries the line out again. After each
@@ -25,7 +25,6 @@ ghost use Rattle.std.specs.Prelude.{◌≡◌};
 mod calls;
 mod hand;
 mod holding;
-mod known;
 mod lines;
 mod lookups;
 mod play;
@@ -47,17 +46,6 @@ use std::rt::Env;
 use std::str::Lines;
 use std::sync::Wait;
 use std::{env, io};
-
-// Whether the word asks for steps.
-fn asks_for_steps(rt: &(impl Env + AllocGlobal)) -> Result<bool, Stop> {
-    let mut words = env::args(rt)?;
-    let _ = words.next();
-    match words.next() {
-        None => Ok(false),
-        Some(word) if word.as_str() == "steps" => Ok(true),
-        Some(_) => Err(Stop::Word),
-    }
-}
 
 fn run<N: RoundName, R: Wait, W: Write>(
     alloc: Global,
@@ -89,9 +77,16 @@ fn replay<R: Wait, W: Write>(
     run::<Brand, R, W>(alloc, rt, new, by_steps, &mut text.lines(), output)
 }
 
+// With the word `steps` by steps.
 fn replayed<R: Wait + Env + Input + Print + AllocGlobal>(rt: &R) -> Result<(), Stop> {
     let alloc = rt.alloc();
-    let by_steps = asks_for_steps(rt)?;
+    let mut words = env::args(rt)?;
+    let _ = words.next();
+    let by_steps = match words.next() {
+        None => false,
+        Some(word) if word.as_str() == "steps" => true,
+        Some(_) => return Err(Stop::Word),
+    };
     let text = io::read_to_string(alloc, rt.reader())?;
     let Ok(mut output) = BufWriter::new(alloc, io::writer(rt)) else {
         return Err(Stop::NoMemory);
@@ -107,8 +102,9 @@ fn main(rt: HostRuntime) -> ExitCode {
     match replayed(&rt) {
         Ok(()) => ExitCode::from(0),
         Err(stop) => {
-            let _ = rt.eprintln(stop);
-            ExitCode::from(stop.status())
+            let (status, words) = stop.told();
+            let _ = rt.eprintln(words);
+            ExitCode::from(status)
         }
     }
 }

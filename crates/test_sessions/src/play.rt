@@ -12,18 +12,6 @@ use std::str::Lines;
 use std::sync::Wait;
 
 impl<'a, N: RoundName, R: Wait> Round<'a, N, R> {
-    // The round ends for one of so many entries, unless a snapshot is open.
-    fn end_for(&mut self, journal: u64) -> Result<(), Refused> {
-        if !self.hands.is_empty() {
-            return Err(Refused::StillOut);
-        }
-        if journal > MAX_JOURNAL {
-            return Err(Refused::Book(Refusal::BadArgument));
-        }
-        self.next = Some(journal);
-        Ok(())
-    }
-
     // What a command on a snapshot or a session is answered.
     fn do_command(&mut self, n: u64, command: &Command) -> Result<Answer, Refused> {
         match command {
@@ -50,6 +38,12 @@ impl<'a, N: RoundName, R: Wait> Round<'a, N, R> {
             Command::Discard { namespace, key } => {
                 self.discard(n, namespace.as_str(), key.as_str())
             }
+            Command::File {
+                namespace,
+                key,
+                operation,
+                extra,
+            } => self.file(n, namespace.as_str(), key.as_str(), operation, *extra),
             Command::Lookup {
                 namespace,
                 key,
@@ -62,33 +56,33 @@ impl<'a, N: RoundName, R: Wait> Round<'a, N, R> {
     }
 
     // What a command is answered: nothing where the round ends for the next one, nor for a report, a tree or a
-    // journal.
-    fn answer(&mut self, n: u64, command: Command) -> Result<Option<Answer>, Refused> {
-        let answered = match command {
+    // journal, nor on a snapshot that the script doesn't hold. No round ends as long as a snapshot is open.
+    fn answer(&mut self, n: u64, command: &Command) -> Result<Option<Answer>, Stop> {
+        let refused = match command {
             Command::Reopen { journal } => {
-                self.end_for(journal)?;
-                return Ok(None);
+                if !self.hands.is_empty() {
+                    Refused::StillOut
+                } else if *journal > MAX_JOURNAL {
+                    Refused::Book(Refusal::BadArgument)
+                } else {
+                    self.next = Some(*journal);
+                    return Ok(None);
+                }
             }
             Command::Tree { .. } | Command::Journal { .. } | Command::Report => return Ok(None),
-            Command::File {
-                namespace,
-                key,
-                operation,
-                extra,
-            } => self.file(n, namespace.as_str(), key.as_str(), operation, extra),
-            command => self.do_command(n, &command),
+            command => match self.do_command(n, command) {
+                Ok(answer) => return Ok(Some(answer)),
+                Err(refused) => refused,
+            },
         };
-        Ok(Some(answered?))
+        refused.answer()
     }
 
     // What a line is answered.
     fn attempt(&mut self, line: &str) -> Result<Option<Answer>, Stop> {
         match read_line(self.alloc, line.as_bytes(), true)? {
             Line::Empty => Ok(None),
-            Line::Command { session, command } => match self.answer(session, command) {
-                Ok(answer) => Ok(answer),
-                Err(refused) => Ok(Some(refused.answer()?)),
-            },
+            Line::Command { session, command } => self.answer(session, &command),
         }
     }
 
@@ -99,22 +93,21 @@ impl<'a, N: RoundName, R: Wait> Round<'a, N, R> {
         lines: &mut Lines<'_>,
         output: &mut W,
     ) -> Result<(), Stop> {
-        let answer = self.first_session()?;
-        write_answer(self.alloc, output, &answer)?;
+        let mut answer = self.first_session()?;
         for _ in 0..u64::MAX {
-            let Some(line) = lines.next() else {
-                return Ok(());
-            };
-            let answer = match self.attempt(line) {
-                Err(Stop::NoMemory) => self.attempt(line)?,
-                answer => answer?,
-            };
-            if let Some(answer) = answer {
-                write_answer(self.alloc, output, &answer)?;
+            if let Some(answer) = &answer {
+                write_answer(self.alloc, output, answer)?;
             }
             if self.next.is_some() {
                 return Ok(());
             }
+            let Some(line) = lines.next() else {
+                return Ok(());
+            };
+            answer = match self.attempt(line) {
+                Err(Stop::NoMemory) => self.attempt(line)?,
+                answer => answer?,
+            };
         }
         Ok(())
     }

@@ -3,11 +3,12 @@ use crate::stop::Stop;
 use snap_book::Refusal;
 use snap_merge::FsError;
 use snap_script::Answer;
-use snap_writers::RunError;
 use std::alloc::{AllocError, AllocFailed};
 
 #[derive(Clone, Copy)]
 pub(crate) enum Refused {
+    // The script holds no such snapshot.
+    NotHeld,
     // The session isn't open.
     NoSession,
     // The snapshot is sealed.
@@ -21,16 +22,17 @@ pub(crate) enum Refused {
 }
 
 impl Refused {
-    // What the script is answered. Want of memory ends the run.
-    pub(crate) fn answer(self) -> Result<Answer, Stop> {
+    // What the script is answered, if anything. Want of memory ends the run.
+    pub(crate) fn answer(self) -> Result<Option<Answer>, Stop> {
         match self {
-            Refused::NoSession => Ok(Answer::NoSession),
-            Refused::NoHand => Ok(Answer::NoHand),
-            Refused::StillOut => Ok(Answer::StillOut),
+            Refused::NotHeld => Ok(None),
+            Refused::NoSession => Ok(Some(Answer::NoSession)),
+            Refused::NoHand => Ok(Some(Answer::NoHand)),
+            Refused::StillOut => Ok(Some(Answer::StillOut)),
             Refused::Book(Refusal::OutOfMemory(_)) => Err(Stop::NoMemory),
-            Refused::Book(why) => Ok(Answer::refused(why)),
+            Refused::Book(why) => Ok(Some(Answer::refused(why))),
             Refused::File(FsError::OutOfMemory(_)) => Err(Stop::NoMemory),
-            Refused::File(error) => Ok(Answer::Failed(error)),
+            Refused::File(error) => Ok(Some(Answer::Failed(error))),
         }
     }
 }
@@ -48,17 +50,6 @@ impl From<FsError> for Refused {
 
     fn from(error: FsError) -> Refused {
         Refused::File(error)
-    }
-}
-
-impl From<RunError> for Refused {
-    ghost from_gives = { λ _ _. Unit {0} };
-
-    fn from(error: RunError) -> Refused {
-        match error {
-            RunError::File(error) => Refused::File(error),
-            RunError::Book(why) => Refused::Book(why),
-        }
     }
 }
 

@@ -1,9 +1,8 @@
 // A script on a store, which is opened, goes through its rounds, and is closed.
 ghost use Rattle.std.specs.Prelude.{◌≡◌};
 
-use crate::known::Known;
 use crate::lines::write_answer;
-use crate::round::{Ended, Round};
+use crate::round::{Round, View};
 use crate::stop::Stop;
 use snap_book::{Config, Refusal};
 use snap_record::{Sequence, Text};
@@ -14,14 +13,6 @@ use std::alloc::{AllocError, Global};
 use std::io::Write;
 use std::str::Lines;
 use std::sync::Wait;
-
-// A round that has been closed, and the entries of the next one, if the script asks for one.
-#[derive(Drop)]
-struct Past<N: RoundName> {
-    closed: Closed<N>,
-    known: Known,
-    next: Option<u64>,
-}
 
 // The first configuration with which a store opens. Those before are refused.
 fn first_config<W: Write>(
@@ -71,36 +62,29 @@ fn close<N: RoundName>(store: Store<N>, sessions: Vec<Session>) -> Result<Closed
     }
 }
 
-// A round, up to its close.
+// A round, up to its close. The answer is the closed store, the views that the script holds, and the entries of the
+// next round, if the script asks for one.
 fn one_round<N: RoundName, R: Wait, W: Write>(
     alloc: Global,
     rt: &R,
     store: Store<N>,
-    known: Known,
+    views: Vec<View>,
     lines: &mut Lines<'_>,
     output: &mut W,
-) -> Result<Past<N>, Stop> {
+) -> Result<(Closed<N>, Vec<View>, Option<u64>), Stop> {
     let mut round = Round {
         alloc,
         rt,
         store: &store,
-        known,
+        views,
         sessions: Vec::new(alloc),
         hands: Vec::new(alloc),
         next: None,
     };
     round.play(lines, output)?;
-    let Ended {
-        sessions,
-        known,
-        next,
-    } = round.end()?;
+    let (sessions, views, next) = round.end()?;
     let closed = close(store, sessions)?;
-    Ok(Past {
-        closed,
-        known,
-        next,
-    })
+    Ok((closed, views, next))
 }
 
 // The report of a closed store: of each namespace, what it is charged.
@@ -127,19 +111,14 @@ fn rounds<N: RoundName, R: Wait, W: Write>(
     alloc: Global,
     rt: &R,
     mut store: Store<N>,
-    mut known: Known,
+    names: &[Text],
     lines: &mut Lines<'_>,
     output: &mut W,
 ) -> Result<(), Stop> {
+    let mut views = Vec::new(alloc);
     for _ in 0..u64::MAX {
-        let past = one_round(alloc, rt, store, known, lines, output)?;
-        let Past {
-            closed,
-            known: left,
-            next,
-        } = past;
+        let (closed, left, next) = one_round(alloc, rt, store, views, lines, output)?;
         let Some(journal) = next else {
-            let names = left.names.as_slice();
             let answer = match report(alloc, &closed, names) {
                 Ok(answer) => answer,
                 Err(_) => report(alloc, &closed, names)?,
@@ -150,7 +129,7 @@ fn rounds<N: RoundName, R: Wait, W: Write>(
             return Err(Stop::NotClosed);
         };
         store = reopened;
-        known = left;
+        views = left;
     }
     Err(Stop::NotClosed)
 }
@@ -167,12 +146,9 @@ pub(crate) fn carry_out<N: RoundName, R: Wait, W: Write>(
     let Some(config) = first_config(alloc, lines, output)? else {
         return Ok(());
     };
-    let known = Known {
-        names: names_of(alloc, config.namespaces.as_slice())?,
-        kept: Vec::new(alloc),
-    };
+    let names = names_of(alloc, config.namespaces.as_slice())?;
     let Ok(store) = Store::<N>::open(alloc, new, config) else {
         return Err(Stop::NoMemory);
     };
-    rounds(alloc, rt, store, known, lines, output)
+    rounds(alloc, rt, store, names.as_slice(), lines, output)
 }

@@ -11,23 +11,22 @@ use std::alloc::Global;
 use std::io::Write;
 use std::str::Lines;
 
-// The tree of the namespace, or the report, where none is named. It changes nothing.
+// The tree of the namespace, or the report, where none is named. It changes nothing, and is asked for again where
+// memory was refused.
 fn ask<N: StoreName>(script: &mut Script<N>, name: Option<&Text>) -> Result<Answer, Stop> {
-    let command = match name {
-        Some(name) => Command::Tree {
-            namespace: name.clone()?,
-        },
-        None => Command::Report,
-    };
-    Ok(script.act(0, command)?)
-}
-
-// The same, asked for again where memory was refused.
-fn ask_again<N: StoreName>(script: &mut Script<N>, name: Option<&Text>) -> Result<Answer, Stop> {
-    match ask(script, name) {
-        Ok(answer) => Ok(answer),
-        Err(_) => ask(script, name),
+    for _ in 0..2 {
+        let command = match name {
+            None => Command::Report,
+            Some(name) => match name.clone() {
+                Ok(namespace) => Command::Tree { namespace },
+                Err(_) => continue,
+            },
+        };
+        if let Ok(answer) = script.act(0, command) {
+            return Ok(answer);
+        }
     }
+    Err(Stop::NoMemory)
 }
 
 // A line `stands`, and the answers. Nothing of a script that has opened no store.
@@ -36,13 +35,13 @@ fn write_state<N: StoreName, W: Write>(
     script: &mut Script<N>,
     output: &mut W,
 ) -> Result<(), Stop> {
-    let answer = ask_again(script, None)?;
+    let answer = ask(script, None)?;
     let Answer::Report { totals, .. } = &answer else {
         return Ok(());
     };
     write_line(output, "stands\n")?;
     for (name, _) in totals.as_slice() {
-        let tree = ask_again(script, Some(name))?;
+        let tree = ask(script, Some(name))?;
         write_answer(alloc, output, &tree)?;
     }
     write_answer(alloc, output, &answer)
@@ -56,7 +55,10 @@ fn attempt<N: StoreName>(
 ) -> Result<Option<Answer>, Stop> {
     match read_line(alloc, line, script.is_open())? {
         Line::Empty => Ok(None),
-        Line::Command { session, command } => Ok(Some(script.act(session, command)?)),
+        Line::Command { session, command } => match script.act(session, command) {
+            Ok(answer) => Ok(Some(answer)),
+            Err(_) => Err(Stop::NoMemory),
+        },
     }
 }
 

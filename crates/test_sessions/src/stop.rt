@@ -1,9 +1,8 @@
 // Why a run ends before the end of its input.
 use snap_script::ReadError;
-use snap_session::NoMemory;
 use std::alloc::AllocError;
+use std::io;
 use std::io::ErrorKind;
-use std::{fmt, io};
 
 #[derive(Clone, Copy)]
 pub(crate) enum Stop {
@@ -19,26 +18,16 @@ pub(crate) enum Stop {
 }
 
 impl Stop {
-    pub(crate) fn status(self) -> u8 {
+    // The status, and what is said on standard error.
+    pub(crate) fn told(self) -> (u8, &'static str) {
         match self {
-            Stop::NotClosed => 1,
-            Stop::Line | Stop::Word => 2,
-            Stop::InputFailed | Stop::OutputFailed => 3,
-            Stop::NoMemory => 4,
+            Stop::NotClosed => (1, "the store is not closed"),
+            Stop::Line => (2, "a line is no command"),
+            Stop::Word => (2, "a word asks for nothing"),
+            Stop::InputFailed => (3, "input failed"),
+            Stop::OutputFailed => (3, "output failed"),
+            Stop::NoMemory => (4, "want of memory"),
         }
-    }
-}
-
-impl fmt::Display for Stop {
-    fn fmt<W: fmt::Write>(&self, f: &mut fmt::Formatter<W>) -> fmt::Result {
-        f.write_str(match self {
-            Stop::NotClosed => "the store is not closed",
-            Stop::Line => "a line is no command",
-            Stop::Word => "a word asks for nothing",
-            Stop::InputFailed => "input failed",
-            Stop::OutputFailed => "output failed",
-            Stop::NoMemory => "want of memory",
-        })
     }
 }
 
@@ -46,14 +35,6 @@ impl From<AllocError> for Stop {
     ghost from_gives = { λ _ _. Unit {0} };
 
     fn from(_error: AllocError) -> Stop {
-        Stop::NoMemory
-    }
-}
-
-impl From<NoMemory> for Stop {
-    ghost from_gives = { λ _ _. Unit {0} };
-
-    fn from(_error: NoMemory) -> Stop {
         Stop::NoMemory
     }
 }
@@ -69,7 +50,7 @@ impl From<ReadError> for Stop {
     }
 }
 
-// Of a read. Bytes that are no text are lines that are no commands.
+// Of a word or a read. Bytes that are no text are lines that are no commands.
 impl From<io::Error> for Stop {
     ghost from_gives = { λ _ _. Unit {0} };
 
