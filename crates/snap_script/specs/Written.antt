@@ -1,5 +1,5 @@
 -- How what an answer has is written: the tokens of a member, and the members of a map.
--- Cited by private clauses alone.
+-- Cited by invariants and private clauses alone.
 use Rattle.std.specs.Prelude.{ℕ, List, [], ◌∷◌, Option, Some, None}
 use denote.Ref.{Bor}
 use Rattle.json.specs.Token.{Token, key}
