@@ -5,5 +5,5 @@ use Rattle.snap_writers.proofs.worker.Worker.prepare.Goals as goal
 pub returns-clause-goes : goal.returns-clause-goes
 returns-clause-goes g c =
     let j = c.args.job.now in
-    then_on j c.args.self.now.session c.reserve.new.self c.prepare-2.new.session [] (untaped j c.args.self.now.session c.reserve.new.self c.in_ok-reserve.ensures.same)
-    (prepare_goes j c.reserve.new.self c.prepare-2.new.session _ _ _ _ c.prepare-2.result (c.as_str.ensures, c.as_str-2.ensures, c.as_str-3.ensures, c.new.ensures) c.prepare-2.ensures.granted c.prepare-2.ensures.refused)
+    then_on j c.args.self.now.session c.reserve.new.self c.prepare.new.session [] (untaped j c.args.self.now.session c.reserve.new.self c.in_ok-reserve.ensures.same)
+    (prepare_goes j c.reserve.new.self c.prepare.new.session _ _ _ _ c.prepare.result (c.as_str.ensures, c.as_str-2.ensures, c.as_str-3.ensures, c.new.ensures) c.prepare.ensures.granted c.prepare.ensures.refused)
