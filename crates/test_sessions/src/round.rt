@@ -99,8 +99,8 @@ impl<'a, N: RoundName, R: Wait> Round<'a, N, R> {
         Err(Refused::NotHeld)
     }
 
-    // Discards what is still held, by session 0. The answer is what is left of the round.
-    pub(crate) fn end(mut self) -> Result<(Vec<Session>, Vec<View>, Option<u64>), AllocError> {
+    // Discards what is still held, by session 0.
+    fn discard_all(&mut self) -> Result<(), AllocError> {
         if let Some(session) = self.sessions.first_mut() {
             for _ in 0..self.hands.len() {
                 match session.reserve(1) {
@@ -112,6 +112,12 @@ impl<'a, N: RoundName, R: Wait> Round<'a, N, R> {
                 }
             }
         }
+        Ok(())
+    }
+
+    // What is left of the round, with nothing held.
+    pub(crate) fn end(mut self) -> Result<(Vec<Session>, Vec<View>, Option<u64>), AllocError> {
+        self.discard_all()?;
         let Round {
             alloc: _,
             rt: _,
