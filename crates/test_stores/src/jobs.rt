@@ -162,7 +162,6 @@ fn without_slots<N: RoundName + Send + Sync, R: Threads + Wait + Abort + Clock +
 fn jobs_and_gates(rt: HostRuntime) {
     let alloc = rt.alloc();
     let (making, failing) = (making(&rt, alloc), failing(&rt, alloc));
-    let jobs = making.as_slice();
     let meeting = Steps::Meeting {
         clock: &rt,
         asked: AtomicBool::new(false),
@@ -170,17 +169,22 @@ fn jobs_and_gates(rt: HostRuntime) {
     };
     let rows = [
         (
-            ("two of 8 workers wait for each other", jobs, 8, &meeting),
+            (
+                "two of 8 workers wait for each other",
+                making.as_slice(),
+                8,
+                &meeting,
+            ),
             (None, IN_TURN.as_slice(), Some(usage(16, 16))),
         ),
         (
-            ("no step passes", jobs, 8, &Steps::None),
+            ("no step passes", making.as_slice(), 8, &Steps::None),
             (Some(1), NOT_RUN.as_slice(), Some(Usage::ZERO)),
         ),
         (
             (
                 "worker 2 is stopped at its operation",
-                jobs,
+                making.as_slice(),
                 2,
                 &Steps::Others { worker: 2, step: 2 },
             ),
@@ -195,5 +199,5 @@ fn jobs_and_gates(rt: HostRuntime) {
         let new = new_store(&rt, alloc);
         end_so::<Brand, HostRuntime, Steps<HostRuntime>>(&rt, alloc, new, run, wanted);
     }
-    without_slots::<Brand, HostRuntime>(&rt, alloc, new_store(&rt, alloc), jobs);
+    without_slots::<Brand, HostRuntime>(&rt, alloc, new_store(&rt, alloc), making.as_slice());
 }
