@@ -434,7 +434,8 @@ impl<N: StoreName> Accounts<N> {
     /// name that is new to its lease; where that is refused, nothing changes. The cost grows with the logarithm
     /// of the number of records; that of a call on a lease with the logarithms of the number of leases and of the
     /// number of names that the namespace's leases have, for a release once for each name of the lease; that of a
-    /// sweep with the leases and their names, and with the records times the logarithm of their number.
+    /// sweep with the leases and their names, for each ended lease with the logarithm of the number of leases, and with
+    /// the records times the logarithm of their number.
     pub fn carry_out(&mut self, change: Change) -> Result<(), AllocError>
         requires possible { CanChange self.old change }
         requires entries { self.old.entries < 2 ^ 63 }

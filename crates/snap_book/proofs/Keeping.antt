@@ -44,10 +44,6 @@ kept_push s t j m k e x kept made pushed is allowed moved below room =
       numbers = omega (arith, began, limit, limit_made, kept.numbers);
     }
 
--- the journal has room made as m
-pub kept_room : (s : State) (j m : JournalValue) → Kept s j → m ≡ record j { room = m.room } → j.room ≤ m.room → Kept s m
-kept_room s j m kept made more = subst (Kept s) (sym made) (record { began = kept.began; replays = kept.replays; last = kept.last; below = kept.below; room = omega (arith, kept.room, more); numbered = kept.numbered; numbers = kept.numbers })
-
 -- and the call is recorded so
 pub recorded_push : (old : BookValue) (s t : State) (j m k : JournalValue) (e x : Entry) → record { state = s; journal = j.entries; opening = j.opening; limit = j.limit; copy = j.copy } ≡ old → m ≡ record j { room = m.room }
     → k ≡ record m { entries = m.entries ++ x ∷ []; copy = Some x; room = k.room } → x ≡ e → IsAllowed s e.call e.given → step s e.call e.given ≡ (t, e.reply)

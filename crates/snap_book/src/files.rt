@@ -121,9 +121,7 @@ impl<N: StoreName> Active<N> {
     /// - `OutOfMemory`: a growth was refused.
     ///
     /// After any of them the snapshot is as it was. The share stays, also where the layer shrinks.
-    /// The cost is that of `snap_upper::apply_within`: for each name of the path a look through the
-    /// layers, for each directory that is missing in the upper layer a walk to it, the bytes that are written, and
-    /// those of a file that grows or is copied up; for a rename to a longer path also the paths that move.
+    /// The cost is that of [`snap_upper::apply_within`].
     ///
     /// That a layer is charged before it is filled is our choice. A disk quota refuses a write in the
     /// same way (write(2), `EDQUOT`).

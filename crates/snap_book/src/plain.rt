@@ -17,7 +17,7 @@ use snap_call::{Call, Given, Refusal, Reply, SharedEntry};
 use snap_ledger::StoreName;
 use std::alloc::{AllocError, Global};
 
-// What a plain call takes memory for beside its change: its entry for the two holders, and its reply.
+// The entry of a plain call for its two holders, its reply, and what it changes.
 #[derive(Drop)]
 pub(crate) struct Plan {
     pub(crate) entry: SharedEntry,
@@ -114,8 +114,9 @@ impl<N: StoreName> Book<N> {
     /// that are found; that of mounts and of a view with that logarithm times the ancestors, that of a walk
     /// with the records that it passes over, that of a removal with the logarithm of the number of names that the
     /// namespace's leases have too, that of a limit with the namespaces, that of a call on a lease with the
-    /// namespaces and the logarithm of the number of leases, for a release also with that logarithm of names times
-    /// the names of the lease, that of a sweep with the leases and their names, and with the records times the
+    /// namespaces and the logarithm of the number of leases, for a release also, for each name of the lease, with the
+    /// logarithm of the number of names that the namespace's leases have; that of a sweep with the leases and their
+    /// names, for each ended lease with the logarithm of the number of leases, and with the records times the
     /// logarithm of their number.
     pub fn do_call(&mut self, session: u64, call: Call) -> Reply
         requires { IsPlain call }

@@ -17,7 +17,7 @@ use crate::active::Active;
 use crate::book::Book;
 use crate::journal::shared;
 use snap_accounts::{Accounts, Vacancy};
-use snap_call::{Call, Chain, EntryRoom, Given, Refusal, Reply, SharedEntry};
+use snap_call::{Call, Chain, EntryRoom, Given, Refusal, Reply};
 use snap_layer::{Layer, Node, Shared};
 use snap_ledger::StoreName;
 use snap_path::Path;
@@ -37,7 +37,7 @@ fn root_mode(alloc: Global, lowers: &[Shared]) -> u32
     let _ = &layer.is_layer;
     match layer.at(&Path::root(alloc)) {
         Some(Node::Dir { mode, .. }) => mode,
-        _ => DEFAULT_MODE,
+        Some(Node::File { .. } | Node::Symlink { .. } | Node::Whiteout) | None => DEFAULT_MODE,
     }
 }
 

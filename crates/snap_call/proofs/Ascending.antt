@@ -4,11 +4,9 @@ use Rattle.std.proofs.lemmas.Bool.{cases_eq, cases_lt, false_from_ne_true, not-f
 use Rattle.std.proofs.lemmas.List.{get_or_default}
 use Rattle.std.proofs.lemmas.Cmp.{tied_itself, upto}
 use Rattle.std.specs.Cmp.{IsTotalOrder}
-use Rattle.std.specs.List.{AllByRecursion, insert, list_any, position_from}
-use Rattle.std.specs.Option.{is_some}
-use Rattle.std.proofs.lemmas.Iterator.Adapters.{position_from-zero}
+use Rattle.std.specs.List.{AllByRecursion, insert}
 use Rattle.std.specs.List.Sorted.{IsStrictlySortedBy, IsPartitionedBy, IsPartitionPoint}
-use Rattle.std.specs.Prelude.{◌||◌, not}
+use Rattle.std.specs.Prelude.{not}
 use Rattle.std.specs.declared.cmp.Ordering.{Ordering}
 use Rattle.std.specs.declared.cmp.Ordering.TheVariants.{Less, Equal, Greater}
 use Rattle.std.specs.Ordering.{is_gt, is_lt}
@@ -68,14 +66,6 @@ ascending-sorted [] sorted = tt
 ascending-sorted (r ∷ rs) sorted = (all-map (λ t. record_cmp r t ≡ Less) (λ t. is_gt (record_cmp r t) ≡ false) (λ t e. ap is_gt e) rs sorted.0, ascending-sorted rs sorted.1)
 
 -- ---- the searches
-
--- a test has a first place where it has one
-pub is_some-position : {X : Type 0} (p : X → Bool) (xs : List X) → is_some (position p xs) ≡ list_any p xs
-is_some-position {X} p xs = ap is_some (position_from-zero p xs) ∙ from 0 xs
-  where
-    from : (n : ℕ) (ys : List X) → is_some (position_from p n ys) ≡ list_any p ys
-    from n [] = refl
-    from n (y ∷ ys) = elim (p y) as (λ b. is_some (cond b (Some n) (position_from p (n + 1) ys)) ≡ (b || list_any p ys)) [ true ↦ refl | false ↦ from (n + 1) ys ]
 
 not_after : (rs : List Record) (i j : ℕ) (d : Record) → IsAscending rs → i ≤ j → j < length rs → is_gt (record_cmp (get_or rs i d) (get_or rs j d)) ≡ false
 not_after rs i j d up le lt = elim (cases_eq i j) [

@@ -8,7 +8,8 @@ use Rattle.snap_layer.proofs.Paths.{split_front}
 use Rattle.snap_merge.specs.Walk.{walk}
 use Rattle.snap_merge.proofs.Views.{walk_same}
 use Rattle.snap_copyup.specs.Copying.{with_parents}
-use Rattle.snap_copyup.specs.Places.{TakesMore, missing_from}
+use Rattle.snap_copyup.specs.Places.{TakesMore}
+use Rattle.snap_copyup.proofs.Missing.{missing_from}
 use Rattle.snap_copyup.proofs.Alone.{some_dir}
 use Rattle.snap_copyup.proofs.ParentDirs.{AddsParents, adds_parents, parents_extend, parents_all_stand}
 use Rattle.snap_copyup.proofs.Growing.{grows_from, missing_same, missing_none, missing_split}

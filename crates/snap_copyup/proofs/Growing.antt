@@ -27,7 +27,8 @@ use Rattle.snap_merge.proofs.Views.{walk_same}
 use Rattle.snap_copyup.specs.declared.parents.Last.{Last}
 use Rattle.snap_copyup.specs.declared.parents.Last.TheVariants.{Nothing, Dir, File, Symlink, Whiteout}
 use Rattle.snap_copyup.specs.Copying.{below, copied, with_object, with_parents_from, with_parents}
-use Rattle.snap_copyup.specs.Places.{with_last, TakesMore, missing_from}
+use Rattle.snap_copyup.specs.Places.{with_last, TakesMore}
+use Rattle.snap_copyup.proofs.Missing.{missing_from}
 use Rattle.snap_copyup.proofs.Alone.{walk_passes, below_seen}
 use Rattle.snap_copyup.proofs.ParentDirs.{AddsParents, dir_copied}
 

@@ -1,3 +1,4 @@
+pub mod Missing
 pub mod Alone
 pub mod Elsewhere
 pub mod ParentDirs

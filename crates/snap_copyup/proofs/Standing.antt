@@ -13,7 +13,8 @@ use Rattle.snap_merge.specs.Reach.{Traced}
 use Rattle.snap_merge.proofs.Reaching.{traced_none, traced_leaf, goes_on}
 use Rattle.snap_merge.specs.Walk.{walk, walk_from}
 use Rattle.snap_copyup.specs.Copying.{with_parents, with_parents_from}
-use Rattle.snap_copyup.specs.Places.{ParentStands, StandsAbove, missing_from}
+use Rattle.snap_copyup.specs.Places.{ParentStands, StandsAbove}
+use Rattle.snap_copyup.proofs.Missing.{missing_from}
 use Rattle.snap_copyup.proofs.Alone.{some_dir}
 use Rattle.snap_copyup.proofs.Growing.{missing_more, missing_end}
 use Rattle.snap_copyup.proofs.Steps.{present}

@@ -1,6 +1,6 @@
 -- What is put at a path, once the directories above it stand.
 -- Cited by `copy_up`, `ensure_dirs`, `put` and others.
-use Rattle.std.specs.Prelude.{◌≡◌, ◌⊎◌, ℕ, ◌+◌, ◌<◌, ◌≤◌, true, false, List, [], ◌∷◌, ◌++◌, length, take, Option, Some, None, is_some, if◌then◌else◌}
+use Rattle.std.specs.Prelude.{◌≡◌, ◌⊎◌, ℕ, ◌+◌, ◌<◌, ◌≤◌, true, false, List, [], ◌∷◌, ◌++◌, length, take, Option, Some, None, is_some}
 use Rattle.snap_path.specs.Memory.{no_memory}
 use Rattle.snap_path.specs.Text.{Names}
 use Rattle.snap_layer.specs.declared.node.Node.{Node}
@@ -44,11 +44,6 @@ IsRefusal t e = (e ≡ OutOfMemory no_memory) ⊎ ((e ≡ LayerFull) × (is_with
 -- the second layer takes so many inodes more than the first, and as many blocks
 abbrev pub TakesMore : ℕ → Tree → Tree → Type 0
 TakesMore n u t = (inode_count t ≡ inode_count u + n) × (block_count t ≡ block_count u + n)
-
--- of the directories at the front and at the longer proper prefixes of front ++ rest so many are missing in the layer
-abbrev pub missing_from : Tree → Names → Names → ℕ
-missing_from t front [] = 0
-missing_from t front (n ∷ rest) = (if is_some (at t front) then 0 else 1) + missing_from t (front ++ n ∷ []) rest
 
 -- the layer has a node at the first n paths above the path, from the root on, and at no other one above it
 pub record StandsAbove (t : Tree) (p : Names) (n : ℕ) : Type 0 where

@@ -1,6 +1,6 @@
 -- The bytes of a file after an edit.
 -- Cited by `Edit::size`, `Edit::content`, `Layer::edit_bytes` and others.
-use Rattle.std.specs.Prelude.{ℕ, ◌+◌, ◌-◌, ◌≤◌, List, [], ◌∷◌, ◌++◌, length, take, drop, replicate, Option, Some}
+use Rattle.std.specs.Prelude.{ℕ, ◌+◌, ◌-◌, ◌<◌, ◌≤◌, List, [], ◌∷◌, ◌++◌, length, take, drop, replicate, Option, Some}
 use Rattle.snap_layer.specs.declared.node.Body.{Body}
 use Rattle.snap_layer.specs.declared.node.Body.TheVariants as body_kinds
 use Rattle.snap_layer.specs.declared.bytes.Edit.{Edit}
@@ -20,6 +20,10 @@ abbrev pub edited : Edit → List ℕ → List ℕ
 edited Keep old = old
 edited (Write offset bytes) old = written old offset bytes.now
 edited (Resize size) old = resized old size
+
+-- the file is longer after the edit: only then it takes memory
+abbrev pub Grows : Edit → List ℕ → Type 0
+Grows e old = length old < length (edited e old)
 
 -- the edit makes no file of too many bytes
 abbrev pub IsShort : Edit → Type 0

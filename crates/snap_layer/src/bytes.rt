@@ -1,5 +1,5 @@
 // The bytes of a file, and how they change in place.
-ghost use Rattle.std.specs.Prelude.{◌≡◌, ◌+◌, ◌≤◌, ℕ, List, IfOk, OnOk, OnErr, length, take, drop, ◌++◌};
+ghost use Rattle.std.specs.Prelude.{◌≡◌, ◌+◌, ◌<◌, ◌≤◌, ℕ, List, IfOk, OnOk, OnErr, length, take, drop, ◌++◌};
 ghost use Rattle.snap_layer.specs.Contents.{edited, resized, written, IsShort};
 
 use super::node::Bytes;
@@ -60,17 +60,23 @@ impl<'a> Edit<'a> {
     }
 }
 
-/// Puts the bytes at the offset, over a gap of zero bytes. Nothing changes before all memory is there.
+/// Puts the bytes at the offset, over a gap of zero bytes. Only a growth takes memory, and nothing changes before it is
+/// there.
 pub(crate) fn put_at(items: &mut Vec<u8>, offset: usize, bytes: &[u8]) -> Result<(), AllocError>
     requires { offset + length bytes.now ≤ 1048576 }
     ensures ok { OnOk result (items.new.items ≡ written items.old.items offset bytes.now) }
+    ensures grows { OnErr result (length items.old.items < length (written items.old.items offset bytes.now)) }
     ensures err { OnErr result (items.new.items ≡ items.old.items) }
 {
     if bytes.is_empty() {
         return Ok(());
     }
     let end = offset + bytes.len();
-    items.resize(end.max(items.len()), 0)?;
+    if end <= items.len() {
+        overwrite(items, offset, bytes);
+        return Ok(());
+    }
+    items.resize(end, 0)?;
     overwrite(items, offset, bytes);
     Ok(())
 }
@@ -87,9 +93,10 @@ fn overwrite(items: &mut [u8], offset: usize, bytes: &[u8])
 /// Cuts to so many, and gives the memory of the others back, or fills up with zero bytes. A cut doesn't fail.
 pub(crate) fn resize(items: &mut Vec<u8>, size: usize) -> Result<(), AllocError>
     ensures ok { OnOk result (items.new.items ≡ resized items.old.items size) }
+    ensures grows { OnErr result (length items.old.items < length (resized items.old.items size)) }
     ensures err { OnErr result (items.new.items ≡ items.old.items) }
 {
-    if size < items.len() {
+    if size <= items.len() {
         items.truncate(size);
         items.shrink_to_fit();
         return Ok(());

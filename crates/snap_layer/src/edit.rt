@@ -1,4 +1,4 @@
-ghost use Rattle.std.specs.Prelude.{◌≡◌, ℕ, List, Some, None, IfOk, OnOk, OnErr, cond, ◌<◌, ◌+◌, ◌^◌, IsSome, ◌↔◌, IsTrue, option_and_then, find, nat_lt};
+ghost use Rattle.std.specs.Prelude.{◌≡◌, ℕ, List, Some, None, IfOk, OnOk, OnErr, cond, ◌<◌, ◌+◌, ◌^◌, IsSome, option_and_then, find, nat_lt};
 ghost use Rattle.std.specs.Option.{option_copied};
 ghost use Rattle.std.specs.Ordering.{nat_cmp};
 ghost use Rattle.std.specs.Cmp.Lexicographic.{slice_cmp};
@@ -6,11 +6,11 @@ ghost use Rattle.std.specs.Map.{lookup, keys_of};
 ghost use Rattle.std.specs.BTreeMap.{is_at, insert_entry, IsOrdered};
 ghost use Rattle.slab.specs.Slab.{slab_len, HasRoomFor};
 ghost use Rattle.snap_layer.specs.Tree.{IsDirAt, number_of, leaf_node};
-ghost use Rattle.snap_layer.specs.Walk.{entry_of, entry_at, node_of, body_of, count_of, node_at, body_at, count_at, seen, view_of, Links, Same, Adds, Shifted, Frees, Releases, Drops, Covers, Clears, Enters, Renames, Relocates, Lowers, Raises, Gains, Renodes, Rebodies};
+ghost use Rattle.snap_layer.specs.Walk.{entry_of, entry_at, node_of, body_of, count_of, node_at, body_at, count_at, seen, view_of, Links, Same, Adds, Shifted, Frees, Releases, Drops, Covers, Clears, Enters, Renames, Relocates, Lowers, Raises, Renodes, Rebodies};
 ghost use Rattle.snap_layer.specs.Holds.{place};
 ghost use Rattle.snap_layer.specs.Edits.{body_with_mode};
 ghost use Rattle.snap_layer.specs.Counts.{body_blocks};
-ghost use Rattle.snap_layer.specs.Contents.{body_edited, IsShort};
+ghost use Rattle.snap_layer.specs.Contents.{body_bytes, body_edited, Grows, IsShort};
 ghost use Rattle.snap_layer.specs.declared.node.Node.{Node as ANode};
 ghost use Rattle.snap_layer.specs.declared.node.Body.{Body as BodyValue};
 
@@ -383,6 +383,7 @@ pub(crate) fn edit_body(
     requires leaf { IsSome (body_at slots.old key) }
     ensures ok { (b : BodyValue) → body_at slots.old key ≡ Some b → OnOk result (Rebodies (view_of slots.old) (view_of slots.new) key (body_edited b edit.entry)) }
     ensures blocks { (b : BodyValue) → body_at slots.old key ≡ Some b → IfOk result (λ n. n ≡ (body_blocks b, body_blocks (body_edited b edit.entry))) }
+    ensures grows { (b : BodyValue) → body_at slots.old key ≡ Some b → OnErr result (Grows edit.entry (body_bytes (Some b))) }
     ensures err { OnErr result (Same (view_of slots.old) (view_of slots.new)) }
 {
     let Some(inode) = slots.get_mut(key) else {

@@ -1,13 +1,13 @@
 // The edits of a layer.
-ghost use Rattle.std.specs.Prelude.{◌≡◌, ◌↔◌, ◌<◌, ◌≤◌, ◌+◌, ◌-◌, ℕ, List, Some, None, is_none, if◌then◌else◌, IfOk, IfSome, IfNone, OnOk, OnErr, IsErrOf, IsSome, length, true, false};
+ghost use Rattle.std.specs.Prelude.{◌≡◌, ◌↔◌, ◌<◌, ◌≤◌, ◌+◌, ◌-◌, ℕ, List, Some, None, is_none, if◌then◌else◌, IfOk, OnOk, OnErr, IsErrOf, IsSome, length, true, false};
 ghost use Rattle.snap_path.specs.Memory.{no_memory};
 ghost use Rattle.snap_path.specs.Text.{IsPath};
 ghost use Rattle.snap_layer.specs.Tree.{at, body, number_at, IsDirAt, leaf_node};
-ghost use Rattle.snap_layer.specs.Counts.{inode_count, block_count, body_blocks, is_within};
-ghost use Rattle.snap_layer.specs.Contents.{body_bytes, edited, IsShort};
+ghost use Rattle.snap_layer.specs.Counts.{body_blocks, is_within};
+ghost use Rattle.snap_layer.specs.Contents.{body_bytes, edited, Grows, IsShort};
 ghost use Rattle.snap_layer.specs.Totals.{path_count, fits, IsRoom};
-ghost use Rattle.snap_layer.specs.Layers.{IsLayer, IsFile, IsBody, is_target};
-ghost use Rattle.snap_layer.specs.Edits.{with_body, with_entry, with_node, with_new, with_name, name_of, with_bytes, with_mode, with_file_mode, with_opaque, with_moved, with_linked, without, HasRoom, HasRooms, HasPlace, IsTakeable, IsMovable, IsRegular, HasMode};
+ghost use Rattle.snap_layer.specs.Layers.{IsLayer, IsBody, is_target};
+ghost use Rattle.snap_layer.specs.Edits.{with_body, with_entry, with_node, with_new, with_name, name_of, with_bytes, with_mode, with_opaque, with_moved, with_linked, without, HasRoom, HasRooms, HasPlace, IsTakeable, IsMovable, IsRegular, HasMode};
 
 use super::bytes::Edit;
 use super::error::LayerError;
@@ -213,11 +213,13 @@ impl Layer {
     /// the most, or that the file is to have at most so many. It fails only where memory for more bytes is refused,
     /// and the layer is then as it was: a write within the file's size takes none, and a cut gives some back. Cost:
     /// the logarithm of the number of files, and the bytes that are written; where the file grows, in one growth
-    /// of several also its bytes.
+    /// of several also its bytes; where it is cut, those that are left.
     pub fn edit_bytes(&mut self, number: u32, edit: Edit<'_>) -> Result<(), AllocError>
         requires file { IsRegular (body self.old number) }
         requires short { IsShort edit }
         ensures ok { OnOk result (self.new ≡ with_bytes self.old number (body self.old number) (edited edit.entry (body_bytes (body self.old number)))) }
+        // Only a growth takes memory.
+        ensures grows { OnErr result (Grows edit.entry (body_bytes (body self.old number))) }
         ensures err { OnErr result (self.new ≡ self.old) }
     {
         let _ = &self.is_layer;

@@ -1,6 +1,6 @@
 ghost use Rattle.std.specs.Prelude.{◌≡◌, List, ℕ, IfOk, OnOk, OnErr, length};
 ghost use Rattle.snap_layer.specs.Counts.{blocks_of, body_blocks};
-ghost use Rattle.snap_layer.specs.Contents.{edited, body_edited, IsShort};
+ghost use Rattle.snap_layer.specs.Contents.{edited, body_bytes, body_edited, Grows, IsShort};
 
 use super::bytes::{Edit, put_at, resize};
 use snap_path::limits::BLOCK_BYTES;
@@ -62,6 +62,7 @@ impl Bytes {
     pub(crate) fn edit(&mut self, edit: Edit<'_>) -> Result<(), AllocError>
         requires { IsShort edit }
         ensures ok { OnOk result (self.new ≡ edited edit.entry self.old) }
+        ensures grows { OnErr result (Grows edit.entry self.old) }
         ensures err { OnErr result (self.new ≡ self.old) }
     {
         match edit {
@@ -230,6 +231,7 @@ impl Body {
         requires { IsShort edit }
         ensures ok { OnOk result (self.new ≡ body_edited self.old edit.entry) }
         ensures blocks { IfOk result (λ b. b ≡ (body_blocks self.old, body_blocks (body_edited self.old edit.entry))) }
+        ensures grows { OnErr result (Grows edit.entry (body_bytes (Some self.old))) }
         ensures err { OnErr result (self.new ≡ self.old) }
     {
         match self {

@@ -1,10 +1,10 @@
 // A layer as a table of inodes.
-ghost use Rattle.std.specs.Prelude.{[], ◌≡◌, ◌<◌, ◌≤◌, ◌+◌, ◌-◌, ◌^◌, ℕ, Option, Some, None, OnOk, OnErr, IfOk, IsSome, length, take, find, nat_lt, option_and_then};
+ghost use Rattle.std.specs.Prelude.{[], ◌≡◌, ◌<◌, ◌≤◌, ◌+◌, ◌-◌, ◌^◌, Option, Some, None, OnOk, OnErr, IfOk, IsSome, length, take, find, nat_lt};
 ghost use Rattle.std.specs.Option.{option_copied};
 ghost use Rattle.std.specs.Map.{keys_of};
-ghost use Rattle.snap_layer.specs.Tree.{Tree, at, body, number_of, number_at, IsDirAt, leaf_node};
+ghost use Rattle.snap_layer.specs.Tree.{Tree, at, body, number_at, IsDirAt, leaf_node};
 ghost use Rattle.snap_layer.specs.Counts.{name_count, body_blocks};
-ghost use Rattle.snap_layer.specs.Contents.{body_edited, IsShort};
+ghost use Rattle.snap_layer.specs.Contents.{body_bytes, body_edited, Grows, IsShort};
 ghost use Rattle.snap_layer.specs.Layers.{IsLayer, IsFile};
 ghost use Rattle.snap_layer.specs.Edits.{root_only, with_body, with_entry, with_node, with_new, without, with_moved, with_file_mode, with_linked, HasPlace, HasRooms, IsTakeable, IsFree, HasParent, IsMovable};
 ghost use Rattle.snap_layer.specs.declared.node.Body.{Body as BodyValue};
@@ -22,7 +22,7 @@ use super::edit::{
     body_at, copied, cover, edit_body, links_at, next_place, place_of, put_inode, put_leaf,
     relocate, replace_name, set_body, set_dir, set_mode, take_target,
 };
-use super::inode::{Inode, Target};
+use super::inode::Inode;
 use super::node::{Body, Node};
 use super::walk::{dir_at, entry_at, parent_at, stands};
 use slab::Slab;
@@ -249,7 +249,7 @@ impl Table {
         self.next -= 1;
     }
 
-    /// Puts a whiteout in place of what stands at the path. A file or symlink goes with its last name.
+    /// Puts a whiteout in place of what stands at the path, if anything does. A file or symlink goes with its last name.
     pub fn whiteout(&mut self, path: &Path) -> Result<(), AllocError>
         requires place { HasPlace self.old path.now }
         requires layer { IsLayer (with_node self.old path.now Node.Whiteout) }
@@ -331,6 +331,7 @@ impl Table {
         requires short { IsShort edit }
         ensures ok { (b : BodyValue) → body self.old number ≡ Some b → OnOk result (self.new ≡ with_body self.old number (body_edited b edit.entry)) }
         ensures blocks { (b : BodyValue) → body self.old number ≡ Some b → IfOk result (λ n. n ≡ (body_blocks b, body_blocks (body_edited b edit.entry))) }
+        ensures grows { OnErr result (Grows edit.entry (body_bytes (body self.old number))) }
         ensures err { OnErr result (self.new ≡ self.old) }
     {
         let _ = &self.slots;

@@ -22,6 +22,6 @@ number_of space name (e ∷ es) = cond (is_lease space name e.1) (Some e.0) (num
 abbrev pub AreNumbers : {Z : Type 0} → List (ℕ × Lease) → LeaseIndex Z → Type 0
 AreNumbers es index = (space name : List ℕ) → number_in space name index ≡ number_of space name es
 
--- the leases that pass the test have no number any more
+-- the leases that pass the test have no number afterwards, and all others have theirs
 abbrev pub AreUnnumbered : {Z : Type 0} → (Lease → Bool) → List Lease → LeaseIndex Z → LeaseIndex Z → Type 0
 AreUnnumbered test ls before after = (space name : List ℕ) → number_in space name after ≡ cond (list_any (λ l. test l && is_lease space name l) ls) None (number_in space name before)

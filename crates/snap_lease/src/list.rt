@@ -77,9 +77,9 @@ impl Leases {
     /// Makes a lease that names nothing, with a last moment or none, as containerd's `leases.Manager.Create` does.
     ///
     /// `LeaseExists` where the namespace has a lease of this name, live or ended. `OutOfMemory` where memory is refused, which
-    /// it takes for two copies of both texts, for a place in the list and for one in its index, and where no number is left
-    /// above the last lease's. After either the leases are as they were. Its cost grows with the logarithm of the number of
-    /// leases.
+    /// it takes for two copies of the name and one of the namespace's, one more for its first lease, and for the places of
+    /// the lease and of its number; and where no number is left above the last lease's. After either the leases are as they
+    /// were. Its cost grows with the logarithm of the number of leases.
     pub fn create(
         &mut self,
         namespace: &str,
@@ -128,10 +128,10 @@ impl Leases {
         let Some(number) = self.numbers.get(namespace, lease) else {
             return Err(LeaseError::NoLease);
         };
-        // With the length read, the proof knows that a count has room. Each number is one of a lease in the list.
+        // With the length read, the proof knows that a count has room.
         let _ = self.list.len();
         let Some(entry) = self.list.get_mut(&number) else {
-            return Err(LeaseError::NoLease);
+            unreachable!()
         };
         entry.add(self.alloc, name, &mut self.counts)?;
         Ok(())
@@ -240,8 +240,8 @@ impl Leases {
 
     /// Takes away the namespace's leases that have ended at the moment, with their names.
     ///
-    /// Takes no memory. Its cost grows with the number of leases, for each lease that goes with its logarithm, and for each name
-    /// of such a lease with the logarithm of the number of names that the namespace's leases have.
+    /// Takes no memory. Its cost grows with the number of leases, for each lease that goes with the logarithm of that number, and
+    /// for each name of such a lease with the logarithm of the number of names that the namespace's leases have.
     pub fn drop_ended(&mut self, namespace: &str, now: u64)
         ensures leases { self.new ≡ without_ended self.old namespace.now now }
         ensures counts { CountsLive self.old self.new namespace.now now }

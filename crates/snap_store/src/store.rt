@@ -327,8 +327,8 @@ impl<N: RoundName> Store<N> {
     /// inodes.
     ///
     /// It has no refusal and takes no memory: its entry was kept when it was prepared, and the tape has room
-    /// for one entry, which [`Session::reserve`] makes and [`Session::spare`] tests. The layer is let go before the lock
-    /// is taken.
+    /// for one entry, which [`Session::reserve`] makes and [`Session::spare`] tests. The layer is let go before the
+    /// lock is taken.
     pub fn discard<R: Wait>(&self, rt: &R, session: &mut Session, held: Held<N>) -> Usage
         requires { 0 < session.old.spare }
         ensures granted { Taped session.old session.new (calls.Discard (share_of held).slot (share_of held).id) Nothing (replies.Discarded result) }

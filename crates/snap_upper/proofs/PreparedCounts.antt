@@ -19,7 +19,8 @@ use Rattle.snap_merge.specs.Walk.{walk}
 use Rattle.snap_merge.proofs.Views.{walk_same}
 use Rattle.snap_copyup.specs.declared.parents.Last.{Last}
 use Rattle.snap_copyup.specs.Copying.{with_object, with_parents, copied_up}
-use Rattle.snap_copyup.specs.Places.{TakesMore, last_of, with_last, missing_from}
+use Rattle.snap_copyup.specs.Places.{TakesMore, last_of, with_last}
+use Rattle.snap_copyup.proofs.Missing.{missing_from}
 use Rattle.snap_copyup.proofs.Alone.{below_seen, copied_missing}
 use Rattle.snap_copyup.proofs.Copies.{copied_view, same_object}
 use Rattle.snap_copyup.proofs.Growing.{Grows, grows_from, missing_same, takes_missing}

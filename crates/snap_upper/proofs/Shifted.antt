@@ -31,7 +31,8 @@ use Rattle.snap_merge.specs.declared.error.FsError.TheVariants.{IsDir, OutOfMemo
 use Rattle.snap_merge.specs.Errors.{OfLayer}
 use Rattle.snap_merge.specs.Objects.{Object, dir, file, symlink, seen, is_shown_dir, AreLayers}
 use Rattle.snap_copyup.specs.Copying.{below, copied_up, with_parents}
-use Rattle.snap_copyup.specs.Places.{IsRefusal, missing_from}
+use Rattle.snap_copyup.specs.Places.{IsRefusal}
+use Rattle.snap_copyup.proofs.Missing.{missing_from}
 use Rattle.snap_copyup.proofs.Alone.{below_seen, dir_seen}
 use Rattle.snap_copyup.proofs.ParentDirs.{AddsParents}
 use Rattle.snap_copyup.proofs.Growing.{Grows, grows_from}

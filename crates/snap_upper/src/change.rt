@@ -1,7 +1,6 @@
 // What an operation does to the layer, once its tests have passed.
-ghost use Rattle.std.specs.Prelude.{◌≡◌, ◌≤◌, ℕ, Bool, List, IfOk, length, ◌+◌};
+ghost use Rattle.std.specs.Prelude.{◌≡◌, ◌≤◌, Bool, IfOk};
 ghost use Rattle.snap_layer.specs.Tree.{number_at};
-ghost use Rattle.snap_layer.specs.Contents.{written, resized, edited, IsShort};
 ghost use Rattle.snap_upper.specs.Adding.{Takes};
 ghost use Rattle.snap_upper.specs.Changes.{as_last, is_numbered, IsSound};
 ghost use Rattle.snap_upper.specs.After.{is_whiteout_at};

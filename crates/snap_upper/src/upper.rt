@@ -1,5 +1,5 @@
 // The upper layer, on which an operation is done.
-ghost use Rattle.std.specs.Prelude.{◌≡◌, ◌⊎◌, ◌∷◌, OnOk, OnErr, IfErr, Ok, Err, false, ◌≤◌, ℕ, List, IfOk, Some, None, length, [], ◌++◌, is_some, true};
+ghost use Rattle.std.specs.Prelude.{◌≡◌, ◌⊎◌, ◌∷◌, OnOk, OnErr, IfErr, Ok, Err, false, ℕ, List, Some, None, [], ◌++◌, is_some, true};
 ghost use Rattle.snap_path.specs.Memory.{no_memory};
 ghost use Rattle.snap_layer.specs.Tree.{body};
 ghost use Rattle.snap_layer.specs.declared.node.Body.TheVariants as body_kinds;
@@ -51,10 +51,11 @@ use snap_usage::Usage;
 ///   4,294,967,294.
 /// - `OutOfMemory`: a growth was refused, which may be found before `LayerFull` is.
 ///
-/// After any of them the layer is as it was. Cost: for each name of the path a look through the layers, for each
-/// directory that is missing in the upper layer a walk to it, the bytes that are written, and those of a file that
-/// grows or is copied up; for a rename to a longer path also the paths that move, and for a directory that is removed or replaced the list of its names. A link or a rename also lists
-/// the paths of the directories that it adds.
+/// After any of them the layer is as it was. Cost: a few looks through the layers at each path; for each directory
+/// that is missing in the upper layer one more at that directory, and its path's text; the bytes that are written,
+/// and those of a file that grows, is cut or is copied up; for a rename to a longer path also the paths that move,
+/// and for a directory that is removed or replaced the list of its names. A link or a rename also lists the paths
+/// of the directories that it adds.
 pub fn apply(layer: &mut Layer, lowers: &[Shared], op: &Op) -> Result<(), FsError>
     ensures ok { OnOk result (after op.now layer.old lowers.now ≡ Ok layer.new) }
     ensures error { IfErr result (λ e. (e ≡ FsError.OutOfMemory no_memory) ⊎ (after op.now layer.old lowers.now ≡ Err e)) }

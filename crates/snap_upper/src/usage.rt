@@ -36,8 +36,7 @@ pub struct Planned {
 /// How much the layer would take after the operation over the lower layers, which stand nearest first.
 ///
 /// The errors are those of `apply`, in the same order. It changes nothing, and the next layer isn't built.
-/// Cost: for each name of a path a look through the layers, and for each directory that is missing in the upper
-/// layer a walk to it.
+/// Cost: that of a few looks through the layers at each path, whatever is missing above it.
 ///
 /// It takes no memory but for the names of a directory that is seen at the path of an `Rmdir`, or where a
 /// `Rename` goes to. These plans may answer `OutOfMemory`, where no test before the list fails, and their

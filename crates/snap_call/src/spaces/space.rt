@@ -129,8 +129,8 @@ impl Space {
     }
 
     /// The infos of the records whose keys come after the text and that have every part of the
-    /// filter: the first so many of them. It begins by a search for the text.
-    /// The memory is that of the infos and, where keys begin alike, of a copy of the text at a time.
+    /// filter: the first so many of them. It begins by a search for the text. The memory is that of the
+    /// infos and, where keys begin alike, of a copy of the text at a time.
     pub(crate) fn page(
         &self,
         alloc: Global,

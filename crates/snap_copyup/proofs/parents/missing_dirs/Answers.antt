@@ -1,6 +1,7 @@
 use Rattle.std.proofs.Common.{◌≡◌, ℕ, ◌-◌, [], length, ap, subst, arith}
 use Rattle.snap_copyup.specs.Copying.{with_parents}
-use Rattle.snap_copyup.specs.Places.{TakesMore, missing_from}
+use Rattle.snap_copyup.specs.Places.{TakesMore}
+use Rattle.snap_copyup.proofs.Missing.{missing_from}
 use Rattle.snap_copyup.proofs.Growing.{takes_missing}
 use Rattle.snap_copyup.proofs.Standing.{missing_left}
 use Rattle.snap_layer.specs.Layers.{IsLayer}

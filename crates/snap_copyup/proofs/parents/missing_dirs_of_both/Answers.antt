@@ -1,6 +1,7 @@
 use Rattle.std.proofs.Common.{◌≡◌, [], ◌+◌, ℕ, length, take, drop, sym, ap, subst, ◌∙◌, arith}
 use Rattle.snap_copyup.specs.Copying.{with_parents}
-use Rattle.snap_copyup.specs.Places.{TakesMore, missing_from}
+use Rattle.snap_copyup.specs.Places.{TakesMore}
+use Rattle.snap_copyup.proofs.Missing.{missing_from}
 use Rattle.snap_copyup.proofs.Growing.{few_names, takes_missing}
 use Rattle.snap_copyup.proofs.Standing.{missing_left}
 use Rattle.snap_copyup.proofs.Both.{takes_both}

@@ -1,6 +1,6 @@
 use Rattle.std.proofs.Common.{◌≡◌, Some, sym, ap, ◌∙◌}
 use Rattle.std.proofs.lemmas.Result.{on_ok_weaker}
-use Rattle.snap_record.specs.Labels.{value_of, with_label}
+use Rattle.snap_record.specs.Labels.{value_of}
 use Rattle.snap_record.specs.Updates.{with_named}
 use Rattle.snap_record.proofs.UpdateLemmas.{with_named-set, with_named-remove}
 use Rattle.snap_record.proofs.update.apply_key.Goals as goal

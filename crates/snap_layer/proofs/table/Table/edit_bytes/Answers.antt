@@ -1,12 +1,12 @@
 use Rattle.std.proofs.Common.{◌≡◌, Some, None, sym, ap, ◌∙◌, subst, refl}
-use Rattle.std.specs.Prelude.{is_some}
+use Rattle.std.specs.Prelude.{is_some, OnErr}
 use Rattle.snap_layer.specs.contracts.node.Node as node_contracts
 use Rattle.snap_layer.specs.declared.node.Body.{Body}
 use Rattle.snap_layer.specs.declared.node.Body.TheVariants as node_body
 use Rattle.snap_layer.specs.Tree.{body}
 use Rattle.snap_layer.specs.Layers.{IsLayer, IsFile}
 use Rattle.snap_layer.specs.Edits.{with_body}
-use Rattle.snap_layer.specs.Contents.{body_edited}
+use Rattle.snap_layer.specs.Contents.{body_bytes, body_edited, Grows}
 use Rattle.snap_layer.specs.Walk.{view_of}
 use Rattle.snap_layer.specs.Holds.{place}
 use Rattle.snap_layer.proofs.Slots.{on_ok, on_err}
@@ -75,3 +75,12 @@ returns-clause-err c =
     let m = opens c.self.inside.slots c.self.inside.root c.self.inside.places.entries c.self.inside.next c.args.self.now c.self.inside.tree c.self.invariant c.self.view_is in
     let layer : IsLayer c.args.self.now = subst IsLayer c.self.view_is c.self.invariant.layer in
     on_err c.edit_body.result (λ alike. makes_view c.edit_body.new.slots c.self.inside.root c.self.inside.places.entries c.self.inside.next c.args.self.now (makes_same (view_of c.self.inside.slots) (view_of c.edit_body.new.slots) c.self.inside.root alike c.self.inside.places.entries c.self.inside.places.entries c.self.inside.next c.args.self.now refl m) layer (node_contracts.the_row).coded c.self-1.given.0) c.edit_body.ensures.err
+
+pub returns-clause-grows : goal.returns-clause-grows
+returns-clause-grows c =
+    let m = opens c.self.inside.slots c.self.inside.root c.self.inside.places.entries c.self.inside.next c.args.self.now c.self.inside.tree c.self.invariant c.self.view_is in
+    let found : place c.self.inside.places.entries c.args.number ≡ Some c.in-Some.key = sym c.place_of.ensures ∙ c.in-Some.is in
+    let had = file_body (body c.args.self.now c.args.number) c.requires.file in
+    let b : Body = node_body.File had.0 had.1 in
+    subst (λ o. OnErr c.edit_body.result (Grows c.args.edit (body_bytes o))) (sym had.2)
+    (c.edit_body.ensures.grows b (body_found (view_of c.self.inside.slots) c.self.inside.root c.self.inside.places.entries c.self.inside.next c.args.self.now m c.args.number c.in-Some.key found ∙ had.2))

@@ -21,8 +21,8 @@ returns-in_default-clause-no_lease c =
     has_lease_at_number c.self.inside.list.entries c.args.self.now c.self.inside.numbers.map c.args.namespace.now c.args.lease.now c.get.result c.get.ensures c.self.invariant.3 c.self.view_is ∙ ap is_some c.in_default.is in
     search rules
 
-pub returns-in_default-get_mut-clause-no_lease : goal.returns-in_default-get_mut-clause-no_lease
-returns-in_default-get_mut-clause-no_lease c =
+pub unreachable-requires : goal.unreachable-requires
+unreachable-requires c =
     let found = found_at_number c.self.inside.list.entries c.self.inside.numbers.map c.args.namespace.now c.args.lease.now c.in-Some.number c.self.invariant.4 c.self.invariant.0 c.self.invariant.3 c.in-Some.ensures in
     absurd (true≢false (sym found ∙ ap is_some (sym c.get_mut.ensures.value ∙ ap option_copied_mut c.in_default-get_mut.is)))
 
@@ -38,8 +38,8 @@ same c =
     (c.get_mut.follows.holds c.add.new.self).0 ∙ ap (set_value test c.self.inside.list.entries) c.in_err-add.ensures.err
     ∙ set_value_same test c.self.inside.list.entries c.in-Some-get_mut.entry.now (sym c.in-Some-get_mut.ensures.value)
 
-pub invariant_of-self-in_err-add : goal.invariant_of-self-in_err-add
-invariant_of-self-in_err-add c =
+pub invariant_of-self : goal.invariant_of-self
+invariant_of-self c =
     let e = sym (same c) in (
       subst (λ xs. AreDistinct (values_of xs)) e c.self.invariant.0,
       subst (λ xs. AllByRecursion NamesOnce (values_of xs)) e c.self.invariant.1,
