@@ -10,7 +10,7 @@ use Rattle.snap_lines.specs.Lines.{feeds, lines_of, without_feed}
 use Rattle.snap_lines.specs.Runs.{Breaks}
 use Rattle.snap_lines.specs.declared.stop.Stop.{Stop}
 use Rattle.snap_lines.specs.declared.stop.Stop.TheVariants.{Line, InputFailed, OutputFailed, OutOfMemory}
-use Rattle.snap_lines.specs.Transcripts.{Place, Stops, Tells, Transcript, effect_at, first_lines, goes_on, is_over_limit, place_after, start, transcript, transcript_from}
+use Rattle.snap_lines.specs.Transcripts.{Place, Stops, Tells, Transcript, cut, effect_at, effect_within, max_bytes, first_lines, goes_on, is_over_limit, place_after, start, transcript, transcript_from}
 use Rattle.snap_jobs.specs.Answer.{HasBroken, HasStopped, HasWritten, IsText}
 use Rattle.snap_jobs.specs.Lines.{ReadValue, jobs_effect, taken}
 use Rattle.snap_jobs.specs.Words.{is_of_jobs}
@@ -30,13 +30,17 @@ silent : (read : Option ReadValue) (bytes : List ℕ) → IsSilent (jobs_effect 
 unfolding jobs_effect
 silent read bytes = silent_by (taken read bytes)
 
+silent_within : (left : Option ℕ) (read : Option ReadValue) (line : List ℕ) → IsSilent (effect_within jobs_effect left read line)
+silent_within None read line = silent read (take cut (without_feed line))
+silent_within (Some left) read line = by (is_over_limit left line)
+  where
+    by : (b : Bool) → IsSilent (if b then Err TooLong else jobs_effect read (without_feed line))
+    by true = tt
+    by false = silent read (without_feed line)
+
 silent_at : (p : Place (Option ReadValue)) (line : List ℕ) → IsSilent (effect_at jobs_effect p line)
 unfolding effect_at
-silent_at p line = by (is_over_limit p line)
-  where
-    by : (b : Bool) → IsSilent (if b then Err TooLong else jobs_effect p.value (without_feed line))
-    by true = tt
-    by false = silent p.value (without_feed line)
+silent_at p line = silent_within p.left p.value line
 
 after_line : (p : Place (Option ReadValue)) (line : List ℕ) (r : Result (Effect (Option ReadValue)) Fault) (more : Place (Option ReadValue) → Transcript (Option ReadValue)) → IsSilent r → ((q : Place (Option ReadValue)) → (more q).text ≡ []) → (goes_on p line r more).text ≡ []
 after_line p line (Err c) more quiet none = refl
@@ -47,9 +51,9 @@ pub no_text : (p : Place (Option ReadValue)) (lines : List (List ℕ)) → (tran
 no_text p [] = refl
 no_text p (line ∷ lines) = after_line p line (effect_at jobs_effect p line) (λ q. transcript_from jobs_effect q lines) (silent_at p line) (λ q. no_text q lines)
 
-pub none_written : (read : Option ReadValue) (bytes : List ℕ) → (transcript jobs_effect read bytes).text ≡ []
+pub none_written : (read : Option ReadValue) (bytes : List ℕ) → (transcript (Some max_bytes) jobs_effect read bytes).text ≡ []
 unfolding transcript
-none_written read bytes = no_text (start read) (lines_of bytes)
+none_written read bytes = no_text (start (Some max_bytes) read) (lines_of bytes)
 
 -- nothing was written, and then the text
 appends_after : (a b c : Option (List ℕ)) (text : List ℕ) → Appends a b [] → Appends b c text → Appends a c text
@@ -60,28 +64,28 @@ appends_after (Some x) (Some y) (Some z) text p q = q ∙ ap (λ l. l ++ text) (
 
 -- where all lines were read, and then the text was written
 written_then : (remaining : Option (List ℕ)) (read : Option ReadValue) (before mid after : Option (List ℕ))
-    → IfSome remaining (λ bytes. Tells (transcript jobs_effect None bytes) None before mid) → IfSome remaining (λ bytes. (transcript jobs_effect None bytes).value ≡ read)
-    → HasWritten read mid after → IfSome remaining (λ bytes. HasWritten (transcript jobs_effect None bytes).value before after)
+    → IfSome remaining (λ bytes. Tells (transcript (Some max_bytes) jobs_effect None bytes) None before mid) → IfSome remaining (λ bytes. (transcript (Some max_bytes) jobs_effect None bytes).value ≡ read)
+    → HasWritten read mid after → IfSome remaining (λ bytes. HasWritten (transcript (Some max_bytes) jobs_effect None bytes).value before after)
 written_then None read before mid after tells value wrote = tt
 written_then (Some bytes) read before mid after tells value (text, is, wrote) =
     subst (λ (v : Option ReadValue). HasWritten v before after) (sym value)
     (text, is, appends_after before mid after text (subst (Appends before mid) (none_written None bytes) tells.1) wrote)
 
 pub written : {E : Type 0} (r : Result Unit E) (remaining : Option (List ℕ)) (read : Option ReadValue) (before mid after : Option (List ℕ))
-    → IfSome remaining (λ bytes. Tells (transcript jobs_effect None bytes) None before mid) → IfSome remaining (λ bytes. (transcript jobs_effect None bytes).value ≡ read)
-    → OnOk r (HasWritten read mid after) → OnOk r (IfSome remaining (λ bytes. HasWritten (transcript jobs_effect None bytes).value before after))
+    → IfSome remaining (λ bytes. Tells (transcript (Some max_bytes) jobs_effect None bytes) None before mid) → IfSome remaining (λ bytes. (transcript (Some max_bytes) jobs_effect None bytes).value ≡ read)
+    → OnOk r (HasWritten read mid after) → OnOk r (IfSome remaining (λ bytes. HasWritten (transcript (Some max_bytes) jobs_effect None bytes).value before after))
 written (Ok done) remaining read before mid after tells value wrote = written_then remaining read before mid after tells value wrote
 written (Err e) remaining read before mid after tells value wrote = tt
 
 -- ---- an end otherwise
 
 -- no text is written for the first lines alone
-pub none_of_first : (read : Option ReadValue) (bytes : List ℕ) (n : ℕ) → (first_lines jobs_effect read bytes n).text ≡ []
+pub none_of_first : (read : Option ReadValue) (bytes : List ℕ) (n : ℕ) → (first_lines (Some max_bytes) jobs_effect read bytes n).text ≡ []
 unfolding first_lines
-none_of_first read bytes n = no_text (start read) (take n (lines_of bytes))
+none_of_first read bytes n = no_text (start (Some max_bytes) read) (take n (lines_of bytes))
 
 -- where the lines end otherwise
-stopped_at : (bytes : List ℕ) (left : Option (List ℕ)) (stop : Stop) (before after : Option (List ℕ)) → Stops jobs_effect None bytes left stop before after → HasStopped bytes (Lines stop) before after
+stopped_at : (bytes : List ℕ) (left : Option (List ℕ)) (stop : Stop) (before after : Option (List ℕ)) → Stops (Some max_bytes) jobs_effect None bytes left stop before after → HasStopped bytes (Lines stop) before after
 stopped_at bytes left (Line f) before after h = (h.0, subst (Appends before after) (none_written None bytes) h.1)
 stopped_at bytes left InputFailed before after (read, taken, tells) = subst (Appends before after) (none_of_first None bytes (feeds read)) tells.1
 stopped_at bytes left OutputFailed before after (part, rest, is, told) = inl (subst (Appends before after) (no_front part rest (sym is ∙ none_written None bytes)) told)
@@ -91,12 +95,12 @@ stopped_at bytes left OutputFailed before after (part, rest, is, told) = inl (su
     no_front (x ∷ xs) ys e = absurd (cc)
 stopped_at bytes left (OutOfMemory want) before after (n, tells) = subst (Appends before after) (none_of_first None bytes n) tells.1
 
-pub lines_stopped : (remaining left : Option (List ℕ)) (stop : Stop) (before after : Option (List ℕ)) → IfSome remaining (λ bytes. Stops jobs_effect None bytes left stop before after) → IfSome remaining (λ bytes. HasStopped bytes (Lines stop) before after)
+pub lines_stopped : (remaining left : Option (List ℕ)) (stop : Stop) (before after : Option (List ℕ)) → IfSome remaining (λ bytes. Stops (Some max_bytes) jobs_effect None bytes left stop before after) → IfSome remaining (λ bytes. HasStopped bytes (Lines stop) before after)
 lines_stopped None left stop before after h = tt
 lines_stopped (Some bytes) left stop before after h = stopped_at bytes left stop before after h
 
 -- where what follows the lines ends otherwise
-broken_at : (bytes : List ℕ) (read : Option ReadValue) (stop : JobsStop) (before mid after : Option (List ℕ)) → (transcript jobs_effect None bytes).value ≡ read → Appends before mid [] → HasBroken read stop mid after → HasStopped bytes stop before after
+broken_at : (bytes : List ℕ) (read : Option ReadValue) (stop : JobsStop) (before mid after : Option (List ℕ)) → (transcript (Some max_bytes) jobs_effect None bytes).value ≡ read → Appends before mid [] → HasBroken read stop mid after → HasStopped bytes stop before after
 broken_at bytes read (Lines (Line f)) before mid after value none broke = absurd (cc)
 broken_at bytes read (Lines InputFailed) before mid after value none broke = absurd (cc)
 broken_at bytes read (Lines OutputFailed) before mid after value none (text, n, is, wrote) = inr (text, n, subst (λ (v : Option ReadValue). IsText v text) (sym value) is, appends_after before mid after (take n text) none wrote)
@@ -104,7 +108,7 @@ broken_at bytes read (Lines (OutOfMemory want)) before mid after value none brok
 broken_at bytes read NotClosed before mid after value none broke = subst (λ (o : Option (List ℕ)). Appends before o []) (sym broke.1) none
 
 pub broken : (r : Result Unit JobsStop) (remaining : Option (List ℕ)) (read : Option ReadValue) (before mid after : Option (List ℕ))
-    → IfSome remaining (λ bytes. Tells (transcript jobs_effect None bytes) None before mid) → IfSome remaining (λ bytes. (transcript jobs_effect None bytes).value ≡ read)
+    → IfSome remaining (λ bytes. Tells (transcript (Some max_bytes) jobs_effect None bytes) None before mid) → IfSome remaining (λ bytes. (transcript (Some max_bytes) jobs_effect None bytes).value ≡ read)
     → IfErr r (λ stop. HasBroken read stop mid after) → IfErr r (λ stop. IfSome remaining (λ bytes. HasStopped bytes stop before after))
 broken (Ok done) remaining read before mid after tells value broke = tt
 broken (Err stop) None read before mid after tells value broke = tt

@@ -18,11 +18,10 @@ use Rattle.snap_writers.specs.declared.job.Ended.{Ended}
 use Rattle.snap_writers.specs.declared.job.Ended.TheVariants.{Committed, Discarded}
 use Rattle.snap_writers.specs.declared.job.Job.{Job}
 use Rattle.snap_writers.specs.Jobs.{IsReport}
-use Rattle.snap_lines.specs.Transcripts.{transcript}
 use Rattle.snap_lines.specs.declared.stop.Stop.TheVariants.{Line, OutputFailed}
 use Rattle.snap_jobs.specs.declared.stop.JobsStop.{JobsStop}
 use Rattle.snap_jobs.specs.declared.stop.JobsStop.TheVariants.{Lines}
-use Rattle.snap_jobs.specs.Lines.{ReadValue, jobs_effect}
+use Rattle.snap_jobs.specs.Lines.{ReadValue, jobs_transcript}
 use Rattle.snap_jobs.specs.Words.{is_of_jobs}
 
 -- a job that was committed
@@ -74,6 +73,6 @@ HasBroken read stop before after = (is_of_jobs stop ≡ true) × (after ≡ befo
 
 -- where it ends otherwise over these bytes: a line's fault is the one that the lines have; nothing is written, but where a write failed a first part of the text may be
 abbrev pub HasStopped : List ℕ → JobsStop → Option (List ℕ) → Option (List ℕ) → Type 0
-HasStopped bytes (Lines (Line f)) before after = ((transcript jobs_effect None bytes).fault ≡ Some f) × Appends before after []
-HasStopped bytes (Lines OutputFailed) before after = Appends before after [] ⊎ ((text : List ℕ) × (n : ℕ) × IsText (transcript jobs_effect None bytes).value text × Appends before after (take n text))
+HasStopped bytes (Lines (Line f)) before after = ((jobs_transcript bytes).fault ≡ Some f) × Appends before after []
+HasStopped bytes (Lines OutputFailed) before after = Appends before after [] ⊎ ((text : List ℕ) × (n : ℕ) × IsText (jobs_transcript bytes).value text × Appends before after (take n text))
 HasStopped bytes stop before after = Appends before after []

@@ -13,6 +13,7 @@ use Rattle.snap_script.specs.Lines.{is_empty, object_in, opening_of}
 use Rattle.snap_script.specs.Results.{◌>>=◌}
 use Rattle.snap_writers.specs.declared.job.Job.{Job}
 use Rattle.snap_lines.specs.Effects.{Effects}
+use Rattle.snap_lines.specs.Transcripts.{Transcript, max_bytes, transcript}
 use Rattle.snap_jobs.specs.Jobs.{job_of}
 
 -- what was read once a store is open: its round, the names of its namespaces, and the jobs, in order
@@ -45,3 +46,7 @@ taken read bytes = if is_empty bytes then Ok read else there (read_with read byt
 -- what a line does: nothing is written for it
 unfoldable pub jobs_effect : Effects (Option ReadValue)
 jobs_effect read bytes = do Ok (record { value = (← taken read bytes); text = [] })
+
+-- the transcript of a script of jobs; its lines have at most 1 GiB
+abbrev pub jobs_transcript : List ℕ → Transcript (Option ReadValue)
+jobs_transcript = transcript (Some max_bytes) jobs_effect None

@@ -1,16 +1,15 @@
 ghost use Rattle.std.specs.Prelude.{◌≡◌, ◌≤◌, None, OnOk, IfOk, IfErr, IfSome, true, string_bytes};
 ghost use Rattle.std.specs.Io.KnownBytes.{Appends};
-ghost use Rattle.snap_lines.specs.Transcripts.{transcript};
 ghost use Rattle.snap_lines.specs.Runs.{Breaks};
 ghost use Rattle.snap_writers.specs.Jobs.{IsReport};
 ghost use Rattle.snap_jobs.specs.Answer.{HasBroken, HasStopped, HasWritten, IsLineOf};
-ghost use Rattle.snap_jobs.specs.Lines.{jobs_effect};
+ghost use Rattle.snap_jobs.specs.Lines.{jobs_transcript};
 ghost use Rattle.snap_jobs.specs.Words.{is_of_jobs};
 
 use crate::answer::answer_of;
 use crate::reading::{JobLines, Read};
 use crate::stop::JobsStop;
-use snap_lines::{Stop, read_lines, write_bytes};
+use snap_lines::{MAX_BYTES, Stop, read_lines, write_bytes};
 use snap_script::Shortage;
 use snap_store::{Cause, NewStore, NotClosed, RoundName, Store};
 use snap_writers::{Gate, Job, Report, RunFault, run_jobs};
@@ -133,14 +132,21 @@ fn run<N: RoundName + Send + Sync, T: Threads + Wait + Sync, R: Input, W: Write>
 ) -> Result<(), JobsStop>
     requires names { new ≡ (N.table, N.rounds) }
     requires workers { (1 ≤ workers) × (workers ≤ 16) }
-    ensures done { OnOk result (IfSome (R.remaining input.old) (λ bytes. (transcript jobs_effect None bytes).fault ≡ None)) }
-    ensures written { OnOk result (IfSome (R.remaining input.old) (λ bytes. HasWritten (transcript jobs_effect None bytes).value
+    ensures done { OnOk result (IfSome (R.remaining input.old) (λ bytes. (jobs_transcript bytes).fault ≡ None)) }
+    ensures written { OnOk result (IfSome (R.remaining input.old) (λ bytes. HasWritten (jobs_transcript bytes).value
         (W.contents output.old) (W.contents output.new))) }
     ensures stopped { IfErr result (λ stop. IfSome (R.remaining input.old) (λ bytes. HasStopped bytes stop
         (W.contents output.old) (W.contents output.new))) }
 {
     let mut lines: JobLines<N> = JobLines::new(new);
-    match read_lines(alloc, &mut lines, input, output, reads) {
+    match read_lines(
+        alloc,
+        &mut lines,
+        input,
+        output,
+        Some(MAX_BYTES),
+        u64::from(reads),
+    ) {
         Ok(()) => run_read(rt, alloc, lines.into_read(), output, workers),
         Err(stop) => Err(JobsStop::Lines(stop)),
     }
@@ -173,8 +179,8 @@ pub fn write_jobs_within<T: Threads + Wait + Sync, R: Input, W: Write>(
     reads: u32,
 ) -> Result<(), JobsStop>
     requires { (1 ≤ workers) × (workers ≤ 16) }
-    ensures done { OnOk result (IfSome (R.remaining input.old) (λ bytes. (transcript jobs_effect None bytes).fault ≡ None)) }
-    ensures written { OnOk result (IfSome (R.remaining input.old) (λ bytes. HasWritten (transcript jobs_effect None bytes).value
+    ensures done { OnOk result (IfSome (R.remaining input.old) (λ bytes. (jobs_transcript bytes).fault ≡ None)) }
+    ensures written { OnOk result (IfSome (R.remaining input.old) (λ bytes. HasWritten (jobs_transcript bytes).value
         (W.contents output.old) (W.contents output.new))) }
     ensures stopped { IfErr result (λ stop. IfSome (R.remaining input.old) (λ bytes. HasStopped bytes stop
         (W.contents output.old) (W.contents output.new))) }
@@ -192,8 +198,8 @@ pub fn write_jobs<T: Threads + Wait + Sync, R: Input, W: Write>(
     workers: u32,
 ) -> Result<(), JobsStop>
     requires { (1 ≤ workers) × (workers ≤ 16) }
-    ensures done { OnOk result (IfSome (R.remaining input.old) (λ bytes. (transcript jobs_effect None bytes).fault ≡ None)) }
-    ensures written { OnOk result (IfSome (R.remaining input.old) (λ bytes. HasWritten (transcript jobs_effect None bytes).value
+    ensures done { OnOk result (IfSome (R.remaining input.old) (λ bytes. (jobs_transcript bytes).fault ≡ None)) }
+    ensures written { OnOk result (IfSome (R.remaining input.old) (λ bytes. HasWritten (jobs_transcript bytes).value
         (W.contents output.old) (W.contents output.new))) }
     ensures stopped { IfErr result (λ stop. IfSome (R.remaining input.old) (λ bytes. HasStopped bytes stop
         (W.contents output.old) (W.contents output.new))) }

@@ -1,24 +1,29 @@
 -- What is left of a transcript within a line, and how bytes lead from one place to another.
 -- Cited by `write_bytes`.
-use Rattle.std.specs.Prelude.{◌≡◌, ℕ, ◌+◌, List, [], ◌∷◌, ◌++◌, length, take, Bool, Option, Some, Result, Ok, Err, if◌then◌else◌}
+use Rattle.std.specs.Prelude.{◌≡◌, ℕ, ◌+◌, List, [], ◌∷◌, ◌++◌, take, Bool, Option, Some, None, Result, Ok, Err, if◌then◌else◌}
 use Rattle.std.specs.Io.KnownBytes.{Appends}
 use Rattle.snap_script.specs.declared.fault.Fault.{Fault}
 use Rattle.snap_lines.specs.Effects.{Effect, Effects}
 use Rattle.snap_lines.specs.Lines.{lines_of, feeds}
-use Rattle.snap_lines.specs.Transcripts.{Place, Transcript, prepended, effect_at, place_after, transcript_from, Tells, TellsPart}
+use Rattle.snap_lines.specs.Transcripts.{max_line, cut, next_number, Place, Transcript, prepended, effect_at, place_after, transcript_from, Tells, TellsPart}
 use Rattle.snap_lines.specs.declared.stop.LineFault.{LineFault}
 use Rattle.snap_lines.specs.declared.stop.Stop.{Stop}
 use Rattle.snap_lines.specs.declared.stop.Stop.TheVariants.{Line, InputFailed, OutputFailed, OutOfMemory}
 
--- how many lines are behind, how many bytes they had, and what has come of the next line
+-- how many lines are behind, how many bytes the next ones may have, where that has a limit, and what has come of the next line
 pub record Behind : Type 0 where
   pub lines : ℕ
-  pub bytes : ℕ
+  pub left : Option ℕ
   pub pending : List ℕ
 
 -- nothing has come
-abbrev pub nothing : Behind
-nothing = record { lines = 0; bytes = 0; pending = [] }
+abbrev pub nothing : Option ℕ → Behind
+nothing most = record { lines = 0; left = most; pending = [] }
+
+-- a line that is cut is known by its length
+abbrev pub kept : Option ℕ → ℕ
+kept None = cut
+kept (Some left) = max_line
 
 -- a place within a line, of which pending has come
 pub record Run (A : Type 0) : Type 0 where
@@ -27,24 +32,31 @@ pub record Run (A : Type 0) : Type 0 where
 
 -- where a reader stands, with the value that takes the lines
 abbrev pub within : {A : Type 0} → Behind → A → Run A
-within b value = record { place = record { lines = b.lines; bytes = b.bytes; value = value }; pending = b.pending }
+within b value = record { place = record { lines = b.lines; left = b.left; value = value }; pending = b.pending }
 
--- the transcript of what has come of a line and of the rest of the input
-unfoldable pub transcript_on : {A : Type 0} → Effects A → Run A → List ℕ → Transcript A
-transcript_on effect r rest = transcript_from effect r.place (lines_of (r.pending ++ rest))
+-- the lines, or the first so many
+abbrev pub some_of : {A : Type 0} → Option ℕ → List A → List A
+some_of None lines = lines
+some_of (Some n) lines = take n lines
 
--- bytes lead from r to q: these lines end in them, and what is written for the lines goes to the output
+-- so many lines and then these
+abbrev pub and_more : ℕ → Option ℕ → Option ℕ
+and_more k None = None
+and_more k (Some n) = Some (k + n)
+
+-- the transcript of what has come of a line and of the rest of the input: of all their lines, or of the first so many
+unfoldable pub transcript_on : {A : Type 0} → Effects A → Run A → Option ℕ → List ℕ → Transcript A
+transcript_on effect r n rest = transcript_from effect r.place (some_of n (lines_of (r.pending ++ rest)))
+
+-- bytes lead from r to q, and what is written for the lines that end in them goes to the output
 pub record Goes {A : Type 0} (effect : Effects A) (r : Run A) (bytes : List ℕ) (q : Run A) (before behind : Option (List ℕ)) : Type 0 where
-  pub lines : List (List ℕ)
   pub written : List ℕ
-  pub counted : length lines ≡ feeds bytes
-  pub ended : (rest : List ℕ) → lines_of (r.pending ++ (bytes ++ rest)) ≡ lines ++ lines_of (q.pending ++ rest)
-  pub leads : (more : List (List ℕ)) → transcript_from effect r.place (lines ++ more) ≡ prepended written (transcript_from effect q.place more)
+  pub leads : (n : Option ℕ) (rest : List ℕ) → transcript_on effect r (and_more (feeds bytes) n) (bytes ++ rest) ≡ prepended written (transcript_on effect q n rest)
   pub appended : Appends before behind written
 
 -- bytes lead to a fault after the line that left the value
 abbrev pub Faults : {A : Type 0} → Effects A → Run A → List ℕ → LineFault → A → List ℕ → Type 0
-Faults effect r bytes f value written = (rest : List ℕ) → transcript_on effect r (bytes ++ rest) ≡ record { text = written; fault = Some f; value = value }
+Faults effect r bytes f value written = (rest : List ℕ) → transcript_on effect r None (bytes ++ rest) ≡ record { text = written; fault = Some f; value = value }
 
 -- bytes lead to a fault, and what is written before it goes to the output
 abbrev pub Ends : {A : Type 0} → Effects A → Run A → List ℕ → LineFault → Option (List ℕ) → Option (List ℕ) → Type 0
@@ -62,14 +74,14 @@ pub record GoesPart {A : Type 0} (effect : Effects A) (r : Run A) (bytes : List 
 abbrev pub StopsIn : {A : Type 0} → Effects A → Run A → List ℕ → Stop → Option (List ℕ) → Option (List ℕ) → Type 0
 StopsIn effect r bytes (Line f) before behind = Ends effect r bytes f before behind
 StopsIn effect r bytes InputFailed before behind = ⊥
-StopsIn effect r bytes OutputFailed before behind = (rest : List ℕ) → TellsPart (transcript_on effect r (bytes ++ rest)) before behind
+StopsIn effect r bytes OutputFailed before behind = (rest : List ℕ) → TellsPart (transcript_on effect r None (bytes ++ rest)) before behind
 StopsIn effect r bytes (OutOfMemory want) before behind = GoesPart effect r bytes before behind
 
 -- what went to the output where the run stops at the end of the input
 abbrev pub StopsAtEnd : {A : Type 0} → Effects A → Run A → Stop → Option (List ℕ) → Option (List ℕ) → Type 0
-StopsAtEnd effect r (Line f) before behind = Tells (transcript_on effect r []) (Some f) before behind
+StopsAtEnd effect r (Line f) before behind = Tells (transcript_on effect r None []) (Some f) before behind
 StopsAtEnd effect r InputFailed before behind = ⊥
-StopsAtEnd effect r OutputFailed before behind = TellsPart (transcript_on effect r []) before behind
+StopsAtEnd effect r OutputFailed before behind = TellsPart (transcript_on effect r None []) before behind
 StopsAtEnd effect r (OutOfMemory want) before behind = behind ≡ before
 
 -- the line that has come, with its line feed where that ended it
@@ -83,7 +95,7 @@ Takes effect r line q before behind = (text : List ℕ) × (effect_at effect r.p
 
 -- the line after so many has this fault, or memory was refused
 abbrev pub Refuses : {A : Type 0} → Result (Effect A) Fault → ℕ → Stop → Type 0
-Refuses reading lines (Line f) = (reading ≡ Err f.cause) × (f.line ≡ lines + 1)
+Refuses reading lines (Line f) = (reading ≡ Err f.cause) × (f.line ≡ next_number lines)
 Refuses reading lines (OutOfMemory want) = Unit {0}
 Refuses reading lines stop = ⊥
 

@@ -11,7 +11,7 @@ mod reader;
 mod stop;
 mod take;
 
-pub use read::read_lines;
+pub use read::{MAX_BYTES, read_lines};
 pub use reader::write_bytes;
 pub use stop::{LineFault, Stop};
 pub use take::TakeLine;

@@ -8,6 +8,9 @@ use crate::take::TakeLine;
 use std::alloc::{AllocError, Global};
 use std::io::{Read, Write};
 
+/// All lines of a script have at most so many bytes, with their line feeds.
+pub const MAX_BYTES: usize = 1_073_741_824;
+
 // A read takes at most so many bytes.
 const CHUNK: usize = 65_536;
 
@@ -50,16 +53,17 @@ fn read_all<T: TakeLine, R: Read, W: Write>(
     taker: &mut T,
     input: &mut R,
     output: &mut W,
-    reads: u32,
+    most: Option<usize>,
+    reads: u64,
 ) -> Result<(), Stop>
     ensures done { OnOk result (IfSome (R.remaining input.old) (λ bytes.
-        Tells (transcript T.effect taker.old bytes) None (W.contents output.old) (W.contents output.new))) }
+        Tells (transcript most T.effect taker.old bytes) None (W.contents output.old) (W.contents output.new))) }
     ensures value { OnOk result (IfSome (R.remaining input.old) (λ bytes.
-        (transcript T.effect taker.old bytes).value ≡ taker.new)) }
+        (transcript most T.effect taker.old bytes).value ≡ taker.new)) }
     ensures stopped { IfErr result (λ stop. IfSome (R.remaining input.old) (λ bytes.
-        Stops T.effect taker.old bytes (R.remaining input.new) stop (W.contents output.old) (W.contents output.new))) }
+        Stops most T.effect taker.old bytes (R.remaining input.new) stop (W.contents output.old) (W.contents output.new))) }
 {
-    let mut reader = Reader::new(alloc);
+    let mut reader = Reader::new(alloc, most);
     let mut chunk = chunk(alloc)?;
     let buffer = chunk.as_mut_slice();
     'reads: for _ in 0..reads {
@@ -74,14 +78,17 @@ fn read_all<T: TakeLine, R: Read, W: Write>(
 
 /// Reads the lines of the input, hands each to the taker, and writes its text to the output.
 ///
+/// Where `most` says how many bytes all lines may have, with their line feeds, one that takes them past it, or has more
+/// than 16,777,216 bytes without its line feed, ends the run. Where it is none, there is no such limit, and of a line
+/// that is too long the taker gets the first 16,777,217 bytes, once the line has ended.
+///
 /// Where it ends well, and the input and the output tell their bytes, what was written is the text of
 /// `transcript` for all that the input had, no line has a fault, and the taker is what the last line
 /// left. Where it stops, what was written is the text for whole lines from the first on: at a line, which is
 /// the first with a fault, for those before it; at a read that failed, for all that were read; where a write
 /// failed, a first part of a text may follow. Nothing is said of the taker after an error.
 ///
-/// `Line` where the taker finds a fault, or a line has more than 16,777,216 bytes without its line feed,
-/// or takes the bytes of all lines past 1,073,741,824. `InputFailed` where a read failed, or the end of
+/// `Line` where the taker finds a fault, or a line is too long. `InputFailed` where a read failed, or the end of
 /// the input didn't come within so many reads; `OutputFailed` where a write failed; `OutOfMemory` where
 /// memory was refused. What was written stays written, and is flushed before each read and at the end.
 ///
@@ -92,16 +99,17 @@ pub fn read_lines<T: TakeLine, R: Read, W: Write>(
     taker: &mut T,
     input: &mut R,
     output: &mut W,
-    reads: u32,
+    most: Option<usize>,
+    reads: u64,
 ) -> Result<(), Stop>
     ensures done { OnOk result (IfSome (R.remaining input.old) (λ bytes.
-        Tells (transcript T.effect taker.old bytes) None (W.contents output.old) (W.contents output.new))) }
+        Tells (transcript most T.effect taker.old bytes) None (W.contents output.old) (W.contents output.new))) }
     ensures value { OnOk result (IfSome (R.remaining input.old) (λ bytes.
-        (transcript T.effect taker.old bytes).value ≡ taker.new)) }
+        (transcript most T.effect taker.old bytes).value ≡ taker.new)) }
     ensures stopped { IfErr result (λ stop. IfSome (R.remaining input.old) (λ bytes.
-        Stops T.effect taker.old bytes (R.remaining input.new) stop (W.contents output.old) (W.contents output.new))) }
+        Stops most T.effect taker.old bytes (R.remaining input.new) stop (W.contents output.old) (W.contents output.new))) }
 {
-    let result = read_all(alloc, taker, input, output, reads);
+    let result = read_all(alloc, taker, input, output, most, reads);
     match output.flush() {
         Ok(()) => result,
         Err(_) => Err(Stop::OutputFailed),

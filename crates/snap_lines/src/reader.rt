@@ -1,9 +1,9 @@
 // Where a run stands within an input, and the step of one line.
-ghost use Rattle.std.specs.Prelude.{None, ◌≡◌, ◌<◌, ◌≤◌, ◌+◌, [], ◌∷◌, length, false, Ok, Err, OnOk, IfOk, IfErr};
+ghost use Rattle.std.specs.Prelude.{None, ◌≡◌, ◌<◌, [], ◌∷◌, length, false, Ok, Err, OnOk, IfOk, IfErr};
 ghost use Rattle.std.specs.Io.KnownBytes.{Appends};
 ghost use Rattle.snap_script.specs.declared.fault.Shortage.{Shortage};
 ghost use Rattle.snap_lines.specs.Effects.{effect_with, text_bytes};
-ghost use Rattle.snap_lines.specs.Transcripts.{Tells, max_bytes};
+ghost use Rattle.snap_lines.specs.Transcripts.{Tells, next_number, passes, left_after};
 ghost use Rattle.snap_lines.specs.Runs.{nothing, within, transcript_on, line_in, Takes, Goes, Refuses, Breaks, Leaves, StopsIn, StopsAtEnd};
 
 use crate::stop::{LineFault, Stop};
@@ -13,28 +13,44 @@ use std::alloc::Global;
 use std::io::{ErrorKind, Write};
 use std::marker::Model;
 
-// All lines have at most so many bytes, with their line feeds.
-const MAX_BYTES: usize = 1_073_741_824;
-
 // A text is written by at most so many writes.
 const WRITES: u64 = u64::MAX;
 
-fn fault(lines: usize, cause: Fault) -> Stop
-    requires { lines ≤ max_bytes }
-    ensures { result ≡ Stop.Line (record { line = lines + 1; cause = cause }) }
+// The fault of the line after so many.
+fn fault(lines: u64, cause: Fault) -> Stop
+    ensures { result ≡ Stop.Line (record { line = next_number lines; cause = cause }) }
 {
-    let line = lines as u64 + 1;
+    let line = lines.saturating_add(1);
     Stop::Line(LineFault { line, cause })
+}
+
+// Whether so many bytes pass what is left.
+fn passes(left: Option<usize>, len: usize) -> bool
+    ensures { result ≡ passes left len }
+{
+    match left {
+        Some(left) => left < len,
+        None => false,
+    }
+}
+
+// What is left after so many bytes.
+fn left_after(left: Option<usize>, len: usize) -> Option<usize>
+    ensures { result ≡ left_after left len }
+{
+    match left {
+        Some(left) => Some(left.saturating_sub(len)),
+        None => None,
+    }
 }
 
 // The text of a line, and what the line makes of the taker.
 fn text_of<T: TakeLine>(
     alloc: Global,
-    lines: usize,
+    lines: u64,
     taker: &mut T,
     line: &[u8],
 ) -> Result<Option<String>, Stop>
-    requires { lines ≤ max_bytes }
     ensures ok { IfOk result (λ text. T.effect taker.old line.now ≡ Ok (effect_with taker.new text)) }
     ensures err { IfErr result (λ stop. Refuses (T.effect taker.old line.now) lines stop) }
     ensures memory { (want : Shortage) → result ≡ Err (Stop.OutOfMemory want) → T.wanting taker.new }
@@ -79,38 +95,37 @@ fn write_text<W: Write>(output: &mut W, text: Option<String>) -> Result<(), Stop
     }
 }
 
-// Where a run stands: within a line, of which `pending` has come.
+// Where a run stands: within a line, of which `pending` has come. Where all lines have a limit, `left` of it is left;
+// where they have none, of a line that is too long one byte more than a line may have is pending, and the others are let go.
 #[derive(Drop)]
 pub(crate) struct Reader {
     alloc: Global,
-    lines: usize,
-    bytes: usize,
+    lines: u64,
+    left: Option<usize>,
     pending: Vec<u8>,
 }
 
 impl Model for Reader {
     ghost use Rattle.std.specs.Prelude.{◌≡◌, ◌≤◌, true, length};
     ghost use Rattle.snap_lines.specs.Lines.{is_open};
-    ghost use Rattle.snap_lines.specs.Transcripts.{max_line, max_bytes};
-    ghost use Rattle.snap_lines.specs.Runs.{Behind};
+    ghost use Rattle.snap_lines.specs.Runs.{Behind, kept};
 
     ghost Value = { Behind };
 
-    ghost view = { λ s. record { lines = s.lines; bytes = s.bytes; pending = s.pending.items } };
+    ghost view = { λ s. record { lines = s.lines; left = s.left; pending = s.pending.items } };
 
-    ghost invariant = { λ s. (s.lines ≤ s.bytes) × (s.bytes ≤ max_bytes)
-        × (length s.pending.items ≤ max_line) × (is_open s.pending.items ≡ true) };
+    ghost invariant = { λ s. (length s.pending.items ≤ kept s.left) × (is_open s.pending.items ≡ true) };
 }
 
 impl Reader {
-    // Before the first line.
-    pub(crate) fn new(alloc: Global) -> Reader
-        ensures { result ≡ nothing }
+    // Before the first line, where all lines have at most so many bytes, or no limit.
+    pub(crate) fn new(alloc: Global, most: Option<usize>) -> Reader
+        ensures { result ≡ nothing most }
     {
         Reader {
             alloc,
             lines: 0,
-            bytes: 0,
+            left: most,
             pending: Vec::new(alloc),
         }
     }
@@ -131,13 +146,13 @@ impl Reader {
     {
         let line = self.pending.as_slice();
         let len = line.len() + usize::from(ended);
-        if MAX_BYTES - self.bytes < len {
+        if passes(self.left, len) {
             return Err(fault(self.lines, Fault::TooLong));
         }
         let text = text_of(self.alloc, self.lines, taker, line)?;
         write_text(output, text)?;
-        self.lines += 1;
-        self.bytes += len;
+        self.lines = self.lines.saturating_add(1);
+        self.left = left_after(self.left, len);
         self.pending.clear();
         Ok(())
     }
@@ -159,7 +174,11 @@ impl Reader {
         if b == b'\n' {
             return self.take_line(true, taker, output);
         }
-        if self.pending.as_slice().len() == MAX_LINE_BYTES {
+        let len = self.pending.as_slice().len();
+        if len > MAX_LINE_BYTES {
+            return Ok(());
+        }
+        if len == MAX_LINE_BYTES && self.left.is_some() {
             return Err(fault(self.lines, Fault::TooLong));
         }
         self.pending.push(b)?;
@@ -190,9 +209,9 @@ impl Reader {
         taker: &mut T,
         output: &mut W,
     ) -> Result<(), Stop>
-        ensures ok { OnOk result (Tells (transcript_on T.effect (within self.old taker.old) []) None
+        ensures ok { OnOk result (Tells (transcript_on T.effect (within self.old taker.old) None []) None
             (W.contents output.old) (W.contents output.new)) }
-        ensures value { OnOk result ((transcript_on T.effect (within self.old taker.old) []).value ≡ taker.new) }
+        ensures value { OnOk result ((transcript_on T.effect (within self.old taker.old) None []).value ≡ taker.new) }
         ensures err { IfErr result (λ stop. StopsAtEnd T.effect (within self.old taker.old) stop
             (W.contents output.old) (W.contents output.new)) }
     {

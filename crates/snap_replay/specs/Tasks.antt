@@ -2,9 +2,10 @@
 -- Cited by invariants and private clauses alone.
 use Rattle.std.specs.Prelude.{◌≤◌}
 use Rattle.snap_replay.specs.declared.Task.{Task}
-use Rattle.snap_replay.specs.declared.Task.TheVariants.{Run, Writers}
+use Rattle.snap_replay.specs.declared.Task.TheVariants.{Run, Serve, Writers}
 
--- a run, or jobs by 1 to 16 workers
+-- a run, a server, or jobs by 1 to 16 workers
 abbrev pub IsTask : Task → Type 0
 IsTask Run = Unit {0}
+IsTask Serve = Unit {0}
 IsTask (Writers workers) = (1 ≤ workers) × (workers ≤ 16)

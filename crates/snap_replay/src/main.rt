@@ -1,12 +1,12 @@
-//! The program `snap_replay`: `snap_replay run` replays a script of a store of snapshots, and
-//! `snap_replay writers` runs jobs on one, from standard input to standard output.
+//! The program `snap_replay`: `snap_replay run` replays a script of a store of snapshots, `snap_replay serve` answers
+//! each line of a client, and `snap_replay writers` runs jobs on a store, from standard input to standard output.
 //!
-//! What is read and written is `replay`'s, of the crate `snap_session`, and `write_jobs`'s, of `snap_jobs`;
+//! What is read and written is `replay`'s and `serve`'s, of the crate `snap_session`, and `write_jobs`'s, of `snap_jobs`;
 //! here are the words of the command line, the standard streams and the status.
 #![tactic(auto)]
 
 ghost use Rattle.snap_replay.specs.Exit.{exit_of};
-ghost use Rattle.snap_replay.specs.Replayed.{HasReplayed};
+ghost use Rattle.snap_replay.specs.Replayed.{HasReplayed, HasServed};
 ghost use Rattle.snap_replay.specs.Tasks.{IsTask};
 ghost use Rattle.std.specs.Prelude.{◌≡◌, ◌≤◌, IfOk, IfSome};
 
@@ -15,7 +15,7 @@ use clap::{Arg, ArgAction, ArgMatches, Command, Error, value_parser};
 use snap_jobs::{JobsStop, MAX_WORKERS, write_jobs};
 use snap_lines::Stop;
 use snap_script::Shortage;
-use snap_session::replay;
+use snap_session::{replay, serve};
 use std::alloc::Global;
 use std::io::{BufWriter, ErrorKind, Read, Write};
 use std::process::ExitCode;
@@ -43,6 +43,20 @@ fn replay_from<R: Read, W: Write>(
     }
 }
 
+// Answers the lines of an input.
+fn serve_from<R: Read, W: Write>(
+    alloc: Global,
+    input: &mut R,
+    output: &mut W,
+) -> Result<(), JobsStop>
+    ensures { IfSome (R.remaining input.old) (λ bytes. HasServed bytes (R.remaining input.new) result (W.contents output.old) (W.contents output.new)) }
+{
+    match serve(alloc, input, output) {
+        Ok(()) => Ok(()),
+        Err(stop) => Err(JobsStop::Lines(stop)),
+    }
+}
+
 fn replayed<T: Input + Print + AllocGlobal>(rt: &T) -> Result<(), JobsStop> {
     let alloc = rt.alloc();
     let mut input = rt.reader();
@@ -50,6 +64,15 @@ fn replayed<T: Input + Print + AllocGlobal>(rt: &T) -> Result<(), JobsStop> {
         return Err(WANT_OF_MEMORY);
     };
     replay_from(alloc, &mut input, &mut output)
+}
+
+fn lines_served<T: Input + Print + AllocGlobal>(rt: &T) -> Result<(), JobsStop> {
+    let alloc = rt.alloc();
+    let mut input = rt.reader();
+    let Ok(mut output) = BufWriter::new(alloc, io::writer(rt)) else {
+        return Err(WANT_OF_MEMORY);
+    };
+    serve_from(alloc, &mut input, &mut output)
 }
 
 fn jobs_written<T: Threads + Wait + Sync + Input + Print + AllocGlobal>(
@@ -102,6 +125,8 @@ fn words_of(rt: &HostRuntime) -> Result<Vec<String>, u8> {
 enum Task {
     // Replay the script on standard input.
     Run,
+    // Answer each line on standard input.
+    Serve,
     // Run the jobs on standard input by so many workers, 1 to 16.
     Writers { workers: u32 },
 }
@@ -117,6 +142,15 @@ Status: 0 done, 2 bad words or a bad line, 3 a read or a write failed, 4 want of
 Example:
   printf '%s\n' '{"do":"open","root":"/r","namespaces":[["a",9,9]]}' '{"do":"report"}' | snap_replay run"#;
 
+// The same for `serve`.
+const SERVE_HELP: &str =
+    r#"In: a JSON object a line, as run reads them; `id`, a text or a number, may stand in each.
+Out: a line for each, in order, before the next is read: its answer, {"fault":WORDS,"line":N} where it is
+no command, {"empty":true} where it is empty; with an id {"answer":ANSWER,"id":ID}.
+Status: 0 at the end of the input, 2 bad words, 3 a read or a write failed, 4 want of memory.
+Example:
+  printf '%s\n' '{"do":"open","root":"/r","namespaces":[["a",9,9]]}' '{"do":"report","id":7}' | snap_replay serve"#;
+
 // The same for `writers`.
 const WRITERS_HELP: &str =
     r#"In: a JSON object a line. The first opens a store, each other one is a job: a snapshot's whole life.
@@ -129,6 +163,11 @@ fn command<'a>(alloc: Global) -> Result<Command<'a>, Error> {
     let run = Command::new(alloc, "run")
         .about("Replays a script: reads a command a line, writes an answer a line")
         .after_help(RUN_HELP);
+    let serve = Command::new(alloc, "serve")
+        .about(
+            "Serves a client: reads a command a line, answers every line and goes on after faults",
+        )
+        .after_help(SERVE_HELP);
     let workers = Arg::new(alloc, WORKERS)
         .long(WORKERS)
         .value_name("N")
@@ -144,6 +183,7 @@ fn command<'a>(alloc: Global) -> Result<Command<'a>, Error> {
         .about("A container snapshotter with an exact usage ledger")
         .subcommand_required(true)
         .subcommand(run)?
+        .subcommand(serve)?
         .subcommand(writers)?;
     Ok(program)
 }
@@ -163,6 +203,7 @@ fn chosen(matches: &ArgMatches<'_>) -> Option<Task>
 {
     match matches.subcommand() {
         Some(("run", _)) => Some(Task::Run),
+        Some(("serve", _)) => Some(Task::Serve),
         Some(("writers", own)) => {
             let workers = own.get_one::<u32>(WORKERS)?;
             if workers < 1 || workers > MAX_WORKERS {
@@ -181,6 +222,7 @@ fn run<T: Threads + Wait + Sync + Input + Print + Eprint + AllocGlobal>(
 ) -> u8 {
     match task_of(rt.alloc(), words) {
         Ok(Some(Task::Run)) => status(rt, replayed(rt)),
+        Ok(Some(Task::Serve)) => status(rt, lines_served(rt)),
         Ok(Some(Task::Writers { workers })) => status(rt, jobs_written(rt, workers)),
         Ok(None) => {
             let _ = rt.eprintln("error: no command");

@@ -8,3 +8,5 @@ pub mod Lines
 pub mod Gives
 pub mod Answers
 pub mod Written
+pub mod Requests
+pub mod Responses

@@ -44,13 +44,16 @@ allowed true (Some Open) = Err OpenTwice
 allowed true (Some verb) = Ok verb
 allowed true None = Err NoSuchCommand
 
--- the command of a line that isn't empty, with its session, 0 where none is named
-unfoldable pub command_line : Bool → List ℕ → Result Line Fault
-command_line opened bytes = do
-  line ← object_in bytes
+-- the command of an object, with its session, 0 where none is named
+unfoldable pub command_in : Bool → Data → Result Line Fault
+command_in opened line = do
   verb ← allowed opened (verb_of (← text fields.Do line))
   session ← optional as_natural fields.Session (Ok 0) line
   Ok (lines.Command session (← command_of verb line))
+
+-- the command of a line that isn't empty
+unfoldable pub command_line : Bool → List ℕ → Result Line Fault
+command_line opened bytes = do command_in opened (← object_in bytes)
 
 -- the store that a first line opens, where no session is named
 unfoldable pub opening_of : Data → Result Config Fault

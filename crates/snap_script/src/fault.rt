@@ -158,6 +158,14 @@ impl fmt::Display for Fault {
     }
 }
 
+impl From<AllocError> for Shortage {
+    ghost from_gives = { λ _ shortage. shortage ≡ Allocator no_memory };
+
+    fn from(refused: AllocError) -> Shortage {
+        Shortage::Allocator(refused.into())
+    }
+}
+
 impl From<Fault> for ReadError {
     ghost from_gives = { λ fault e. e ≡ errors.Fault fault };
 

@@ -3,7 +3,8 @@
 //! A line is JSON as `serde_json` reads it. What it says is one definition, `line_of` in
 //! `specs/Lines.antt`, with the commands in `specs/Commands.antt`, their words in `specs/Words.antt`, file
 //! operations in `specs/Operations.antt` and the kinds of their fields in `specs/Fields.antt`. The line of an
-//! answer is `answer_line` in `specs/Answers.antt`.
+//! answer is `answer_line` in `specs/Answers.antt`. Where a client may give a line an id, this is `id_of` in
+//! `specs/Requests.antt`, and the line of a response `response_line` in `specs/Responses.antt`.
 #![tactic(auto)]
 
 mod answer;
@@ -13,6 +14,8 @@ pub mod fields;
 mod line;
 mod operation;
 mod parse;
+mod request;
+mod response;
 mod to_json;
 mod values;
 mod verb;
@@ -23,3 +26,5 @@ pub use fault::{Fault, Field, ReadError, Shortage};
 pub use line::{Line, MAX_LINE_BYTES, is_empty, read_line, read_object, read_open};
 pub use operation::operations;
 pub use parse::named;
+pub use request::{Id, Request, read_request};
+pub use response::Response;

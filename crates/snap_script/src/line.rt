@@ -1,6 +1,6 @@
 ghost use Rattle.std.specs.Prelude.{◌≡◌};
 ghost use Rattle.serde_json.specs.View.{view};
-ghost use Rattle.snap_script.specs.Lines.{is_empty, json_of, object_in, allowed, command_line, opening_of, line_of};
+ghost use Rattle.snap_script.specs.Lines.{is_empty, json_of, object_in, allowed, command_in, command_line, opening_of, line_of};
 ghost use Rattle.snap_script.specs.Gives.{Gives};
 
 use crate::command::Command;
@@ -82,16 +82,24 @@ fn allowed(opened: bool, verb: Option<Verb>) -> Result<Verb, Fault>
     }
 }
 
+/// The command of the object that a line is.
+#[tactic(auto, unfolding(crate::specs::Lines::command_in))]
+pub(crate) fn command_in(alloc: Global, opened: bool, line: &Value) -> Result<Line, ReadError>
+    ensures { Gives (λ line. line) result (command_in opened (view line.now)) }
+{
+    let word = lent_text(Field::Do, line)?;
+    let verb = allowed(opened, verb_of(word))?;
+    let session = number_or(0, Field::Session, line)?;
+    let command = command_of(alloc, verb, line)?;
+    Ok(Line::Command { session, command })
+}
+
 #[tactic(auto, unfolding(crate::specs::Lines::command_line))]
 fn command_line(alloc: Global, opened: bool, bytes: &[u8]) -> Result<Line, ReadError>
     ensures { Gives (λ line. line) result (command_line opened bytes.now) }
 {
     let line = read_object(alloc, bytes)?;
-    let word = lent_text(Field::Do, &line)?;
-    let verb = allowed(opened, verb_of(word))?;
-    let session = number_or(0, Field::Session, &line)?;
-    let command = command_of(alloc, verb, &line)?;
-    Ok(Line::Command { session, command })
+    command_in(alloc, opened, &line)
 }
 
 /// The store that a first line opens, where no session is named: the field `s` isn't looked at.

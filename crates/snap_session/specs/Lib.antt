@@ -4,3 +4,4 @@ pub mod Journal
 pub mod Commands
 pub mod Wanting
 pub mod Script
+pub mod Service

@@ -2,7 +2,8 @@
 //! of each answer is written to an output.
 //!
 //! What is written is one definition, `script` in `specs/Script.antt`: the transcript of `snap_lines`, where
-//! each line does what its command does. That is `done` in `specs/Commands.antt`, over the steps of a world.
+//! each line does what its command does. That is `done` in `specs/Commands.antt`, over the steps of a world. What a
+//! server writes, which answers each line, is `service` in `specs/Service.antt`.
 #![tactic(auto)]
 
 mod calls;
@@ -13,10 +14,12 @@ mod opened;
 mod round;
 mod run;
 mod script;
+mod server;
 mod step;
 mod tree;
 
 pub use run::{replay, replay_within};
 pub use script::Script;
+pub use server::{Server, serve};
 pub use snap_lines::{LineFault, Stop};
 pub use snap_world::NoMemory;

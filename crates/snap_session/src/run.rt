@@ -1,12 +1,11 @@
 ghost use Rattle.std.specs.Prelude.{◌≡◌, None, OnOk, IfErr, IfSome};
-ghost use Rattle.snap_lines.specs.Transcripts.{Tells, Stops};
-ghost use Rattle.snap_session.specs.Opened.{unopened};
-ghost use Rattle.snap_session.specs.Script.{script, effect_of};
+ghost use Rattle.snap_lines.specs.Transcripts.{Tells};
+ghost use Rattle.snap_session.specs.Script.{script, effect_of, HasStopped};
 
 use crate::script::Script;
 use snap_ledger::{NewTable, StoreName};
-use snap_lines::{Stop, TakeLine, read_lines};
-use snap_script::{Line, ReadError, read_line};
+use snap_lines::{MAX_BYTES, Stop, TakeLine, read_lines};
+use snap_script::{ReadError, read_line};
 use std::alloc::Global;
 use std::io::{Read, Write};
 use std::marker::Brand;
@@ -20,11 +19,11 @@ impl<N: StoreName> TakeLine for Script<N> {
 
     #[tactic(auto, unfolding(crate::specs::Script::effect_of))]
     fn take_line(&mut self, alloc: Global, line: &[u8]) -> Result<Option<String>, ReadError> {
-        let Line::Command { session, command } = read_line(alloc, line, self.is_open())? else {
-            return Ok(None);
-        };
-        let answer = self.act(session, command)?;
-        Ok(Some(answer.line(alloc)?))
+        let line = read_line(alloc, line, self.is_open())?;
+        match self.step(line)? {
+            Some(answer) => Ok(Some(answer.line(alloc)?)),
+            None => Ok(None),
+        }
     }
 }
 
@@ -39,10 +38,11 @@ fn run<N: StoreName, R: Read, W: Write>(
     ensures done { OnOk result (IfSome (R.remaining input.old)
         (λ bytes. Tells (script bytes) None (W.contents output.old) (W.contents output.new))) }
     ensures stopped { IfErr result (λ stop. IfSome (R.remaining input.old) (λ bytes.
-        Stops effect_of unopened bytes (R.remaining input.new) stop (W.contents output.old) (W.contents output.new))) }
+        HasStopped bytes (R.remaining input.new) stop (W.contents output.old) (W.contents output.new))) }
 {
     let mut script: Script<N> = Script::new(alloc, table);
-    read_lines(alloc, &mut script, input, output, reads)
+    let most = Some(MAX_BYTES);
+    read_lines(alloc, &mut script, input, output, most, u64::from(reads))
 }
 
 /// Runs a script: reads lines from the input, a command each, and writes the line of each answer to the
@@ -69,7 +69,7 @@ pub fn replay_within<R: Read, W: Write>(
     ensures done { OnOk result (IfSome (R.remaining input.old)
         (λ bytes. Tells (script bytes) None (W.contents output.old) (W.contents output.new))) }
     ensures stopped { IfErr result (λ stop. IfSome (R.remaining input.old) (λ bytes.
-        Stops effect_of unopened bytes (R.remaining input.new) stop (W.contents output.old) (W.contents output.new))) }
+        HasStopped bytes (R.remaining input.new) stop (W.contents output.old) (W.contents output.new))) }
 {
     let table = NewTable::new(alloc)?;
     run::<Brand, R, W>(alloc, table, input, output, reads)
@@ -80,7 +80,7 @@ pub fn replay<R: Read, W: Write>(alloc: Global, input: &mut R, output: &mut W) -
     ensures done { OnOk result (IfSome (R.remaining input.old)
         (λ bytes. Tells (script bytes) None (W.contents output.old) (W.contents output.new))) }
     ensures stopped { IfErr result (λ stop. IfSome (R.remaining input.old) (λ bytes.
-        Stops effect_of unopened bytes (R.remaining input.new) stop (W.contents output.old) (W.contents output.new))) }
+        HasStopped bytes (R.remaining input.new) stop (W.contents output.old) (W.contents output.new))) }
 {
     replay_within(alloc, input, output, READS)
 }

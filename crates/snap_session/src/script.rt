@@ -6,14 +6,14 @@ ghost use Rattle.snap_world.specs.declared.step.Step.TheVariants.{Locked};
 ghost use Rattle.snap_world.specs.Move.{move};
 ghost use Rattle.snap_session.specs.Commands.{is_started, store_opened, done};
 ghost use Rattle.snap_session.specs.Opened.{new_world, unopened};
+ghost use Rattle.snap_session.specs.Script.{step};
 
 use crate::opened::Opened;
 use crate::round::is_started;
 use crate::step::call;
 use snap_call::{Call, Config, Refusal, Reply};
 use snap_ledger::{NewTable, StoreName};
-use snap_record::{Sequence, Text};
-use snap_script::{Answer, Command, names_of};
+use snap_script::{Answer, Command, Line, names_of};
 use snap_world::{NoMemory, World};
 use std::alloc::Global;
 use std::marker::Model;
@@ -143,6 +143,16 @@ impl<N: StoreName> Script<N> {
                 Command::Open { config } => self.open(config),
                 _ => Ok(Answer::NoSession),
             },
+        }
+    }
+
+    /// Carries out a line, and answers its command; an empty one does nothing and has no answer. As [`act`](Self::act).
+    pub fn step(&mut self, line: Line) -> Result<Option<Answer>, NoMemory>
+        ensures { IfOk result (λ answer. step self.old line ≡ (self.new, answer)) }
+    {
+        match line {
+            Line::Empty => Ok(None),
+            Line::Command { session, command } => Ok(Some(self.act(session, command)?)),
         }
     }
 }

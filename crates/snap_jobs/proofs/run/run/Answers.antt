@@ -1,6 +1,6 @@
 use Rattle.std.specs.Prelude.{IfSome}
-use Rattle.std.proofs.Common.{◌≡◌, Option, None, subst}
-use Rattle.snap_lines.specs.Transcripts.{Stops, Tells, transcript}
+use Rattle.std.proofs.Common.{◌≡◌, Option, None, Some, subst}
+use Rattle.snap_lines.specs.Transcripts.{Stops, Tells, max_bytes, transcript}
 use Rattle.snap_jobs.specs.Lines.{ReadValue, jobs_effect}
 use Rattle.snap_jobs.proofs.Writing.{broken, lines_stopped, written}
 use Rattle.snap_jobs.proofs.run.run.Goals as goal
@@ -12,8 +12,8 @@ returns-in-Ok-clause-written g c =
     let mid = g.W.Write.contents c.read_lines.new.output in
     let read = c.into_read.result in
     written c.run_read.result remaining read before mid (g.W.Write.contents c.run_read.new.output)
-    (subst (λ (v : Option ReadValue). IfSome remaining (λ bytes. Tells (transcript jobs_effect v bytes) None before mid)) c.new-lines.ensures c.in-Ok.ensures.done)
-    (subst (λ (v : Option ReadValue). IfSome remaining (λ bytes. (transcript jobs_effect v bytes).value ≡ read)) c.new-lines.ensures (rw c.into_read.ensures c.in-Ok.ensures.value))
+    (subst (λ (v : Option ReadValue). IfSome remaining (λ bytes. Tells (transcript (Some max_bytes) jobs_effect v bytes) None before mid)) c.new-lines.ensures c.in-Ok.ensures.done)
+    (subst (λ (v : Option ReadValue). IfSome remaining (λ bytes. (transcript (Some max_bytes) jobs_effect v bytes).value ≡ read)) c.new-lines.ensures (rw c.into_read.ensures c.in-Ok.ensures.value))
     c.run_read.ensures.written
 
 pub returns-in-Ok-clause-stopped : goal.returns-in-Ok-clause-stopped
@@ -23,8 +23,8 @@ returns-in-Ok-clause-stopped g c =
     let mid = g.W.Write.contents c.read_lines.new.output in
     let read = c.into_read.result in
     broken c.run_read.result remaining read before mid (g.W.Write.contents c.run_read.new.output)
-    (subst (λ (v : Option ReadValue). IfSome remaining (λ bytes. Tells (transcript jobs_effect v bytes) None before mid)) c.new-lines.ensures c.in-Ok.ensures.done)
-    (subst (λ (v : Option ReadValue). IfSome remaining (λ bytes. (transcript jobs_effect v bytes).value ≡ read)) c.new-lines.ensures (rw c.into_read.ensures c.in-Ok.ensures.value))
+    (subst (λ (v : Option ReadValue). IfSome remaining (λ bytes. Tells (transcript (Some max_bytes) jobs_effect v bytes) None before mid)) c.new-lines.ensures c.in-Ok.ensures.done)
+    (subst (λ (v : Option ReadValue). IfSome remaining (λ bytes. (transcript (Some max_bytes) jobs_effect v bytes).value ≡ read)) c.new-lines.ensures (rw c.into_read.ensures c.in-Ok.ensures.value))
     c.run_read.ensures.stopped
 
 pub returns-in-Err-clause-stopped : goal.returns-in-Err-clause-stopped
@@ -34,4 +34,4 @@ returns-in-Err-clause-stopped g c =
     let before = g.W.Write.contents c.args.output.now in
     let after = g.W.Write.contents c.read_lines.new.output in
     lines_stopped remaining left c.in-Err.stop before after
-    (subst (λ (v : Option ReadValue). IfSome remaining (λ bytes. Stops jobs_effect v bytes left c.in-Err.stop before after)) c.new-lines.ensures c.in-Err.ensures.stopped)
+    (subst (λ (v : Option ReadValue). IfSome remaining (λ bytes. Stops (Some max_bytes) jobs_effect v bytes left c.in-Err.stop before after)) c.new-lines.ensures c.in-Err.ensures.stopped)

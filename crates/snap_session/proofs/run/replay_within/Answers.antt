@@ -1,6 +1,8 @@
 use Rattle.std.proofs.lemmas.Result.{err_from_is_err_and}
 use Rattle.snap_path.specs.Memory.{no_memory}
 use Rattle.snap_script.specs.declared.fault.Shortage.TheVariants.{Allocator}
+use Rattle.std.proofs.Common.{Some}
+use Rattle.snap_lines.specs.Transcripts.{max_bytes}
 use Rattle.snap_lines.specs.declared.stop.Stop.TheVariants.{OutOfMemory}
 use Rattle.snap_lines.proofs.ReadLaws.{reading_not_begun}
 use Rattle.snap_lines.proofs.TranscriptLaws.{err_is}
@@ -12,4 +14,4 @@ pub returns-in_err-table-clause-stopped : goal.returns-in_err-table-clause-stopp
 returns-in_err-table-clause-stopped g c =
     let p = err_from_is_err_and c.from_residual.result c.from_residual.ensures.1 in
     err_is _ c.from_residual.result p.0 (OutOfMemory (Allocator no_memory)) p.1 (cc p.2)
-    (reading_not_begun effect_of unopened (Allocator no_memory) (g.R.Read.remaining c.args.input.now) (g.R.Read.remaining c.args.input.now) (g.W.Write.contents c.args.output.now))
+    (reading_not_begun (Some max_bytes) effect_of unopened (Allocator no_memory) (g.R.Read.remaining c.args.input.now) (g.R.Read.remaining c.args.input.now) (g.W.Write.contents c.args.output.now))

@@ -17,19 +17,19 @@ returns-then-is_empty-clause-value g c =
 
 pub returns-clause-ok : goal.returns-clause-ok
 returns-clause-ok g c =
-    let no_feed = subst (λ (z : Behind). is_open z.pending ≡ true) c.self.view_is c.self.invariant.3 in
+    let no_feed = subst (λ (z : Behind). is_open z.pending ≡ true) c.self.view_is c.self.invariant.1 in
     let e : (length c.args.self.now.pending == 0) ≡ false = ap (λ (z : Behind). length z.pending == 0) (sym c.self.view_is) ∙ ap (λ l. length l == 0) (sym c.as_slice.ensures.value) ∙ sym c.is_empty.ensures ∙ c.if-is_empty.false in
     on_ok c.take_line.result (end_ok g.T.TakeLine.effect (within c.args.self.now c.args.taker.now) (within c.take_line.new.self c.take_line.new.taker) _ _ no_feed (more_list _ e)) c.take_line.ensures.ok
 
 pub returns-clause-value : goal.returns-clause-value
 returns-clause-value g c =
-    let no_feed = subst (λ (z : Behind). is_open z.pending ≡ true) c.self.view_is c.self.invariant.3 in
+    let no_feed = subst (λ (z : Behind). is_open z.pending ≡ true) c.self.view_is c.self.invariant.1 in
     let e : (length c.args.self.now.pending == 0) ≡ false = ap (λ (z : Behind). length z.pending == 0) (sym c.self.view_is) ∙ ap (λ l. length l == 0) (sym c.as_slice.ensures.value) ∙ sym c.is_empty.ensures ∙ c.if-is_empty.false in
     on_ok c.take_line.result (end_value g.T.TakeLine.effect (within c.args.self.now c.args.taker.now) (within c.take_line.new.self c.take_line.new.taker) _ _ no_feed (more_list _ e)) c.take_line.ensures.ok
 
 pub returns-clause-err : goal.returns-clause-err
 returns-clause-err g c =
-    let no_feed = subst (λ (z : Behind). is_open z.pending ≡ true) c.self.view_is c.self.invariant.3 in
+    let no_feed = subst (λ (z : Behind). is_open z.pending ≡ true) c.self.view_is c.self.invariant.1 in
     let e : (length c.args.self.now.pending == 0) ≡ false = ap (λ (z : Behind). length z.pending == 0) (sym c.self.view_is) ∙ ap (λ l. length l == 0) (sym c.as_slice.ensures.value) ∙ sym c.is_empty.ensures ∙ c.if-is_empty.false in
     let effect = g.T.TakeLine.effect in
     let old = within c.args.self.now c.args.taker.now in

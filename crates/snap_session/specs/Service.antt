@@ -1,0 +1,54 @@
+-- What a server answers, line for line; cited by the public clauses of `serve`.
+-- Cited by `Server::new`, `Server as TakeLine`, `serve`.
+use Rattle.std.specs.Prelude.{ℕ, List, Option, None, Some, is_some, Result, Ok, Err}
+use Rattle.snap_script.specs.declared.answer.Answer.{Answer}
+use Rattle.snap_script.specs.declared.fault.Fault.{Fault}
+use Rattle.snap_script.specs.declared.line.Line.{Line}
+use Rattle.snap_script.specs.declared.request.Id.{Id}
+use Rattle.snap_script.specs.declared.response.Response.{Response}
+use Rattle.snap_script.specs.declared.response.Response.TheVariants as responses
+use Rattle.snap_script.specs.Lines.{line_of}
+use Rattle.snap_script.specs.Requests.{id_of}
+use Rattle.snap_script.specs.Responses.{response_line}
+use Rattle.snap_lines.specs.Effects.{Effect, Effects}
+use Rattle.snap_lines.specs.Transcripts.{Stops, Transcript, next_number, transcript}
+use Rattle.snap_lines.specs.declared.stop.Stop.{Stop}
+use Rattle.snap_lines.specs.declared.stop.Stop.TheVariants as stops
+use Rattle.snap_session.specs.Opened.{ScriptValue, unopened}
+use Rattle.snap_session.specs.Script.{step}
+
+-- a script, and how many lines were answered
+pub record ServerValue : Type 0 where
+  pub script : ScriptValue
+  pub lines : ℕ
+
+-- before the first line
+abbrev pub idle : ServerValue
+idle = record { script = unopened; lines = 0 }
+
+-- the response to a line that is empty or a command
+abbrev pub response_of : Option Answer → Response
+response_of None = responses.Empty
+response_of (Some answer) = responses.Answer answer
+
+-- what was read of the line of this number, and what it makes of the script: one that is no command does nothing
+abbrev pub responded : ScriptValue → ℕ → Result Line Fault → ScriptValue × Response
+responded s number (Ok line) = ((step s line).0, response_of (step s line).1)
+responded s number (Err fault) = (s, responses.Fault fault number)
+
+-- the effect of a line that has this id, or none
+abbrev pub effect_responded : ℕ → Option Id → ScriptValue × Response → Effect ServerValue
+effect_responded number id after = record { value = record { script = after.0; lines = number }; text = response_line id after.1 }
+
+-- what the bytes of a line do, which has no fault
+unfoldable pub served : Effects ServerValue
+served s bytes = Ok (effect_responded (next_number s.lines) (id_of bytes) (responded s.script (next_number s.lines) (line_of (is_some s.script.store) bytes)))
+
+-- the transcript of a server, which begins without a store; its lines have no limit
+abbrev pub service : List ℕ → Transcript ServerValue
+service = transcript None served idle
+
+-- what was written where a server over these bytes stops, with what the input has left: never at a line
+abbrev pub HasStoppedServing : List ℕ → Option (List ℕ) → Stop → Option (List ℕ) → Option (List ℕ) → Type 0
+HasStoppedServing bytes left (stops.Line fault) before after = ⊥
+HasStoppedServing bytes left stop before after = Stops None served idle bytes left stop before after
