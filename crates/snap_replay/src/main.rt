@@ -23,6 +23,9 @@ use std::sync::Wait;
 use std::thread::Threads;
 use std::{env, io};
 
+// The version of the program.
+const VERSION: &str = "0.1.0";
+
 // The status of bad words.
 const BAD_WORDS: u8 = 2;
 
@@ -181,6 +184,7 @@ fn command<'a>(alloc: Global) -> Result<Command<'a>, Error> {
         .arg(workers)?;
     let program = Command::new(alloc, "snap_replay")
         .about("A container snapshotter with an exact usage ledger")
+        .version(VERSION)
         .subcommand_required(true)
         .subcommand(run)?
         .subcommand(serve)?
@@ -188,8 +192,8 @@ fn command<'a>(alloc: Global) -> Result<Command<'a>, Error> {
     Ok(program)
 }
 
-// What the words ask for, the program's name first, or clap's refusal of them. A call for help is a
-// refusal too. Takes memory.
+// What the words ask for, the program's name first, or clap's refusal of them. A call for help or for the version
+// is a refusal too. Takes memory.
 fn task_of(alloc: Global, words: &[String]) -> Result<Option<Task>, Error>
     ensures { IfOk result (λ task. IfSome task IsTask) }
 {
@@ -231,10 +235,14 @@ fn run<T: Threads + Wait + Sync + Input + Print + Eprint + AllocGlobal>(
         Err(error) if error.kind() == WordsErrorKind::OutOfMemory => {
             status(rt, Err(WANT_OF_MEMORY))
         }
-        Err(error) => {
+        Err(error) if error.use_stderr() => {
             let _ = rt.eprint(&error);
             BAD_WORDS
         }
+        Err(shown) => match rt.print(&shown) {
+            Ok(()) => 0,
+            Err(_) => status(rt, Err(JobsStop::Lines(Stop::OutputFailed))),
+        },
     }
 }
 
