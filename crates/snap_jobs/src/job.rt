@@ -1,9 +1,9 @@
 // A job, read from the object of its line.
-ghost use Rattle.serde_json.specs.View.{view};
+ghost use Rattle.snap_json.specs.View.{view};
 ghost use Rattle.snap_script.specs.Gives.{Gives};
 ghost use Rattle.snap_jobs.specs.Jobs.{end_of, job_of};
 
-use serde_json::Value;
+use snap_json::Value;
 use snap_script::fields::{lent_text, optional_text, text, usage_or};
 use snap_script::{Fault, Field, ReadError, named, operations};
 use snap_usage::Usage;
@@ -11,7 +11,7 @@ use snap_writers::{End, Job};
 use std::alloc::Global;
 
 #[tactic(auto, unfolding(crate::specs::Jobs::end_of))]
-fn end_of(alloc: Global, line: &Value) -> Result<End, ReadError>
+fn end_of(alloc: Global, line: &Value<'_>) -> Result<End, ReadError>
     ensures { Gives (λ end. end) result (end_of (view line.now)) }
 {
     match lent_text(Field::End, line)? {
@@ -26,7 +26,7 @@ fn end_of(alloc: Global, line: &Value) -> Result<End, ReadError>
 
 // The job of a line. A field `do` counts for nothing.
 #[tactic(auto, unfolding(crate::specs::Jobs::job_of))]
-pub(crate) fn job_of(alloc: Global, line: &Value) -> Result<Job, ReadError>
+pub(crate) fn job_of(alloc: Global, line: &Value<'_>) -> Result<Job, ReadError>
     ensures { Gives (λ job. job) result (job_of (view line.now)) }
 {
     let (namespace, key) = named(alloc, line)?;

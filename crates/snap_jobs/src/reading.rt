@@ -1,11 +1,12 @@
 // The lines of a script of jobs, and what was read of them.
 ghost use Rattle.std.specs.Prelude.{◌≡◌, None, Some};
-ghost use Rattle.serde_json.specs.View.{view};
+ghost use Rattle.snap_json.specs.View.{view};
 ghost use Rattle.snap_script.specs.Gives.{Gives};
 ghost use Rattle.snap_jobs.specs.Lines.{opened_as, read_with, taken, there};
 
 use crate::job::job_of;
 use snap_call::{Config, Refusal};
+use snap_json::Scratch;
 use snap_lines::TakeLine;
 use snap_path::NoMemory;
 use snap_record::{Sequence, Text};
@@ -109,7 +110,8 @@ impl<N: RoundName> JobLines<N> {
         requires { self.old ≡ None }
         ensures { Gives (λ _. self.new) result (there (read_with None line.now)) }
     {
-        let line = read_object(alloc, line)?;
+        let mut scratch = Scratch::new(alloc);
+        let line = read_object(alloc, line, &mut scratch)?;
         let config = read_open(alloc, &line)?;
         self.open(alloc, config)
     }
@@ -131,7 +133,8 @@ impl<N: RoundName> Read<N> {
         if self.jobs.len() >= MAX_JOBS {
             return Err(ReadError::Fault(Fault::TooLong));
         }
-        let line = read_object(alloc, line)?;
+        let mut scratch = Scratch::new(alloc);
+        let line = read_object(alloc, line, &mut scratch)?;
         let job = job_of(alloc, &line)?;
         self.jobs.push(job)?;
         Ok(())

@@ -1,7 +1,7 @@
 -- What the items of an array are, by their number.
 use Rattle.std.proofs.Common.{◌≡◌, ◌≢◌, List, [], ◌∷◌, length, None, refl}
-use Rattle.serde_json.specs.View.{items_view}
-use Rattle.serde_json.specs.declared.value.Value.{Value}
+use Rattle.snap_json.specs.View.{items_view}
+use Rattle.snap_json.specs.declared.value.Value.{Value}
 use Rattle.snap_script.specs.Fields.{pair_in}
 
 -- items that aren't two are no pair

@@ -82,8 +82,7 @@ pub enum Fault {
 pub enum Shortage {
     /// An allocator, whose refusal it is.
     Allocator(NoMemory),
-    /// A library that keeps the allocator's error to itself: `serde_json` of a value, `io` and `clap` of the
-    /// words of a command line.
+    /// A library that keeps the allocator's error to itself: `io` and `clap` of the words of a command line.
     Library,
 }
 

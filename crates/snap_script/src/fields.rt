@@ -1,30 +1,31 @@
 // The fields of a line, each of its kind.
 ghost use Rattle.std.specs.Prelude.{◌≡◌, [], Some, None, Ok, option_map, IfOk};
 ghost use Rattle.serde_json.specs.Find.{get, as_str};
-ghost use Rattle.serde_json.specs.View.{view, items_view, members_view};
+ghost use Rattle.snap_json.specs.View.{view, items_view, members_of};
 ghost use Rattle.snap_script.specs.declared.fault.Field.TheVariants as fields;
 ghost use Rattle.snap_script.specs.Faults.{field_name};
 ghost use Rattle.snap_script.specs.Fields.{text, required, optional, given, as_natural, as_mode, pair_in, as_pair, as_usage, texts_in, as_texts, kind_named, as_kind, labels_with, as_labels, label_filter, label_filters_in, as_label_filters, as_namespace, namespaces_in, as_namespaces, as_fill, content_of};
 ghost use Rattle.snap_script.specs.Gives.{Gives, GivesAll};
 
 use crate::fault::{Fault, Field, ReadError};
-use serde_json::{Map, Value};
 use snap_call::Namespace;
+use snap_json::{Value, by_name};
 use snap_layer::Bytes;
 use snap_path::limits::MAX_FILE_BYTES;
 use snap_record::{Kind, LabelFilter, Labels, Sequence, Text};
 use snap_usage::Usage;
 use std::alloc::{AllocError, Global};
+use std::collections::BTreeMap;
 
 /// The value of a field, if the line has it.
-pub(crate) fn find(field: Field, line: &Value) -> Option<&Value>
+pub(crate) fn find<'v, 'a>(field: Field, line: &'v Value<'a>) -> Option<&'v Value<'a>>
     ensures { option_map (λ v. view v.now) result ≡ get (field_name field) (view line.now) }
 {
     line.get(field.name())
 }
 
 /// A number that may be absent.
-pub(crate) fn number_or(default: u64, field: Field, line: &Value) -> Result<u64, Fault>
+pub(crate) fn number_or(default: u64, field: Field, line: &Value<'_>) -> Result<u64, Fault>
     ensures { result ≡ optional as_natural field (Ok default) (view line.now) }
 {
     match find(field, line) {
@@ -34,7 +35,7 @@ pub(crate) fn number_or(default: u64, field: Field, line: &Value) -> Result<u64,
 }
 
 /// A number, if there is one.
-pub(crate) fn optional_number(field: Field, line: &Value) -> Result<Option<u64>, Fault>
+pub(crate) fn optional_number(field: Field, line: &Value<'_>) -> Result<Option<u64>, Fault>
     ensures { result ≡ given as_natural field (view line.now) }
 {
     match find(field, line) {
@@ -44,7 +45,7 @@ pub(crate) fn optional_number(field: Field, line: &Value) -> Result<Option<u64>,
 }
 
 /// A number that must be there.
-pub(crate) fn required_number(field: Field, line: &Value) -> Result<u64, Fault>
+pub(crate) fn required_number(field: Field, line: &Value<'_>) -> Result<u64, Fault>
     ensures { result ≡ required as_natural field (view line.now) }
 {
     match find(field, line) {
@@ -53,7 +54,7 @@ pub(crate) fn required_number(field: Field, line: &Value) -> Result<u64, Fault>
     }
 }
 
-fn mode(value: &Value) -> Option<u32>
+fn mode(value: &Value<'_>) -> Option<u32>
     ensures { result ≡ as_mode (view value.now) }
 {
     match value.as_u64() {
@@ -64,7 +65,7 @@ fn mode(value: &Value) -> Option<u32>
 }
 
 /// A mode that may be absent.
-pub(crate) fn mode_or(default: u32, line: &Value) -> Result<u32, Fault>
+pub(crate) fn mode_or(default: u32, line: &Value<'_>) -> Result<u32, Fault>
     ensures { result ≡ optional as_mode fields.Mode (Ok default) (view line.now) }
 {
     match find(Field::Mode, line) {
@@ -74,7 +75,7 @@ pub(crate) fn mode_or(default: u32, line: &Value) -> Result<u32, Fault>
 }
 
 /// A mode that must be there.
-pub(crate) fn required_mode(line: &Value) -> Result<u32, Fault>
+pub(crate) fn required_mode(line: &Value<'_>) -> Result<u32, Fault>
     ensures { result ≡ required as_mode fields.Mode (view line.now) }
 {
     match find(Field::Mode, line) {
@@ -84,7 +85,7 @@ pub(crate) fn required_mode(line: &Value) -> Result<u32, Fault>
 }
 
 /// A text that must be there, lent by the line. `BadField` where it is not.
-pub fn lent_text(field: Field, line: &Value) -> Result<&str, Fault>
+pub fn lent_text<'a>(field: Field, line: &Value<'a>) -> Result<&'a str, Fault>
     ensures { GivesAll (λ s. s.now) result (text field (view line.now)) }
 {
     match find(field, line) {
@@ -94,7 +95,7 @@ pub fn lent_text(field: Field, line: &Value) -> Result<&str, Fault>
 }
 
 /// A text that must be there. The cost grows with it.
-pub fn text(alloc: Global, field: Field, line: &Value) -> Result<Text, ReadError>
+pub fn text(alloc: Global, field: Field, line: &Value<'_>) -> Result<Text, ReadError>
     ensures { Gives (λ t. t) result (text field (view line.now)) }
 {
     let text = lent_text(field, line)?;
@@ -102,7 +103,11 @@ pub fn text(alloc: Global, field: Field, line: &Value) -> Result<Text, ReadError
 }
 
 /// A text that may be absent. The cost grows with it.
-pub fn optional_text(alloc: Global, field: Field, line: &Value) -> Result<Option<Text>, ReadError>
+pub fn optional_text(
+    alloc: Global,
+    field: Field,
+    line: &Value<'_>,
+) -> Result<Option<Text>, ReadError>
     ensures { Gives (λ t. t) result (given as_str field (view line.now)) }
 {
     match find(field, line) {
@@ -115,7 +120,11 @@ pub fn optional_text(alloc: Global, field: Field, line: &Value) -> Result<Option
 }
 
 /// A text, the empty one where it is absent.
-pub(crate) fn text_or_empty(alloc: Global, field: Field, line: &Value) -> Result<Text, ReadError>
+pub(crate) fn text_or_empty(
+    alloc: Global,
+    field: Field,
+    line: &Value<'_>,
+) -> Result<Text, ReadError>
     ensures { Gives (λ t. t) result (optional as_str field (Ok []) (view line.now)) }
 {
     match find(field, line) {
@@ -125,7 +134,7 @@ pub(crate) fn text_or_empty(alloc: Global, field: Field, line: &Value) -> Result
 }
 
 /// The texts of an array, where each item is one.
-fn texts_in(alloc: Global, values: &[Value]) -> Result<Option<Sequence<Text>>, AllocError>
+fn texts_in(alloc: Global, values: &[Value<'_>]) -> Result<Option<Sequence<Text>>, AllocError>
     ensures { IfOk result (λ texts. texts ≡ texts_in (items_view values.now)) }
 {
     let mut texts = Sequence::new(alloc);
@@ -139,14 +148,14 @@ fn texts_in(alloc: Global, values: &[Value]) -> Result<Option<Sequence<Text>>, A
 }
 
 /// The paths of an update, none where the line has no such field.
-pub(crate) fn paths(alloc: Global, line: &Value) -> Result<Sequence<Text>, ReadError>
+pub(crate) fn paths(alloc: Global, line: &Value<'_>) -> Result<Sequence<Text>, ReadError>
     ensures { Gives (λ paths. paths) result (optional as_texts fields.Paths (Ok []) (view line.now)) }
 {
     let Some(value) = find(Field::Paths, line) else {
         return Ok(Sequence::new(alloc));
     };
     let values = value.as_array().ok_or(Fault::BadField(Field::Paths))?;
-    let paths = texts_in(alloc, values.as_slice())?;
+    let paths = texts_in(alloc, values)?;
     Ok(paths.ok_or(Fault::BadField(Field::Paths))?)
 }
 
@@ -163,7 +172,7 @@ fn kind_named(word: &str) -> Option<Kind>
 }
 
 /// A kind that may be absent.
-pub(crate) fn optional_kind(line: &Value) -> Result<Option<Kind>, Fault>
+pub(crate) fn optional_kind(line: &Value<'_>) -> Result<Option<Kind>, Fault>
     ensures { result ≡ given as_kind fields.Kind (view line.now) }
 {
     let fault = Fault::BadField(Field::Kind);
@@ -178,7 +187,7 @@ pub(crate) fn optional_kind(line: &Value) -> Result<Option<Kind>, Fault>
 
 /// Two numbers, where these values are two.
 #[tactic(auto, using(crate::proofs::Items::no_pair))]
-fn pair_in(values: &[Value]) -> Option<(u64, u64)>
+fn pair_in(values: &[Value<'_>]) -> Option<(u64, u64)>
     ensures { result ≡ pair_in (items_view values.now) }
 {
     match values {
@@ -188,13 +197,13 @@ fn pair_in(values: &[Value]) -> Option<(u64, u64)>
 }
 
 /// Two numbers in an array.
-fn pair(value: &Value) -> Option<(u64, u64)>
+fn pair(value: &Value<'_>) -> Option<(u64, u64)>
     ensures { result ≡ as_pair (view value.now) }
 {
-    pair_in(value.as_array()?.as_slice())
+    pair_in(value.as_array()?)
 }
 
-fn usage(value: &Value) -> Option<Usage>
+fn usage(value: &Value<'_>) -> Option<Usage>
     ensures { result ≡ as_usage (view value.now) }
 {
     let (blocks, inodes) = pair(value)?;
@@ -202,7 +211,7 @@ fn usage(value: &Value) -> Option<Usage>
 }
 
 /// A usage that must be there.
-pub(crate) fn required_usage(field: Field, line: &Value) -> Result<Usage, Fault>
+pub(crate) fn required_usage(field: Field, line: &Value<'_>) -> Result<Usage, Fault>
     ensures { result ≡ required as_usage field (view line.now) }
 {
     match find(field, line) {
@@ -212,7 +221,7 @@ pub(crate) fn required_usage(field: Field, line: &Value) -> Result<Usage, Fault>
 }
 
 /// A usage, `[blocks, inodes]`, that may be absent. `BadField` where it is there and no such pair.
-pub fn usage_or(default: Usage, field: Field, line: &Value) -> Result<Usage, Fault>
+pub fn usage_or(default: Usage, field: Field, line: &Value<'_>) -> Result<Usage, Fault>
     ensures { result ≡ optional as_usage field (Ok default) (view line.now) }
 {
     match find(field, line) {
@@ -222,15 +231,18 @@ pub fn usage_or(default: Usage, field: Field, line: &Value) -> Result<Usage, Fau
 }
 
 /// The labels of an object's members, where each is a text.
-fn labels_in(alloc: Global, members: &Map<String, Value>) -> Result<Option<Labels>, AllocError>
-    ensures { IfOk result (λ labels. labels ≡ labels_with [] (members_view members.now.entries)) }
+fn labels_in(
+    alloc: Global,
+    members: &BTreeMap<&str, &Value<'_>>,
+) -> Result<Option<Labels>, AllocError>
+    ensures { IfOk result (λ labels. labels ≡ labels_with [] (members_of members.now.entries)) }
 {
     let mut labels = Labels::new(alloc);
     for (key, member) in members.iter() {
         let Some(value) = member.as_str() else {
             return Ok(None);
         };
-        let key = Text::copy_of(alloc, key.as_str())?;
+        let key = Text::copy_of(alloc, key)?;
         let value = Text::copy_of(alloc, value)?;
         labels.insert(key, value)?;
     }
@@ -238,17 +250,17 @@ fn labels_in(alloc: Global, members: &Map<String, Value>) -> Result<Option<Label
 }
 
 /// Labels that must be there.
-pub(crate) fn required_labels(alloc: Global, line: &Value) -> Result<Labels, ReadError>
+pub(crate) fn required_labels(alloc: Global, line: &Value<'_>) -> Result<Labels, ReadError>
     ensures { Gives (λ labels. labels) result (required as_labels fields.Labels (view line.now)) }
 {
     let found = find(Field::Labels, line).ok_or(Fault::BadField(Field::Labels))?;
     let members = found.as_object().ok_or(Fault::BadField(Field::Labels))?;
-    let labels = labels_in(alloc, members)?;
+    let labels = labels_in(alloc, &by_name(alloc, members)?)?;
     Ok(labels.ok_or(Fault::BadField(Field::Labels))?)
 }
 
 /// Labels, none where the line has no such field.
-pub(crate) fn labels(alloc: Global, line: &Value) -> Result<Labels, ReadError>
+pub(crate) fn labels(alloc: Global, line: &Value<'_>) -> Result<Labels, ReadError>
     ensures { Gives (λ labels. labels) result (optional as_labels fields.Labels (Ok []) (view line.now)) }
 {
     match find(Field::Labels, line) {
@@ -258,12 +270,16 @@ pub(crate) fn labels(alloc: Global, line: &Value) -> Result<Labels, ReadError>
 }
 
 /// A label that is asked for: with the text as its value, or with any value where null stands for it.
-fn label_filter(alloc: Global, key: &str, value: &Value) -> Result<Option<LabelFilter>, AllocError>
+fn label_filter(
+    alloc: Global,
+    key: &str,
+    value: &Value<'_>,
+) -> Result<Option<LabelFilter>, AllocError>
     ensures { IfOk result (λ filter. filter ≡ label_filter key.now (view value.now)) }
 {
     let value = match value {
         Value::Null => None,
-        Value::String(text) => Some(Text::copy_of(alloc, text.as_str())?),
+        Value::String(text) => Some(Text::copy_of(alloc, text)?),
         _ => return Ok(None),
     };
     let key = Text::copy_of(alloc, key)?;
@@ -273,13 +289,13 @@ fn label_filter(alloc: Global, key: &str, value: &Value) -> Result<Option<LabelF
 /// The labels that an object's members ask for, where each is a text or null.
 fn label_filters_in(
     alloc: Global,
-    members: &Map<String, Value>,
+    members: &BTreeMap<&str, &Value<'_>>,
 ) -> Result<Option<Sequence<LabelFilter>>, AllocError>
-    ensures { IfOk result (λ filters. filters ≡ label_filters_in (members_view members.now.entries)) }
+    ensures { IfOk result (λ filters. filters ≡ label_filters_in (members_of members.now.entries)) }
 {
     let mut filters = Sequence::new(alloc);
     for (key, value) in members.iter() {
-        let Some(filter) = label_filter(alloc, key.as_str(), value)? else {
+        let Some(filter) = label_filter(alloc, key, value)? else {
             return Ok(None);
         };
         filters.push(filter)?;
@@ -288,25 +304,28 @@ fn label_filters_in(
 }
 
 /// The labels that are asked for, none where the line has no such field.
-pub(crate) fn label_filters(alloc: Global, line: &Value) -> Result<Sequence<LabelFilter>, ReadError>
+pub(crate) fn label_filters(
+    alloc: Global,
+    line: &Value<'_>,
+) -> Result<Sequence<LabelFilter>, ReadError>
     ensures { Gives (λ filters. filters) result (optional as_label_filters fields.Labels (Ok []) (view line.now)) }
 {
     let Some(value) = find(Field::Labels, line) else {
         return Ok(Sequence::new(alloc));
     };
     let members = value.as_object().ok_or(Fault::BadField(Field::Labels))?;
-    let filters = label_filters_in(alloc, members)?;
+    let filters = label_filters_in(alloc, &by_name(alloc, members)?)?;
     Ok(filters.ok_or(Fault::BadField(Field::Labels))?)
 }
 
 /// A namespace: a name, blocks and inodes.
-fn namespace(alloc: Global, value: &Value) -> Result<Option<Namespace>, AllocError>
+fn namespace(alloc: Global, value: &Value<'_>) -> Result<Option<Namespace>, AllocError>
     ensures { IfOk result (λ namespace. namespace ≡ as_namespace (view value.now)) }
 {
     let Some(values) = value.as_array() else {
         return Ok(None);
     };
-    let [name, limit @ ..] = values.as_slice() else {
+    let [name, limit @ ..] = values else {
         return Ok(None);
     };
     let (Some(name), Some((blocks, inodes))) = (name.as_str(), pair_in(limit)) else {
@@ -319,7 +338,10 @@ fn namespace(alloc: Global, value: &Value) -> Result<Option<Namespace>, AllocErr
 }
 
 /// The namespaces of an array, where each item is one.
-fn namespaces_in(alloc: Global, values: &[Value]) -> Result<Option<Sequence<Namespace>>, AllocError>
+fn namespaces_in(
+    alloc: Global,
+    values: &[Value<'_>],
+) -> Result<Option<Sequence<Namespace>>, AllocError>
     ensures { IfOk result (λ namespaces. namespaces ≡ namespaces_in (items_view values.now)) }
 {
     let mut namespaces = Sequence::new(alloc);
@@ -333,17 +355,17 @@ fn namespaces_in(alloc: Global, values: &[Value]) -> Result<Option<Sequence<Name
 }
 
 /// The namespaces of a line.
-pub(crate) fn namespaces(alloc: Global, line: &Value) -> Result<Sequence<Namespace>, ReadError>
+pub(crate) fn namespaces(alloc: Global, line: &Value<'_>) -> Result<Sequence<Namespace>, ReadError>
     ensures { Gives (λ namespaces. namespaces) result (required as_namespaces fields.Namespaces (view line.now)) }
 {
     let found = find(Field::Namespaces, line).ok_or(Fault::BadField(Field::Namespaces))?;
     let values = found.as_array().ok_or(Fault::BadField(Field::Namespaces))?;
-    let namespaces = namespaces_in(alloc, values.as_slice())?;
+    let namespaces = namespaces_in(alloc, values)?;
     Ok(namespaces.ok_or(Fault::BadField(Field::Namespaces))?)
 }
 
 /// The bytes of a fill.
-fn fill(alloc: Global, line: &Value) -> Result<Bytes, ReadError>
+fn fill(alloc: Global, line: &Value<'_>) -> Result<Bytes, ReadError>
     ensures { Gives (λ bytes. bytes) result (required as_fill fields.Fill (view line.now)) }
 {
     let fault = Fault::BadField(Field::Fill);
@@ -356,7 +378,7 @@ fn fill(alloc: Global, line: &Value) -> Result<Bytes, ReadError>
 }
 
 /// The bytes that are written.
-pub(crate) fn content(alloc: Global, line: &Value) -> Result<Bytes, ReadError>
+pub(crate) fn content(alloc: Global, line: &Value<'_>) -> Result<Bytes, ReadError>
     ensures { Gives (λ bytes. bytes) result (content_of (view line.now)) }
 {
     let Some(value) = find(Field::Text, line) else {
@@ -367,7 +389,7 @@ pub(crate) fn content(alloc: Global, line: &Value) -> Result<Bytes, ReadError>
 }
 
 /// The target of a symlink.
-pub(crate) fn target(alloc: Global, line: &Value) -> Result<Bytes, ReadError>
+pub(crate) fn target(alloc: Global, line: &Value<'_>) -> Result<Bytes, ReadError>
     ensures { Gives (λ bytes. bytes) result (text fields.Target (view line.now)) }
 {
     let target = lent_text(Field::Target, line)?;

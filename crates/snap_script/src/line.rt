@@ -1,15 +1,15 @@
 ghost use Rattle.std.specs.Prelude.{◌≡◌};
-ghost use Rattle.serde_json.specs.View.{view};
+ghost use Rattle.snap_json.specs.View.{view};
 ghost use Rattle.snap_script.specs.Lines.{is_empty, json_of, object_in, allowed, command_in, command_line, opening_of, line_of};
 ghost use Rattle.snap_script.specs.Gives.{Gives};
 
 use crate::command::Command;
-use crate::fault::{Fault, Field, ReadError, Shortage};
+use crate::fault::{Fault, Field, ReadError};
 use crate::fields::{lent_text, number_or};
 use crate::parse::{command_of, config_of};
 use crate::verb::{Verb, verb_of};
-use serde_json::Value;
 use snap_call::Config;
+use snap_json::{Scratch, Unreadable, Value};
 use std::alloc::Global;
 
 /// A line has at most so many bytes, without its line feed.
@@ -39,28 +39,37 @@ pub fn is_empty(bytes: &[u8]) -> bool
 
 /// The value that a line is.
 #[tactic(auto, using(crate::proofs::LineValues::not_utf8, crate::proofs::LineValues::not_json, crate::proofs::LineValues::is_json))]
-fn value_of(alloc: Global, bytes: &[u8]) -> Result<Value, ReadError>
+fn value_of<'a>(
+    alloc: Global,
+    bytes: &'a [u8],
+    scratch: &'a mut Scratch,
+) -> Result<Value<'a>, ReadError>
     ensures { Gives view result (json_of bytes.now) }
 {
     let Ok(text) = str::from_utf8(bytes) else {
         return Err(ReadError::Fault(Fault::NotJson));
     };
-    match Value::from_str(alloc, text) {
+    match Value::read(alloc, text, scratch) {
         Ok(value) => Ok(value),
-        Err(e) if e.is_memory() => Err(ReadError::OutOfMemory(Shortage::Library)),
-        Err(_) => Err(ReadError::Fault(Fault::NotJson)),
+        Err(Unreadable::NotJson) => Err(ReadError::Fault(Fault::NotJson)),
+        Err(Unreadable::OutOfMemory(no_memory)) => Err(no_memory.into()),
     }
 }
 
-/// The object that a line is, without its line feed, whatever its length.
+/// The object that a line is, without its line feed, whatever its length. The line lends its texts, and those with
+/// escapes the scratch.
 ///
-/// `NotJson`, then `NotAnObject`; `OutOfMemory` where memory for the value was refused. The memory and the
-/// cost grow with the line.
+/// `NotJson`, then `NotAnObject`; `OutOfMemory` where memory for the scratch or the value was refused. The memory
+/// and the cost grow with the line.
 #[tactic(auto, unfolding(crate::specs::Lines::object_in))]
-pub fn read_object(alloc: Global, bytes: &[u8]) -> Result<Value, ReadError>
+pub fn read_object<'a>(
+    alloc: Global,
+    bytes: &'a [u8],
+    scratch: &'a mut Scratch,
+) -> Result<Value<'a>, ReadError>
     ensures { Gives view result (object_in bytes.now) }
 {
-    let value = value_of(alloc, bytes)?;
+    let value = value_of(alloc, bytes, scratch)?;
     if value.is_object() {
         Ok(value)
     } else {
@@ -84,7 +93,7 @@ fn allowed(opened: bool, verb: Option<Verb>) -> Result<Verb, Fault>
 
 /// The command of the object that a line is.
 #[tactic(auto, unfolding(crate::specs::Lines::command_in))]
-pub(crate) fn command_in(alloc: Global, opened: bool, line: &Value) -> Result<Line, ReadError>
+pub(crate) fn command_in(alloc: Global, opened: bool, line: &Value<'_>) -> Result<Line, ReadError>
     ensures { Gives (λ line. line) result (command_in opened (view line.now)) }
 {
     let word = lent_text(Field::Do, line)?;
@@ -98,7 +107,8 @@ pub(crate) fn command_in(alloc: Global, opened: bool, line: &Value) -> Result<Li
 fn command_line(alloc: Global, opened: bool, bytes: &[u8]) -> Result<Line, ReadError>
     ensures { Gives (λ line. line) result (command_line opened bytes.now) }
 {
-    let line = read_object(alloc, bytes)?;
+    let mut scratch = Scratch::new(alloc);
+    let line = read_object(alloc, bytes, &mut scratch)?;
     command_in(alloc, opened, &line)
 }
 
@@ -108,7 +118,7 @@ fn command_line(alloc: Global, opened: bool, bytes: &[u8]) -> Result<Line, ReadE
 /// need not have its form. `OutOfMemory` where memory for it was refused. The memory and the cost grow with
 /// the line.
 #[tactic(auto, unfolding(crate::specs::Lines::opening_of))]
-pub fn read_open(alloc: Global, line: &Value) -> Result<Config, ReadError>
+pub fn read_open(alloc: Global, line: &Value<'_>) -> Result<Config, ReadError>
     ensures { Gives (λ config. config) result (opening_of (view line.now)) }
 {
     let word = lent_text(Field::Do, line)?;

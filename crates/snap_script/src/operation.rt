@@ -1,6 +1,6 @@
 // File operations, read from the values of lines and of jobs.
 ghost use Rattle.std.specs.Prelude.{◌≡◌};
-ghost use Rattle.serde_json.specs.View.{view, items_view};
+ghost use Rattle.snap_json.specs.View.{view, items_view};
 ghost use Rattle.snap_script.specs.Operations.{path_in, path, operation_at, file_operation, operation, operations_in, operations};
 ghost use Rattle.snap_script.specs.Gives.{Gives};
 
@@ -9,7 +9,7 @@ use crate::fields::{
     content, find, lent_text, mode_or, number_or, required_mode, required_number, target,
 };
 use crate::verb::{FileVerb, PathVerb, Verb, verb_of};
-use serde_json::Value;
+use snap_json::Value;
 use snap_path::limits::DEFAULT_MODE;
 use snap_path::{Path, PathError};
 use snap_record::Sequence;
@@ -21,7 +21,11 @@ const FILE_MODE: u32 = 0o644;
 
 /// The path of a field's text, which must be there, and none where the text is no path.
 #[tactic(auto, unfolding(crate::specs::Operations::path_in))]
-pub(crate) fn path_in(alloc: Global, field: Field, line: &Value) -> Result<Option<Path>, ReadError>
+pub(crate) fn path_in(
+    alloc: Global,
+    field: Field,
+    line: &Value<'_>,
+) -> Result<Option<Path>, ReadError>
     ensures { Gives (λ path. path) result (path_in field (view line.now)) }
 {
     let text = lent_text(field, line)?;
@@ -34,7 +38,7 @@ pub(crate) fn path_in(alloc: Global, field: Field, line: &Value) -> Result<Optio
 
 /// A path that must be there.
 #[tactic(auto, unfolding(crate::specs::Operations::path))]
-fn path(alloc: Global, field: Field, line: &Value) -> Result<Path, ReadError>
+fn path(alloc: Global, field: Field, line: &Value<'_>) -> Result<Path, ReadError>
     ensures { Gives (λ path. path) result (path field (view line.now)) }
 {
     let path = path_in(alloc, field, line)?;
@@ -43,7 +47,12 @@ fn path(alloc: Global, field: Field, line: &Value) -> Result<Path, ReadError>
 
 /// The operation of a verb at a path, with the line's other fields.
 #[tactic(auto, unfolding(crate::specs::Operations::operation_at))]
-fn operation_at(alloc: Global, verb: PathVerb, path: Path, line: &Value) -> Result<Op, ReadError>
+fn operation_at(
+    alloc: Global,
+    verb: PathVerb,
+    path: Path,
+    line: &Value<'_>,
+) -> Result<Op, ReadError>
     ensures { Gives (λ op. op) result (operation_at verb path (view line.now)) }
 {
     Ok(match verb {
@@ -83,7 +92,7 @@ fn operation_at(alloc: Global, verb: PathVerb, path: Path, line: &Value) -> Resu
 pub(crate) fn file_operation(
     alloc: Global,
     verb: FileVerb,
-    line: &Value,
+    line: &Value<'_>,
 ) -> Result<Option<Op>, ReadError>
     ensures { Gives (λ op. op) result (file_operation verb (view line.now)) }
 {
@@ -116,7 +125,7 @@ pub(crate) fn file_operation(
 
 /// The operation of a job that a value is.
 #[tactic(auto, unfolding(crate::specs::Operations::operation))]
-fn operation(alloc: Global, value: &Value) -> Result<Op, ReadError>
+fn operation(alloc: Global, value: &Value<'_>) -> Result<Op, ReadError>
     ensures { Gives (λ op. op) result (operation (view value.now)) }
 {
     if !value.is_object() {
@@ -141,7 +150,7 @@ fn operation(alloc: Global, value: &Value) -> Result<Op, ReadError>
 }
 
 /// The operations that values are, each in turn.
-fn operations_in(alloc: Global, values: &[Value]) -> Result<Sequence<Op>, ReadError>
+fn operations_in(alloc: Global, values: &[Value<'_>]) -> Result<Sequence<Op>, ReadError>
     ensures { Gives (λ ops. ops) result (operations_in (items_view values.now)) }
 {
     let mut ops = Sequence::new(alloc);
@@ -159,10 +168,10 @@ fn operations_in(alloc: Global, values: &[Value]) -> Result<Sequence<Op>, ReadEr
 /// is absent without a default, of a wrong kind, or a path's text that is no path. `OutOfMemory` where memory
 /// was refused. The memory and the cost grow with the line, and a `fill` takes as many bytes as it asks for.
 #[tactic(auto, unfolding(crate::specs::Operations::operations))]
-pub fn operations(alloc: Global, line: &Value) -> Result<Sequence<Op>, ReadError>
+pub fn operations(alloc: Global, line: &Value<'_>) -> Result<Sequence<Op>, ReadError>
     ensures { Gives (λ ops. ops) result (operations (view line.now)) }
 {
     let found = find(Field::Ops, line).ok_or(Fault::BadField(Field::Ops))?;
     let values = found.as_array().ok_or(Fault::BadField(Field::Ops))?;
-    operations_in(alloc, values.as_slice())
+    operations_in(alloc, values)
 }

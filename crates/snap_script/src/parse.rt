@@ -1,6 +1,6 @@
 // The commands of lines, read from their values.
 ghost use Rattle.std.specs.Prelude.{◌≡◌};
-ghost use Rattle.serde_json.specs.View.{view};
+ghost use Rattle.snap_json.specs.View.{view};
 ghost use Rattle.snap_history.specs.declared.kind.CallKind.TheVariants as kinds;
 ghost use Rattle.snap_script.specs.Commands.{named, config_of, filter_of, call_of, command_of};
 ghost use Rattle.snap_script.specs.Gives.{Gives};
@@ -13,10 +13,10 @@ use crate::fields::{
 };
 use crate::operation::{file_operation, path_in};
 use crate::verb::Verb;
-use serde_json::Value;
 use snap_call::limits::MAX_JOURNAL;
 use snap_call::{Call, Config};
 use snap_history::CallKind;
+use snap_json::Value;
 use snap_record::{Filter, Text};
 use snap_usage::Usage;
 use std::alloc::Global;
@@ -30,7 +30,7 @@ const PAGE: u64 = 64;
 /// The namespace (`ns`) and the key of the snapshot that a line names, both texts. Neither has to have its
 /// form. The cost grows with the texts.
 #[tactic(auto, unfolding(crate::specs::Commands::named))]
-pub fn named(alloc: Global, line: &Value) -> Result<(Text, Text), ReadError>
+pub fn named(alloc: Global, line: &Value<'_>) -> Result<(Text, Text), ReadError>
     ensures { Gives (λ snapshot. snapshot) result (named (view line.now)) }
 {
     let namespace = text(alloc, Field::Namespace, line)?;
@@ -40,7 +40,7 @@ pub fn named(alloc: Global, line: &Value) -> Result<(Text, Text), ReadError>
 
 /// The configuration of the store that an `open` names.
 #[tactic(auto, unfolding(crate::specs::Commands::config_of))]
-pub(crate) fn config_of(alloc: Global, line: &Value) -> Result<Config, ReadError>
+pub(crate) fn config_of(alloc: Global, line: &Value<'_>) -> Result<Config, ReadError>
     ensures { Gives (λ config. config) result (config_of (view line.now)) }
 {
     let root = text(alloc, Field::Root, line)?;
@@ -55,7 +55,7 @@ pub(crate) fn config_of(alloc: Global, line: &Value) -> Result<Config, ReadError
 }
 
 #[tactic(auto, unfolding(crate::specs::Commands::call_of))]
-fn prepare(alloc: Global, line: &Value) -> Result<Command, ReadError>
+fn prepare(alloc: Global, line: &Value<'_>) -> Result<Command, ReadError>
     ensures { Gives (λ c. c) result (call_of kinds.Prepare (view line.now)) }
 {
     let (namespace, key) = named(alloc, line)?;
@@ -68,7 +68,7 @@ fn prepare(alloc: Global, line: &Value) -> Result<Command, ReadError>
 }
 
 #[tactic(auto, unfolding(crate::specs::Commands::call_of))]
-fn view(alloc: Global, line: &Value) -> Result<Command, ReadError>
+fn view(alloc: Global, line: &Value<'_>) -> Result<Command, ReadError>
     ensures { Gives (λ c. c) result (call_of kinds.View (view line.now)) }
 {
     let (namespace, key) = named(alloc, line)?;
@@ -83,7 +83,7 @@ fn view(alloc: Global, line: &Value) -> Result<Command, ReadError>
 }
 
 #[tactic(auto, unfolding(crate::specs::Commands::call_of))]
-fn charge(alloc: Global, line: &Value) -> Result<Command, ReadError>
+fn charge(alloc: Global, line: &Value<'_>) -> Result<Command, ReadError>
     ensures { Gives (λ c. c) result (call_of kinds.Charge (view line.now)) }
 {
     let (namespace, key) = named(alloc, line)?;
@@ -98,7 +98,7 @@ fn charge(alloc: Global, line: &Value) -> Result<Command, ReadError>
 }
 
 #[tactic(auto, unfolding(crate::specs::Commands::call_of))]
-fn update(alloc: Global, line: &Value) -> Result<Command, ReadError>
+fn update(alloc: Global, line: &Value<'_>) -> Result<Command, ReadError>
     ensures { Gives (λ c. c) result (call_of kinds.Update (view line.now)) }
 {
     let (namespace, key) = named(alloc, line)?;
@@ -112,7 +112,7 @@ fn update(alloc: Global, line: &Value) -> Result<Command, ReadError>
 
 /// The filter of a walk.
 #[tactic(auto, unfolding(crate::specs::Commands::filter_of))]
-fn filter(alloc: Global, line: &Value) -> Result<Filter, ReadError>
+fn filter(alloc: Global, line: &Value<'_>) -> Result<Filter, ReadError>
     ensures { Gives (λ filter. filter) result (filter_of (view line.now)) }
 {
     Ok(Filter {
@@ -124,7 +124,7 @@ fn filter(alloc: Global, line: &Value) -> Result<Filter, ReadError>
 }
 
 #[tactic(auto, unfolding(crate::specs::Commands::call_of))]
-fn walk(alloc: Global, line: &Value) -> Result<Command, ReadError>
+fn walk(alloc: Global, line: &Value<'_>) -> Result<Command, ReadError>
     ensures { Gives (λ c. c) result (call_of kinds.Walk (view line.now)) }
 {
     Ok(Command::Call(Call::Walk {
@@ -136,7 +136,7 @@ fn walk(alloc: Global, line: &Value) -> Result<Command, ReadError>
 }
 
 #[tactic(auto, unfolding(crate::specs::Commands::call_of))]
-fn set_limit(alloc: Global, line: &Value) -> Result<Command, ReadError>
+fn set_limit(alloc: Global, line: &Value<'_>) -> Result<Command, ReadError>
     ensures { Gives (λ c. c) result (call_of kinds.Limit (view line.now)) }
 {
     let namespace = text(alloc, Field::Namespace, line)?;
@@ -147,7 +147,7 @@ fn set_limit(alloc: Global, line: &Value) -> Result<Command, ReadError>
 }
 
 #[tactic(auto, unfolding(crate::specs::Commands::call_of))]
-fn lease_create(alloc: Global, line: &Value) -> Result<Command, ReadError>
+fn lease_create(alloc: Global, line: &Value<'_>) -> Result<Command, ReadError>
     ensures { Gives (λ c. c) result (call_of kinds.LeaseCreate (view line.now)) }
 {
     Ok(Command::Call(Call::LeaseCreate {
@@ -158,7 +158,7 @@ fn lease_create(alloc: Global, line: &Value) -> Result<Command, ReadError>
 }
 
 #[tactic(auto, unfolding(crate::specs::Commands::call_of))]
-fn lease_add(alloc: Global, line: &Value) -> Result<Command, ReadError>
+fn lease_add(alloc: Global, line: &Value<'_>) -> Result<Command, ReadError>
     ensures { Gives (λ c. c) result (call_of kinds.LeaseAdd (view line.now)) }
 {
     Ok(Command::Call(Call::LeaseAdd {
@@ -169,7 +169,7 @@ fn lease_add(alloc: Global, line: &Value) -> Result<Command, ReadError>
 }
 
 #[tactic(auto, unfolding(crate::specs::Commands::call_of))]
-fn sweep(alloc: Global, line: &Value) -> Result<Command, ReadError>
+fn sweep(alloc: Global, line: &Value<'_>) -> Result<Command, ReadError>
     ensures { Gives (λ c. c) result (call_of kinds.Sweep (view line.now)) }
 {
     let namespace = text(alloc, Field::Namespace, line)?;
@@ -178,7 +178,7 @@ fn sweep(alloc: Global, line: &Value) -> Result<Command, ReadError>
 }
 
 #[tactic(auto, unfolding(crate::specs::Commands::call_of))]
-fn commit(alloc: Global, line: &Value) -> Result<Command, ReadError>
+fn commit(alloc: Global, line: &Value<'_>) -> Result<Command, ReadError>
     ensures { Gives (λ c. c) result (call_of kinds.Commit (view line.now)) }
 {
     let (namespace, key) = named(alloc, line)?;
@@ -192,7 +192,7 @@ fn commit(alloc: Global, line: &Value) -> Result<Command, ReadError>
 
 /// The command of a line that is a call, by its kind.
 #[tactic(auto, unfolding(crate::specs::Commands::call_of))]
-fn call_of(alloc: Global, kind: CallKind, line: &Value) -> Result<Command, ReadError>
+fn call_of(alloc: Global, kind: CallKind, line: &Value<'_>) -> Result<Command, ReadError>
     ensures { Gives (λ c. c) result (call_of kind (view line.now)) }
 {
     match kind {
@@ -240,7 +240,7 @@ fn call_of(alloc: Global, kind: CallKind, line: &Value) -> Result<Command, ReadE
 
 /// The command of a line by its verb.
 #[tactic(auto, unfolding(crate::specs::Commands::command_of))]
-pub(crate) fn command_of(alloc: Global, verb: Verb, line: &Value) -> Result<Command, ReadError>
+pub(crate) fn command_of(alloc: Global, verb: Verb, line: &Value<'_>) -> Result<Command, ReadError>
     ensures { Gives (λ c. c) result (command_of verb (view line.now)) }
 {
     match verb {

@@ -1,12 +1,12 @@
 // A line that a client may give an id.
 ghost use Rattle.std.specs.Prelude.{◌≡◌, IfOk, None};
-ghost use Rattle.serde_json.specs.View.{view};
+ghost use Rattle.snap_json.specs.View.{view};
 ghost use Rattle.snap_script.specs.Lines.{command_in, line_of};
 ghost use Rattle.snap_script.specs.Requests.{id_in, id_of};
 
 use crate::fault::{Fault, ReadError, Shortage};
 use crate::line::{Line, MAX_LINE_BYTES, command_in, is_empty, read_object};
-use serde_json::Value;
+use snap_json::{Scratch, Value};
 use snap_record::Text;
 use std::alloc::{AllocError, Global};
 
@@ -35,7 +35,7 @@ impl Request {
     }
 }
 
-fn id_in(alloc: Global, line: &Value) -> Result<Option<Id>, AllocError>
+fn id_in(alloc: Global, line: &Value<'_>) -> Result<Option<Id>, AllocError>
     ensures { IfOk result (λ id. id ≡ id_in (view line.now)) }
 {
     let Some(value) = line.get("id") else {
@@ -51,7 +51,7 @@ fn id_in(alloc: Global, line: &Value) -> Result<Option<Id>, AllocError>
 }
 
 /// The request of the object that a line is.
-fn request_in(alloc: Global, opened: bool, line: &Value) -> Result<Request, Shortage>
+fn request_in(alloc: Global, opened: bool, line: &Value<'_>) -> Result<Request, Shortage>
     ensures { IfOk result (λ request. (request.id ≡ id_in (view line.now)) × (request.line ≡ command_in opened (view line.now))) }
 {
     let id = id_in(alloc, line)?;
@@ -81,7 +81,8 @@ pub fn read_request(alloc: Global, bytes: &[u8], opened: bool) -> Result<Request
     if is_empty(bytes) {
         return Ok(Request::without_id(Ok(Line::Empty)));
     }
-    match read_object(alloc, bytes) {
+    let mut scratch = Scratch::new(alloc);
+    match read_object(alloc, bytes, &mut scratch) {
         Ok(line) => Ok(request_in(alloc, opened, &line)?),
         Err(ReadError::Fault(fault)) => Ok(Request::without_id(Err(fault))),
         Err(ReadError::OutOfMemory(shortage)) => Err(shortage),

@@ -1,6 +1,6 @@
 use Rattle.std.proofs.Common.{◌≡◌, ◌++◌, drop}
 use Rattle.std.specs.Prelude.{option_map}
-use Rattle.serde_json.specs.View.{items_view}
+use Rattle.snap_json.specs.View.{items_view}
 use Rattle.snap_script.specs.Fields.{namespaces_in}
 use Rattle.snap_script.proofs.fields.namespaces_in.Given as goal
 

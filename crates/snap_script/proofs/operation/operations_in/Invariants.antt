@@ -1,5 +1,5 @@
 use Rattle.std.proofs.Common.{◌≡◌, ◌++◌, drop, Ok}
-use Rattle.serde_json.specs.View.{items_view}
+use Rattle.snap_json.specs.View.{items_view}
 use Rattle.snap_script.specs.Operations.{operations_in}
 use Rattle.snap_script.specs.Results.{◌>>=◌}
 use Rattle.snap_script.proofs.operation.operations_in.Given as goal
