@@ -18,14 +18,14 @@ use Rattle.snap_record.specs.declared.record.Record.{Record}
 use Rattle.snap_call.specs.declared.config.Namespace.{Namespace}
 use Rattle.snap_call.specs.declared.state.State.{State}
 use Rattle.snap_call.specs.Good.{Good}
-use Rattle.snap_call.specs.Records.{active_one, charge_of, charge_at, committed_at, has_slot, is_active, is_named, open_count, record_at, with_record, without_key, relabelled}
+use Rattle.snap_call.specs.Records.{charge_of, charge_at, committed_at, has_slot, is_active, is_named, open_count, record_at, with_record, without_key, relabelled}
 use Rattle.snap_call.specs.State.{place_of, shown_layers}
 use Rattle.snap_call.specs.Step.{added, leasing, limited_at, removed_at, relabelled_at}
 use Rattle.snap_call.proofs.Alike.{bare-relabelled, alike-charge_of, alike-charge_at, alike-open_count}
 use Rattle.snap_call.proofs.Counts.{open_count-with_record, open_count-without_idle}
 use Rattle.snap_call.proofs.Keeping.{good_relabelled, good_removed, good_view_added, place_of-below, removed_others, removed_total}
 use Rattle.snap_call.proofs.Leasing.{good_created, good_limited, good_named, good_released, length-limited}
-use Rattle.snap_call.proofs.Lists.{record_at-is_named}
+use Rattle.snap_call.proofs.Lists.{record_at-is_named, active_one}
 use Rattle.snap_call.proofs.Slots.{charge_at-with_record_other, charge_at-without_idle}
 use Rattle.snap_call.proofs.Sums.{plus-none, charge_of-covers, charge_of-with_record}
 use Rattle.snap_accounts.specs.Accounts.{AreAccounts}

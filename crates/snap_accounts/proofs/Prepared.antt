@@ -7,12 +7,13 @@ use Rattle.snap_usage.specs.Counted.{no_usage, covers}
 use Rattle.snap_ledger.specs.States.{ChargeState, plus}
 use Rattle.snap_record.specs.Labels.{Bytes, Label}
 use Rattle.snap_record.specs.declared.record.Record.{Record}
+use Rattle.snap_record.specs.declared.record.Content.TheVariants.{Active}
 use Rattle.snap_call.specs.declared.refusal.Refusal.TheVariants.{TooDeep}
 use Rattle.snap_call.specs.declared.state.State.{State}
 use Rattle.snap_call.specs.Good.{Good}
 use Rattle.snap_call.specs.Records.{charge_of, active_at, has_key, is_slot, open_count, with_record}
 use Rattle.snap_call.specs.State.{limit_at, is_present, is_base, is_too_deep}
-use Rattle.snap_call.specs.Step.{new_active, one, place_for, place_on, slot_for}
+use Rattle.snap_call.specs.Step.{one, place_for, place_on, slot_for, new_record}
 use Rattle.snap_call.proofs.Counts.{open_count-with_active, open_count-most}
 use Rattle.snap_call.proofs.Keeping.{covers-Covers, good_prepared, place_of-below}
 use Rattle.snap_call.proofs.Lowest.{lowest_free-Some}
@@ -24,12 +25,12 @@ use Rattle.snap_accounts.specs.Vacant.{IsSite, IsVacant}
 use Rattle.snap_accounts.proofs.Accounting.{accounts_added, charge_in-at}
 
 -- a new snapshot is in its slot
-pub new_active-is_slot : (s : State) (place : ℕ) (key parent : Bytes) (labels : List Label) (slot : ℕ) → is_slot slot (new_active s place key parent labels slot) ≡ true
-new_active-is_slot s place key parent labels slot = Active-is_slot slot one (new_active s place key parent labels slot) refl
+pub new_active-is_slot : (s : State) (place : ℕ) (key parent : Bytes) (labels : List Label) (slot : ℕ) → is_slot slot (new_record s place key parent labels (Active slot one)) ≡ true
+new_active-is_slot s place key parent labels slot = Active-is_slot slot one (new_record s place key parent labels (Active slot one)) refl
 
 -- there is one open snapshot more
-pub open_count-prepared : (s : State) (place : ℕ) (key parent : Bytes) (labels : List Label) (slot : ℕ) (rs : List Record) → rs ≡ with_record (new_active s place key parent labels slot) s.records → open_count rs ≡ open_count s.records + 1
-open_count-prepared s place key parent labels slot rs is = ap open_count is ∙ open_count-with_active slot (new_active s place key parent labels slot) s.records (new_active-is_slot s place key parent labels slot)
+pub open_count-prepared : (s : State) (place : ℕ) (key parent : Bytes) (labels : List Label) (slot : ℕ) (rs : List Record) → rs ≡ with_record (new_record s place key parent labels (Active slot one)) s.records → open_count rs ≡ open_count s.records + 1
+open_count-prepared s place key parent labels slot rs is = ap open_count is ∙ open_count-with_active slot (new_record s place key parent labels (Active slot one)) s.records (new_active-is_slot s place key parent labels slot)
 
 -- a free slot holds nothing
 pub charge_in-free : (s : State) (us : List Usage) (cs : List ChargeState) (n slot : ℕ) → AreAccounts s us cs n → slot < 64 → active_at slot s.records ≡ None → (charge_in cs slot).usage ≡ no_usage
@@ -43,11 +44,11 @@ open-most s us cs n accounts = let most = open_count-most s.records accounts.goo
 pub accounts_prepared : (s : State) (us vs : List Usage) (cs ds : List ChargeState) (n place slot : ℕ) (key parent : Bytes) (labels : List Label) (rs : List Record)
     → AreAccounts s us cs n → place < length s.namespaces → has_key place key s.records ≡ false → is_base place parent s.records ≡ true → is_too_deep place parent s.records ≡ false
     → slot < 64 → active_at slot s.records ≡ None → covers (limit_at place s.namespaces) (plus (charge_of place s.records) one) ≡ true
-    → rs ≡ with_record (new_active s place key parent labels slot) s.records → vs ≡ set us place (plus (charge_of place s.records) one) → ds ≡ set cs slot (record { slot = slot; id = s.next_id; usage = one; issued = true })
+    → rs ≡ with_record (new_record s place key parent labels (Active slot one)) s.records → vs ≡ set us place (plus (charge_of place s.records) one) → ds ≡ set cs slot (record { slot = slot; id = s.next_id; usage = one; issued = true })
     → AreAccounts (record s { records = rs; next_id = s.next_id + 1; entries = s.entries + 1 }) vs ds (n + 1)
 accounts_prepared s us vs cs ds n place slot key parent labels rs accounts inside new base deep low none fits is is_vs is_ds =
     let good = good_prepared s place key parent labels slot accounts.good inside new base deep low none (covers-Covers (limit_at place s.namespaces) (plus (charge_of place s.records) one) fits) in
-    accounts_added s (record s { records = rs; next_id = s.next_id + 1; entries = s.entries + 1 }) us vs cs ds n (n + 1) slot (new_active s place key parent labels slot) accounts
+    accounts_added s (record s { records = rs; next_id = s.next_id + 1; entries = s.entries + 1 }) us vs cs ds n (n + 1) slot (new_record s place key parent labels (Active slot one)) accounts
     (subst (λ (l : List Record). Good (record s { records = l; next_id = s.next_id + 1; entries = s.entries + 1 })) (sym is) good)
     none (new_active-is_slot s place key parent labels slot) low inside refl is
     (ap (λ (k : ℕ). k + 1) accounts.open_are ∙ sym (open_count-prepared s place key parent labels slot rs is))

@@ -253,7 +253,7 @@ impl<N: StoreName> Accounts<N> {
         paths: &[Text],
     ) -> Result<(Reply, Change), AllocError>
         requires entries { self.now.entries < 2 ^ 63 }
-        ensures reply { IfOk result (λ p. update_record self.now place key.now given.now paths.now (Some snapshot.now) ≡ (changed self.now p.1, p.0)) }
+        ensures reply { IfOk result (λ p. update_record self.now key.now given.now paths.now place snapshot.now ≡ (changed self.now p.1, p.0)) }
         ensures recorded { IfOk result (λ p. IsInEntry p.0) }
         ensures possible { IfOk result (λ p. CanChange self.now p.1) }
     {

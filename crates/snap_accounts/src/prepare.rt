@@ -4,9 +4,10 @@ ghost use Rattle.snap_usage.specs.Counted.{covers as covers_of};
 ghost use Rattle.snap_ledger.specs.States.{plus};
 ghost use Rattle.snap_call.specs.Records.{charge_of, active_at, lowest_free, has_key, open_count};
 ghost use Rattle.snap_call.specs.State.{limit_at, place_of, is_base, is_too_deep};
-ghost use Rattle.snap_call.specs.Step.{prepare, prepared, new_active, new_record, one, refused, place_on, place_for, slot_for};
+ghost use Rattle.snap_call.specs.Step.{prepare, prepared, new_record, one, refused, place_on, place_for, slot_for};
 ghost use Rattle.snap_accounts.specs.Entries.{IsRecorded};
 ghost use Rattle.snap_accounts.specs.Vacant.{IsVacant};
+ghost use Rattle.snap_record.specs.declared.record.Content.TheVariants.{Active};
 
 use crate::accounts::Accounts;
 use crate::charge::{has_room, sum};
@@ -162,7 +163,7 @@ impl<N: StoreName> Accounts<N> {
     fn insert(&mut self, vacancy: Vacancy, added: Record) -> Result<Share<N>, AllocError>
         requires vacant { IsVacant self.old vacancy added.key added.parent }
         requires entries { self.old.entries < 2 ^ 63 }
-        requires added { added ≡ new_active self.old vacancy.place added.key added.parent added.labels vacancy.slot }
+        requires added { added ≡ new_record self.old vacancy.place added.key added.parent added.labels (Active vacancy.slot one) }
         ensures added { OnOk result (self.new ≡ (prepared self.old vacancy.place added.key added.parent added.labels vacancy.slot).0) }
         ensures share { IfOk result (λ s. s ≡ record { slot = vacancy.slot; id = self.old.next_id; usage = one }) }
         ensures open { OnOk result (open_count self.new.records ≡ open_count self.old.records + 1) }

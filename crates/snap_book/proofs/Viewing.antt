@@ -21,7 +21,7 @@ use Rattle.snap_call.specs.declared.state.State.{State}
 use Rattle.snap_call.specs.Journal.{entry}
 use Rattle.snap_call.specs.Records.{has_key, is_named, record_cmp, with_record}
 use Rattle.snap_call.specs.State.{place_of, ancestors, ids_of, shown_layers}
-use Rattle.snap_call.specs.Step.{added, new_view, place_for, refused, step, unless_refused, view, view_at, viewed}
+use Rattle.snap_call.specs.Step.{added, place_for, refused, step, unless_refused, view, view_at, viewed, new_record}
 use Rattle.snap_call.proofs.Lists.{all-map, all-with_record, none-passes}
 use Rattle.snap_call.proofs.InOrder.{record_cmp_total, tied-is_named}
 use Rattle.snap_call.proofs.Places.{place_for-Ok}
@@ -73,7 +73,7 @@ same_layers a b e = cc
 granted_viewed : (s : State) (namespace key parent : Bytes) (labels : List Label) (place : ℕ) (r : Record) (reply : Reply) (v : ViewedValue) → place_of namespace s.namespaces ≡ Some place
     → viewed s place key parent labels ≡ (added s r, reply) → CanChange s (View r) → IsViewOf (View r) v → IsGranted s namespace parent reply v
 granted_viewed s namespace key parent labels place r reply v named e can is =
-    let q : Record = new_view s place key parent labels in
+    let q : Record = new_record s place key parent labels (contents.View (shown_layers place parent s.records)) in
     let same : r ≡ q = same_record r q s.records can.site.new (ap (λ (p : State × Reply). p.0.records) e) in
     let id : s.next_id ≡ v.id = sym can.id ∙ is.0 in
     let answer : reply ≡ replies.Viewed v.id (ids_of (ancestors place parent s.records)) =

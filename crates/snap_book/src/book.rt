@@ -2,7 +2,7 @@
 ghost use Rattle.std.specs.Prelude.{◌≡◌, ◌≤◌, ◌<◌, ◌+◌, ◌↔◌, None, length, Ok, Err, IfErr, IsErrOf, ◌⊎◌, [], IfOk, OnErr, false};
 ghost use Rattle.snap_call.specs.Good.{Good};
 ghost use Rattle.snap_call.specs.Journal.{Replays};
-ghost use Rattle.snap_call.specs.Records.{open_count, charge_of};
+ghost use Rattle.snap_call.specs.Records.{open_count, charge_of, sum_of};
 ghost use Rattle.snap_call.specs.declared.call.Call.TheVariants as calls;
 ghost use Rattle.snap_call.specs.declared.call.Given.TheVariants.{Nothing};
 ghost use Rattle.snap_call.specs.declared.reply.Reply.TheVariants.{Opened};
@@ -10,7 +10,7 @@ ghost use Rattle.snap_call.specs.declared.refusal.Refusal.TheVariants.{JournalFu
 ghost use Rattle.snap_book.specs.Book.{IsLast, IsOpening, Recorded};
 ghost use Rattle.snap_call.specs.Forms.{is_config};
 ghost use Rattle.snap_call.specs.State.{opening, place_of, name_at};
-ghost use Rattle.snap_call.specs.Totals.{counts_and_shares};
+ghost use Rattle.snap_call.specs.Totals.{taken_by};
 ghost use Rattle.snap_accounts.specs.Entries.{IsUnrecorded};
 ghost use Rattle.std.specs.Option.{option_map};
 ghost use Rattle.snap_path.specs.Memory.{no_memory};
@@ -168,7 +168,7 @@ impl<N: StoreName> Book<N> {
     pub fn totals(&self, namespace: &str) -> Option<Usage>
         ensures charge { result ≡ option_map (λ place. charge_of place self.now.state.records) (place_of namespace.now self.now.state.namespaces) }
         // The counts over its committed layers, and its open shares.
-        ensures counts { result ≡ option_map (λ place. counts_and_shares place self.now.state.records) (place_of namespace.now self.now.state.namespaces) }
+        ensures counts { result ≡ option_map (λ place. sum_of taken_by place self.now.state.records) (place_of namespace.now self.now.state.namespaces) }
     {
         match self.accounts.state().place_of(namespace) {
             Some(place) => Some(self.accounts.total(place)),

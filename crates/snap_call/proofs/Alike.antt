@@ -10,10 +10,10 @@ use Rattle.snap_lease.specs.Lease.{Lease}
 use Rattle.snap_record.specs.Labels.{Bytes, Label}
 use Rattle.snap_record.specs.declared.record.Record.{Record}
 use Rattle.snap_call.specs.declared.config.Namespace.{Namespace}
-use Rattle.snap_call.specs.Records.{record_cmp, is_named, record_at, is_slot, active_at, is_committed, committed_at, charge_of, charge_if, charge_at, active_one, open_count, with_labels, relabelled, AllPairwise}
+use Rattle.snap_call.specs.Records.{record_cmp, is_named, record_at, is_slot, active_at, is_committed, committed_at, charge_of, charge_if, charge_at, open_count, with_labels, relabelled, AllPairwise}
 use Rattle.snap_call.specs.State.{place_of, chain_from, is_base, ancestors, ids_of, with_layer, layers_of}
 use Rattle.snap_call.specs.Good.{IsGuarding}
-use Rattle.snap_call.proofs.Lists.{all-map, some_same, none_some, if_committed}
+use Rattle.snap_call.proofs.Lists.{all-map, some_same, none_some, if_committed, active_one, open_count-cons}
 use Rattle.snap_call.proofs.Chains.{HasParent, NamesStand, chain, chain_over}
 use Rattle.snap_call.proofs.Sums.{part_of}
 
@@ -118,7 +118,7 @@ charge_of-bare place (r ∷ rs) = ap (plus (part_of place r)) (charge_of-bare pl
 
 pub open_count-bare : (rs : List Record) → open_count (map bare rs) ≡ open_count rs
 open_count-bare [] = refl
-open_count-bare (r ∷ rs) = ap (λ n. active_one r.content + n) (open_count-bare rs)
+open_count-bare (r ∷ rs) = open_count-cons (bare r) (map bare rs) ∙ ap (λ n. active_one r.content + n) (open_count-bare rs) ∙ sym (open_count-cons r rs)
 
 pub charge_at-bare : (slot : ℕ) (rs : List Record) → charge_at slot (map bare rs) ≡ charge_at slot rs
 charge_at-bare slot rs = ap (charge_if slot) (active_at-bare slot rs) ∙ by (active_at slot rs)

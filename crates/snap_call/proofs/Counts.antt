@@ -10,8 +10,8 @@ use Rattle.snap_record.specs.Labels.{Bytes}
 use Rattle.snap_record.specs.declared.record.Content.{Content}
 use Rattle.snap_record.specs.declared.record.Content.TheVariants.{View, Active, Committed}
 use Rattle.snap_record.specs.declared.record.Record.{Record}
-use Rattle.snap_call.specs.Records.{record_cmp, has_slot, is_slot, is_active, active_at, active_one, open_count, with_record, without, without_slot, recharged, committed_as, AllPairwise, AreApart, HasLowSlot}
-use Rattle.snap_call.proofs.Lists.{active_at-is_slot, all-without, pairwise-without}
+use Rattle.snap_call.specs.Records.{record_cmp, has_slot, is_slot, is_active, active_at, open_count, with_record, without, without_slot, recharged, committed_as, AllPairwise, AreApart, HasLowSlot}
+use Rattle.snap_call.proofs.Lists.{active_at-is_slot, all-without, pairwise-without, active_one, open_count-cons}
 use Rattle.snap_call.proofs.Sums.{find-here, find-past}
 use Rattle.snap_call.proofs.Slots.{active_at-without_slot_own}
 
@@ -26,12 +26,12 @@ is_slot-active_one slot r e = active_one-in slot r.content e
 
 -- one record more
 pub open_count-with_record : (r : Record) (rs : List Record) → open_count (with_record r rs) ≡ open_count rs + active_one r.content
-open_count-with_record r [] = omega arith
+open_count-with_record r [] = omega (arith, open_count-cons r [])
 open_count-with_record r (t ∷ ts) = at (is_lt (record_cmp r t)) refl (open_count-with_record r ts)
   where
     at : (b : Bool) → is_lt (record_cmp r t) ≡ b → open_count (with_record r ts) ≡ open_count ts + active_one r.content → open_count (with_record r (t ∷ ts)) ≡ open_count (t ∷ ts) + active_one r.content
-    at true is next = rw is (omega arith)
-    at false is next = rw is (omega arith)
+    at true is next = rw is (omega (arith, open_count-cons r (t ∷ ts)))
+    at false is next = rw is (omega (arith, open_count-cons t (with_record r ts), open_count-cons t ts))
 
 pub open_count-with_active : (slot : ℕ) (r : Record) (rs : List Record) → is_slot slot r ≡ true → open_count (with_record r rs) ≡ open_count rs + 1
 open_count-with_active slot r rs is = let one = is_slot-active_one slot r is in let all = open_count-with_record r rs in omega arith
@@ -45,8 +45,8 @@ open_count-recharged slot to [] = refl
 open_count-recharged slot to (t ∷ ts) = at (is_slot slot t) refl (open_count-recharged slot to ts)
   where
     at : (b : Bool) → is_slot slot t ≡ b → open_count (recharged slot to ts) ≡ open_count ts → open_count (recharged slot to (t ∷ ts)) ≡ open_count (t ∷ ts)
-    at true is next = rw is (let one = is_slot-active_one slot t is in omega arith)
-    at false is next = rw is (omega arith)
+    at true is next = rw is (let one = is_slot-active_one slot t is in omega (arith, open_count-cons t ts))
+    at false is next = rw is (omega (arith, open_count-cons t (recharged slot to ts), open_count-cons t ts))
 
 -- the record that is found less
 pub open_count-without : (p : Record → Bool) (rs : List Record) (r : Record) → find p rs ≡ Some r → open_count (without p rs) + active_one r.content ≡ open_count rs
@@ -54,8 +54,8 @@ open_count-without p [] r e = absurd (cc)
 open_count-without p (t ∷ ts) r e = at (p t) refl (open_count-without p ts r)
   where
     at : (b : Bool) → p t ≡ b → (find p ts ≡ Some r → open_count (without p ts) + active_one r.content ≡ open_count ts) → open_count (without p (t ∷ ts)) + active_one r.content ≡ open_count (t ∷ ts)
-    at true is next = rw is (let one : active_one t.content ≡ active_one r.content = ap (λ (x : Record). active_one x.content) (find-here p t ts r is e) in omega arith)
-    at false is next = rw is (let less = next (find-past p t ts r is e) in omega arith)
+    at true is next = rw is (let one : active_one t.content ≡ active_one r.content = ap (λ (x : Record). active_one x.content) (find-here p t ts r is e) in omega (arith, open_count-cons t ts))
+    at false is next = rw is (let less = next (find-past p t ts r is e) in omega (arith, open_count-cons t (without p ts), open_count-cons t ts))
 
 -- a record less that isn't active
 idle_none : (c : Content) → is_active c ≡ false → active_one c ≡ 0
@@ -74,9 +74,9 @@ pub open_count-filter : (keep : Record → Bool) → ((r : Record) → keep r �
 open_count-filter keep idle [] = refl
 open_count-filter keep idle (t ∷ ts) = at (keep t) refl (open_count-filter keep idle ts)
   where
-    at : (b : Bool) → keep t ≡ b → open_count (filter keep ts) ≡ open_count ts → open_count (cond b (t ∷ filter keep ts) (filter keep ts)) ≡ active_one t.content + open_count ts
-    at true is next = omega arith
-    at false is next = let none = idle_none t.content (idle t is) in omega arith
+    at : (b : Bool) → keep t ≡ b → open_count (filter keep ts) ≡ open_count ts → open_count (cond b (t ∷ filter keep ts) (filter keep ts)) ≡ open_count (t ∷ ts)
+    at true is next = omega (arith, open_count-cons t (filter keep ts), open_count-cons t ts)
+    at false is next = let none = idle_none t.content (idle t is) in omega (arith, open_count-cons t ts)
 
 -- the record of a slot less
 pub open_count-without_slot : (slot : ℕ) (rs : List Record) (r : Record) → active_at slot rs ≡ Some r → open_count (without_slot slot rs) + 1 ≡ open_count rs
@@ -122,7 +122,7 @@ none_active (Committed layer usage) h = refl
 
 none_open : (rs : List Record) → AllBelow 0 rs → open_count rs ≡ 0
 none_open [] all = refl
-none_open (t ∷ ts) all = let none = none_active t.content all.0 in let rest = none_open ts all.1 in omega arith
+none_open (t ∷ ts) all = let none = none_active t.content all.0 in let rest = none_open ts all.1 in omega (arith, open_count-cons t ts)
 
 below-other : (n : ℕ) (c : Content) → has_slot n c ≡ false → IsBelow (suc n) c → IsBelow n c
 below-other n (View layers) e h = tt

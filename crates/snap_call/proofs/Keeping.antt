@@ -20,11 +20,10 @@ use Rattle.snap_record.specs.declared.record.Content.TheVariants.{View, Active, 
 use Rattle.snap_record.specs.declared.record.Record.{Record}
 use Rattle.snap_call.specs.declared.config.Namespace.{Namespace}
 use Rattle.snap_call.specs.declared.state.State.{State}
-use Rattle.snap_call.specs.Forms.{has_name}
 use Rattle.snap_call.specs.Records.{has_key, has_children, has_slot, is_named, is_slot, record_at, committed_at, active_at, charge_of, with_record, without_slot, without_key, recharged, relabelled, committed_as, HasLowSlot, AreApart}
 use Rattle.snap_call.specs.State.{place_of, name_at, limit_at, is_base, is_too_deep, ancestors, layers_of, or_empty, shown_layers}
 use Rattle.snap_call.specs.Good.{IsGuarding, IsCounted, IsShown, Good}
-use Rattle.snap_call.specs.Step.{counted, one, new_active, prepared, committed, leases_after, added, new_view, viewed, removed_at}
+use Rattle.snap_call.specs.Step.{counted, one, prepared, committed, leases_after, added, viewed, removed_at, new_record}
 use Rattle.snap_call.proofs.Leasing.{place_of-name_at, guarding-with_name}
 use Rattle.snap_call.proofs.Lengths.{length-with_record, length-without, length-without_found, length-recharged, length-relabelled}
 use Rattle.snap_call.proofs.Lists.{all-map, all-both, committed-from, find-with_record_own, find-none, none-passes, record_at-is_named, same_slot, active_at-all, all-with_record, pairwise-with_record, all-without, pairwise-without, all-beside, all-recharged, pairwise-recharged}
@@ -59,7 +58,7 @@ covers-Covers a b e =
 
 -- a place that is found is one of the places
 pub place_of-below : (name : Bytes) (ns : List Namespace) (place : ℕ) → place_of name ns ≡ Some place → place < length ns
-place_of-below name ns place e = (position-Some (has_name name) ns place (record { name = []; limit = no_usage }) e).0
+place_of-below name ns place e = (position-Some (λ (n : Namespace). bytes_eq n.name name) ns place (record { name = []; limit = no_usage }) e).0
 
 -- ---- two records in slots
 
@@ -206,7 +205,7 @@ good_prepared s place key parent labels slot good low free base deep few none ro
     room
   where
     r : Record
-    r = new_active s place key parent labels slot
+    r = new_record s place key parent labels (Active slot one)
 
     empty : AllByRecursion (λ t. is_slot slot t ≡ false) s.records
     empty = find-none (is_slot slot) s.records none
@@ -226,7 +225,7 @@ good_view_added s r good is next low free base deep =
 
 pub good_viewed : (s : State) (place : ℕ) (key parent : Bytes) (labels : List Label) → Good s → place < length s.namespaces → has_key place key s.records ≡ false
     → is_base place parent s.records ≡ true → is_too_deep place parent s.records ≡ false → Good (viewed s place key parent labels).0
-good_viewed s place key parent labels good low free base deep = good_view_added s (new_view s place key parent labels) good refl refl low free base deep
+good_viewed s place key parent labels good low free base deep = good_view_added s (new_record s place key parent labels (View (shown_layers place parent s.records))) good refl refl low free base deep
 
 -- ---- an active snapshot charged anew
 
@@ -332,8 +331,8 @@ good_discarded s slot r good e = record {
 pub same_name : (a b : Bytes) (ns : List Namespace) (place : ℕ) → place_of a ns ≡ Some place → place_of b ns ≡ Some place → a ≡ b
 same_name a b ns place e f =
     let d : Namespace = record { name = []; limit = no_usage } in
-    let x : bytes_eq (get_or ns place d).name a ≡ true = (position-Some (has_name a) ns place d e).1 in
-    let y : bytes_eq (get_or ns place d).name b ≡ true = (position-Some (has_name b) ns place d f).1 in
+    let x : bytes_eq (get_or ns place d).name a ≡ true = (position-Some (λ (n : Namespace). bytes_eq n.name a) ns place d e).1 in
+    let y : bytes_eq (get_or ns place d).name b ≡ true = (position-Some (λ (n : Namespace). bytes_eq n.name b) ns place d f).1 in
     sym ((bytes_eq-Decides (get_or ns place d).name a).0 x) ∙ (bytes_eq-Decides (get_or ns place d).name b).0 y
 
 -- a lease that doesn't name the key in its namespace names other keys

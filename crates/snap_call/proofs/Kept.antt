@@ -24,14 +24,14 @@ use Rattle.snap_call.specs.declared.config.Config.{Config}
 use Rattle.snap_call.specs.declared.config.Namespace.{Namespace}
 use Rattle.snap_call.specs.declared.entry.Entry.{Entry}
 use Rattle.snap_call.specs.declared.refusal.Refusal.{Refusal}
-use Rattle.snap_call.specs.declared.refusal.Refusal.TheVariants.{NoNamespace}
+use Rattle.snap_call.specs.declared.refusal.Refusal.TheVariants.{NoNamespace, NotFound}
 use Rattle.snap_call.specs.declared.reply.Reply.{Reply}
 use Rattle.snap_call.specs.declared.state.State.{State}
 use Rattle.snap_call.specs.Forms.{is_limit, is_namespace, is_text, have_distinct_names, is_config, is_key, is_page, is_start}
 use Rattle.snap_call.specs.Records.{charge_of, has_key, has_children, is_active, is_committed, record_at, active_at}
 use Rattle.snap_call.specs.State.{opening, place_of, limit_at}
 use Rattle.snap_call.specs.Good.{Good}
-use Rattle.snap_call.specs.Step.{refused, session, prepared, prepare_at, prepare, greater, fits, charge_to, charge, trim, commit_as, commit, discard, ask_record, ask, step, IsCovered, IsAllowed, place_for, slot_for, unless_refused, view_at, view, remove_record, remove_at, remove, update_record, update_at, update, walk_at, walk, in_namespace, has_named, set_limit_at, set_limit, lease_create, lease_add_record, lease_add, lease_release}
+use Rattle.snap_call.specs.Step.{refused, session, prepared, prepare_at, prepare, greater, fits, charge_to, charge, trim, commit_as, commit, discard, ask, step, IsCovered, IsAllowed, place_for, slot_for, unless_refused, view_at, view, remove_record, remove, update_record, update, walk, in_namespace, has_named, set_limit_at, set_limit, lease_create, lease_add_record, lease_add, lease_release, at_record}
 use Rattle.snap_call.specs.Journal.{Replays}
 use Rattle.snap_call.proofs.Leasing.{good_limited, good_created, good_named, good_released}
 use Rattle.snap_call.proofs.Lists.{committed-from}
@@ -114,59 +114,45 @@ pub good_discard : (s : State) (slot : ℕ) → Good s → (o : Option Record) �
 good_discard s slot good None e = good_counted s good
 good_discard s slot good (Some r) e = good_discarded s slot r good e
 
-good_ask_record : (s : State) (answer : Record → Reply) → Good s → (o : Option Record) → Good (ask_record s answer o).0
-good_ask_record s answer good None = good_counted s good
-good_ask_record s answer good (Some r) = good_counted s good
-
-good_ask_in : (s : State) (answer : Record → Reply) (key : Bytes) → Good s → (o : Option ℕ) → Good (option_map_or (λ place. ask_record s answer (record_at place key s.records)) o (refused s NoNamespace)).0
-good_ask_in s answer key good None = good_counted s good
-good_ask_in s answer key good (Some place) = good_ask_record s answer good (record_at place key s.records)
-
-pub good_ask : (s : State) (answer : Record → Reply) (namespace key : Bytes) → Good s → Good (ask s answer namespace key).0
-good_ask s answer namespace key good = either (is_key key) _ _ (λ e. good_ask_in s answer key good (place_of namespace s.namespaces)) (λ e. good_counted s good)
-
-good_remove_record : (s : State) (namespace key : Bytes) (place : ℕ) → Good s → place_of namespace s.namespaces ≡ Some place → (o : Option Record) → record_at place key s.records ≡ o → Good (remove_record s namespace key place o).0
-good_remove_record s namespace key place good spaced None e = good_counted s good
-good_remove_record s namespace key place good spaced (Some r) e =
-    either (has_children place key s.records) _ _ (λ some. good_counted s good)
-    (λ childless. either (is_active r.content) _ _ (λ active. good_counted s good)
-    (λ idle. either (is_guarded s.leases namespace key) _ _ (λ leased. good_counted s good)
-    (λ unleased. good_removed s place key r good e childless namespace spaced unleased)))
-
-good_remove_at : (s : State) (namespace key : Bytes) → Good s → (o : Option ℕ) → place_of namespace s.namespaces ≡ o → Good (remove_at s namespace key o).0
-good_remove_at s namespace key good None e = good_counted s good
-good_remove_at s namespace key good (Some place) e = good_remove_record s namespace key place good e (record_at place key s.records) refl
-
-pub good_remove : (s : State) (namespace key : Bytes) → Good s → Good (remove s namespace key).0
-good_remove s namespace key good = either (is_key key) _ _ (λ e. good_remove_at s namespace key good (place_of namespace s.namespaces) refl) (λ e. good_counted s good)
-
-good_update_record : (s : State) (place : ℕ) (key : Bytes) (given : List Label) (paths : List Bytes) → Good s → (o : Option Record) → Good (update_record s place key given paths o).0
-good_update_record s place key given paths good None = good_counted s good
-good_update_record s place key given paths good (Some r) =
-    either (is_granted r.labels given paths) _ _ (λ e. good_relabelled s place key (labels_after r.labels given paths) good) (λ e. good_counted s good)
-
-good_update_at : (s : State) (key : Bytes) (given : List Label) (paths : List Bytes) → Good s → (o : Option ℕ) → Good (update_at s key given paths o).0
-good_update_at s key given paths good None = good_counted s good
-good_update_at s key given paths good (Some place) = good_update_record s place key given paths good (record_at place key s.records)
-
-pub good_update : (s : State) (namespace key : Bytes) (given : List Label) (paths : List Bytes) → Good s → Good (update s namespace key given paths).0
-good_update s namespace key given paths good =
-    either (is_key key && is_well_formed given paths) _ _ (λ e. good_update_at s key given paths good (place_of namespace s.namespaces)) (λ e. good_counted s good)
-
-good_walk_at : (s : State) (after : Bytes) (most : ℕ) (asked : Filter) → Good s → (o : Option ℕ) → Good (walk_at s after most asked o).0
-good_walk_at s after most asked good None = good_counted s good
-good_walk_at s after most asked good (Some place) = good_counted s good
-
-pub good_walk : (s : State) (namespace after : Bytes) (most : ℕ) (asked : Filter) → Good s → Good (walk s namespace after most asked).0
-good_walk s namespace after most asked good =
-    either (is_start after && is_page most) _ _ (λ e. good_walk_at s after most asked good (place_of namespace s.namespaces)) (λ e. good_counted s good)
-
 good_in_namespace : (s : State) (namespace : Bytes) (next : ℕ → State × Reply) → Good s → ((place : ℕ) → place_of namespace s.namespaces ≡ Some place → Good (next place).0) → Good (in_namespace s namespace next).0
 good_in_namespace s namespace next good h = by (place_of namespace s.namespaces) refl
   where
     by : (o : Option ℕ) → place_of namespace s.namespaces ≡ o → Good (option_map_or next o (refused s NoNamespace)).0
     by None e = good_counted s good
     by (Some place) e = h place e
+
+good_at_record : (s : State) (namespace key : Bytes) (next : ℕ → Record → State × Reply) → Good s
+    → ((place : ℕ) (r : Record) → place_of namespace s.namespaces ≡ Some place → record_at place key s.records ≡ Some r → Good (next place r).0) → Good (at_record s namespace key next).0
+good_at_record s namespace key next good h = good_in_namespace s namespace _ good (λ place e. by place e (record_at place key s.records) refl)
+  where
+    by : (place : ℕ) → place_of namespace s.namespaces ≡ Some place → (o : Option Record) → record_at place key s.records ≡ o → Good (option_map_or (next place) o (refused s NotFound)).0
+    by place e None f = good_counted s good
+    by place e (Some r) f = h place r e f
+
+pub good_ask : (s : State) (answer : Record → Reply) (namespace key : Bytes) → Good s → Good (ask s answer namespace key).0
+good_ask s answer namespace key good = either (is_key key) _ _ (λ e. good_at_record s namespace key _ good (λ place r e f. good_counted s good)) (λ e. good_counted s good)
+
+good_remove_record : (s : State) (namespace key : Bytes) (place : ℕ) → Good s → place_of namespace s.namespaces ≡ Some place → (r : Record) → record_at place key s.records ≡ Some r → Good (remove_record s namespace key place r).0
+good_remove_record s namespace key place good spaced r e =
+    either (has_children place key s.records) _ _ (λ some. good_counted s good)
+    (λ childless. either (is_active r.content) _ _ (λ active. good_counted s good)
+    (λ idle. either (is_guarded s.leases namespace key) _ _ (λ leased. good_counted s good)
+    (λ unleased. good_removed s place key r good e childless namespace spaced unleased)))
+
+pub good_remove : (s : State) (namespace key : Bytes) → Good s → Good (remove s namespace key).0
+good_remove s namespace key good = either (is_key key) _ _ (λ e. good_at_record s namespace key _ good (λ place r spaced f. good_remove_record s namespace key place good spaced r f)) (λ e. good_counted s good)
+
+good_update_record : (s : State) (place : ℕ) (key : Bytes) (given : List Label) (paths : List Bytes) → Good s → (r : Record) → Good (update_record s key given paths place r).0
+good_update_record s place key given paths good r =
+    either (is_granted r.labels given paths) _ _ (λ e. good_relabelled s place key (labels_after r.labels given paths) good) (λ e. good_counted s good)
+
+pub good_update : (s : State) (namespace key : Bytes) (given : List Label) (paths : List Bytes) → Good s → Good (update s namespace key given paths).0
+good_update s namespace key given paths good =
+    either (is_key key && is_well_formed given paths) _ _ (λ e. good_at_record s namespace key _ good (λ place r spaced f. good_update_record s place key given paths good r)) (λ e. good_counted s good)
+
+pub good_walk : (s : State) (namespace after : Bytes) (most : ℕ) (asked : Filter) → Good s → Good (walk s namespace after most asked).0
+good_walk s namespace after most asked good =
+    either (is_start after && is_page most) _ _ (λ e. good_in_namespace s namespace _ good (λ place e. good_counted s good)) (λ e. good_counted s good)
 
 pub good_set_limit : (s : State) (namespace : Bytes) (limit : Usage) → Good s → Good (set_limit s namespace limit).0
 good_set_limit s namespace limit good =
@@ -182,9 +168,8 @@ good_lease_create s namespace lease until good =
     either (has_lease s.leases namespace lease) _ _ (λ there. good_counted s good) (λ new. good_created s namespace lease until place good e)))
     (λ bad. good_counted s good)
 
-good_lease_add_record : (s : State) (namespace lease name : Bytes) (place : ℕ) → Good s → place_of namespace s.namespaces ≡ Some place → (o : Option Record) → record_at place name s.records ≡ o → Good (lease_add_record s namespace lease name o).0
-good_lease_add_record s namespace lease name place good e None f = good_counted s good
-good_lease_add_record s namespace lease name place good e (Some r) f =
+good_lease_add_record : (s : State) (namespace lease name : Bytes) (place : ℕ) → Good s → place_of namespace s.namespaces ≡ Some place → (r : Record) → record_at place name s.records ≡ Some r → Good (lease_add_record s namespace lease name r).0
+good_lease_add_record s namespace lease name place good e r f =
     either (not (is_committed r.content)) _ _ (λ other. good_counted s good)
     (λ is. either (not (has_lease s.leases namespace lease)) _ _ (λ none. good_counted s good)
     (λ there. good_named s namespace lease name place good e (ap is_some (committed-from (record_at place name s.records) r f (not-false (is_committed r.content) is)))))
@@ -192,7 +177,7 @@ good_lease_add_record s namespace lease name place good e (Some r) f =
 pub good_lease_add : (s : State) (namespace lease name : Bytes) → Good s → Good (lease_add s namespace lease name).0
 good_lease_add s namespace lease name good =
     either (is_key lease && is_key name) _ _
-    (λ formed. good_in_namespace s namespace _ good (λ place e. good_lease_add_record s namespace lease name place good e (record_at place name s.records) refl))
+    (λ formed. good_at_record s namespace name _ good (λ place r e f. good_lease_add_record s namespace lease name place good e r f))
     (λ bad. good_counted s good)
 
 pub good_lease_release : (s : State) (namespace lease : Bytes) → Good s → Good (lease_release s namespace lease).0

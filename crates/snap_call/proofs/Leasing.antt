@@ -15,7 +15,7 @@ use Rattle.snap_record.specs.Labels.{Bytes}
 use Rattle.snap_record.specs.declared.record.Record.{Record}
 use Rattle.snap_call.specs.declared.config.Namespace.{Namespace}
 use Rattle.snap_call.specs.declared.state.State.{State}
-use Rattle.snap_call.specs.Forms.{has_name, have_distinct_names, is_limit}
+use Rattle.snap_call.specs.Forms.{have_distinct_names, is_limit}
 use Rattle.snap_call.specs.Good.{IsGuarding, Good}
 use Rattle.snap_call.specs.Records.{charge_of, committed_at}
 use Rattle.snap_call.specs.State.{place_of, name_at, limit_at, limited}
@@ -24,6 +24,10 @@ use Rattle.snap_call.proofs.Chains.{NamesStand}
 use Rattle.snap_call.proofs.Lists.{all-map, some_same}
 
 -- ---- the place of a name
+
+-- a namespace of this name
+abbrev pub has_name : Bytes → Namespace → Bool
+has_name name n = bytes_eq n.name name
 
 module _ {X : Type 0} (p : X → Bool) where
   pub position-here : (x : X) (xs : List X) → p x ≡ true → position p (x ∷ xs) ≡ Some 0

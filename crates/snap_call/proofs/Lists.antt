@@ -1,5 +1,5 @@
 -- Lists of records: what holds of each of them and of any two of them, and what is found, after each change.
-use Rattle.std.proofs.Common.{◌≡◌, ℕ, Bool, true, false, true≢false, eqb, cond, List, [], ◌∷◌, Option, Some, None, refl, sym, ap, ◌∙◌, subst}
+use Rattle.std.proofs.Common.{◌≡◌, ℕ, Bool, true, false, true≢false, eqb, cond, List, [], ◌∷◌, Option, Some, None, refl, sym, ap, ◌∙◌, subst, ◌+◌, length, arith}
 use Rattle.std.specs.List.{AllByRecursion, find, list_any}
 use Rattle.std.specs.Prelude.{if◌then◌else◌, ◌||◌, filter}
 use Rattle.std.specs.Ordering.{is_lt}
@@ -11,7 +11,7 @@ use Rattle.snap_record.specs.Labels.{Bytes}
 use Rattle.snap_record.specs.declared.record.Content.{Content}
 use Rattle.snap_record.specs.declared.record.Content.TheVariants.{View, Active, Committed}
 use Rattle.snap_record.specs.declared.record.Record.{Record}
-use Rattle.snap_call.specs.Records.{record_cmp, is_named, record_at, has_slot, is_slot, active_at, is_committed, committed_at, with_record, without, recharged, AllPairwise}
+use Rattle.snap_call.specs.Records.{record_cmp, is_named, record_at, has_slot, is_slot, active_at, is_committed, committed_at, with_record, without, recharged, AllPairwise, is_active, open_count}
 
 -- ---- any list
 
@@ -294,3 +294,18 @@ module _ (slot : ℕ) (to : Usage) where
             | true ↦ ap (λ c. cond c (Some (with_charge slot to t)) (find p ts)) (same t ∙ is) ∙ found
             | false ↦ ap (λ c. cond c (Some t) (find p (recharged slot to ts))) is ∙ next found
           ]
+
+-- ---- how many are active
+
+-- one for an active record
+abbrev pub active_one : Content → ℕ
+active_one (Active slot charged) = 1
+active_one content = 0
+
+pub open_count-cons : (r : Record) (rs : List Record) → open_count (r ∷ rs) ≡ active_one r.content + open_count rs
+open_count-cons r rs = by r.content
+  where
+    by : (c : Content) → length (cond (is_active c) (r ∷ filter (λ t. is_active t.content) rs) (filter (λ t. is_active t.content) rs)) ≡ active_one c + open_count rs
+    by (View layers) = omega arith
+    by (Active slot charged) = omega arith
+    by (Committed layer usage) = omega arith

@@ -1,17 +1,18 @@
 -- What is true where a place or a slot for a new snapshot was found.
 use Rattle.std.proofs.Common.{◌≡◌, ℕ, Bool, true, false, List, Option, None, Some, refl, ap, ◌∙◌, subst}
 use Rattle.std.specs.Prelude.{if◌then◌else◌, ◌&&◌, not, nat_le, Result, Ok, Err}
+use Rattle.std.specs.Option.{option_map_or}
 use Rattle.std.proofs.lemmas.Bool.{not-false}
 use Rattle.snap_usage.specs.Counted.{covers}
 use Rattle.snap_ledger.specs.States.{plus}
 use Rattle.snap_record.specs.Labels.{Bytes, Label, are_labels}
 use Rattle.snap_call.specs.declared.refusal.Refusal.{Refusal}
-use Rattle.snap_call.specs.declared.refusal.Refusal.TheVariants.{BadArgument, NotFound, AlreadyExists, NotCommitted, TooDeep, NumbersSpent}
+use Rattle.snap_call.specs.declared.refusal.Refusal.TheVariants.{BadArgument, NotFound, AlreadyExists, NotCommitted, TooDeep, NumbersSpent, NoNamespace}
 use Rattle.snap_call.specs.declared.state.State.{State}
 use Rattle.snap_call.specs.Forms.{is_key, is_parent}
 use Rattle.snap_call.specs.Records.{charge_of, has_key, lowest_free}
 use Rattle.snap_call.specs.State.{place_of, limit_at, over_limit, is_present, is_base, is_too_deep}
-use Rattle.snap_call.specs.Step.{one, place_on, place_in, place_for, slot_in, slot_for}
+use Rattle.snap_call.specs.Step.{one, place_on, place_for, slot_in, slot_for}
 
 -- a snapshot of the key on the parent can stand at the place of the namespace
 pub record IsPlace (s : State) (namespace key parent : Bytes) (place : ℕ) : Type 0 where
@@ -36,11 +37,11 @@ place_on-Ok s namespace key parent p place named e =
     let deep = past_test (is_too_deep p parent s.records) TooDeep _ place base.1 in
     subst (IsPlace s namespace key parent) (same_place p place (Ok p) refl deep.1) (record { named = named; free = free.0; base = not-false (is_base p parent s.records) base.0; deep = deep.0 })
 
-place_in-Ok : (s : State) (namespace key parent : Bytes) (place : ℕ) (o : Option ℕ) → place_of namespace s.namespaces ≡ o → place_in o key parent s.records ≡ Ok place → IsPlace s namespace key parent place
+place_in-Ok : (s : State) (namespace key parent : Bytes) (place : ℕ) (o : Option ℕ) → place_of namespace s.namespaces ≡ o → option_map_or (λ at. place_on at key parent s.records) o (Err NoNamespace) ≡ Ok place → IsPlace s namespace key parent place
 place_in-Ok s namespace key parent place None named e = absurd (cc)
 place_in-Ok s namespace key parent place (Some p) named e = place_on-Ok s namespace key parent p place named e
 
-formed-Ok : (s : State) (namespace key parent : Bytes) (place : ℕ) (formed : Bool) → (if formed then place_in (place_of namespace s.namespaces) key parent s.records else Err BadArgument) ≡ Ok place → IsPlace s namespace key parent place
+formed-Ok : (s : State) (namespace key parent : Bytes) (place : ℕ) (formed : Bool) → (if formed then option_map_or (λ at. place_on at key parent s.records) (place_of namespace s.namespaces) (Err NoNamespace) else Err BadArgument) ≡ Ok place → IsPlace s namespace key parent place
 formed-Ok s namespace key parent place true e = place_in-Ok s namespace key parent place (place_of namespace s.namespaces) refl e
 formed-Ok s namespace key parent place false e = absurd (cc)
 

@@ -37,14 +37,10 @@ is_limit u = nat_le u.blocks 1099511627776 && nat_le u.inodes 1099511627776
 abbrev pub is_namespace : Namespace → Bool
 is_namespace n = is_text 255 n.name && is_limit n.limit
 
--- a namespace of this name
-abbrev pub has_name : Bytes → Namespace → Bool
-has_name name n = bytes_eq n.name name
-
 -- no two namespaces have the same name
 abbrev pub have_distinct_names : List Namespace → Bool
 have_distinct_names [] = true
-have_distinct_names (n ∷ ns) = not (list_any (has_name n.name) ns) && have_distinct_names ns
+have_distinct_names (n ∷ ns) = not (list_any (λ m. bytes_eq m.name n.name) ns) && have_distinct_names ns
 
 -- what a store can be opened with
 abbrev pub is_config : Config → Bool

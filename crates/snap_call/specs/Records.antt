@@ -1,6 +1,6 @@
 -- Records as a list, in order of their namespaces' places and of the bytes of their keys.
 -- Cited by `Records::committed_at`, `Records::is_present`, `Records::is_base` and others.
-use Rattle.std.specs.Prelude.{◌≡◌, ℕ, ◌<◌, zero, suc, ◌+◌, ◌==◌, Bool, true, false, ◌&&◌, if◌then◌else◌, List, [], ◌∷◌, map, filter, take, Option, None, Some, find, bytes_eq, option_and_then, count_by}
+use Rattle.std.specs.Prelude.{◌≡◌, ℕ, ◌<◌, zero, suc, ◌==◌, Bool, true, false, ◌&&◌, List, [], ◌∷◌, map, filter, take, Option, None, Some, find, bytes_eq, option_and_then, count_by, length, if◌then◌else◌}
 use Rattle.std.specs.declared.cmp.Ordering.{Ordering}
 use Rattle.std.specs.Ordering.{nat_cmp, ordering_then, is_lt}
 use Rattle.std.specs.Cmp.Lexicographic.{slice_cmp}
@@ -76,10 +76,14 @@ is_committed content = false
 abbrev pub committed_at : ℕ → Bytes → List Record → Option Record
 committed_at place key rs = option_and_then (λ r. if is_committed r.content then Some r else None) (record_at place key rs)
 
+-- the sum over the records of the namespace at this place
+abbrev pub sum_of : (Content → Usage) → ℕ → List Record → Usage
+sum_of part place [] = no_usage
+sum_of part place (r ∷ rs) = plus (if r.namespace == place then part r.content else no_usage) (sum_of part place rs)
+
 -- the charge of a namespace: stored usages of its committed snapshots and charged usages of its active ones
 abbrev pub charge_of : ℕ → List Record → Usage
-charge_of place [] = no_usage
-charge_of place (r ∷ rs) = plus (if r.namespace == place then usage_of r.content else no_usage) (charge_of place rs)
+charge_of place rs = sum_of usage_of place rs
 
 -- the charge of a slot, as the ledger has it
 abbrev pub charge_if : ℕ → Option Record → ChargeState
@@ -89,15 +93,9 @@ charge_if slot (Some r) = record { slot = slot; id = r.id; usage = usage_of r.co
 abbrev pub charge_at : ℕ → List Record → ChargeState
 charge_at slot rs = charge_if slot (active_at slot rs)
 
--- one for an active record
-abbrev pub active_one : Content → ℕ
-active_one (Active slot charged) = 1
-active_one content = 0
-
 -- how many snapshots are active
 abbrev pub open_count : List Record → ℕ
-open_count [] = 0
-open_count (r ∷ rs) = active_one r.content + open_count rs
+open_count rs = length (filter (λ r. is_active r.content) rs)
 
 -- the records with one more, in its place
 abbrev pub with_record : Record → List Record → List Record

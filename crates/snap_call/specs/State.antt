@@ -1,6 +1,6 @@
 -- The state of a store.
 -- Cited by `Records::is_present`, `Records::is_base`, `Records::is_too_deep` and others.
-use Rattle.std.specs.Prelude.{ℕ, zero, suc, Bool, true, List, [], ◌∷◌, Option, None, Some, option_and_then, unwrap_or, position, slice_get, map, not}
+use Rattle.std.specs.Prelude.{ℕ, zero, suc, Bool, true, List, [], ◌∷◌, Option, None, Some, option_and_then, unwrap_or, position, slice_get, map, not, bytes_eq}
 use Rattle.std.specs.Option.{option_map, option_map_or, is_some}
 use Rattle.snap_layer.specs.Edits.{root_only}
 use Rattle.snap_layer.specs.Tree.{Tree}
@@ -16,7 +16,6 @@ use Rattle.snap_call.specs.declared.config.Namespace.{Namespace}
 use Rattle.snap_call.specs.declared.refusal.Refusal.{Refusal}
 use Rattle.snap_call.specs.declared.refusal.Refusal.TheVariants.{OverLimit}
 use Rattle.snap_call.specs.declared.state.State.{State}
-use Rattle.snap_call.specs.Forms.{has_name}
 use Rattle.snap_call.specs.Records.{charge_of, has_key, committed_at}
 
 -- the state of a store that is opened: no records, no leases, no sessions, no entries
@@ -25,7 +24,7 @@ opening c = record { root = c.root; namespaces = c.namespaces; records = []; lea
 
 -- the place of a namespace, if the store has it
 abbrev pub place_of : Bytes → List Namespace → Option ℕ
-place_of name ns = position (has_name name) ns
+place_of name ns = position (λ n. bytes_eq n.name name) ns
 
 -- the limit of the namespace at a place
 abbrev pub limit_at : ℕ → List Namespace → Usage

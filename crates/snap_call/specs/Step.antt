@@ -12,8 +12,6 @@ use Rattle.snap_record.specs.Labels.{Bytes, Label, are_labels}
 use Rattle.snap_record.specs.Records.{usage_of, info_of, kind_of}
 use Rattle.snap_record.specs.Updates.{is_granted, is_well_formed, updated as labels_after}
 use Rattle.snap_record.specs.declared.filter.Filter.{Filter}
-use Rattle.snap_record.specs.declared.kind.Kind.{Kind}
-use Rattle.snap_record.specs.declared.kind.Kind.TheVariants as kinds
 use Rattle.snap_record.specs.declared.record.Content.{Content}
 use Rattle.snap_record.specs.declared.record.Content.TheVariants.{View, Active}
 use Rattle.snap_record.specs.declared.record.Record.{Record}
@@ -48,6 +46,10 @@ session s = if nat_lt s.sessions 65536 then (record s { sessions = s.sessions + 
 abbrev pub in_namespace : State → Bytes → (ℕ → State × Reply) → State × Reply
 in_namespace s namespace next = option_map_or next (place_of namespace s.namespaces) (refused s NoNamespace)
 
+-- what follows at the record of a key in a namespace, or the refusal of a key that the namespace doesn't have
+abbrev pub at_record : State → Bytes → Bytes → (ℕ → Record → State × Reply) → State × Reply
+at_record s namespace key next = in_namespace s namespace (λ place. option_map_or (next place) (record_at place key s.records) (refused s NotFound))
+
 -- what follows at a place or a slot that was found, or the refusal of it
 abbrev pub unless_refused : State → Result ℕ Refusal → (ℕ → State × Reply) → State × Reply
 unless_refused s (Ok found) next = next found
@@ -62,13 +64,11 @@ place_on place key parent rs =
     if is_too_deep place parent rs then Err TooDeep else
     Ok place
 
-abbrev pub place_in : Option ℕ → Bytes → Bytes → List Record → Result ℕ Refusal
-place_in None key parent rs = Err NoNamespace
-place_in (Some place) key parent rs = place_on place key parent rs
-
 abbrev pub place_for : State → Bytes → Bytes → Bytes → List Label → Result ℕ Refusal
 place_for s namespace key parent labels =
-    if is_key key && is_parent parent && are_labels labels then place_in (place_of namespace s.namespaces) key parent s.records else Err BadArgument
+    if is_key key && is_parent parent && are_labels labels
+    then option_map_or (λ place. place_on place key parent s.records) (place_of namespace s.namespaces) (Err NoNamespace)
+    else Err BadArgument
 
 -- a new snapshot, made by this entry
 abbrev pub new_record : State → ℕ → Bytes → Bytes → List Label → Content → Record
@@ -93,14 +93,8 @@ slot_in s place (Some slot) =
 abbrev pub slot_for : State → ℕ → Result ℕ Refusal
 slot_for s place = slot_in s place (lowest_free 64 s.records)
 
-abbrev pub new_active : State → ℕ → Bytes → Bytes → List Label → ℕ → Record
-new_active s place key parent labels slot = new_record s place key parent labels (Active slot one)
-
 abbrev pub prepared : State → ℕ → Bytes → Bytes → List Label → ℕ → State × Reply
-prepared s place key parent labels slot = (
-  added s (new_active s place key parent labels slot),
-  Prepared s.next_id slot (ids_of (ancestors place parent s.records)),
-)
+prepared s place key parent labels slot = (added s (new_record s place key parent labels (Active slot one)), Prepared s.next_id slot (ids_of (ancestors place parent s.records)))
 
 abbrev pub prepare_at : State → Bytes → Bytes → List Label → ℕ → State × Reply
 prepare_at s key parent labels place = unless_refused s (slot_for s place) (prepared s place key parent labels)
@@ -109,11 +103,8 @@ abbrev pub prepare : State → Bytes → Bytes → Bytes → List Label → Stat
 prepare s namespace key parent labels = unless_refused s (place_for s namespace key parent labels) (prepare_at s key parent labels)
 
 -- View: a new snapshot that nothing is written to, without a slot and without a charge; it keeps the layers that it shows (containerd's Snapshotter.View). The reply has the ids of its committed ancestors, nearest first.
-abbrev pub new_view : State → ℕ → Bytes → Bytes → List Label → Record
-new_view s place key parent labels = new_record s place key parent labels (View (shown_layers place parent s.records))
-
 abbrev pub viewed : State → ℕ → Bytes → Bytes → List Label → State × Reply
-viewed s place key parent labels = (added s (new_view s place key parent labels), Viewed s.next_id (ids_of (ancestors place parent s.records)))
+viewed s place key parent labels = (added s (new_record s place key parent labels (View (shown_layers place parent s.records))), Viewed s.next_id (ids_of (ancestors place parent s.records)))
 
 abbrev pub view_at : State → Bytes → Bytes → List Label → ℕ → State × Reply
 view_at s key parent labels place = if nat_le s.next_id 4294967295 then viewed s place key parent labels else refused s NumbersSpent
@@ -152,12 +143,10 @@ trim s slot given r = refused s BadArgument
 
 -- Commit: the active snapshot gives way to a committed one with the layer and its count; the lease, where one is named, gets the name (containerd's Snapshotter.Commit, under a lease)
 abbrev pub has_named : State → ℕ → Option Bytes → Bool
-has_named s place None = true
-has_named s place (Some lease) = has_lease s.leases (name_at place s.namespaces) lease
+has_named s place lease = option_map_or (has_lease s.leases (name_at place s.namespaces)) lease true
 
 abbrev pub leases_after : State → ℕ → Bytes → Option Bytes → List Lease
-leases_after s place name None = s.leases
-leases_after s place name (Some lease) = with_name_added s.leases (name_at place s.namespaces) lease name
+leases_after s place name lease = option_map_or (λ l. with_name_added s.leases (name_at place s.namespaces) l name) lease s.leases
 
 abbrev pub committed : State → ℕ → Bytes → Option Bytes → Tree → Record → State × Reply
 committed s slot name lease layer r = (
@@ -185,65 +174,39 @@ discard s slot None = refused s NotActive
 abbrev pub removed_at : State → ℕ → Bytes → State
 removed_at s place key = record s { records = without_key place key s.records; entries = s.entries + 1 }
 
-abbrev pub remove_record : State → Bytes → Bytes → ℕ → Option Record → State × Reply
-remove_record s namespace key place None = refused s NotFound
-remove_record s namespace key place (Some r) =
+abbrev pub remove_record : State → Bytes → Bytes → ℕ → Record → State × Reply
+remove_record s namespace key place r =
     if has_children place key s.records then refused s HasChildren else
     if is_active r.content then refused s InUse else
     if is_guarded s.leases namespace key then refused s Leased else
     (removed_at s place key, Removed (usage_of r.content))
 
-abbrev pub remove_at : State → Bytes → Bytes → Option ℕ → State × Reply
-remove_at s namespace key None = refused s NoNamespace
-remove_at s namespace key (Some place) = remove_record s namespace key place (record_at place key s.records)
-
 abbrev pub remove : State → Bytes → Bytes → State × Reply
-remove s namespace key = if is_key key then remove_at s namespace key (place_of namespace s.namespaces) else refused s BadArgument
+remove s namespace key = if is_key key then at_record s namespace key (remove_record s namespace key) else refused s BadArgument
 
 -- Stat, Usage, Mounts: what is asked of a record
-abbrev pub ask_record : State → (Record → Reply) → Option Record → State × Reply
-ask_record s answer None = refused s NotFound
-ask_record s answer (Some r) = (counted s, answer r)
-
 abbrev pub ask : State → (Record → Reply) → Bytes → Bytes → State × Reply
-ask s answer namespace key =
-    if is_key key
-    then option_map_or (λ place. ask_record s answer (record_at place key s.records)) (place_of namespace s.namespaces) (refused s NoNamespace)
-    else refused s BadArgument
+ask s answer namespace key = if is_key key then at_record s namespace key (λ place r. (counted s, answer r)) else refused s BadArgument
 
 -- Mounts: the mounts that show a snapshot over its committed ancestors; a committed one is not mounted (containerd's Snapshotter.Mounts)
-abbrev pub shown : State → Record → Kind → Reply
-shown s r kinds.Committed = Refused NotActive
-shown s r kind = MountsReply (mounts_of s.root kind r.id (ids_of (ancestors r.namespace r.parent s.records)))
-
 abbrev pub mounts : State → Record → Reply
-mounts s r = shown s r (kind_of r.content)
+mounts s r = if is_committed r.content then Refused NotActive else MountsReply (mounts_of s.root (kind_of r.content) r.id (ids_of (ancestors r.namespace r.parent s.records)))
 
 -- Update: labels by field paths (containerd's Snapshotter.Update). The reply is the info with the labels after it; a result of more than 64 labels is refused.
 abbrev pub relabelled_at : State → ℕ → Bytes → List Label → State
 relabelled_at s place key labels = record s { records = relabelled place key labels (s.entries + 1) s.records; entries = s.entries + 1 }
 
-abbrev pub relabel : State → ℕ → Bytes → List Label → Record → State × Reply
-relabel s place key labels r = (relabelled_at s place key labels, Info (info_of (with_labels labels (s.entries + 1) r)))
-
-abbrev pub update_record : State → ℕ → Bytes → List Label → List Bytes → Option Record → State × Reply
-update_record s place key given paths None = refused s NotFound
-update_record s place key given paths (Some r) = if is_granted r.labels given paths then relabel s place key (labels_after r.labels given paths) r else refused s BadArgument
-
-abbrev pub update_at : State → Bytes → List Label → List Bytes → Option ℕ → State × Reply
-update_at s key given paths None = refused s NoNamespace
-update_at s key given paths (Some place) = update_record s place key given paths (record_at place key s.records)
+abbrev pub update_record : State → Bytes → List Label → List Bytes → ℕ → Record → State × Reply
+update_record s key given paths place r =
+    let labels = labels_after r.labels given paths in
+    if is_granted r.labels given paths then (relabelled_at s place key labels, Info (info_of (with_labels labels (s.entries + 1) r))) else refused s BadArgument
 
 abbrev pub update : State → Bytes → Bytes → List Label → List Bytes → State × Reply
-update s namespace key given paths = if is_key key && is_well_formed given paths then update_at s key given paths (place_of namespace s.namespaces) else refused s BadArgument
+update s namespace key given paths = if is_key key && is_well_formed given paths then at_record s namespace key (update_record s key given paths) else refused s BadArgument
 
 -- Walk: the infos of the snapshots of a namespace that come after a key and have every part of a filter, at most so many (containerd's Snapshotter.Walk, page by page)
-abbrev pub walk_at : State → Bytes → ℕ → Filter → Option ℕ → State × Reply
-walk_at s after most asked None = refused s NoNamespace
-walk_at s after most asked (Some place) = (counted s, Page (page place after most asked s.records))
-
 abbrev pub walk : State → Bytes → Bytes → ℕ → Filter → State × Reply
-walk s namespace after most asked = if is_start after && is_page most then walk_at s after most asked (place_of namespace s.namespaces) else refused s BadArgument
+walk s namespace after most asked = if is_start after && is_page most then in_namespace s namespace (λ place. (counted s, Page (page place after most asked s.records))) else refused s BadArgument
 
 -- SetLimit: another limit of a namespace, which has to cover what it is charged
 abbrev pub limited_at : State → ℕ → Usage → State
@@ -267,15 +230,14 @@ abbrev pub lease_create : State → Bytes → Bytes → Option ℕ → State × 
 lease_create s namespace lease until = if is_key lease then in_namespace s namespace (λ place. lease_create_at s namespace lease until) else refused s BadArgument
 
 -- LeaseAdd: the lease names a committed snapshot too, live or ended (containerd's leases.Manager.AddResource)
-abbrev pub lease_add_record : State → Bytes → Bytes → Bytes → Option Record → State × Reply
-lease_add_record s namespace lease name None = refused s NotFound
-lease_add_record s namespace lease name (Some r) =
+abbrev pub lease_add_record : State → Bytes → Bytes → Bytes → Record → State × Reply
+lease_add_record s namespace lease name r =
     if not (is_committed r.content) then refused s NotCommitted else
     if not (has_lease s.leases namespace lease) then refused s NoLease else
     (leasing s (with_name_added s.leases namespace lease name), Done)
 
 abbrev pub lease_add : State → Bytes → Bytes → Bytes → State × Reply
-lease_add s namespace lease name = if is_key lease && is_key name then in_namespace s namespace (λ place. lease_add_record s namespace lease name (record_at place name s.records)) else refused s BadArgument
+lease_add s namespace lease name = if is_key lease && is_key name then at_record s namespace name (λ place. lease_add_record s namespace lease name) else refused s BadArgument
 
 -- LeaseRelease: the lease goes with its names, and no snapshot does (containerd's leases.Manager.Delete)
 abbrev pub lease_release_at : State → Bytes → Bytes → State × Reply

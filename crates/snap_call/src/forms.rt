@@ -1,6 +1,6 @@
-ghost use Rattle.std.specs.Prelude.{◌≡◌, ◌==◌};
+ghost use Rattle.std.specs.Prelude.{◌≡◌, ◌==◌, bytes_eq};
 ghost use Rattle.std.specs.List.{list_any, list_all};
-ghost use Rattle.snap_call.specs.Forms.{is_text, is_key, is_parent, is_page, is_start, is_limit, is_namespace, has_name, have_distinct_names};
+ghost use Rattle.snap_call.specs.Forms.{is_text, is_key, is_parent, is_page, is_start, is_limit, is_namespace, have_distinct_names};
 
 use crate::config::Namespace;
 use crate::limits::{MAX_KEY_BYTES, MAX_LIMIT, MAX_NAMESPACE_BYTES, MAX_PAGE};
@@ -72,13 +72,13 @@ pub(crate) fn are_namespaces(namespaces: &[Namespace]) -> bool
 
 /// Whether the namespace has this name.
 pub(crate) fn has_name(namespace: &Namespace, name: &str) -> bool
-    ensures { result ≡ has_name name.now namespace.now }
+    ensures { result ≡ bytes_eq namespace.now.name name.now }
 {
     namespace.name.as_str() == name
 }
 
 fn is_named_in(namespaces: &[Namespace], name: &str) -> bool
-    ensures { result ≡ list_any (has_name name.now) namespaces.now }
+    ensures { result ≡ list_any (λ n. bytes_eq n.name name.now) namespaces.now }
 {
     namespaces.iter().any(|namespace| has_name(namespace, name))
 }

@@ -6,6 +6,7 @@ use Rattle.snap_layer.specs.Tree.{Tree}
 use Rattle.snap_usage.specs.Counted.{count_of}
 use Rattle.snap_record.specs.Labels.{Bytes, Label}
 use Rattle.snap_record.specs.declared.record.Record.{Record}
+use Rattle.snap_record.specs.declared.record.Content.TheVariants.{Active}
 use Rattle.snap_call.specs.declared.call.Call.{Call}
 use Rattle.snap_call.specs.declared.call.Call.TheVariants as calls
 use Rattle.snap_call.specs.declared.call.Given.{Given}
@@ -17,7 +18,7 @@ use Rattle.snap_call.specs.declared.state.State.{State}
 use Rattle.snap_call.specs.Forms.{is_key}
 use Rattle.snap_call.specs.Records.{has_key, is_slot, active_at, open_count, without_slot, committed_as}
 use Rattle.snap_call.specs.State.{name_at}
-use Rattle.snap_call.specs.Step.{refused, place_for, slot_for, new_active, prepared, prepare_at, prepare, has_named, committed, commit_as, commit, step, IsCovered, IsAllowed}
+use Rattle.snap_call.specs.Step.{refused, place_for, slot_for, prepared, prepare_at, prepare, has_named, committed, commit_as, commit, step, IsCovered, IsAllowed, new_record, one}
 use Rattle.snap_call.specs.Journal.{Replays}
 use Rattle.snap_call.proofs.Leasing.{name_at-place}
 use Rattle.snap_call.proofs.Lists.{all-with_record, all-without}
@@ -41,7 +42,7 @@ module _ (origin : ℕ → Origin) (s : State) (all : AllCome origin s) where
   moves_prepared : (namespace key parent : Bytes) (labels : List Label) (given : Given) (place slot : ℕ) → name_at place s.namespaces ≡ namespace
       → IsOrigin origin (calls.Prepare namespace key parent labels) (prepared s place key parent labels slot).1 → Moves origin s (calls.Prepare namespace key parent labels) given (prepared s place key parent labels slot)
   moves_prepared namespace key parent labels given place slot named is =
-      let r : Record = new_active s place key parent labels slot in
+      let r : Record = new_record s place key parent labels (Active slot one) in
       let here : HasOrigin origin s.namespaces r = is ∙ ap (λ (n : Bytes). record { namespace = n; parent = parent }) (sym named) in
       record {
         come = all-with_record r (Comes origin s.namespaces) s.records here all;

@@ -11,19 +11,20 @@ use Rattle.snap_record.specs.Records.{usage_of, info_of}
 use Rattle.snap_record.specs.Updates.{is_granted, is_well_formed, updated as labels_after}
 use Rattle.snap_record.specs.declared.filter.Filter.{Filter}
 use Rattle.snap_record.specs.declared.record.Record.{Record}
+use Rattle.snap_record.specs.declared.record.Content.TheVariants.{View}
 use Rattle.snap_call.specs.declared.call.Call.{Call}
 use Rattle.snap_call.specs.declared.call.Call.TheVariants as calls
 use Rattle.snap_call.specs.declared.call.Given.{Given}
 use Rattle.snap_call.specs.declared.call.Given.TheVariants.{Nothing, Count, Layer}
 use Rattle.snap_call.specs.declared.refusal.Refusal.{Refusal}
-use Rattle.snap_call.specs.declared.refusal.Refusal.TheVariants.{NoNamespace}
+use Rattle.snap_call.specs.declared.refusal.Refusal.TheVariants.{NoNamespace, NotFound}
 use Rattle.snap_call.specs.declared.reply.Reply.{Reply}
 use Rattle.snap_call.specs.declared.reply.Reply.TheVariants.{Info, Usage as UsageReply}
 use Rattle.snap_call.specs.declared.state.State.{State}
 use Rattle.snap_call.specs.Forms.{is_key, is_limit, is_page, is_start}
 use Rattle.snap_call.specs.Records.{record_at, is_slot, is_committed, active_at, charge_of, recharged}
-use Rattle.snap_call.specs.State.{place_of}
-use Rattle.snap_call.specs.Step.{counted, refused, session, unless_refused, place_for, granted, charge_to, charge, trim, discard, ask_record, ask, mounts, new_view, viewed, view_at, view, relabel, update_record, update_at, update, walk_at, walk, in_namespace, limited_at, set_limit_at, set_limit, lease_create, lease_add_record, lease_add, lease_release, step}
+use Rattle.snap_call.specs.State.{place_of, shown_layers}
+use Rattle.snap_call.specs.Step.{counted, refused, session, unless_refused, place_for, granted, charge_to, charge, trim, discard, ask, mounts, viewed, view_at, view, update_record, update, walk, in_namespace, limited_at, set_limit_at, set_limit, lease_create, lease_add_record, lease_add, lease_release, step, at_record, new_record, relabelled_at}
 use Rattle.snap_call.proofs.Lists.{all-with_record, all-without}
 use Rattle.snap_grants.specs.Grants.{Stored, Origin, worth}
 use Rattle.snap_grants.proofs.Weights.{Comes, AllCome, weights-with_record, weights-without_slot, weights-recharged, weights-relabelled, weights-limited, comes-recharged, comes-relabelled, comes-limited}
@@ -93,57 +94,7 @@ module _ (s : State) where
   stays_discard slot (Some r) = record { come = λ origin all. all-without (is_slot slot) (Comes origin s.namespaces) s.records all; same = λ h. weights-without_slot h s.namespaces slot s.records; grows = omega arith }
   stays_discard slot None = counts
 
-  -- what is only asked
-  stays_ask_record : (answer : Record → Reply) (o : Option Record) → P (ask_record s answer o)
-  stays_ask_record answer None = counts
-  stays_ask_record answer (Some r) = counts
-
-  stays_ask_in : (answer : Record → Reply) (key : Bytes) (o : Option ℕ) → P (option_map_or (λ place. ask_record s answer (record_at place key s.records)) o (refused s NoNamespace))
-  stays_ask_in answer key None = counts
-  stays_ask_in answer key (Some place) = stays_ask_record answer (record_at place key s.records)
-
-  stays_ask : (answer : Record → Reply) (namespace key : Bytes) → P (ask s answer namespace key)
-  stays_ask answer namespace key = either P (is_key key) _ _ (stays_ask_in answer key (place_of namespace s.namespaces)) counts
-
-  stays_walk_at : (after : Bytes) (most : ℕ) (asked : Filter) (o : Option ℕ) → P (walk_at s after most asked o)
-  stays_walk_at after most asked None = counts
-  stays_walk_at after most asked (Some place) = counts
-
-  stays_walk : (namespace after : Bytes) (most : ℕ) (asked : Filter) → P (walk s namespace after most asked)
-  stays_walk namespace after most asked = either P (is_start after && is_page most) _ _ (stays_walk_at after most asked (place_of namespace s.namespaces)) counts
-
-  -- a view isn't active, and weighs nothing
-  stays_viewed : (place : ℕ) (key parent : Bytes) (labels : List Label) → P (viewed s place key parent labels)
-  stays_viewed place key parent labels = record {
-    come = λ origin all. all-with_record (new_view s place key parent labels) (Comes origin s.namespaces) s.records tt all;
-    same = λ h. let more = weights-with_record h s.namespaces (new_view s place key parent labels) s.records in omega (arith, more);
-    grows = omega arith;
-  }
-
-  stays_view : (namespace key parent : Bytes) (labels : List Label) → P (view s namespace key parent labels)
-  stays_view namespace key parent labels =
-      unless P s (λ why. counts) (place_for s namespace key parent labels) (view_at s key parent labels)
-      (λ place e. either P (nat_le s.next_id 4294967295) _ _ (stays_viewed place key parent labels) counts)
-
-  stays_relabel : (place : ℕ) (key : Bytes) (labels : List Label) (r : Record) → P (relabel s place key labels r)
-  stays_relabel place key labels r = record {
-    come = λ origin all. comes-relabelled origin s.namespaces place key labels (s.entries + 1) s.records all;
-    same = λ h. weights-relabelled h s.namespaces place key labels (s.entries + 1) s.records;
-    grows = omega arith;
-  }
-
-  stays_update_record : (place : ℕ) (key : Bytes) (given : List Label) (paths : List Bytes) (o : Option Record) → P (update_record s place key given paths o)
-  stays_update_record place key given paths None = counts
-  stays_update_record place key given paths (Some r) = either P (is_granted r.labels given paths) _ _ (stays_relabel place key (labels_after r.labels given paths) r) counts
-
-  stays_update_at : (key : Bytes) (given : List Label) (paths : List Bytes) (o : Option ℕ) → P (update_at s key given paths o)
-  stays_update_at key given paths None = counts
-  stays_update_at key given paths (Some place) = stays_update_record place key given paths (record_at place key s.records)
-
-  stays_update : (namespace key : Bytes) (given : List Label) (paths : List Bytes) → P (update s namespace key given paths)
-  stays_update namespace key given paths = either P (is_key key && is_well_formed given paths) _ _ (stays_update_at key given paths (place_of namespace s.namespaces)) counts
-
-  -- a limit and the leases
+  -- what follows in a namespace, and at a record
   in_place : (namespace : Bytes) (next : ℕ → State × Reply) → ((place : ℕ) → P (next place)) → P (in_namespace s namespace next)
   in_place namespace next h = by (place_of namespace s.namespaces)
     where
@@ -151,6 +102,50 @@ module _ (s : State) where
       by None = counts
       by (Some place) = h place
 
+  on_record : (namespace key : Bytes) (next : ℕ → Record → State × Reply) → ((place : ℕ) (r : Record) → P (next place r)) → P (at_record s namespace key next)
+  on_record namespace key next h = in_place namespace _ (λ place. by place (record_at place key s.records))
+    where
+      by : (place : ℕ) (o : Option Record) → P (option_map_or (next place) o (refused s NotFound))
+      by place None = counts
+      by place (Some r) = h place r
+
+  -- what is only asked
+  stays_ask : (answer : Record → Reply) (namespace key : Bytes) → P (ask s answer namespace key)
+  stays_ask answer namespace key = either P (is_key key) _ _ (on_record namespace key _ (λ place r. counts)) counts
+
+  stays_walk : (namespace after : Bytes) (most : ℕ) (asked : Filter) → P (walk s namespace after most asked)
+  stays_walk namespace after most asked = either P (is_start after && is_page most) _ _ (in_place namespace _ (λ place. counts)) counts
+
+  -- a view isn't active, and weighs nothing
+  stays_viewed : (place : ℕ) (key parent : Bytes) (labels : List Label) → P (viewed s place key parent labels)
+  stays_viewed place key parent labels = record {
+    come = λ origin all. all-with_record new (Comes origin s.namespaces) s.records tt all;
+    same = λ h. let more = weights-with_record h s.namespaces new s.records in omega (arith, more);
+    grows = omega arith;
+  }
+    where
+      new : Record
+      new = new_record s place key parent labels (View (shown_layers place parent s.records))
+
+  stays_view : (namespace key parent : Bytes) (labels : List Label) → P (view s namespace key parent labels)
+  stays_view namespace key parent labels =
+      unless P s (λ why. counts) (place_for s namespace key parent labels) (view_at s key parent labels)
+      (λ place e. either P (nat_le s.next_id 4294967295) _ _ (stays_viewed place key parent labels) counts)
+
+  stays_relabelled : (place : ℕ) (key : Bytes) (labels : List Label) → Stays s (relabelled_at s place key labels)
+  stays_relabelled place key labels = record {
+    come = λ origin all. comes-relabelled origin s.namespaces place key labels (s.entries + 1) s.records all;
+    same = λ h. weights-relabelled h s.namespaces place key labels (s.entries + 1) s.records;
+    grows = omega arith;
+  }
+
+  stays_update_record : (key : Bytes) (given : List Label) (paths : List Bytes) (place : ℕ) (r : Record) → P (update_record s key given paths place r)
+  stays_update_record key given paths place r = either P (is_granted r.labels given paths) _ _ (stays_relabelled place key (labels_after r.labels given paths)) counts
+
+  stays_update : (namespace key : Bytes) (given : List Label) (paths : List Bytes) → P (update s namespace key given paths)
+  stays_update namespace key given paths = either P (is_key key && is_well_formed given paths) _ _ (on_record namespace key _ (stays_update_record key given paths)) counts
+
+  -- a limit and the leases
   stays_limited : (place : ℕ) (limit : Usage) → Stays s (limited_at s place limit)
   stays_limited place limit = record { come = λ origin all. comes-limited origin limit place s.namespaces s.records all; same = λ h. weights-limited h limit place s.namespaces s.records; grows = omega arith }
 
@@ -160,12 +155,11 @@ module _ (s : State) where
   stays_create : (namespace lease : Bytes) (until : Option ℕ) → P (lease_create s namespace lease until)
   stays_create namespace lease until = either P (is_key lease) _ _ (in_place namespace _ (λ place. either P (has_lease s.leases namespace lease) _ _ counts (leased _))) counts
 
-  stays_add_record : (namespace lease name : Bytes) (o : Option Record) → P (lease_add_record s namespace lease name o)
-  stays_add_record namespace lease name None = counts
-  stays_add_record namespace lease name (Some r) = either P (not (is_committed r.content)) _ _ counts (either P (not (has_lease s.leases namespace lease)) _ _ counts (leased _))
+  stays_add_record : (namespace lease name : Bytes) (r : Record) → P (lease_add_record s namespace lease name r)
+  stays_add_record namespace lease name r = either P (not (is_committed r.content)) _ _ counts (either P (not (has_lease s.leases namespace lease)) _ _ counts (leased _))
 
   stays_add : (namespace lease name : Bytes) → P (lease_add s namespace lease name)
-  stays_add namespace lease name = either P (is_key lease && is_key name) _ _ (in_place namespace _ (λ place. stays_add_record namespace lease name (record_at place name s.records))) counts
+  stays_add namespace lease name = either P (is_key lease && is_key name) _ _ (on_record namespace name _ (λ place. stays_add_record namespace lease name)) counts
 
   stays_release : (namespace lease : Bytes) → P (lease_release s namespace lease)
   stays_release namespace lease = either P (is_key lease) _ _ (in_place namespace _ (λ place. either P (has_lease s.leases namespace lease) _ _ (leased _) counts)) counts

@@ -10,10 +10,10 @@ use Rattle.snap_record.specs.declared.record.Content.TheVariants.{View, Active, 
 use Rattle.snap_record.specs.declared.record.Record.{Record}
 use Rattle.snap_call.specs.declared.config.Namespace.{Namespace}
 use Rattle.snap_call.specs.declared.state.State.{State}
-use Rattle.snap_call.specs.Records.{record_cmp, has_slot, is_slot, active_one, open_count, active_at, with_record, without_slot, recharged, is_named, with_labels, relabelled}
+use Rattle.snap_call.specs.Records.{record_cmp, has_slot, is_slot, open_count, active_at, with_record, without_slot, recharged, is_named, with_labels, relabelled}
 use Rattle.snap_call.specs.State.{name_at, limited}
 use Rattle.snap_call.proofs.Alike.{all-relabelled}
-use Rattle.snap_call.proofs.Lists.{all-map, all-recharged, active_at-is_slot, active_at-all}
+use Rattle.snap_call.proofs.Lists.{all-map, all-recharged, active_at-is_slot, active_at-all, active_one, open_count-cons}
 use Rattle.snap_grants.specs.Grants.{Stored, Origin, weight, weights}
 
 -- ---- weights
@@ -137,4 +137,4 @@ none_comes origin ns r (Committed layer usage) idle = tt
 
 pub comes-idle : (origin : ℕ → Origin) (ns : List Namespace) (rs : List Record) → open_count rs ≡ 0 → AllByRecursion (Comes origin ns) rs
 comes-idle origin ns [] idle = tt
-comes-idle origin ns (r ∷ rs) idle = (none_comes origin ns r r.content (omega (arith, idle)), comes-idle origin ns rs (omega (arith, idle)))
+comes-idle origin ns (r ∷ rs) idle = let one = open_count-cons r rs in (none_comes origin ns r r.content (omega (arith, idle, one)), comes-idle origin ns rs (omega (arith, idle, one)))

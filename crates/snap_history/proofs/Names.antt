@@ -18,14 +18,14 @@ use Rattle.snap_call.specs.declared.call.Given.{Given}
 use Rattle.snap_call.specs.declared.call.Given.TheVariants.{Nothing, Count, Layer}
 use Rattle.snap_call.specs.declared.entry.Entry.{Entry}
 use Rattle.snap_call.specs.declared.refusal.Refusal.{Refusal}
-use Rattle.snap_call.specs.declared.refusal.Refusal.TheVariants.{NoNamespace, NumbersSpent}
+use Rattle.snap_call.specs.declared.refusal.Refusal.TheVariants.{NoNamespace, NumbersSpent, NotFound}
 use Rattle.snap_call.specs.declared.reply.Reply.{Reply}
 use Rattle.snap_call.specs.declared.reply.Reply.TheVariants.{Opened, Info, Usage as UsageReply, Refused}
 use Rattle.snap_call.specs.declared.state.State.{State}
 use Rattle.snap_call.specs.Forms.{is_key, is_limit, is_page, is_start}
 use Rattle.snap_call.specs.Records.{record_at, has_key, has_children, is_active, is_committed, active_at, charge_of}
 use Rattle.snap_call.specs.State.{place_of}
-use Rattle.snap_call.specs.Step.{refused, session, prepared, prepare_at, prepare, granted, charge_to, charge, trim, commit_as, commit, discard, ask_record, ask, step, IsAllowed, place_for, slot_for, unless_refused, mounts, view_at, view, remove_record, remove_at, remove, update_record, update_at, update, walk_at, walk, in_namespace, has_named, set_limit_at, set_limit, lease_create, lease_add_record, lease_add, lease_release, sweep_at}
+use Rattle.snap_call.specs.Step.{refused, session, prepared, prepare_at, prepare, granted, charge_to, charge, trim, commit_as, commit, discard, ask, step, IsAllowed, place_for, slot_for, unless_refused, mounts, view_at, view, remove_record, remove, update_record, update, walk, in_namespace, has_named, set_limit_at, set_limit, lease_create, lease_add_record, lease_add, lease_release, sweep_at, at_record}
 use Rattle.snap_call.specs.Journal.{Replays}
 use Rattle.snap_call.proofs.Leasing.{place_of-limited}
 
@@ -84,50 +84,6 @@ discarding : (s : State) (slot : ℕ) (o : Option Record) → IsNext s (discard 
 discarding s slot (Some r) = (λ name. refl)
 discarding s slot None = (λ name. refl)
 
-asking_record : (s : State) (answer : Record → Reply) (o : Option Record) → IsNext s (ask_record s answer o).0
-asking_record s answer None = (λ name. refl)
-asking_record s answer (Some r) = (λ name. refl)
-
-asking_in : (s : State) (answer : Record → Reply) (key : Bytes) (o : Option ℕ) → IsNext s (option_map_or (λ place. ask_record s answer (record_at place key s.records)) o (refused s NoNamespace)).0
-asking_in s answer key None = (λ name. refl)
-asking_in s answer key (Some place) = asking_record s answer (record_at place key s.records)
-
-asking : (s : State) (answer : Record → Reply) (namespace key : Bytes) → IsNext s (ask s answer namespace key).0
-asking s answer namespace key = either s (is_key key) _ _ (asking_in s answer key (place_of namespace s.namespaces)) (λ name. refl)
-
-removing_record : (s : State) (namespace key : Bytes) (place : ℕ) (o : Option Record) → IsNext s (remove_record s namespace key place o).0
-removing_record s namespace key place None = (λ name. refl)
-removing_record s namespace key place (Some r) =
-    either s (has_children place key s.records) _ _ (λ name. refl)
-    (either s (is_active r.content) _ _ (λ name. refl)
-    (either s (is_guarded s.leases namespace key) _ _ (λ name. refl) (λ name. refl)))
-
-removing_at : (s : State) (namespace key : Bytes) (o : Option ℕ) → IsNext s (remove_at s namespace key o).0
-removing_at s namespace key None = (λ name. refl)
-removing_at s namespace key (Some place) = removing_record s namespace key place (record_at place key s.records)
-
-removing : (s : State) (namespace key : Bytes) → IsNext s (remove s namespace key).0
-removing s namespace key = either s (is_key key) _ _ (removing_at s namespace key (place_of namespace s.namespaces)) (λ name. refl)
-
-updating_record : (s : State) (place : ℕ) (key : Bytes) (given : List Label) (paths : List Bytes) (o : Option Record) → IsNext s (update_record s place key given paths o).0
-updating_record s place key given paths None = (λ name. refl)
-updating_record s place key given paths (Some r) =
-    either s (is_granted r.labels given paths) _ _ (λ name. refl) (λ name. refl)
-
-updating_at : (s : State) (key : Bytes) (given : List Label) (paths : List Bytes) (o : Option ℕ) → IsNext s (update_at s key given paths o).0
-updating_at s key given paths None = (λ name. refl)
-updating_at s key given paths (Some place) = updating_record s place key given paths (record_at place key s.records)
-
-updating : (s : State) (namespace key : Bytes) (given : List Label) (paths : List Bytes) → IsNext s (update s namespace key given paths).0
-updating s namespace key given paths = either s (is_key key && is_well_formed given paths) _ _ (updating_at s key given paths (place_of namespace s.namespaces)) (λ name. refl)
-
-walking_at : (s : State) (after : Bytes) (most : ℕ) (asked : Filter) (o : Option ℕ) → IsNext s (walk_at s after most asked o).0
-walking_at s after most asked None = (λ name. refl)
-walking_at s after most asked (Some place) = (λ name. refl)
-
-walking : (s : State) (namespace after : Bytes) (most : ℕ) (asked : Filter) → IsNext s (walk s namespace after most asked).0
-walking s namespace after most asked = either s (is_start after && is_page most) _ _ (walking_at s after most asked (place_of namespace s.namespaces)) (λ name. refl)
-
 in_place : (s : State) (namespace : Bytes) (next : ℕ → State × Reply) → ((place : ℕ) → IsNext s (next place).0) → IsNext s (in_namespace s namespace next).0
 in_place s namespace next h = by (place_of namespace s.namespaces)
   where
@@ -135,18 +91,46 @@ in_place s namespace next h = by (place_of namespace s.namespaces)
     by None = (λ name. refl)
     by (Some place) = h place
 
+on_record : (s : State) (namespace key : Bytes) (next : ℕ → Record → State × Reply) → ((place : ℕ) (r : Record) → IsNext s (next place r).0) → IsNext s (at_record s namespace key next).0
+on_record s namespace key next h = in_place s namespace _ (λ place. by place (record_at place key s.records))
+  where
+    by : (place : ℕ) (o : Option Record) → IsNext s (option_map_or (next place) o (refused s NotFound)).0
+    by place None = (λ name. refl)
+    by place (Some r) = h place r
+
+asking : (s : State) (answer : Record → Reply) (namespace key : Bytes) → IsNext s (ask s answer namespace key).0
+asking s answer namespace key = either s (is_key key) _ _ (on_record s namespace key _ (λ place r. (λ name. refl))) (λ name. refl)
+
+removing_record : (s : State) (namespace key : Bytes) (place : ℕ) (r : Record) → IsNext s (remove_record s namespace key place r).0
+removing_record s namespace key place r =
+    either s (has_children place key s.records) _ _ (λ name. refl)
+    (either s (is_active r.content) _ _ (λ name. refl)
+    (either s (is_guarded s.leases namespace key) _ _ (λ name. refl) (λ name. refl)))
+
+removing : (s : State) (namespace key : Bytes) → IsNext s (remove s namespace key).0
+removing s namespace key = either s (is_key key) _ _ (on_record s namespace key _ (removing_record s namespace key)) (λ name. refl)
+
+updating_record : (s : State) (key : Bytes) (given : List Label) (paths : List Bytes) (place : ℕ) (r : Record) → IsNext s (update_record s key given paths place r).0
+updating_record s key given paths place r =
+    either s (is_granted r.labels given paths) _ _ (λ name. refl) (λ name. refl)
+
+updating : (s : State) (namespace key : Bytes) (given : List Label) (paths : List Bytes) → IsNext s (update s namespace key given paths).0
+updating s namespace key given paths = either s (is_key key && is_well_formed given paths) _ _ (on_record s namespace key _ (updating_record s key given paths)) (λ name. refl)
+
+walking : (s : State) (namespace after : Bytes) (most : ℕ) (asked : Filter) → IsNext s (walk s namespace after most asked).0
+walking s namespace after most asked = either s (is_start after && is_page most) _ _ (in_place s namespace _ (λ place. (λ name. refl))) (λ name. refl)
+
 limiting : (s : State) (namespace : Bytes) (limit : Usage) → IsNext s (set_limit s namespace limit).0
 limiting s namespace limit = either s (is_limit limit) _ _ (in_place s namespace (set_limit_at s limit) (λ place. either s (covers limit (charge_of place s.records)) _ _ (λ name. place_of-limited limit name place s.namespaces) (λ name. refl))) (λ name. refl)
 
 creating : (s : State) (namespace lease : Bytes) (until : Option ℕ) → IsNext s (lease_create s namespace lease until).0
 creating s namespace lease until = either s (is_key lease) _ _ (in_place s namespace _ (λ place. either s (has_lease s.leases namespace lease) _ _ (λ name. refl) (λ name. refl))) (λ name. refl)
 
-adding_record : (s : State) (namespace lease name : Bytes) (o : Option Record) → IsNext s (lease_add_record s namespace lease name o).0
-adding_record s namespace lease name None = (λ name. refl)
-adding_record s namespace lease name (Some r) = either s (not (is_committed r.content)) _ _ (λ name. refl) (either s (not (has_lease s.leases namespace lease)) _ _ (λ name. refl) (λ name. refl))
+adding_record : (s : State) (namespace lease name : Bytes) (r : Record) → IsNext s (lease_add_record s namespace lease name r).0
+adding_record s namespace lease name r = either s (not (is_committed r.content)) _ _ (λ name. refl) (either s (not (has_lease s.leases namespace lease)) _ _ (λ name. refl) (λ name. refl))
 
 adding : (s : State) (namespace lease name : Bytes) → IsNext s (lease_add s namespace lease name).0
-adding s namespace lease name = either s (is_key lease && is_key name) _ _ (in_place s namespace _ (λ place. adding_record s namespace lease name (record_at place name s.records))) (λ name. refl)
+adding s namespace lease name = either s (is_key lease && is_key name) _ _ (on_record s namespace name _ (λ place. adding_record s namespace lease name)) (λ name. refl)
 
 releasing : (s : State) (namespace lease : Bytes) → IsNext s (lease_release s namespace lease).0
 releasing s namespace lease = either s (is_key lease) _ _ (in_place s namespace _ (λ place. either s (has_lease s.leases namespace lease) _ _ (λ name. refl) (λ name. refl))) (λ name. refl)

@@ -13,18 +13,17 @@ use Rattle.snap_usage.specs.Counted.{count_of, covers, no_usage}
 use Rattle.snap_ledger.specs.States.{plus}
 use Rattle.snap_lease.specs.Leases.{is_guarded, has_lease}
 use Rattle.snap_record.specs.Labels.{Bytes, Label}
-use Rattle.snap_record.specs.Records.{usage_of, info_of, kind_of}
+use Rattle.snap_record.specs.Records.{usage_of, info_of}
 use Rattle.snap_record.specs.Updates.{is_granted, is_well_formed, updated as labels_after}
 use Rattle.snap_record.specs.declared.filter.Filter.{Filter}
-use Rattle.snap_record.specs.declared.kind.Kind.{Kind}
-use Rattle.snap_record.specs.declared.kind.Kind.TheVariants as kinds
+use Rattle.snap_record.specs.declared.record.Content.TheVariants.{View, Active}
 use Rattle.snap_record.specs.declared.record.Record.{Record}
 use Rattle.snap_call.specs.declared.call.Call.{Call}
 use Rattle.snap_call.specs.declared.call.Call.TheVariants as calls
 use Rattle.snap_call.specs.declared.call.Given.{Given}
 use Rattle.snap_call.specs.declared.call.Given.TheVariants.{Nothing, Count, Layer}
 use Rattle.snap_call.specs.declared.refusal.Refusal.{Refusal}
-use Rattle.snap_call.specs.declared.refusal.Refusal.TheVariants.{NoNamespace}
+use Rattle.snap_call.specs.declared.refusal.Refusal.TheVariants.{NoNamespace, NotFound}
 use Rattle.snap_call.specs.declared.reply.Reply.{Reply}
 use Rattle.snap_call.specs.declared.reply.Reply.TheVariants as replies
 use Rattle.snap_call.specs.declared.state.State.{State}
@@ -32,8 +31,8 @@ use Rattle.snap_call.specs.Forms.{is_key, is_limit, is_page, is_start}
 use Rattle.snap_call.specs.Good.{Good}
 use Rattle.snap_call.specs.Reached.{swept, unswept}
 use Rattle.snap_call.specs.Records.{active_at, charge_of, committed_as, has_children, has_key, is_active, is_committed, is_named, is_slot, record_at, recharged, relabelled, with_record, without_key, without_slot, HasLowSlot}
-use Rattle.snap_call.specs.State.{place_of}
-use Rattle.snap_call.specs.Step.{IsAllowed, IsCovered, IsOpen, ask, ask_record, charge, charge_to, counted, commit_as, committed as committed_state, discard, has_named, in_namespace, lease_add, lease_add_record, lease_create, lease_release, mounts, new_active, new_view, one, place_for, prepare, prepare_at, prepared as prepared_state, refused, remove, remove_at, remove_record, removed_at, session, set_limit, set_limit_at, shown, slot_for, step, sweep, sweep_at, trim, unless_refused, update, update_at, update_record, view, view_at, walk, walk_at}
+use Rattle.snap_call.specs.State.{place_of, shown_layers}
+use Rattle.snap_call.specs.Step.{IsAllowed, IsCovered, IsOpen, ask, charge, charge_to, counted, commit_as, committed as committed_state, discard, has_named, in_namespace, lease_add, lease_add_record, lease_create, lease_release, mounts, one, place_for, prepare, prepare_at, prepared as prepared_state, refused, remove, remove_record, removed_at, session, set_limit, set_limit_at, slot_for, step, sweep, sweep_at, trim, unless_refused, update, update_record, view, view_at, walk, at_record, new_record}
 use Rattle.snap_call.proofs.Alike.{AreAlike, bare-relabelled, alike-active_at, alike-active_at_None, alike-charge_of}
 use Rattle.snap_call.proofs.Keeping.{same_name}
 use Rattle.snap_call.proofs.Leasing.{place_of-limited}
@@ -167,32 +166,6 @@ module _ (name : Bytes) (place : ℕ) (s : State) (shares : List (Option Usage))
   even_session : Evenly (session s)
   even_session = cases_if Evenly (nat_lt s.sessions 65536) _ _ (λ few. even_same _ replies.Opened refl refl tt) (λ spent. even_same s _ refl refl tt)
 
-  even_ask_record : (answer : Record → Reply) → ((r : Record) → Plain (answer r)) → (o : Option Record) → Evenly (ask_record s answer o)
-  even_ask_record answer plain None = even_refused _
-  even_ask_record answer plain (Some r) = even_same _ (answer r) refl refl (plain r)
-
-  even_ask_in : (answer : Record → Reply) → ((r : Record) → Plain (answer r)) → (key : Bytes) (o : Option ℕ) → Evenly (option_map_or (λ at. ask_record s answer (record_at at key s.records)) o (refused s NoNamespace))
-  even_ask_in answer plain key None = even_refused NoNamespace
-  even_ask_in answer plain key (Some at) = even_ask_record answer plain (record_at at key s.records)
-
-  even_ask : (answer : Record → Reply) → ((r : Record) → Plain (answer r)) → (namespace key : Bytes) → Evenly (ask s answer namespace key)
-  even_ask answer plain namespace key = cases_if Evenly (is_key key) _ _ (λ formed. even_ask_in answer plain key (place_of namespace s.namespaces)) (λ bad. even_refused _)
-
-  plain_mounts : (r : Record) → Plain (mounts s r)
-  plain_mounts r = at (kind_of r.content)
-    where
-      at : (k : Kind) → Plain (shown s r k)
-      at kinds.Committed = tt
-      at kinds.View = tt
-      at kinds.Active = tt
-
-  even_walk_at : (after : Bytes) (most : ℕ) (asked : Filter) (o : Option ℕ) → Evenly (walk_at s after most asked o)
-  even_walk_at after most asked None = even_refused NoNamespace
-  even_walk_at after most asked (Some at) = even_same _ _ refl refl tt
-
-  even_walk : (namespace after : Bytes) (most : ℕ) (asked : Filter) → Evenly (walk s namespace after most asked)
-  even_walk namespace after most asked = cases_if Evenly (is_start after && is_page most) _ _ (λ formed. even_walk_at after most asked (place_of namespace s.namespaces)) (λ bad. even_refused _)
-
   -- a call in a namespace that the store has
   in_its_namespace : (P : State × Reply → Type 0) (namespace : Bytes) (next : ℕ → State × Reply) → P (refused s NoNamespace) → ((at : ℕ) → place_of namespace s.namespaces ≡ Some at → P (next at)) → P (in_namespace s namespace next)
   in_its_namespace P namespace next none here = by (place_of namespace s.namespaces) refl
@@ -200,6 +173,27 @@ module _ (name : Bytes) (place : ℕ) (s : State) (shares : List (Option Usage))
       by : (o : Option ℕ) → place_of namespace s.namespaces ≡ o → P (option_map_or next o (refused s NoNamespace))
       by None e = none
       by (Some at) e = here at e
+
+  -- a call of a record that the namespace has
+  at_its_record : (P : State × Reply → Type 0) (at : ℕ) (key : Bytes) (next : Record → State × Reply) → P (refused s NotFound) → ((r : Record) → record_at at key s.records ≡ Some r → P (next r))
+      → P (option_map_or next (record_at at key s.records) (refused s NotFound))
+  at_its_record P at key next none here = by (record_at at key s.records) refl
+    where
+      by : (o : Option Record) → record_at at key s.records ≡ o → P (option_map_or next o (refused s NotFound))
+      by None e = none
+      by (Some r) e = here r e
+
+  even_at_record : (namespace key : Bytes) (next : ℕ → Record → State × Reply) → ((at : ℕ) (r : Record) → Evenly (next at r)) → Evenly (at_record s namespace key next)
+  even_at_record namespace key next here = in_its_namespace Evenly namespace _ (even_refused NoNamespace) (λ at e. at_its_record Evenly at key (next at) (even_refused NotFound) (λ r f. here at r))
+
+  even_ask : (answer : Record → Reply) → ((r : Record) → Plain (answer r)) → (namespace key : Bytes) → Evenly (ask s answer namespace key)
+  even_ask answer plain namespace key = cases_if Evenly (is_key key) _ _ (λ formed. even_at_record namespace key _ (λ at r. even_same _ (answer r) refl refl (plain r))) (λ bad. even_refused _)
+
+  plain_mounts : (r : Record) → Plain (mounts s r)
+  plain_mounts r = cases_if Plain (is_committed r.content) _ _ (λ committed. tt) (λ other. tt)
+
+  even_walk : (namespace after : Bytes) (most : ℕ) (asked : Filter) → Evenly (walk s namespace after most asked)
+  even_walk namespace after most asked = cases_if Evenly (is_start after && is_page most) _ _ (λ formed. in_its_namespace Evenly namespace _ (even_refused NoNamespace) (λ at e. even_same _ _ refl refl tt)) (λ bad. even_refused _)
 
   even_set_limit : (namespace : Bytes) (limit : Usage) → Evenly (set_limit s namespace limit)
   even_set_limit namespace limit =
@@ -217,16 +211,15 @@ module _ (name : Bytes) (place : ℕ) (s : State) (shares : List (Option Usage))
       (λ at e. cases_if Evenly (has_lease s.leases namespace lease) _ _ (λ there. even_refused _) (λ new. even_same _ replies.Done refl refl tt)))
       (λ bad. even_refused _)
 
-  even_lease_add_record : (namespace lease key : Bytes) (o : Option Record) → Evenly (lease_add_record s namespace lease key o)
-  even_lease_add_record namespace lease key None = even_refused _
-  even_lease_add_record namespace lease key (Some r) =
+  even_lease_add_record : (namespace lease key : Bytes) (r : Record) → Evenly (lease_add_record s namespace lease key r)
+  even_lease_add_record namespace lease key r =
       cases_if Evenly (not (is_committed r.content)) _ _ (λ other. even_refused _)
       (λ is. cases_if Evenly (not (has_lease s.leases namespace lease)) _ _ (λ none. even_refused _) (λ there. even_same _ replies.Done refl refl tt))
 
   even_lease_add : (namespace lease key : Bytes) → Evenly (lease_add s namespace lease key)
   even_lease_add namespace lease key =
       cases_if Evenly (is_key lease && is_key key) _ _
-      (λ formed. in_its_namespace Evenly namespace _ (even_refused NoNamespace) (λ at e. even_lease_add_record namespace lease key (record_at at key s.records)))
+      (λ formed. even_at_record namespace key _ (λ at. even_lease_add_record namespace lease key))
       (λ bad. even_refused _)
 
   even_lease_release : (namespace lease : Bytes) → Evenly (lease_release s namespace lease)
@@ -243,7 +236,7 @@ module _ (name : Bytes) (place : ℕ) (s : State) (shares : List (Option Usage))
 
   even_view_at : (key parent : Bytes) (labels : List Label) (at : ℕ) → Evenly (view_at s key parent labels at)
   even_view_at key parent labels at =
-      let new : Record = new_view s at key parent labels in
+      let new : Record = new_record s at key parent labels (View (shown_layers at parent s.records)) in
       cases_if Evenly (nat_le s.next_id 4294967295) _ _
       (λ few. record {
         named = refl;
@@ -267,9 +260,8 @@ module _ (name : Bytes) (place : ℕ) (s : State) (shares : List (Option Usage))
             let found = alike-active_at s.records ts alike slot r e in
             ap (share_by place) found.1 ∙ ap (λ (x : Record). share_by place (Some x)) found.2
 
-  even_update_record : (at : ℕ) (key : Bytes) (given : List Label) (paths : List Bytes) (o : Option Record) → Evenly (update_record s at key given paths o)
-  even_update_record at key given paths None = even_refused _
-  even_update_record at key given paths (Some r) =
+  even_update_record : (key : Bytes) (given : List Label) (paths : List Bytes) (at : ℕ) (r : Record) → Evenly (update_record s key given paths at r)
+  even_update_record key given paths at r =
       let labels = labels_after r.labels given paths in
       let ts : List Record = relabelled at key labels (s.entries + 1) s.records in
       let alike : AreAlike s.records ts = bare-relabelled at key labels (s.entries + 1) s.records in
@@ -277,13 +269,9 @@ module _ (name : Bytes) (place : ℕ) (s : State) (shares : List (Option Usage))
       (λ granted. record { named = refl; slots = alike_slots ts alike; charges = alike-charge_of s.records ts alike place; plain = tt })
       (λ bad. even_refused _)
 
-  even_update_at : (key : Bytes) (given : List Label) (paths : List Bytes) (o : Option ℕ) → Evenly (update_at s key given paths o)
-  even_update_at key given paths None = even_refused NoNamespace
-  even_update_at key given paths (Some at) = even_update_record at key given paths (record_at at key s.records)
-
   even_update : (namespace key : Bytes) (given : List Label) (paths : List Bytes) → Evenly (update s namespace key given paths)
   even_update namespace key given paths =
-      cases_if Evenly (is_key key && is_well_formed given paths) _ _ (λ formed. even_update_at key given paths (place_of namespace s.namespaces)) (λ bad. even_refused _)
+      cases_if Evenly (is_key key && is_well_formed given paths) _ _ (λ formed. even_at_record namespace key _ (even_update_record key given paths)) (λ bad. even_refused _)
 
   -- ---- steps in a namespace, which is the one or isn't
 
@@ -314,21 +302,19 @@ module _ (name : Bytes) (place : ℕ) (s : State) (shares : List (Option Usage))
             ∙ ap (plus (charge_of place (without_key at key s.records))) (sym (left_by (at == place) (usage_of r.content) no_usage ∙ either_none (at == place)));
       }
 
-  remove_found : (namespace key : Bytes) (at : ℕ) (o : Option Record) → record_at at key s.records ≡ o → Named (at == place) (remove_record s namespace key at o)
-  remove_found namespace key at None e = refuses
-  remove_found namespace key at (Some r) e =
+  remove_found : (namespace key : Bytes) (at : ℕ) (r : Record) → record_at at key s.records ≡ Some r → Named (at == place) (remove_record s namespace key at r)
+  remove_found namespace key at r e =
       cases_if (Named (at == place)) (has_children at key s.records) _ _ (λ some. refuses)
       (λ childless. cases_if (Named (at == place)) (is_active r.content) _ _ (λ active. refuses)
       (λ idle. cases_if (Named (at == place)) (is_guarded s.leases namespace key) _ _ (λ leased. refuses) (λ free. removes at key r e idle)))
 
-  remove_in : (namespace key : Bytes) (o : Option ℕ) → place_of namespace s.namespaces ≡ o → Named (bytes_eq namespace name) (remove_at s namespace key o)
-  remove_in namespace key None e = refuses
-  remove_in namespace key (Some at) e =
-      subst (λ (b : Bool). Named b (remove_record s namespace key at (record_at at key s.records))) (sym (own_is namespace at e)) (remove_found namespace key at (record_at at key s.records) refl)
-
   turns_remove : (namespace key : Bytes) → Named (bytes_eq namespace name) (remove s namespace key)
   turns_remove namespace key =
-      cases_if (Named (bytes_eq namespace name)) (is_key key) _ _ (λ formed. remove_in namespace key (place_of namespace s.namespaces) refl) (λ bad. refuses)
+      cases_if (Named (bytes_eq namespace name)) (is_key key) _ _
+      (λ formed. in_its_namespace (Named (bytes_eq namespace name)) namespace _ refuses
+      (λ at e. subst (λ (b : Bool). Named b (option_map_or (remove_record s namespace key at) (record_at at key s.records) (refused s NotFound))) (sym (own_is namespace at e))
+      (at_its_record (Named (at == place)) at key (remove_record s namespace key at) refuses (λ r f. remove_found namespace key at r f))))
+      (λ bad. refuses)
 
   sweeps : (namespace : Bytes) (moment at : ℕ) → Named (at == place) (sweep_at s namespace moment at)
   sweeps namespace moment at =
@@ -380,7 +366,7 @@ module _ (name : Bytes) (place : ℕ) (s : State) (shares : List (Option Usage))
   prepares : (at : ℕ) (key parent : Bytes) (labels : List Label) (slot : ℕ) → IsSlotFor s at slot → Named (at == place) (prepared_state s at key parent labels slot)
   prepares at key parent labels slot found =
       let lowest = lowest_free-Some s.records slot found.lowest in
-      let new : Record = new_active s at key parent labels slot in
+      let new : Record = new_record s at key parent labels (Active slot one) in
       let ts : List Record = with_record new s.records in
       let own : is_slot slot new ≡ true = Active-is_slot slot one new refl in
       record {

@@ -1,7 +1,8 @@
 -- What a lease is, and what is asked of one lease. Texts are their bytes.
 -- Cited by `Leases::has`, `Leases::create`, `Leases::add` and others.
-use Rattle.std.specs.Prelude.{ℕ, Bool, true, List, [], ◌∷◌, ◌++◌, Option, None, Some, nat_le, ◌&&◌, if◌then◌else◌}
+use Rattle.std.specs.Prelude.{ℕ, Bool, true, List, [], ◌∷◌, ◌++◌, Option, nat_le, ◌&&◌, if◌then◌else◌}
 use Rattle.std.specs.List.{list_any, IsDistinct}
+use Rattle.std.specs.Option.{option_map_or}
 use Rattle.std.specs.Str.{bytes_eq}
 
 -- a lease of a namespace: its last moment, if it has one, and the snapshots that it names, in order
@@ -28,12 +29,8 @@ abbrev pub does_name : List ℕ → Lease → Bool
 does_name name l = list_any (bytes_eq name) l.names
 
 -- whether the lease is live at the moment: it has no last moment, or the moment is not after it
-abbrev pub is_live_until : Option ℕ → ℕ → Bool
-is_live_until None now = true
-is_live_until (Some until) now = nat_le now until
-
 abbrev pub is_live : ℕ → Lease → Bool
-is_live now l = is_live_until l.until now
+is_live now l = option_map_or (nat_le now) l.until true
 
 -- a lease that names nothing yet
 abbrev pub empty_lease : List ℕ → List ℕ → Option ℕ → Lease

@@ -23,12 +23,9 @@ abbrev pub mount_kind_word : MountKind → Bytes
 mount_kind_word Bind = codes "bind"
 mount_kind_word Overlay = codes "overlay"
 
--- the layer directory and the work directory of an id
+-- the layer directory of an id
 abbrev pub layer_dir : Bytes → ℕ → Bytes
 layer_dir root id = root ++ codes "/snapshots/" ++ decimal id ++ codes "/fs"
-
-abbrev pub work_dir : Bytes → ℕ → Bytes
-work_dir root id = root ++ codes "/snapshots/" ++ decimal id ++ codes "/work"
 
 -- the layer directories, nearest first, joined by `:`
 abbrev pub lower_dirs : Bytes → List ℕ → Bytes
@@ -41,8 +38,9 @@ bind_mount dir access = record { kind = Bind; source = dir; options = access ∷
 abbrev pub overlay_mount : List Bytes → Mount
 overlay_mount options = record { kind = Overlay; source = codes "overlay"; options = options }
 
+-- the options: the work directory beside that of the layer, the layer directory, and the ancestors'
 abbrev pub workdir : Bytes → ℕ → Bytes
-workdir root id = codes "workdir=" ++ work_dir root id
+workdir root id = codes "workdir=" ++ root ++ codes "/snapshots/" ++ decimal id ++ codes "/work"
 
 abbrev pub upperdir : Bytes → ℕ → Bytes
 upperdir root id = codes "upperdir=" ++ layer_dir root id

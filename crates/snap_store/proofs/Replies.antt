@@ -3,27 +3,25 @@ use Rattle.std.specs.Prelude.{if◌then◌else◌, Bool, true, false, not}
 use Rattle.std.specs.Option.{option_map_or}
 use Rattle.std.proofs.Common.{ℕ, List, Option, None, Some, sym, subst}
 use Rattle.snap_record.specs.Labels.{Bytes, Label}
-use Rattle.snap_record.specs.Records.{info_of, kind_of, usage_of}
+use Rattle.snap_record.specs.Records.{info_of, usage_of}
 use Rattle.snap_lease.specs.Leases.{has_lease, is_guarded, with_name_added}
 use Rattle.snap_mount.specs.declared.mount.Mount.{Mount}
 use Rattle.snap_record.specs.declared.filter.Filter.{Filter}
 use Rattle.snap_record.specs.declared.info.Info.{Info}
-use Rattle.snap_record.specs.declared.kind.Kind.{Kind}
-use Rattle.snap_record.specs.declared.kind.Kind.TheVariants as kinds
 use Rattle.snap_record.specs.declared.record.Record.{Record}
 use Rattle.snap_usage.specs.declared.usage.Usage.{Usage}
 use Rattle.snap_call.specs.declared.call.Call.{Call}
 use Rattle.snap_call.specs.declared.call.Call.TheVariants as calls
 use Rattle.snap_call.specs.declared.call.Given.TheVariants.{Nothing}
 use Rattle.snap_call.specs.declared.refusal.Refusal.{Refusal}
-use Rattle.snap_call.specs.declared.refusal.Refusal.TheVariants.{HasChildren, InUse, Leased, NoLease, NotCommitted}
+use Rattle.snap_call.specs.declared.refusal.Refusal.TheVariants.{HasChildren, InUse, Leased, NoLease, NotCommitted, NotFound}
 use Rattle.snap_call.specs.declared.reply.Reply.{Reply}
 use Rattle.snap_call.specs.declared.reply.Reply.TheVariants as replies
 use Rattle.snap_call.specs.declared.state.State.{State}
 use Rattle.snap_call.specs.Forms.{is_key}
 use Rattle.snap_call.specs.Records.{has_children, is_active, is_committed, record_at}
 use Rattle.snap_call.specs.State.{place_of}
-use Rattle.snap_call.specs.Step.{ask, ask_record, lease_add, lease_add_record, lease_create, lease_release, leasing, mounts, refused, remove, remove_at, remove_record, removed_at, set_limit, shown, step, sweep, update, update_at, update_record, walk, walk_at}
+use Rattle.snap_call.specs.Step.{ask, lease_add, lease_add_record, lease_create, lease_release, leasing, mounts, refused, remove, remove_record, removed_at, set_limit, step, sweep, update, walk, at_record}
 use Rattle.snap_accounts.specs.Entries.{IsPlain}
 use Rattle.snap_book.specs.Book.{AnsweredBy, BookValue}
 use Rattle.snap_store.specs.Replies.{AreMounts, IsDone, IsInfo, IsPage, IsRemoval, IsReplyTo, IsSweep, IsUsage}
@@ -38,19 +36,25 @@ in_place : (P : Reply → Type 0) (s : State) (o : Option ℕ) (next : ℕ → S
 in_place P s None next other p q = q
 in_place P s (Some place) next other p q = p place
 
--- ---- each call, of anything that holds of each refusal and of its other reply
+at_found : (P : Reply → Type 0) (s : State) (namespace key : Bytes) (next : ℕ → Record → State × Reply) → ((why : Refusal) → P (replies.Refused why)) → ((place : ℕ) (r : Record) → P (next place r).1) → P (at_record s namespace key next).1
+at_found P s namespace key next why here = in_place P s (place_of namespace s.namespaces) _ _ (λ place. by place (record_at place key s.records)) (why _)
+  where
+    by : (place : ℕ) (o : Option Record) → P (option_map_or (next place) o (refused s NotFound)).1
+    by place None = why _
+    by place (Some r) = here place r
 
-ask_found : (P : Reply → Type 0) (s : State) (answer : Record → Reply) → ((why : Refusal) → P (replies.Refused why)) → ((r : Record) → P (answer r)) → (o : Option Record) → P (ask_record s answer o).1
-ask_found P s answer why other None = why _
-ask_found P s answer why other (Some r) = other r
+-- ---- each call, of anything that holds of each refusal and of its other reply
 
 of_ask : (P : Reply → Type 0) (s : State) (answer : Record → Reply) (namespace key : Bytes) → ((why : Refusal) → P (replies.Refused why)) → ((r : Record) → P (answer r)) → P (ask s answer namespace key).1
 of_ask P s answer namespace key why other =
-    either P (is_key key) _ _ (in_place P s (place_of namespace s.namespaces) _ _ (λ place. ask_found P s answer why other (record_at place key s.records)) (why _)) (why _)
+    either P (is_key key) _ _ (at_found P s namespace key _ why (λ place r. other r)) (why _)
 
-of_shown : (P : Reply → Type 0) (s : State) (r : Record) (kind : Kind) → ((why : Refusal) → P (replies.Refused why)) → ((mounts : List Mount) → P (replies.Mounts mounts)) → P (shown s r kind)
-of_shown P s r kinds.Committed why other = why _
-of_shown P s r kind why other = other _
+shown_or : (P : Reply → Type 0) (b : Bool) (x y : Reply) → P x → P y → P (if b then x else y)
+shown_or P true x y p q = p
+shown_or P false x y p q = q
+
+of_mounts : (P : Reply → Type 0) (s : State) (r : Record) → ((why : Refusal) → P (replies.Refused why)) → ((mounts : List Mount) → P (replies.Mounts mounts)) → P (mounts s r)
+of_mounts P s r why other = shown_or P (is_committed r.content) _ _ (why _) (other _)
 
 removal_by : (P : Reply → Type 0) (s t : State) (a b d : Bool) (usage : Usage) → ((why : Refusal) → P (replies.Refused why)) → ((u : Usage) → P (replies.Removed u))
     → P (if a then refused s HasChildren else if b then refused s InUse else if d then refused s Leased else (t, replies.Removed usage)).1
@@ -59,39 +63,20 @@ removal_by P s t false true d usage why other = why _
 removal_by P s t false false true usage why other = why _
 removal_by P s t false false false usage why other = other _
 
-removal_found : (P : Reply → Type 0) (s : State) (namespace key : Bytes) (place : ℕ) (o : Option Record) → ((why : Refusal) → P (replies.Refused why)) → ((usage : Usage) → P (replies.Removed usage))
-    → P (remove_record s namespace key place o).1
-removal_found P s namespace key place None why other = why _
-removal_found P s namespace key place (Some r) why other =
+removal_found : (P : Reply → Type 0) (s : State) (namespace key : Bytes) (place : ℕ) (r : Record) → ((why : Refusal) → P (replies.Refused why)) → ((usage : Usage) → P (replies.Removed usage))
+    → P (remove_record s namespace key place r).1
+removal_found P s namespace key place r why other =
     removal_by P s (removed_at s place key) (has_children place key s.records) (is_active r.content) (is_guarded s.leases namespace key) (usage_of r.content) why other
 
-removal_at : (P : Reply → Type 0) (s : State) (namespace key : Bytes) (o : Option ℕ) → ((why : Refusal) → P (replies.Refused why)) → ((usage : Usage) → P (replies.Removed usage)) → P (remove_at s namespace key o).1
-removal_at P s namespace key None why other = why _
-removal_at P s namespace key (Some place) why other = removal_found P s namespace key place (record_at place key s.records) why other
-
 of_remove : (P : Reply → Type 0) (s : State) (namespace key : Bytes) → ((why : Refusal) → P (replies.Refused why)) → ((usage : Usage) → P (replies.Removed usage)) → P (remove s namespace key).1
-of_remove P s namespace key why other = either P _ _ _ (removal_at P s namespace key (place_of namespace s.namespaces) why other) (why _)
-
-update_found : (P : Reply → Type 0) (s : State) (place : ℕ) (key : Bytes) (given : List Label) (paths : List Bytes) (o : Option Record) → ((why : Refusal) → P (replies.Refused why)) → ((info : Info) → P (replies.Info info))
-    → P (update_record s place key given paths o).1
-update_found P s place key given paths None why other = why _
-update_found P s place key given paths (Some r) why other = either P _ _ _ (other _) (why _)
-
-update_in : (P : Reply → Type 0) (s : State) (key : Bytes) (given : List Label) (paths : List Bytes) (o : Option ℕ) → ((why : Refusal) → P (replies.Refused why)) → ((info : Info) → P (replies.Info info))
-    → P (update_at s key given paths o).1
-update_in P s key given paths None why other = why _
-update_in P s key given paths (Some place) why other = update_found P s place key given paths (record_at place key s.records) why other
+of_remove P s namespace key why other = either P _ _ _ (at_found P s namespace key _ why (λ place r. removal_found P s namespace key place r why other)) (why _)
 
 of_update : (P : Reply → Type 0) (s : State) (namespace key : Bytes) (given : List Label) (paths : List Bytes) → ((why : Refusal) → P (replies.Refused why)) → ((info : Info) → P (replies.Info info))
     → P (update s namespace key given paths).1
-of_update P s namespace key given paths why other = either P _ _ _ (update_in P s key given paths (place_of namespace s.namespaces) why other) (why _)
-
-walk_in : (P : Reply → Type 0) (s : State) (after : Bytes) (most : ℕ) (asked : Filter) (o : Option ℕ) → ((why : Refusal) → P (replies.Refused why)) → ((infos : List Info) → P (replies.Page infos)) → P (walk_at s after most asked o).1
-walk_in P s after most asked None why other = why _
-walk_in P s after most asked (Some place) why other = other _
+of_update P s namespace key given paths why other = either P _ _ _ (at_found P s namespace key _ why (λ place r. either P _ _ _ (other _) (why _))) (why _)
 
 of_walk : (P : Reply → Type 0) (s : State) (namespace after : Bytes) (most : ℕ) (asked : Filter) → ((why : Refusal) → P (replies.Refused why)) → ((infos : List Info) → P (replies.Page infos)) → P (walk s namespace after most asked).1
-of_walk P s namespace after most asked why other = either P _ _ _ (walk_in P s after most asked (place_of namespace s.namespaces) why other) (why _)
+of_walk P s namespace after most asked why other = either P _ _ _ (in_place P s (place_of namespace s.namespaces) _ _ (λ place. other _) (why _)) (why _)
 
 of_limit : (P : Reply → Type 0) (s : State) (namespace : Bytes) (limit : Usage) → ((why : Refusal) → P (replies.Refused why)) → P replies.Done → P (set_limit s namespace limit).1
 of_limit P s namespace limit why other =
@@ -107,14 +92,13 @@ added_by P s t true b why other = why _
 added_by P s t false true why other = why _
 added_by P s t false false why other = other
 
-added_to : (P : Reply → Type 0) (s : State) (namespace lease name : Bytes) (o : Option Record) → ((why : Refusal) → P (replies.Refused why)) → P replies.Done → P (lease_add_record s namespace lease name o).1
-added_to P s namespace lease name None why other = why _
-added_to P s namespace lease name (Some r) why other =
+added_to : (P : Reply → Type 0) (s : State) (namespace lease name : Bytes) (r : Record) → ((why : Refusal) → P (replies.Refused why)) → P replies.Done → P (lease_add_record s namespace lease name r).1
+added_to P s namespace lease name r why other =
     added_by P s (leasing s (with_name_added s.leases namespace lease name)) (not (is_committed r.content)) (not (has_lease s.leases namespace lease)) why other
 
 of_lease_add : (P : Reply → Type 0) (s : State) (namespace lease name : Bytes) → ((why : Refusal) → P (replies.Refused why)) → P replies.Done → P (lease_add s namespace lease name).1
 of_lease_add P s namespace lease name why other =
-    either P _ _ _ (in_place P s (place_of namespace s.namespaces) _ _ (λ place. added_to P s namespace lease name (record_at place name s.records) why other) (why _)) (why _)
+    either P _ _ _ (at_found P s namespace name _ why (λ place r. added_to P s namespace lease name r why other)) (why _)
 
 of_lease_release : (P : Reply → Type 0) (s : State) (namespace lease : Bytes) → ((why : Refusal) → P (replies.Refused why)) → P replies.Done → P (lease_release s namespace lease).1
 of_lease_release P s namespace lease why other =
@@ -128,7 +112,7 @@ of_sweep P s namespace moment why other = in_place P s (place_of namespace s.nam
 reply_of : (s : State) (call : Call) → IsPlain call → IsReplyTo call (step s call Nothing).1
 reply_of s (calls.Stat namespace key) plain = of_ask IsInfo s (λ r. replies.Info (info_of r)) namespace key (λ why. tt) (λ r. tt)
 reply_of s (calls.Usage namespace key) plain = of_ask IsUsage s (λ r. replies.Usage (usage_of r.content)) namespace key (λ why. tt) (λ r. tt)
-reply_of s (calls.Mounts namespace key) plain = of_ask AreMounts s (mounts s) namespace key (λ why. tt) (λ r. of_shown AreMounts s r (kind_of r.content) (λ why. tt) (λ mounts. tt))
+reply_of s (calls.Mounts namespace key) plain = of_ask AreMounts s (mounts s) namespace key (λ why. tt) (λ r. of_mounts AreMounts s r (λ why. tt) (λ mounts. tt))
 reply_of s (calls.Remove namespace key) plain = of_remove IsRemoval s namespace key (λ why. tt) (λ usage. tt)
 reply_of s (calls.Update namespace key labels paths) plain = of_update IsInfo s namespace key labels paths (λ why. tt) (λ info. tt)
 reply_of s (calls.Walk namespace after most asked) plain = of_walk IsPage s namespace after most asked (λ why. tt) (λ infos. tt)

@@ -5,9 +5,9 @@ use Rattle.snap_call.specs.declared.entry.Entry.{Entry}
 use Rattle.snap_call.specs.declared.state.State.{State}
 use Rattle.snap_call.specs.Good.{Good}
 use Rattle.snap_call.specs.Journal.{Replays}
-use Rattle.snap_call.specs.Records.{charge_of, is_active, open_count}
+use Rattle.snap_call.specs.Records.{charge_of, is_active, open_count, sum_of}
 use Rattle.snap_call.specs.State.{name_at}
-use Rattle.snap_call.specs.Totals.{counted_in, sum_of}
+use Rattle.snap_call.specs.Totals.{counted_in}
 use Rattle.snap_book.specs.Book.{BookValue, IsOpening}
 use Rattle.snap_tape.specs.Sessions.{AreAll, IsCheck, IsOwn}
 use Rattle.snap_tape.specs.Tapes.{SessionValue}

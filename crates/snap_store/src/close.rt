@@ -3,7 +3,7 @@ ghost use Rattle.std.specs.Prelude.{◌≡◌, IfOk, OnOk, IfErr, Ok, Err};
 ghost use Rattle.std.specs.Option.{option_map};
 ghost use Rattle.snap_call.specs.Records.{charge_of, open_count};
 ghost use Rattle.snap_call.specs.State.{place_of};
-ghost use Rattle.snap_call.specs.Totals.{counted_in, sum_of};
+ghost use Rattle.snap_call.specs.Totals.{counted_in};
 ghost use Rattle.snap_book.specs.Round.{next_round, round_answer};
 ghost use Rattle.snap_round.specs.Rounds.{whole};
 ghost use Rattle.snap_store.specs.Rounds.{round_of};

@@ -13,11 +13,12 @@ use Rattle.snap_record.specs.Records.{usage_of, info_of}
 use Rattle.snap_record.specs.Updates.{is_granted, is_well_formed, updated as labels_after}
 use Rattle.snap_record.specs.declared.filter.Filter.{Filter}
 use Rattle.snap_record.specs.declared.record.Record.{Record}
+use Rattle.snap_record.specs.declared.record.Content.TheVariants.{Active, View}
 use Rattle.snap_call.specs.declared.call.Call.{Call}
 use Rattle.snap_call.specs.declared.call.Call.TheVariants as calls
 use Rattle.snap_call.specs.declared.call.Given.{Given}
 use Rattle.snap_call.specs.declared.call.Given.TheVariants.{Nothing, Count, Layer}
-use Rattle.snap_call.specs.declared.refusal.Refusal.TheVariants.{NoNamespace}
+use Rattle.snap_call.specs.declared.refusal.Refusal.TheVariants.{NoNamespace, NotFound}
 use Rattle.snap_call.specs.declared.refusal.Refusal.{Refusal}
 use Rattle.snap_call.specs.declared.reply.Reply.{Reply}
 use Rattle.snap_call.specs.declared.reply.Reply.TheVariants as replies
@@ -27,8 +28,8 @@ use Rattle.snap_call.specs.Journal.{entry}
 use Rattle.snap_call.specs.Records.{active_at, charge_of, has_children, has_key, is_active, is_committed, is_named, is_slot, recharged, record_at, relabelled, with_record, without_key, without_slot, committed_as}
 use Rattle.snap_call.specs.Forms.{is_key, is_limit, is_page, is_start}
 use Rattle.snap_call.specs.Reached.{unswept}
-use Rattle.snap_call.specs.State.{ancestors, layers_of, place_of}
-use Rattle.snap_call.specs.Step.{IsAllowed, IsCovered, IsOpen, has_named, in_namespace, lease_add, lease_add_record, lease_create, lease_release, set_limit, sweep, sweep_at, ask, ask_record, charge, charge_to, commit_as, committed as committed_state, discard, greater, new_active, one, prepare_at, prepared as prepared_state, refused, session, step, trim, place_for, slot_for, unless_refused, mounts, new_view, view_at, view, remove_record, remove_at, remove, update_record, update_at, update, walk_at, walk}
+use Rattle.snap_call.specs.State.{ancestors, layers_of, place_of, shown_layers}
+use Rattle.snap_call.specs.Step.{IsAllowed, IsCovered, IsOpen, has_named, in_namespace, lease_add, lease_add_record, lease_create, lease_release, set_limit, sweep, sweep_at, ask, charge, charge_to, commit_as, committed as committed_state, discard, greater, one, prepare_at, prepared as prepared_state, refused, session, step, trim, place_for, slot_for, unless_refused, mounts, view_at, view, remove_record, remove, update_record, update, walk, new_record, at_record}
 use Rattle.snap_call.proofs.Alike.{AreAlike, bare, bare-relabelled, alike-active_at, alike-active_at_None, alike-layers}
 use Rattle.snap_call.proofs.Chains.{chain, Every, OnParent, every, on_parent, IsOther, Keeps, Keeps-after, Keeps-recharged, Keeps-with_record, Keeps-without_slot, chain-found, keeps-ancestors, keeps-without_key, on_other}
 use Rattle.snap_call.proofs.Keeping.{covers-Covers}
@@ -237,16 +238,25 @@ left_discard s slot hands r good agree low stands =
 
 -- ---- other calls
 
-left_ask_record : (s : State) (hands : List (Option HandValue)) (answer : Record → Reply) (o : Option Record) → AgreeAll hands s.records → Left (λ reply. hands) (ask_record s answer o)
-left_ask_record s hands answer None agree = agree
-left_ask_record s hands answer (Some r) agree = agree
+-- a call that leaves the records as they are, once its namespace was found
+left_in_namespace : (s : State) (hands : List (Option HandValue)) (namespace : Bytes) (next : ℕ → State × Reply) → AgreeAll hands s.records → ((place : ℕ) → Left (λ reply. hands) (next place)) → Left (λ reply. hands) (in_namespace s namespace next)
+left_in_namespace s hands namespace next agree here = by (place_of namespace s.namespaces)
+  where
+    by : (o : Option ℕ) → Left (λ reply. hands) (option_map_or next o (refused s NoNamespace))
+    by None = agree
+    by (Some place) = here place
 
-left_ask_in : (s : State) (hands : List (Option HandValue)) (answer : Record → Reply) (key : Bytes) (o : Option ℕ) → AgreeAll hands s.records → Left (λ reply. hands) (option_map_or (λ place. ask_record s answer (record_at place key s.records)) o (refused s NoNamespace))
-left_ask_in s hands answer key None agree = agree
-left_ask_in s hands answer key (Some place) agree = left_ask_record s hands answer (record_at place key s.records) agree
+-- and once its record was found
+left_at_record : (s : State) (hands : List (Option HandValue)) (namespace key : Bytes) (next : ℕ → Record → State × Reply) → AgreeAll hands s.records
+    → ((place : ℕ) (r : Record) → record_at place key s.records ≡ Some r → Left (λ reply. hands) (next place r)) → Left (λ reply. hands) (at_record s namespace key next)
+left_at_record s hands namespace key next agree here = left_in_namespace s hands namespace _ agree (λ place. by place (record_at place key s.records) refl)
+  where
+    by : (place : ℕ) (o : Option Record) → record_at place key s.records ≡ o → Left (λ reply. hands) (option_map_or (next place) o (refused s NotFound))
+    by place None e = agree
+    by place (Some r) e = here place r e
 
 left_ask : (s : State) (hands : List (Option HandValue)) (answer : Record → Reply) (namespace key : Bytes) → AgreeAll hands s.records → Left (λ reply. hands) (ask s answer namespace key)
-left_ask s hands answer namespace key agree = cases_if (Left (λ reply. hands)) (is_key key) _ _ (λ e. left_ask_in s hands answer key (place_of namespace s.namespaces) agree) (λ e. agree)
+left_ask s hands answer namespace key agree = cases_if (Left (λ reply. hands)) (is_key key) _ _ (λ e. left_at_record s hands namespace key _ agree (λ place r f. agree)) (λ e. agree)
 
 left_unless_refused : (s : State) (f : Reply → List (Option HandValue)) (r : Result ℕ Refusal) (next : ℕ → State × Reply) → ((why : Refusal) → Left f (refused s why)) → ((n : ℕ) → r ≡ Ok n → Left f (next n)) → Left f (unless_refused s r next)
 left_unless_refused s f (Ok n) next bad good = good n refl
@@ -254,7 +264,7 @@ left_unless_refused s f (Err why) next bad good = bad why
 
 left_view_at : (s : State) (namespace key parent : Bytes) (labels : List Label) (place : ℕ) (hands : List (Option HandValue)) → Good s → AgreeAll hands s.records → IsPlace s namespace key parent place → Left (λ reply. hands) (view_at s key parent labels place)
 left_view_at s namespace key parent labels place hands good agree is =
-    let new : Record = new_view s place key parent labels in
+    let new : Record = new_record s place key parent labels (View (shown_layers place parent s.records)) in
     let ts : List Record = with_record new s.records in
     cases_if (Left (λ reply. hands)) (nat_le s.next_id 4294967295) _ _
     (λ few. agree_on s.records ts (same_where s.records ts good.chains (Keeps-with_record new s.records is.free)) hands agree (λ k. active_at-with_record_other k new s.records refl))
@@ -265,52 +275,30 @@ left_view s hands namespace key parent labels good agree =
     left_unless_refused s (λ reply. hands) (place_for s namespace key parent labels) (view_at s key parent labels) (λ why. agree)
     (λ place e. left_view_at s namespace key parent labels place hands good agree (place_for-Ok s namespace key parent labels place e))
 
-left_remove_record : (s : State) (hands : List (Option HandValue)) (namespace key : Bytes) (place : ℕ) (o : Option Record) → Good s → record_at place key s.records ≡ o → AgreeAll hands s.records → Left (λ reply. hands) (remove_record s namespace key place o)
-left_remove_record s hands namespace key place None good e agree = agree
-left_remove_record s hands namespace key place (Some r) good e agree =
+left_remove_record : (s : State) (hands : List (Option HandValue)) (namespace key : Bytes) (place : ℕ) (r : Record) → Good s → record_at place key s.records ≡ Some r → AgreeAll hands s.records → Left (λ reply. hands) (remove_record s namespace key place r)
+left_remove_record s hands namespace key place r good e agree =
     cases_if (Left (λ reply. hands)) (has_children place key s.records) _ _ (λ some. agree)
     (λ childless. cases_if (Left (λ reply. hands)) (is_active r.content) _ _ (λ active. agree)
     (λ idle. cases_if (Left (λ reply. hands)) _ _ _ (λ leased. agree)
     (λ unleased. agree_on s.records (without_key place key s.records) (same_without s.records place key good.chains childless) hands agree (λ k. active_at-without_idle k (is_named place key) s.records r e idle))))
 
-left_remove_at : (s : State) (hands : List (Option HandValue)) (namespace key : Bytes) (o : Option ℕ) → Good s → AgreeAll hands s.records → Left (λ reply. hands) (remove_at s namespace key o)
-left_remove_at s hands namespace key None good agree = agree
-left_remove_at s hands namespace key (Some place) good agree = left_remove_record s hands namespace key place (record_at place key s.records) good refl agree
-
 left_remove : (s : State) (hands : List (Option HandValue)) (namespace key : Bytes) → Good s → AgreeAll hands s.records → Left (λ reply. hands) (remove s namespace key)
-left_remove s hands namespace key good agree = cases_if (Left (λ reply. hands)) (is_key key) _ _ (λ formed. left_remove_at s hands namespace key (place_of namespace s.namespaces) good agree) (λ bad. agree)
+left_remove s hands namespace key good agree = cases_if (Left (λ reply. hands)) (is_key key) _ _ (λ formed. left_at_record s hands namespace key _ agree (λ place r e. left_remove_record s hands namespace key place r good e agree)) (λ bad. agree)
 
-left_update_record : (s : State) (hands : List (Option HandValue)) (place : ℕ) (key : Bytes) (given : List Label) (paths : List Bytes) (o : Option Record) → AgreeAll hands s.records → Left (λ reply. hands) (update_record s place key given paths o)
-left_update_record s hands place key given paths None agree = agree
-left_update_record s hands place key given paths (Some r) agree =
+left_update_record : (s : State) (hands : List (Option HandValue)) (key : Bytes) (given : List Label) (paths : List Bytes) (place : ℕ) (r : Record) → AgreeAll hands s.records → Left (λ reply. hands) (update_record s key given paths place r)
+left_update_record s hands key given paths place r agree =
     let labels = labels_after r.labels given paths in
     cases_if (Left (λ reply. hands)) (is_granted r.labels given paths) _ _
     (λ granted. agree_alike s.records (relabelled place key labels (s.entries + 1) s.records) (bare-relabelled place key labels (s.entries + 1) s.records) hands agree)
     (λ bad. agree)
 
-left_update_at : (s : State) (hands : List (Option HandValue)) (key : Bytes) (given : List Label) (paths : List Bytes) (o : Option ℕ) → AgreeAll hands s.records → Left (λ reply. hands) (update_at s key given paths o)
-left_update_at s hands key given paths None agree = agree
-left_update_at s hands key given paths (Some place) agree = left_update_record s hands place key given paths (record_at place key s.records) agree
-
 left_update : (s : State) (hands : List (Option HandValue)) (namespace key : Bytes) (given : List Label) (paths : List Bytes) → AgreeAll hands s.records → Left (λ reply. hands) (update s namespace key given paths)
 left_update s hands namespace key given paths agree =
-    cases_if (Left (λ reply. hands)) (is_key key && is_well_formed given paths) _ _ (λ formed. left_update_at s hands key given paths (place_of namespace s.namespaces) agree) (λ bad. agree)
-
-left_walk_at : (s : State) (hands : List (Option HandValue)) (after : Bytes) (most : ℕ) (asked : Filter) (o : Option ℕ) → AgreeAll hands s.records → Left (λ reply. hands) (walk_at s after most asked o)
-left_walk_at s hands after most asked None agree = agree
-left_walk_at s hands after most asked (Some place) agree = agree
+    cases_if (Left (λ reply. hands)) (is_key key && is_well_formed given paths) _ _ (λ formed. left_at_record s hands namespace key _ agree (λ place r e. left_update_record s hands key given paths place r agree)) (λ bad. agree)
 
 left_walk : (s : State) (hands : List (Option HandValue)) (namespace after : Bytes) (most : ℕ) (asked : Filter) → AgreeAll hands s.records → Left (λ reply. hands) (walk s namespace after most asked)
 left_walk s hands namespace after most asked agree =
-    cases_if (Left (λ reply. hands)) (is_start after && is_page most) _ _ (λ formed. left_walk_at s hands after most asked (place_of namespace s.namespaces) agree) (λ bad. agree)
-
--- a call that leaves the records as they are, once its namespace was found
-left_in_namespace : (s : State) (hands : List (Option HandValue)) (namespace : Bytes) (next : ℕ → State × Reply) → AgreeAll hands s.records → ((place : ℕ) → Left (λ reply. hands) (next place)) → Left (λ reply. hands) (in_namespace s namespace next)
-left_in_namespace s hands namespace next agree here = by (place_of namespace s.namespaces)
-  where
-    by : (o : Option ℕ) → Left (λ reply. hands) (option_map_or next o (refused s NoNamespace))
-    by None = agree
-    by (Some place) = here place
+    cases_if (Left (λ reply. hands)) (is_start after && is_page most) _ _ (λ formed. left_in_namespace s hands namespace _ agree (λ place. agree)) (λ bad. agree)
 
 left_set_limit : (s : State) (hands : List (Option HandValue)) (namespace : Bytes) (limit : Usage) → AgreeAll hands s.records → Left (λ reply. hands) (set_limit s namespace limit)
 left_set_limit s hands namespace limit agree =
@@ -322,15 +310,14 @@ left_lease_create s hands namespace lease until agree =
     cases_if (Left (λ reply. hands)) (is_key lease) _ _
     (λ formed. left_in_namespace s hands namespace _ agree (λ place. cases_if (Left (λ reply. hands)) _ _ _ (λ there. agree) (λ new. agree))) (λ bad. agree)
 
-left_lease_add_record : (s : State) (hands : List (Option HandValue)) (namespace lease name : Bytes) (o : Option Record) → AgreeAll hands s.records → Left (λ reply. hands) (lease_add_record s namespace lease name o)
-left_lease_add_record s hands namespace lease name None agree = agree
-left_lease_add_record s hands namespace lease name (Some r) agree =
+left_lease_add_record : (s : State) (hands : List (Option HandValue)) (namespace lease name : Bytes) (r : Record) → AgreeAll hands s.records → Left (λ reply. hands) (lease_add_record s namespace lease name r)
+left_lease_add_record s hands namespace lease name r agree =
     cases_if (Left (λ reply. hands)) (not (is_committed r.content)) _ _ (λ other. agree) (λ is. cases_if (Left (λ reply. hands)) _ _ _ (λ none. agree) (λ there. agree))
 
 left_lease_add : (s : State) (hands : List (Option HandValue)) (namespace lease name : Bytes) → AgreeAll hands s.records → Left (λ reply. hands) (lease_add s namespace lease name)
 left_lease_add s hands namespace lease name agree =
     cases_if (Left (λ reply. hands)) (is_key lease && is_key name) _ _
-    (λ formed. left_in_namespace s hands namespace _ agree (λ place. left_lease_add_record s hands namespace lease name (record_at place name s.records) agree)) (λ bad. agree)
+    (λ formed. left_at_record s hands namespace name _ agree (λ place r e. left_lease_add_record s hands namespace lease name r agree)) (λ bad. agree)
 
 left_lease_release : (s : State) (hands : List (Option HandValue)) (namespace lease : Bytes) → AgreeAll hands s.records → Left (λ reply. hands) (lease_release s namespace lease)
 left_lease_release s hands namespace lease agree =
@@ -349,7 +336,7 @@ left_room : (s : State) (namespace key parent : Bytes) (labels : List Label) (pl
     → Left (with_prepared (Some place) key parent s.records hands) (prepared_state s place key parent labels slot)
 left_room s namespace key parent labels place slot hands good agree places is found =
     let lowest = lowest_free-Some s.records slot found.lowest in
-    let new : Record = new_active s place key parent labels slot in
+    let new : Record = new_record s place key parent labels (Active slot one) in
     let ts : List Record = with_record new s.records in
     let keeps : Keeps s.records ts = Keeps-with_record new s.records is.free in
     let own : is_slot slot new ≡ true = Active-is_slot slot one new refl in

@@ -4,9 +4,9 @@ ghost use Rattle.snap_path.specs.Memory.{no_memory};
 ghost use Rattle.snap_usage.specs.Counted.{count_of};
 ghost use Rattle.snap_call.specs.Forms.{is_config};
 ghost use Rattle.snap_call.specs.Journal.{Replays};
-ghost use Rattle.snap_call.specs.Records.{charge_of, open_count};
+ghost use Rattle.snap_call.specs.Records.{charge_of, open_count, sum_of};
 ghost use Rattle.snap_call.specs.State.{opening, place_of};
-ghost use Rattle.snap_call.specs.Totals.{counts_and_shares};
+ghost use Rattle.snap_call.specs.Totals.{taken_by};
 ghost use Rattle.snap_call.specs.declared.refusal.Refusal.TheVariants.{BadArgument, OutOfMemory};
 ghost use Rattle.snap_book.specs.Book.{IsOpening};
 ghost use Rattle.snap_book.specs.Slot.{found_of, slot_of};
@@ -188,7 +188,7 @@ impl<N: StoreName> World<N> {
     pub fn totals(&self, namespace: &str) -> Option<Usage>
         ensures charge { result ≡ option_map (λ place. charge_of place self.now.state.records) (place_of namespace.now self.now.state.namespaces) }
         // The counts over its committed layers, and its open shares.
-        ensures counts { result ≡ option_map (λ place. counts_and_shares place self.now.state.records) (place_of namespace.now self.now.state.namespaces) }
+        ensures counts { result ≡ option_map (λ place. sum_of taken_by place self.now.state.records) (place_of namespace.now self.now.state.namespaces) }
     {
         self.book.totals(namespace)
     }

@@ -3,11 +3,12 @@ use Rattle.snap_usage.specs.declared.usage.Usage.{Usage}
 use Rattle.snap_usage.specs.Counted.{covers}
 use Rattle.snap_ledger.specs.States.{ChargeState, plus}
 use Rattle.snap_record.specs.declared.record.Record.{Record}
+use Rattle.snap_record.specs.declared.record.Content.TheVariants.{Active}
 use Rattle.snap_call.specs.declared.state.State.{State}
 use Rattle.snap_call.specs.Good.{Good}
 use Rattle.snap_call.specs.Records.{charge_of, active_at, has_key, open_count, with_record}
 use Rattle.snap_call.specs.State.{limit_at, is_base, is_too_deep}
-use Rattle.snap_call.specs.Step.{new_active, one}
+use Rattle.snap_call.specs.Step.{one, new_record}
 use Rattle.snap_accounts.proofs.Accounting.{accounts_same}
 use Rattle.snap_accounts.proofs.Prepared.{accounts_prepared, charge_in-free, open-most, open_count-prepared}
 use Rattle.snap_accounts.proofs.accounts.Accounts.insert.Goals as goal
@@ -43,8 +44,8 @@ invariant_of-self-2 g c =
     let parent = c.args.added.parent in
     let labels = c.args.added.labels in
     let view : s ≡ c.args.self.now = c.self.view_is in
-    let made : c.args.added ≡ new_active s place key parent labels slot = c.requires.added ∙ ap (λ (u : State). new_active u place key parent labels slot) (sym view) in
-    let is : c.insert.new.self ≡ with_record (new_active s place key parent labels slot) s.records = c.in_default.ensures.ok ∙ ap (λ (r : Record). with_record r s.records) made in
+    let made : c.args.added ≡ new_record s place key parent labels (Active slot one) = c.requires.added ∙ ap (λ (u : State). new_record u place key parent labels (Active slot one)) (sym view) in
+    let is : c.insert.new.self ≡ with_record (new_record s place key parent labels (Active slot one)) s.records = c.in_default.ensures.ok ∙ ap (λ (r : Record). with_record r s.records) made in
     let total : c.total.result ≡ charge_of place s.records = c.total.ensures.total ∙ ap (λ (u : State). charge_of place u.records) (sym view) in
     let after : c.sum-after.result ≡ plus (charge_of place s.records) one = c.sum-after.ensures ∙ (λ i. plus (total i) (c.one.ensures i)) in
     accounts_prepared s c.self.inside.totals c.set.new.self c.self.inside.slots c.issue.new.self c.self.inside.opened place slot key parent labels c.insert.new.self c.self.invariant
@@ -68,8 +69,8 @@ returns-clause-open g c =
     let parent = c.args.added.parent in
     let labels = c.args.added.labels in
     let view : s ≡ c.args.self.now = c.self.view_is in
-    let made : c.args.added ≡ new_active s place key parent labels slot = c.requires.added ∙ ap (λ (u : State). new_active u place key parent labels slot) (sym view) in
-    let is : c.insert.new.self ≡ with_record (new_active s place key parent labels slot) s.records = c.in_default.ensures.ok ∙ ap (λ (r : Record). with_record r s.records) made in
+    let made : c.args.added ≡ new_record s place key parent labels (Active slot one) = c.requires.added ∙ ap (λ (u : State). new_record u place key parent labels (Active slot one)) (sym view) in
+    let is : c.insert.new.self ≡ with_record (new_record s place key parent labels (Active slot one)) s.records = c.in_default.ensures.ok ∙ ap (λ (r : Record). with_record r s.records) made in
     open_count-prepared s place key parent labels slot c.insert.new.self is ∙ ap (λ (u : State). open_count u.records + 1) view
 
 pub insert-requires-clause-few : goal.insert-requires-clause-few

@@ -5,7 +5,7 @@ use Rattle.snap_record.specs.declared.record.Record.{Record}
 use Rattle.snap_call.specs.declared.reply.Reply.TheVariants.{Viewed}
 use Rattle.snap_call.specs.declared.state.State.{State}
 use Rattle.snap_call.specs.State.{ancestors, ids_of, is_too_deep, or_empty, shown_layers}
-use Rattle.snap_call.specs.Step.{added, new_record, new_view}
+use Rattle.snap_call.specs.Step.{added, new_record}
 use Rattle.snap_accounts.specs.Changes.{IsNewView}
 use Rattle.snap_accounts.proofs.accounts.Accounts.view_at.Goals as goal
 
@@ -19,7 +19,7 @@ returns-clause-reply g c =
     let parent = c.args.parent.now in
     let layers : shown_layers place parent s.records ≡ c.in_ok-shown.shown =
     ap (λ (u : State). shown_layers place parent u.records) (sym c.self.view_is) ∙ (ap or_empty (sym c.in_ok-ids.ensures.layers) ∙ sym c.in_ok-shown.ensures) in
-    let made : new_view s place c.args.key.now parent c.args.labels.now ≡ c.in_ok-snapshot.snapshot =
+    let made : new_record s place c.args.key.now parent c.args.labels.now (View (shown_layers place parent s.records)) ≡ c.in_ok-snapshot.snapshot =
     ap (λ (l : List Tree). new_record s place c.args.key.now parent c.args.labels.now (View l)) layers ∙ sym c.in_ok-snapshot.ensures in
     let ids : ids_of (ancestors place parent s.records) ≡ c.in_ok-ids.field-0.ids = ap (λ (u : State). ids_of (ancestors place parent u.records)) (sym c.self.view_is) ∙ sym c.in_ok-ids.ensures.ids in
     λ i. (added s (made i), Viewed (made i).id (ids i))
@@ -31,6 +31,6 @@ returns-clause-possible g c =
     let parent = c.args.parent.now in
     let layers : shown_layers place parent s.records ≡ c.in_ok-shown.shown =
     ap (λ (u : State). shown_layers place parent u.records) (sym c.self.view_is) ∙ (ap or_empty (sym c.in_ok-ids.ensures.layers) ∙ sym c.in_ok-shown.ensures) in
-    let made : new_view s place c.args.key.now parent c.args.labels.now ≡ c.in_ok-snapshot.snapshot =
+    let made : new_record s place c.args.key.now parent c.args.labels.now (View (shown_layers place parent s.records)) ≡ c.in_ok-snapshot.snapshot =
     ap (λ (l : List Tree). new_record s place c.args.key.now parent c.args.labels.now (View l)) layers ∙ sym c.in_ok-snapshot.ensures in
     subst (λ (r : Record). IsNewView s r) made (record { view = refl; id = refl; site = c.requires.site })

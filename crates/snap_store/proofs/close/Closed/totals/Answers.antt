@@ -1,7 +1,8 @@
 use Rattle.std.specs.Option.{option_map}
 use Rattle.std.proofs.Common.{◌≡◌, ◌∙◌, subst}
 use Rattle.snap_call.specs.State.{place_of}
-use Rattle.snap_call.specs.Totals.{counted_in, sum_of}
+use Rattle.snap_call.specs.Totals.{counted_in}
+use Rattle.snap_call.specs.Records.{sum_of}
 use Rattle.snap_book.specs.Book.{BookValue}
 use Rattle.snap_store.proofs.Closing.{totals_alone}
 use Rattle.snap_store.proofs.close.Closed.totals.Goals as goal
