@@ -1,6 +1,7 @@
 -- What is asked of a book without an entry.
 -- Cited by `Book::record`, `Book::slot_of`, `replay_within` and others.
-use Rattle.std.specs.Prelude.{ℕ, Option, None, Some, Result, Ok, Err}
+use Rattle.std.specs.Prelude.{ℕ, Result, Ok, Err, ok_or}
+use Rattle.std.specs.Option.{option_map_or}
 use Rattle.snap_record.specs.Labels.{Bytes}
 use Rattle.snap_record.specs.declared.record.Content.{Content}
 use Rattle.snap_record.specs.declared.record.Content.TheVariants.{Active}
@@ -11,18 +12,9 @@ use Rattle.snap_call.specs.declared.state.State.{State}
 use Rattle.snap_call.specs.Records.{record_at}
 use Rattle.snap_call.specs.State.{place_of}
 
--- the record that was found, or why there is none
-abbrev pub found_if : Option Record → Result Record Refusal
-found_if None = Err NotFound
-found_if (Some r) = Ok r
-
-abbrev pub found_at : State → Bytes → Option ℕ → Result Record Refusal
-found_at s key None = Err NoNamespace
-found_at s key (Some place) = found_if (record_at place key s.records)
-
 -- the record of this key in the namespace, or why there is none
 abbrev pub found_of : State → Bytes → Bytes → Result Record Refusal
-found_of s namespace key = found_at s key (place_of namespace s.namespaces)
+found_of s namespace key = option_map_or (λ place. ok_or (record_at place key s.records) NotFound) (place_of namespace s.namespaces) (Err NoNamespace)
 
 -- the slot and the id of an active snapshot
 abbrev pub slot_in : ℕ → Content → Result (ℕ × ℕ) Refusal

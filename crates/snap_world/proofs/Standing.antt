@@ -1,6 +1,7 @@
 -- The hand of an active snapshot, and the layers of a view, found by the snapshot's key.
 use Rattle.std.proofs.Common.{◌≡◌, ℕ, ◌<◌, List, [], ◌∷◌, Bool, true, false, true≢false, Option, None, Some, eq-eqb, refl, sym, ap, ◌∙◌, subst}
-use Rattle.std.specs.Prelude.{Result, Ok}
+use Rattle.std.specs.Prelude.{Result, Ok, Err, ok_or}
+use Rattle.std.specs.Option.{option_map_or}
 use Rattle.snap_layer.specs.Tree.{Tree}
 use Rattle.snap_usage.specs.declared.usage.Usage.{Usage}
 use Rattle.snap_record.specs.Labels.{Bytes}
@@ -8,12 +9,13 @@ use Rattle.snap_record.specs.declared.record.Content.{Content}
 use Rattle.snap_record.specs.declared.record.Content.TheVariants.{View, Active}
 use Rattle.snap_record.specs.declared.record.Record.{Record}
 use Rattle.snap_call.specs.declared.refusal.Refusal.{Refusal}
+use Rattle.snap_call.specs.declared.refusal.Refusal.TheVariants.{NoNamespace, NotFound}
 use Rattle.snap_call.specs.Good.{IsShown}
 use Rattle.snap_call.specs.Records.{active_at, has_slot, is_named, is_slot, record_at, AllPairwise, AreApart, HasLowSlot}
 use Rattle.snap_call.specs.State.{place_of}
 use Rattle.snap_call.specs.declared.state.State.{State}
 use Rattle.snap_call.proofs.Lists.{record_at-all, some_same}
-use Rattle.snap_book.specs.Slot.{found_at, found_if, found_of}
+use Rattle.snap_book.specs.Slot.{found_of}
 use Rattle.snap_world.specs.World.{AgreesAt, Fits, HandValue, IsHandOf, WorldValue, hand_at}
 use Rattle.snap_world.specs.Stacks.{IsOver, IsOverBy, layers_in}
 
@@ -32,17 +34,17 @@ hand_if : (slot : ℕ) (rs : List Record) (r : Record) (o : Option HandValue) �
 hand_if slot rs r None a = absurd a
 hand_if slot rs r (Some h) a = (h, refl, a)
 
-found_if-Some : (r : Record) (o : Option Record) → found_if o ≡ Ok r → o ≡ Some r
-found_if-Some r None e = absurd (cc)
-found_if-Some r (Some t) e = cc
+found-Some : (r : Record) (o : Option Record) → ok_or o NotFound ≡ Ok r → o ≡ Some r
+found-Some r None e = absurd (cc)
+found-Some r (Some t) e = cc
 
 -- the record that was found is that of the key at a place
 found-record : (s : State) (namespace key : Bytes) (r : Record) → found_of s namespace key ≡ Ok r → (place : ℕ) × (record_at place key s.records ≡ Some r)
 found-record s namespace key r found = at (place_of namespace s.namespaces) found
   where
-    at : (o : Option ℕ) → found_at s key o ≡ Ok r → (place : ℕ) × (record_at place key s.records ≡ Some r)
+    at : (o : Option ℕ) → option_map_or (λ place. ok_or (record_at place key s.records) NotFound) o (Err NoNamespace) ≡ Ok r → (place : ℕ) × (record_at place key s.records ≡ Some r)
     at None e = absurd (cc)
-    at (Some place) e = (place, found_if-Some r (record_at place key s.records) e)
+    at (Some place) e = (place, found-Some r (record_at place key s.records) e)
 
 module _ (w : WorldValue) (fits : Fits w) (namespace key : Bytes) (r : Record) (found : found_of w.state namespace key ≡ Ok r) where
   here : (place : ℕ) × (record_at place key w.state.records ≡ Some r)

@@ -1,6 +1,6 @@
 -- What the snapshots of a world show: the layers of an active one, its own over those of its ancestors, and those of a view.
 -- Cited by `World::call`, `World::operate`, `World::run` and others.
-use Rattle.std.specs.Prelude.{◌≡◌, ℕ, List, ◌∷◌, Option, None, Some, Result, Ok, Err}
+use Rattle.std.specs.Prelude.{◌≡◌, ℕ, List, ◌∷◌, Option, Result, Ok, Err, ok_or, option_map}
 use Rattle.snap_layer.specs.Tree.{Tree}
 use Rattle.snap_record.specs.Labels.{Bytes}
 use Rattle.snap_record.specs.declared.record.Content.{Content}
@@ -16,15 +16,10 @@ use Rattle.snap_world.specs.World.{HandValue, WorldValue, hand_at}
 abbrev pub layers_in : HandValue → List Tree
 layers_in h = h.snapshot.layer ∷ h.snapshot.lowers
 
--- those of the hand that stands there; where a world fits, one stands in the slot of each active snapshot
-abbrev pub stack_at : Option HandValue → Result (List Tree) Refusal
-stack_at None = Err NotActive
-stack_at (Some h) = Ok (layers_in h)
-
--- what a snapshot shows: an active one the layers of its hand, a view those that it keeps; a committed one has no mount of its own
+-- what a snapshot shows: an active one the layers of its hand, which stands in its slot where a world fits, a view those that it keeps; a committed one has no mount of its own
 abbrev pub stack_by : List (Option HandValue) → Content → Result (List Tree) Refusal
 stack_by hands (View layers) = Ok layers
-stack_by hands (Active slot charged) = stack_at (hand_at slot hands)
+stack_by hands (Active slot charged) = ok_or (option_map layers_in (hand_at slot hands)) NotActive
 stack_by hands (Committed layer usage) = Err NotActive
 
 abbrev pub stack_in : List (Option HandValue) → Result Record Refusal → Result (List Tree) Refusal
