@@ -1,7 +1,7 @@
 -- What a line is answered: JSON, the keys of each object in byte order; cited by the public clause of `Answer::line`.
 -- Cited by `TreeNode as ToJson`, `Answer::line`, `Answer as ToJson` and others.
 use Rattle.std.specs.Prelude.{ℕ, true, if◌then◌else◌, List, [], ◌∷◌, ◌++◌, Option, Some, None, codes, map}
-use Rattle.std.specs.Option.{option_map}
+use Rattle.std.specs.Option.{option_map, option_map_or}
 use Rattle.std.specs.Str.{is_utf8}
 use Rattle.hex.specs.Hex.{encode_lower}
 use Rattle.serde_json.specs.Data.{Data, null, boolean, number, string, array, object, unsigned, no_items, item, Members, no_members, member, put}
@@ -127,8 +127,7 @@ node_data node = object
 
 -- a member that may be absent, before the others
 abbrev pub maybe : List ℕ → Option Data → Members → Members
-maybe key None rest = rest
-maybe key (Some value) rest = member key value rest
+maybe key value rest = option_map_or (λ it. member key it rest) value rest
 
 -- an entry of a namespace, with the word of its call: without an id, a key or a refusal where it has none
 abbrev pub entry_data : EntryInfo → Data

@@ -1,7 +1,7 @@
 -- What a field of a line has to be; cited by the public clause of `read_line` through Lines.antt. The line's value is
 -- the one that serde_json reads.
 -- Cited by `read_open`, `read_line`, `operations` and others.
-use Rattle.std.specs.Prelude.{ℕ, min, ◌&&◌, nat_le, if◌then◌else◌, List, [], ◌∷◌, Option, Some, None, option_map, option_and_then, Result, Ok, Err, replicate, codes}
+use Rattle.std.specs.Prelude.{ℕ, min, ◌&&◌, nat_le, if◌then◌else◌, List, [], ◌∷◌, Option, Some, None, option_map, option_and_then, Result, Ok, Err, replicate, find}
 use Rattle.std.specs.Option.{ok_or, option_map_or, option_zip}
 use Rattle.std.specs.Str.{bytes_eq}
 use Rattle.serde_json.specs.Data.{Data, null, Items, no_items, item, Members, no_members, member}
@@ -11,6 +11,7 @@ use Rattle.snap_record.specs.Labels.{Bytes, Label, with_label}
 use Rattle.snap_record.specs.declared.filter.LabelFilter.{LabelFilter}
 use Rattle.snap_record.specs.declared.kind.Kind.{Kind}
 use Rattle.snap_record.specs.declared.kind.Kind.TheVariants as kinds
+use Rattle.snap_record.specs.Kinds.{kind_word}
 use Rattle.snap_call.specs.declared.config.Namespace.{Namespace}
 use Rattle.snap_script.specs.declared.fault.Field.{Field}
 use Rattle.snap_script.specs.declared.fault.Field.TheVariants as fields
@@ -63,21 +64,18 @@ as_usage d = option_map usage_with (as_pair d)
 abbrev pub as_fill : Data → Option Bytes
 as_fill d = option_and_then (λ pair. if nat_le pair.0 255 && nat_le pair.1 1048576 then Some (replicate pair.1 pair.0) else None) (as_pair d)
 
--- each item a text
-abbrev pub texts_in : Items → Option (List Bytes)
-texts_in no_items = Some []
-texts_in (item d ds) = option_and_then (λ t. option_map (λ ts. t ∷ ts) (texts_in ds)) (as_str d)
+-- the items of an array, where each is of a kind
+abbrev pub each_item : {A : Type 0} → (Data → Option A) → Items → Option (List A)
+each_item kind no_items = Some []
+each_item kind (item d ds) = option_and_then (λ a. option_map (λ more. a ∷ more) (each_item kind ds)) (kind d)
 
 -- texts: an array of them
 abbrev pub as_texts : Data → Option (List Bytes)
-as_texts d = option_and_then texts_in (as_array d)
+as_texts d = option_and_then (each_item as_str) (as_array d)
 
 -- the kind of a snapshot that has the word
 abbrev pub kind_named : Bytes → Option Kind
-kind_named word =
-    if bytes_eq word (codes "View") then Some kinds.View
-    else (if bytes_eq word (codes "Active") then Some kinds.Active
-    else (if bytes_eq word (codes "Committed") then Some kinds.Committed else None))
+kind_named word = find (λ kind. bytes_eq word (kind_word kind)) (kinds.View ∷ kinds.Active ∷ kinds.Committed ∷ [])
 
 -- a kind of snapshot: its word
 abbrev pub as_kind : Data → Option Kind
@@ -115,14 +113,9 @@ namespace_in no_items = None
 abbrev pub as_namespace : Data → Option Namespace
 as_namespace d = option_and_then namespace_in (as_array d)
 
--- each item a namespace
-abbrev pub namespaces_in : Items → Option (List Namespace)
-namespaces_in no_items = Some []
-namespaces_in (item d ds) = option_and_then (λ n. option_map (λ ns. n ∷ ns) (namespaces_in ds)) (as_namespace d)
-
 -- namespaces: an array of them
 abbrev pub as_namespaces : Data → Option (List Namespace)
-as_namespaces d = option_and_then namespaces_in (as_array d)
+as_namespaces d = option_and_then (each_item as_namespace) (as_array d)
 
 -- the bytes that are written: those of the text, or where there is none the fill
 abbrev pub content_of : Data → Result Bytes Fault

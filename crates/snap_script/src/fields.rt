@@ -4,7 +4,7 @@ ghost use Rattle.serde_json.specs.Find.{get, as_str};
 ghost use Rattle.snap_json.specs.View.{view, items_view, members_of};
 ghost use Rattle.snap_script.specs.declared.fault.Field.TheVariants as fields;
 ghost use Rattle.snap_script.specs.Faults.{field_name};
-ghost use Rattle.snap_script.specs.Fields.{text, required, optional, given, as_natural, as_mode, pair_in, as_pair, as_usage, texts_in, as_texts, kind_named, as_kind, labels_with, as_labels, label_filter, label_filters_in, as_label_filters, as_namespace, namespaces_in, as_namespaces, as_fill, content_of};
+ghost use Rattle.snap_script.specs.Fields.{text, required, optional, given, as_natural, as_mode, pair_in, as_pair, as_usage, each_item, as_texts, kind_named, as_kind, labels_with, as_labels, label_filter, label_filters_in, as_label_filters, as_namespace, as_namespaces, as_fill, content_of};
 ghost use Rattle.snap_script.specs.Gives.{Gives, GivesAll};
 
 use crate::fault::{Fault, Field, ReadError};
@@ -135,7 +135,7 @@ pub(crate) fn text_or_empty(
 
 /// The texts of an array, where each item is one.
 fn texts_in(alloc: Global, values: &[Value<'_>]) -> Result<Option<Sequence<Text>>, AllocError>
-    ensures { IfOk result (λ texts. texts ≡ texts_in (items_view values.now)) }
+    ensures { IfOk result (λ texts. texts ≡ each_item as_str (items_view values.now)) }
 {
     let mut texts = Sequence::new(alloc);
     for value in values {
@@ -342,7 +342,7 @@ fn namespaces_in(
     alloc: Global,
     values: &[Value<'_>],
 ) -> Result<Option<Sequence<Namespace>>, AllocError>
-    ensures { IfOk result (λ namespaces. namespaces ≡ namespaces_in (items_view values.now)) }
+    ensures { IfOk result (λ namespaces. namespaces ≡ each_item as_namespace (items_view values.now)) }
 {
     let mut namespaces = Sequence::new(alloc);
     for value in values {

@@ -1,6 +1,7 @@
 -- The snapshots of a namespace as a forest by parent.
 -- Cited by `Script as TakeLine`, `replay_within`, `replay` and others.
-use Rattle.std.specs.Prelude.{ℕ, ◌==◌, Bool, List, Option, None, Some, bytes_eq, filter, map, position}
+use Rattle.std.specs.Prelude.{ℕ, ◌==◌, List, Option, bytes_eq, filter, map, position}
+use Rattle.std.specs.Option.{option_map_or}
 use Rattle.snap_record.specs.Labels.{Bytes}
 use Rattle.snap_record.specs.Records.{kind_of, usage_of}
 use Rattle.snap_record.specs.declared.record.Record.{Record}
@@ -16,23 +17,14 @@ use Rattle.snap_session.specs.Opened.{OpenedValue}
 unfoldable pub tree_node : List Record → Record → TreeNode
 tree_node rs r = record { key = r.key; kind = kind_of r.content; id = r.id; usage = usage_of r.content; parent = r.parent; children = child_count r.namespace r.key rs }
 
--- the record is one of the namespace at the place
-abbrev pub is_in : ℕ → Record → Bool
-is_in place r = r.namespace == place
-
 -- the snapshots of the namespace at the place, in the order of the records, which is that of their keys' bytes
 abbrev pub forest : ℕ → List Record → List TreeNode
-forest place rs = map (tree_node rs) (filter (is_in place) rs)
+forest place rs = map (tree_node rs) (filter (λ r. r.namespace == place) rs)
 
 -- the place of the namespace of this name among those of the configuration
 abbrev pub place_among : Bytes → List Bytes → Option ℕ
 place_among namespace names = position (λ name. bytes_eq name namespace) names
 
--- the forest of the namespace at the place, or that there is none
-abbrev pub forest_at : Option ℕ → List Record → Answer
-forest_at None rs = answers.Reply (replies.Refused NoNamespace)
-forest_at (Some place) rs = answers.Tree (forest place rs)
-
--- the forest of the namespace of this name
+-- the forest of the namespace of this name, or that there is none
 abbrev pub tree : OpenedValue → Bytes → Answer
-tree s namespace = forest_at (place_among namespace s.names) s.world.state.records
+tree s namespace = option_map_or (λ place. answers.Tree (forest place s.world.state.records)) (place_among namespace s.names) (answers.Reply (replies.Refused NoNamespace))

@@ -1,6 +1,6 @@
 // The snapshots of a namespace as a forest by parent.
-ghost use Rattle.std.specs.Prelude.{◌≡◌, IfOk};
-ghost use Rattle.snap_session.specs.Tree.{is_in, tree_node, forest, place_among, tree};
+ghost use Rattle.std.specs.Prelude.{◌≡◌, ◌==◌, IfOk};
+ghost use Rattle.snap_session.specs.Tree.{tree_node, forest, place_among, tree};
 
 use snap_call::{Records, Refusal};
 use snap_ledger::StoreName;
@@ -25,7 +25,7 @@ fn tree_node(records: &Records, snapshot: &Record) -> Result<TreeNode, AllocErro
 
 // The snapshot is one of the namespace at the place.
 fn is_in(snapshot: &Record, place: usize) -> bool
-    ensures { result ≡ is_in place snapshot.now }
+    ensures { result ≡ (snapshot.now.namespace == place) }
 {
     snapshot.namespace == place
 }
