@@ -8,14 +8,14 @@ ghost use Rattle.snap_call.specs.Records.{is_active, open_count, with_labels};
 ghost use Rattle.snap_call.specs.State.{or_empty};
 ghost use Rattle.snap_call.specs.Step.{added, refused, relabelled_at, remove, removed_at, step, update, update_record, view, viewed};
 ghost use Rattle.snap_call.specs.declared.call.Given.TheVariants.{Nothing};
-ghost use Rattle.snap_call.specs.declared.reply.Reply.TheVariants.{Removed};
+ghost use Rattle.snap_call.specs.declared.reply.Reply.TheVariants as replies;
 ghost use Rattle.snap_accounts.specs.Changes.{CanChange, IsNewView, IsUnused, changed};
 ghost use Rattle.snap_accounts.specs.Entries.{IsAsk, IsPlain, IsInEntry, IsRecorded};
 ghost use Rattle.snap_accounts.specs.Vacant.{IsSite};
 
 use crate::accounts::Accounts;
 use snap_call::limits::MAX_ID;
-use snap_call::{Call, Chain, Namespace, Refusal, Reply, is_key};
+use snap_call::{Call, Chain, Namespace, Refusal, Removed, Reply, is_key};
 use snap_layer::{Layer, Shared};
 use snap_ledger::StoreName;
 use snap_path::limits::DEFAULT_MODE;
@@ -75,6 +75,21 @@ pub enum Change {
     },
 }
 
+// The most records that the change takes away.
+fn removals(change: &Change) -> usize {
+    match change {
+        Change::Removal { .. } => 1,
+        Change::Sweep { keys, .. } => keys.len(),
+        Change::Nothing
+        | Change::View(_)
+        | Change::Labels { .. }
+        | Change::Limit { .. }
+        | Change::Lease { .. }
+        | Change::LeaseName { .. }
+        | Change::LeaseEnd { .. } => 0,
+    }
+}
+
 // An empty layer.
 fn empty_layer(alloc: Global) -> Result<Shared, AllocError>
     ensures { IfOk result (λ layer. layer ≡ root_only 493 1) }
@@ -107,8 +122,8 @@ fn is_active(snapshot: &Record) -> bool
 }
 
 // What the snapshot that was taken away was charged; 0/0 where there was none.
-fn freed_by(taken: Option<Record>) -> Usage
-    ensures { result ≡ option_map_or (λ r. usage_of r.content) taken no_usage }
+fn freed_by(taken: &Option<Record>) -> Usage
+    ensures { result ≡ option_map_or (λ r. usage_of r.content) taken.now no_usage }
 {
     match taken {
         Some(snapshot) => snapshot.content.usage(),
@@ -201,7 +216,7 @@ impl<N: StoreName> Accounts<N> {
 
     // The place of a snapshot that can go, and what it is charged, or why it stays.
     fn removal(&self, namespace: &str, key: &str) -> Result<(usize, Usage), Refusal>
-        ensures ok { IfOk result (λ p. remove self.now namespace.now key.now ≡ (removed_at self.now p.0 key.now, Removed p.1)) }
+        ensures ok { IfOk result (λ p. remove self.now namespace.now key.now ≡ (removed_at self.now p.0 key.now, replies.Removed p.1)) }
         ensures unused { IfOk result (λ p. IsUnused self.now p.0 key.now) }
         ensures recorded { IfErr result IsRecorded }
         ensures refused { IfErr result (λ why. remove self.now namespace.now key.now ≡ refused self.now why) }
@@ -405,8 +420,8 @@ impl<N: StoreName> Accounts<N> {
         Ok(())
     }
 
-    // The snapshot of the key goes, and its namespace is no longer charged for it.
-    fn remove(&mut self, place: usize, key: &str)
+    // The snapshot of the key goes to `removed`, and its namespace is no longer charged for it.
+    fn remove(&mut self, place: usize, key: &str, removed: &mut Removed)
         requires possible { IsUnused self.old place key.now }
         requires entries { self.old.entries < 2 ^ 63 }
         ensures done { self.new ≡ removed_at self.old place key.now }
@@ -414,7 +429,8 @@ impl<N: StoreName> Accounts<N> {
     {
         let total = self.total(place);
         let taken = self.state.records.take_key(place, key);
-        let rest = difference(total, freed_by(taken));
+        let rest = difference(total, freed_by(&taken));
+        removed.keep(taken);
         self.totals.set(place, rest);
         self.state.entries += 1;
     }
@@ -430,23 +446,26 @@ impl<N: StoreName> Accounts<N> {
         self.state.entries = number;
     }
 
-    /// Makes the change, and counts an entry. Takes memory for the place of a view, for a lease and for a
-    /// name that is new to its lease; where that is refused, nothing changes. The cost grows with the logarithm
+    /// Makes the change, and counts an entry. The answer has the records that it took away, which the caller lets go.
+    ///
+    /// Takes memory for the place of a view, for a lease, for a name that is new to its lease, and for a list of the
+    /// records that it takes away; where that is refused, nothing changes. The cost grows with the logarithm
     /// of the number of records; that of a call on a lease with the logarithms of the number of leases and of the
     /// number of names that the namespace's leases have, for a release once for each name of the lease; that of a
     /// sweep with the leases and their names, for each ended lease with the logarithm of the number of leases, and with
     /// the records times the logarithm of their number.
-    pub fn carry_out(&mut self, change: Change) -> Result<(), AllocError>
+    pub fn carry_out(&mut self, alloc: Global, change: Change) -> Result<Removed, AllocError>
         requires possible { CanChange self.old change }
         requires entries { self.old.entries < 2 ^ 63 }
         ensures done { OnOk result (self.new ≡ changed self.old change) }
         ensures open { OnOk result (open_count self.new.records ≡ open_count self.old.records) }
         ensures err { OnErr result (self.new ≡ self.old) }
     {
+        let mut removed = Removed::with_room(alloc, removals(&change))?;
         match change {
             Change::Nothing => self.count_entry(),
             Change::View(snapshot) => self.add_view(snapshot)?,
-            Change::Removal { place, key } => self.remove(place, key.as_str()),
+            Change::Removal { place, key } => self.remove(place, key.as_str(), &mut removed),
             Change::Labels { place, key, labels } => self.relabel(place, key.as_str(), labels),
             Change::Limit { place, namespace } => self.limit(place, namespace),
             Change::Lease {
@@ -468,8 +487,15 @@ impl<N: StoreName> Accounts<N> {
                 moment,
                 keys,
                 freed,
-            } => self.sweep(place, namespace.as_str(), moment, keys.as_slice(), freed),
+            } => self.sweep(
+                place,
+                namespace.as_str(),
+                moment,
+                keys.as_slice(),
+                freed,
+                &mut removed,
+            ),
         }
-        Ok(())
+        Ok(removed)
     }
 }

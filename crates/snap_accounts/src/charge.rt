@@ -65,10 +65,7 @@ impl<N: StoreName> Accounts<N> {
         ensures low { result < length self.now.namespaces }
         ensures held { Covers (charge_of result self.now.records) (charge_at slot self.now.records).usage }
     {
-        match self.state.records.active_at(slot) {
-            Some(record) => record.namespace,
-            None => 0,
-        }
+        self.state.records.place_in(slot).unwrap_or(0)
     }
 
     // What is free in the namespace at a place.

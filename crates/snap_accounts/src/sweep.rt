@@ -8,7 +8,7 @@ ghost use Rattle.snap_accounts.specs.Entries.{IsInEntry};
 
 use crate::accounts::Accounts;
 use crate::change::Change;
-use snap_call::{Refusal, Reply, Sweep};
+use snap_call::{Refusal, Removed, Reply, Sweep};
 use snap_ledger::StoreName;
 use snap_record::Text;
 use snap_usage::{Usage, difference};
@@ -65,8 +65,8 @@ impl<N: StoreName> Accounts<N> {
         }
     }
 
-    // The snapshots of the keys go, and the leases that have ended, and the namespace is no longer charged
-    // for the snapshots.
+    // The snapshots of the keys go to `removed`, and the leases that have ended go, and the namespace is no longer
+    // charged for the snapshots.
     pub(crate) fn sweep(
         &mut self,
         place: usize,
@@ -74,6 +74,7 @@ impl<N: StoreName> Accounts<N> {
         moment: u64,
         keys: &[Text],
         freed: Usage,
+        removed: &mut Removed,
     )
         requires possible { IsSweep self.old place namespace.now moment keys.now freed }
         requires entries { self.old.entries < 2 ^ 63 }
@@ -81,7 +82,7 @@ impl<N: StoreName> Accounts<N> {
         ensures open { open_count self.new.records ≡ open_count self.old.records }
     {
         let rest = difference(self.total(place), freed);
-        self.state.records.take_keys(place, keys);
+        self.state.records.take_keys(place, keys, removed);
         self.state.leases.drop_ended(namespace, moment);
         self.totals.set(place, rest);
         self.state.entries += 1;

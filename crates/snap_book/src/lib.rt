@@ -33,5 +33,5 @@ mod viewed;
 pub use active::{Active, Held, Released, Sealed};
 pub use book::Book;
 pub use charge::{needed_by, wanted};
-pub use snap_call::{Call, Config, Entry, Given, Namespace, Refusal, Reply, SharedEntry};
+pub use snap_call::{Call, Config, Entry, Given, Namespace, Refusal, Removed, Reply, SharedEntry};
 pub use viewed::Viewed;

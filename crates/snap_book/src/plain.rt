@@ -13,7 +13,7 @@ ghost use Rattle.snap_book.specs.Book.{AnsweredBy, Recorded};
 use crate::book::Book;
 use crate::journal::shared;
 use snap_accounts::{Accounts, Change};
-use snap_call::{Call, Given, Refusal, Reply, SharedEntry};
+use snap_call::{Call, Given, Refusal, Removed, Reply, SharedEntry};
 use snap_ledger::StoreName;
 use std::alloc::{AllocError, Global};
 
@@ -53,12 +53,12 @@ pub(crate) fn planned<N: StoreName>(
 }
 
 impl<N: StoreName> Book<N> {
-    // Makes the change of a plain call and records the call. The answer is its reply, or why there is no
-    // entry.
-    fn record_plain(&mut self, session: u64, call: Call) -> Result<Reply, Refusal>
+    // Makes the change of a plain call and records the call. The answer is its reply with what was taken away, or
+    // why there is no entry.
+    fn record_plain(&mut self, session: u64, call: Call) -> Result<(Reply, Removed), Refusal>
         requires plain { IsPlain call }
-        ensures recorded { IfOk result (λ reply. Recorded self.old self.new session call Nothing reply) }
-        ensures reply { IfOk result IsInEntry }
+        ensures recorded { IfOk result (λ p. Recorded self.old self.new session call Nothing p.0) }
+        ensures reply { IfOk result (λ p. IsInEntry p.0) }
         ensures unchanged { OnErr result (self.new ≡ self.old) }
         ensures err { IfErr result IsUnrecorded }
         ensures full { IsErrOf result JournalFull ↔ (self.old.limit ≤ length self.old.journal + open_count self.old.state.records) }
@@ -71,9 +71,9 @@ impl<N: StoreName> Book<N> {
             reply,
             change,
         } = plan;
-        self.accounts.carry_out(change)?;
+        let removed = self.accounts.carry_out(self.alloc, change)?;
         self.journal.push(entry, copy);
-        Ok(reply)
+        Ok((reply, removed))
     }
 
     /// Does a call that takes no snapshot out of its writer's hands and puts none into them: `View`,
@@ -123,9 +123,19 @@ impl<N: StoreName> Book<N> {
         ensures answered { AnsweredBy self.old self.new session call Nothing result }
         ensures full { (result ≡ replies.Refused JournalFull) ↔ (self.old.limit ≤ length self.old.journal + open_count self.old.state.records) }
     {
+        self.do_call_apart(session, call).0
+    }
+
+    /// Does a call as [`Book::do_call`] does. Beside the reply it hands out what the call took away, for the caller to
+    /// let go: a store does so once it has given its lock back.
+    pub fn do_call_apart(&mut self, session: u64, call: Call) -> (Reply, Removed)
+        requires { IsPlain call }
+        ensures answered { AnsweredBy self.old self.new session call Nothing result.0 }
+        ensures full { (result.0 ≡ replies.Refused JournalFull) ↔ (self.old.limit ≤ length self.old.journal + open_count self.old.state.records) }
+    {
         match self.record_plain(session, call) {
-            Ok(reply) => reply,
-            Err(why) => Reply::Refused(why),
+            Ok(answered) => answered,
+            Err(why) => (Reply::Refused(why), Removed::none(self.alloc)),
         }
     }
 }

@@ -99,7 +99,7 @@ impl<N: StoreName> Book<N> {
             reply: _,
             change,
         } = plan;
-        self.accounts.carry_out(change)?;
+        self.accounts.carry_out(self.alloc, change)?;
         self.journal.push(entry, copy);
         answer
     }

@@ -1,10 +1,12 @@
 ghost use Rattle.std.specs.Prelude.{◌≡◌, ◌<◌, ◌+◌, ◌^◌, [], true, false, not, filter, map, length, option_copied, None, OnOk, OnErr, IfErr, IfOk, IsTrue, ◌↔◌, ℕ};
 ghost use Rattle.std.specs.List.{list_any};
+ghost use Rattle.std.specs.Option.{option_map};
 ghost use Rattle.snap_call.specs.Records.{record_at, has_key, has_children, child_count, is_slot, active_at, with_record, without_key, without_keys, without_slot, recharged, relabelled, page, lowest_free, HasLowSlot};
 ghost use Rattle.snap_call.specs.Indexes.{slot_of};
 
 use crate::open_slots::{Name, OpenSlots};
 use crate::record_edit::RecordEdit;
+use crate::removed::Removed;
 use crate::spaces::Spaces;
 use snap_ledger::MAX_SLOTS;
 use snap_path::NoMemory;
@@ -132,6 +134,17 @@ impl Records {
         self.record_at(name.place, name.key.as_str())
     }
 
+    /// The place of the namespace of the snapshot that is active in the slot, if the slot is open. Takes no memory. The
+    /// cost is constant: no record is searched for.
+    pub fn place_in(&self, slot: u64) -> Option<usize>
+        ensures { result ≡ option_map (λ r. r.namespace) (active_at slot self.now) }
+    {
+        match self.slots.get(slot) {
+            Some(name) => Some(name.place),
+            None => None,
+        }
+    }
+
     /// Whether a snapshot is active in the slot. Takes no memory. The cost is constant.
     pub fn is_open(&self, slot: u64) -> bool
         ensures { result ≡ list_any (is_slot slot) self.now }
@@ -211,13 +224,13 @@ impl Records {
         Some(taken)
     }
 
-    /// Takes the records of these keys in the namespace at the place away. A key that it has not changes
-    /// nothing. Takes no memory.
-    pub fn take_keys(&mut self, place: usize, keys: &[Text])
+    /// Takes the records of these keys in the namespace at the place away, and gives them to `removed`. A key that
+    /// it has not changes nothing. Takes no memory.
+    pub fn take_keys(&mut self, place: usize, keys: &[Text], removed: &mut Removed)
         ensures { self.new ≡ without_keys place keys.now self.old }
     {
         for key in keys {
-            let _ = self.take_key(place, key.as_str());
+            removed.keep(self.take_key(place, key.as_str()));
         }
     }
 
