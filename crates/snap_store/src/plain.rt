@@ -9,7 +9,7 @@ ghost use Rattle.snap_tape.specs.Tapes.{AnsweredOn, RefusedOn, Taped};
 
 use crate::note::{entry_of, is_noted};
 use crate::store::Store;
-use snap_book::{Call, Refusal, Reply};
+use snap_book::{Call, Refusal, Removed, Reply};
 use snap_mount::Mount;
 use snap_record::{Filter, Info, Labels, Sequence, Text};
 use snap_round::RoundName;
@@ -179,20 +179,31 @@ fn lease_add_call(
 }
 
 impl<N: RoundName> Store<N> {
-    // Does a plain call in the session.
+    // Does a plain call in the session under the lock. Beside the reply comes what the call took away.
+    fn ask_apart<R: Wait>(&self, rt: &R, session: &mut Session, call: Call) -> (Reply, Removed)
+        requires { IsPlain call }
+        ensures answered { AnsweredOn session.old session.new call Nothing result.0 }
+        ensures room { session.old.spare ≤ session.new.spare + 1 }
+        ensures reply { IsReplyTo call result.0 }
+    {
+        if let Err(refused) = session.reserve(1) {
+            return (Reply::Refused(refused.into()), Removed::none(self.alloc));
+        }
+        let mut locked = self.book.lock(rt);
+        let book = &mut locked.book;
+        let (reply, removed) = book.do_call_apart(session.number(), call);
+        session.note(entry_of(book, is_noted(&reply)));
+        (reply, removed)
+    }
+
+    // Does a plain call in the session. What it took away goes once the lock is given back.
     fn ask<R: Wait>(&self, rt: &R, session: &mut Session, call: Call) -> Reply
         requires { IsPlain call }
         ensures answered { AnsweredOn session.old session.new call Nothing result }
         ensures room { session.old.spare ≤ session.new.spare + 1 }
         ensures reply { IsReplyTo call result }
     {
-        if let Err(refused) = session.reserve(1) {
-            return Reply::Refused(refused.into());
-        }
-        let mut locked = self.book.lock(rt);
-        let book = &mut locked.book;
-        let reply = book.do_call(session.number(), call);
-        session.note(entry_of(book, is_noted(&reply)));
+        let (reply, _removed) = self.ask_apart(rt, session, call);
         reply
     }
 
