@@ -1,0 +1,196 @@
+package pibroulez
+
+import (
+	"encoding/hex"
+	"encoding/json"
+	"fmt"
+)
+
+// A Usage is blocks of 4096 bytes, and inodes.
+type Usage struct {
+	Blocks, Inodes uint64
+}
+
+// MarshalJSON is the pair.
+func (u Usage) MarshalJSON() ([]byte, error) { return json.Marshal([2]uint64{u.Blocks, u.Inodes}) }
+
+// UnmarshalJSON takes a pair.
+func (u *Usage) UnmarshalJSON(text []byte) error {
+	var pair [2]uint64
+	if err := json.Unmarshal(text, &pair); err != nil {
+		return err
+	}
+	u.Blocks, u.Inodes = pair[0], pair[1]
+	return nil
+}
+
+func (u Usage) String() string { return fmt.Sprintf("%d/%d", u.Blocks, u.Inodes) }
+
+// A Kind is what a snapshot is.
+type Kind string
+
+// The kinds of snapshots.
+const (
+	KindView      Kind = "View"
+	KindActive    Kind = "Active"
+	KindCommitted Kind = "Committed"
+)
+
+// Prepared is a new active snapshot.
+type Prepared struct {
+	// Chain is the ids of its ancestors, nearest first.
+	Chain []uint64 `json:"chain"`
+	ID    uint64   `json:"id"`
+	Slot  int      `json:"slot"`
+}
+
+// Viewed is a new view.
+type Viewed struct {
+	// Chain is the ids of its ancestors, nearest first.
+	Chain []uint64 `json:"chain"`
+	ID    uint64   `json:"id"`
+}
+
+// Committed is a new committed snapshot.
+type Committed struct {
+	ID uint64 `json:"id"`
+	// Usage is what its layer takes and is charged.
+	Usage Usage `json:"usage"`
+}
+
+// Changed is what a file command leaves.
+type Changed struct {
+	// Count is what the layer takes, and Share what is charged for it.
+	Count Usage `json:"count"`
+	Share Usage `json:"share"`
+}
+
+// Info is a snapshot.
+type Info struct {
+	Name   string            `json:"name"`
+	Parent string            `json:"parent"`
+	Kind   Kind              `json:"kind"`
+	Labels map[string]string `json:"labels"`
+	ID     uint64            `json:"id"`
+	// Created and Updated are numbers of entries of the journal.
+	Created uint64 `json:"created"`
+	Updated uint64 `json:"updated"`
+}
+
+// Mount is the arguments of mount(8).
+type Mount struct {
+	Type    string   `json:"type"`
+	Source  string   `json:"source"`
+	Options []string `json:"options"`
+}
+
+// Swept is what a sweep has taken.
+type Swept struct {
+	// Freed is what was charged for the snapshots.
+	Freed Usage `json:"freed"`
+	// Leases is how many leases have gone.
+	Leases int `json:"leases"`
+	// Removed is the keys of the snapshots, in byte order.
+	Removed []string `json:"removed"`
+}
+
+// A FileType is what is seen at a path.
+type FileType string
+
+// The types of files.
+const (
+	Nothing   FileType = ""
+	Directory FileType = "dir"
+	File      FileType = "file"
+	Symlink   FileType = "symlink"
+)
+
+// Seen is what is seen at a path.
+type Seen struct {
+	Type FileType
+	// Mode is that of a directory or a file.
+	Mode uint32
+	// Size is that of a file, in bytes.
+	Size uint64
+	// Target is that of a symlink.
+	Target string
+}
+
+// UnmarshalJSON takes what `look` answers.
+func (s *Seen) UnmarshalJSON(text []byte) error {
+	var seen struct {
+		Dir, File *uint32
+		Size      uint64
+		Symlink   *string
+	}
+	if err := json.Unmarshal(text, &seen); err != nil {
+		return err
+	}
+	switch {
+	case seen.Dir != nil:
+		*s = Seen{Type: Directory, Mode: *seen.Dir}
+	case seen.File != nil:
+		*s = Seen{Type: File, Mode: *seen.File, Size: seen.Size}
+	case seen.Symlink != nil:
+		*s = Seen{Type: Symlink, Target: *seen.Symlink}
+	default:
+		*s = Seen{}
+	}
+	return nil
+}
+
+// Content is the beginning of a file.
+type Content struct {
+	// Head is its first bytes, at most 16.
+	Head Bytes `json:"head"`
+	// Size is the file's, in bytes.
+	Size uint64 `json:"size"`
+}
+
+// Bytes are told in hexadecimal.
+type Bytes []byte
+
+// UnmarshalText takes hexadecimal digits.
+func (b *Bytes) UnmarshalText(text []byte) error {
+	*b = make([]byte, hex.DecodedLen(len(text)))
+	_, err := hex.Decode(*b, text)
+	return err
+}
+
+// Node is a snapshot in a tree.
+type Node struct {
+	Key    string `json:"key"`
+	Parent string `json:"parent"`
+	Kind   Kind   `json:"kind"`
+	ID     uint64 `json:"id"`
+	// Usage is what is charged for it alone.
+	Usage Usage `json:"usage"`
+	// Children is how many snapshots stand on it.
+	Children int `json:"children"`
+}
+
+// Entry is an entry of the journal.
+type Entry struct {
+	Number  uint64 `json:"number"`
+	Session uint64 `json:"session"`
+	Call    string `json:"call"`
+	// Charge is what the namespace is charged after it.
+	Charge Usage `json:"charge"`
+	// Key is the key or name that the call has, or empty.
+	Key string `json:"key"`
+	// ID is the snapshot that the call is on or has made, or 0.
+	ID uint64 `json:"id"`
+	// Refused is the refusal's name, or empty.
+	Refused Reason `json:"refused"`
+}
+
+// Report is the whole store.
+type Report struct {
+	// Entries is those of the journal's round.
+	Entries uint64 `json:"entries"`
+	// Open is the active snapshots, and Records all snapshots.
+	Open    int `json:"open"`
+	Records int `json:"records"`
+	// Totals is what each namespace is charged.
+	Totals map[string]Usage `json:"totals"`
+}

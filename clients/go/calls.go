@@ -1,0 +1,330 @@
+package pibroulez
+
+import "context"
+
+// An Option gives a call a field that may be left out.
+type Option struct {
+	field string
+	value any
+}
+
+// WithSession has the call made in a session of this number, in place of 0.
+func WithSession(number uint64) Option { return Option{"s", number} }
+
+// WithLabels gives a new snapshot labels.
+func WithLabels(labels map[string]string) Option { return Option{"labels", orEmpty(labels)} }
+
+// WithWant gives a charge an amount that is charged where it fits.
+func WithWant(want Usage) Option { return Option{"want", want} }
+
+// WithLease lets a lease name the snapshot that is committed.
+func WithLease(lease string) Option { return Option{"lease", lease} }
+
+// WithUntil gives a lease its last moment.
+func WithUntil(moment uint64) Option { return Option{"until", moment} }
+
+// WithMode gives a new file or directory its mode.
+func WithMode(mode uint32) Option { return Option{"mode", mode} }
+
+// WithExtra has a file command charge so much more, where it makes a charge and that fits.
+func WithExtra(extra Usage) Option { return Option{"extra", extra} }
+
+// A Filter has the parts that a snapshot must match. Nil parts match each.
+type Filter struct {
+	Name, Parent *string
+	Kind         Kind
+	// Labels are the labels with their values, or nil for any value.
+	Labels map[string]*string
+}
+
+// Session opens a session. Its number.
+func (s *Store) Session(ctx context.Context) (uint64, error) {
+	var answer struct{ Session uint64 }
+	err := s.call(ctx, "session", fields{}, nil, &answer)
+	return answer.Session, err
+}
+
+// Reopen begins the next round of the journal, of at most so many entries, or of the default where it is 0.
+func (s *Store) Reopen(ctx context.Context, journal uint64) error {
+	given := fields{}
+	if journal != 0 {
+		given["journal"] = journal
+	}
+	return s.call(ctx, "reopen", given, nil, nil)
+}
+
+// Prepare makes an active snapshot on a committed one, or on none where the parent is empty.
+func (s *Store) Prepare(ctx context.Context, namespace, key, parent string, options ...Option) (Prepared, error) {
+	var answer Prepared
+	err := s.call(ctx, "prepare", fields{"ns": namespace, "key": key, "parent": parent}, options, &answer)
+	return answer, err
+}
+
+// View makes a view of a committed snapshot, or of none where the parent is empty.
+func (s *Store) View(ctx context.Context, namespace, key, parent string, options ...Option) (Viewed, error) {
+	var answer Viewed
+	err := s.call(ctx, "view", fields{"ns": namespace, "key": key, "parent": parent}, options, &answer)
+	return answer, err
+}
+
+// Charge charges an active snapshot what is needed, or what WithWant says. What is charged now.
+func (s *Store) Charge(ctx context.Context, namespace, key string, need Usage, options ...Option) (Usage, error) {
+	var answer struct{ Share Usage }
+	err := s.call(ctx, "charge", fields{"ns": namespace, "key": key, "need": need}, options, &answer)
+	return answer.Share, err
+}
+
+// Trim lowers the charge of an active snapshot to what its layer takes. What is charged now.
+func (s *Store) Trim(ctx context.Context, namespace, key string, options ...Option) (Usage, error) {
+	var answer struct{ Share Usage }
+	err := s.call(ctx, "trim", snapshot(namespace, key), options, &answer)
+	return answer.Share, err
+}
+
+// Commit commits an active snapshot under a name. A refusal seals the snapshot.
+func (s *Store) Commit(ctx context.Context, namespace, key, name string, options ...Option) (Committed, error) {
+	var answer Committed
+	err := s.call(ctx, "commit", fields{"ns": namespace, "key": key, "name": name}, options, &answer)
+	return answer, err
+}
+
+// Discard drops an active snapshot. What was charged for it.
+func (s *Store) Discard(ctx context.Context, namespace, key string, options ...Option) (Usage, error) {
+	var answer struct{ Freed Usage }
+	err := s.call(ctx, "discard", snapshot(namespace, key), options, &answer)
+	return answer.Freed, err
+}
+
+// Remove removes a committed snapshot or a view. What was charged for it.
+func (s *Store) Remove(ctx context.Context, namespace, key string, options ...Option) (Usage, error) {
+	var answer struct{ Freed Usage }
+	err := s.call(ctx, "remove", snapshot(namespace, key), options, &answer)
+	return answer.Freed, err
+}
+
+// Stat tells a snapshot of any kind.
+func (s *Store) Stat(ctx context.Context, namespace, key string, options ...Option) (Info, error) {
+	var answer struct{ Info Info }
+	err := s.call(ctx, "stat", snapshot(namespace, key), options, &answer)
+	return answer.Info, err
+}
+
+// Update sets the labels that the paths name (`labels.x`), or all, and removes those that get no value.
+func (s *Store) Update(ctx context.Context, namespace, key string, labels map[string]string, paths []string, options ...Option) (Info, error) {
+	var answer struct{ Info Info }
+	given := fields{"ns": namespace, "key": key, "labels": orEmpty(labels)}
+	if len(paths) > 0 {
+		given["paths"] = paths
+	}
+	err := s.call(ctx, "update", given, options, &answer)
+	return answer.Info, err
+}
+
+// Usage tells what is charged for a snapshot alone.
+func (s *Store) Usage(ctx context.Context, namespace, key string, options ...Option) (Usage, error) {
+	var answer struct{ Usage Usage }
+	err := s.call(ctx, "usage", snapshot(namespace, key), options, &answer)
+	return answer.Usage, err
+}
+
+// Mounts tells how an active snapshot or a view is mounted.
+func (s *Store) Mounts(ctx context.Context, namespace, key string, options ...Option) ([]Mount, error) {
+	var answer struct{ Mounts []Mount }
+	err := s.call(ctx, "mounts", snapshot(namespace, key), options, &answer)
+	return answer.Mounts, err
+}
+
+// Walk tells a page of the snapshots that match, in byte order of their keys: those after a key, and of these the
+// first max, 1 to 64, or 64 where it is 0.
+func (s *Store) Walk(ctx context.Context, namespace, after string, max int, filter Filter, options ...Option) ([]Info, error) {
+	var answer struct{ Infos []Info }
+	given := fields{"ns": namespace, "after": after}
+	if max != 0 {
+		given["max"] = max
+	}
+	if filter.Name != nil {
+		given["name"] = *filter.Name
+	}
+	if filter.Parent != nil {
+		given["parent"] = *filter.Parent
+	}
+	if filter.Kind != "" {
+		given["kind"] = filter.Kind
+	}
+	if filter.Labels != nil {
+		given["labels"] = filter.Labels
+	}
+	err := s.call(ctx, "walk", given, options, &answer)
+	return answer.Infos, err
+}
+
+// LeaseCreate makes a lease, without a last moment but where WithUntil gives one.
+func (s *Store) LeaseCreate(ctx context.Context, namespace, lease string, options ...Option) error {
+	return s.call(ctx, "lease_create", fields{"ns": namespace, "lease": lease}, options, nil)
+}
+
+// LeaseAdd lets a lease name a committed snapshot.
+func (s *Store) LeaseAdd(ctx context.Context, namespace, lease, name string, options ...Option) error {
+	return s.call(ctx, "lease_add", fields{"ns": namespace, "lease": lease, "name": name}, options, nil)
+}
+
+// LeaseRelease takes a lease away.
+func (s *Store) LeaseRelease(ctx context.Context, namespace, lease string, options ...Option) error {
+	return s.call(ctx, "lease_release", fields{"ns": namespace, "lease": lease}, options, nil)
+}
+
+// Limit gives a namespace another limit.
+func (s *Store) Limit(ctx context.Context, namespace string, limit Usage, options ...Option) error {
+	given := fields{"ns": namespace, "blocks": limit.Blocks, "inodes": limit.Inodes}
+	return s.call(ctx, "limit", given, options, nil)
+}
+
+// Sweep takes the leases that have ended at a moment, and the committed snapshots that nothing in use stands on.
+func (s *Store) Sweep(ctx context.Context, namespace string, now uint64, options ...Option) (Swept, error) {
+	var answer Swept
+	err := s.call(ctx, "sweep", fields{"ns": namespace, "now": now}, options, &answer)
+	return answer, err
+}
+
+// Mkdir makes a directory.
+func (s *Store) Mkdir(ctx context.Context, namespace, key, path string, options ...Option) (Changed, error) {
+	return s.change(ctx, "mkdir", file(namespace, key, path), options)
+}
+
+// Create makes an empty file.
+func (s *Store) Create(ctx context.Context, namespace, key, path string, options ...Option) (Changed, error) {
+	return s.change(ctx, "create", file(namespace, key, path), options)
+}
+
+// WriteText writes a text into a file.
+func (s *Store) WriteText(ctx context.Context, namespace, key, path string, offset uint64, text string, options ...Option) (Changed, error) {
+	given := file(namespace, key, path)
+	given["offset"], given["text"] = offset, text
+	return s.change(ctx, "write", given, options)
+}
+
+// WriteFill writes a byte so many times into a file.
+func (s *Store) WriteFill(ctx context.Context, namespace, key, path string, offset uint64, fill byte, count uint64, options ...Option) (Changed, error) {
+	given := file(namespace, key, path)
+	given["offset"], given["fill"] = offset, [2]uint64{uint64(fill), count}
+	return s.change(ctx, "write", given, options)
+}
+
+// Truncate cuts a file, or fills it with zero bytes, to a size.
+func (s *Store) Truncate(ctx context.Context, namespace, key, path string, size uint64, options ...Option) (Changed, error) {
+	given := file(namespace, key, path)
+	given["size"] = size
+	return s.change(ctx, "truncate", given, options)
+}
+
+// Setmode sets the mode of a file or directory.
+func (s *Store) Setmode(ctx context.Context, namespace, key, path string, mode uint32, options ...Option) (Changed, error) {
+	given := file(namespace, key, path)
+	given["mode"] = mode
+	return s.change(ctx, "setmode", given, options)
+}
+
+// Symlink makes a symlink.
+func (s *Store) Symlink(ctx context.Context, namespace, key, path, target string, options ...Option) (Changed, error) {
+	given := file(namespace, key, path)
+	given["target"] = target
+	return s.change(ctx, "symlink", given, options)
+}
+
+// Link gives a file or symlink one more name.
+func (s *Store) Link(ctx context.Context, namespace, key, oldPath, newPath string, options ...Option) (Changed, error) {
+	return s.change(ctx, "link", files(namespace, key, oldPath, newPath), options)
+}
+
+// Rename moves what is at a path.
+func (s *Store) Rename(ctx context.Context, namespace, key, oldPath, newPath string, options ...Option) (Changed, error) {
+	return s.change(ctx, "rename", files(namespace, key, oldPath, newPath), options)
+}
+
+// Unlink removes a file or symlink.
+func (s *Store) Unlink(ctx context.Context, namespace, key, path string, options ...Option) (Changed, error) {
+	return s.change(ctx, "unlink", file(namespace, key, path), options)
+}
+
+// Rmdir removes an empty directory.
+func (s *Store) Rmdir(ctx context.Context, namespace, key, path string, options ...Option) (Changed, error) {
+	return s.change(ctx, "rmdir", file(namespace, key, path), options)
+}
+
+// Look tells what is seen at a path of an active snapshot or a view.
+func (s *Store) Look(ctx context.Context, namespace, key, path string) (Seen, error) {
+	var answer struct{ Seen Seen }
+	err := s.call(ctx, "look", file(namespace, key, path), nil, &answer)
+	return answer.Seen, err
+}
+
+// List tells the names in a directory, in byte order.
+func (s *Store) List(ctx context.Context, namespace, key, path string) ([]string, error) {
+	var answer struct{ Names []string }
+	err := s.call(ctx, "list", file(namespace, key, path), nil, &answer)
+	return answer.Names, err
+}
+
+// Read tells the first bytes of a file, and its size.
+func (s *Store) Read(ctx context.Context, namespace, key, path string) (Content, error) {
+	var answer Content
+	err := s.call(ctx, "read", file(namespace, key, path), nil, &answer)
+	return answer, err
+}
+
+// Resolve tells where a path leads, its symlinks followed.
+func (s *Store) Resolve(ctx context.Context, namespace, key, path string) (string, error) {
+	var answer struct{ Path string }
+	err := s.call(ctx, "resolve", file(namespace, key, path), nil, &answer)
+	return answer.Path, err
+}
+
+// Tree tells all snapshots of a namespace, in byte order of their keys.
+func (s *Store) Tree(ctx context.Context, namespace string) ([]Node, error) {
+	var answer struct{ Tree []Node }
+	err := s.call(ctx, "tree", fields{"ns": namespace}, nil, &answer)
+	return answer.Tree, err
+}
+
+// Journal tells a page of the entries of a namespace, in order: those after a number, and of these the first max,
+// 1 to 64, or 64 where it is 0.
+func (s *Store) Journal(ctx context.Context, namespace string, after uint64, max int) ([]Entry, error) {
+	var answer struct{ Journal []Entry }
+	given := fields{"ns": namespace, "after": after}
+	if max != 0 {
+		given["max"] = max
+	}
+	err := s.call(ctx, "journal", given, nil, &answer)
+	return answer.Journal, err
+}
+
+// Report tells the whole store.
+func (s *Store) Report(ctx context.Context) (Report, error) {
+	var answer Report
+	err := s.call(ctx, "report", fields{}, nil, &answer)
+	return answer, err
+}
+
+func (s *Store) change(ctx context.Context, do string, given fields, options []Option) (Changed, error) {
+	var answer Changed
+	err := s.call(ctx, do, given, options, &answer)
+	return answer, err
+}
+
+func snapshot(namespace, key string) fields { return fields{"ns": namespace, "key": key} }
+
+func file(namespace, key, path string) fields {
+	return fields{"ns": namespace, "key": key, "path": path}
+}
+
+func files(namespace, key, oldPath, newPath string) fields {
+	return fields{"ns": namespace, "key": key, "from": oldPath, "to": newPath}
+}
+
+// A nil map would be null, which is no labels to the process.
+func orEmpty(labels map[string]string) map[string]string {
+	if labels == nil {
+		return map[string]string{}
+	}
+	return labels
+}

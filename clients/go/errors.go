@@ -1,0 +1,114 @@
+package pibroulez
+
+import (
+	"errors"
+	"fmt"
+)
+
+// ErrDied is the error of each call once the process has ended. The error tells how, too.
+var ErrDied = errors.New("the process has ended")
+
+// ErrClosed is the error of each call once the store is closed.
+var ErrClosed = errors.New("the store is closed")
+
+// ErrNotText is the error of a call with a text that is not UTF-8. The process isn't asked.
+var ErrNotText = errors.New("a text is not UTF-8")
+
+// A Reason is a refusal's name. errors.Is tells whether an error is a refusal of this name, and errors.As with
+// a *Refusal what else it tells.
+type Reason string
+
+func (r Reason) Error() string { return string(r) }
+
+// Refusals of the store.
+const (
+	// ErrBadArgument: a key, name, lease, label, limit or page has not its form.
+	ErrBadArgument Reason = "BadArgument"
+	// ErrNoNamespace: the store was opened without this namespace.
+	ErrNoNamespace Reason = "NoNamespace"
+	// ErrNotFound: there is no such snapshot or parent; of a file, nothing is seen at a path (ENOENT).
+	ErrNotFound Reason = "NotFound"
+	// ErrAlreadyExists: the key or name is taken.
+	ErrAlreadyExists Reason = "AlreadyExists"
+	// ErrNotCommitted: the parent, or what a lease is to name, is active or a view.
+	ErrNotCommitted Reason = "NotCommitted"
+	// ErrNotActive: the snapshot is committed, or a view where an active one is asked for.
+	ErrNotActive Reason = "NotActive"
+	// ErrHasChildren: another snapshot stands on it.
+	ErrHasChildren Reason = "HasChildren"
+	// ErrInUse: it is active, so a commit or a discard ends it.
+	ErrInUse Reason = "InUse"
+	// ErrLeased: a lease names it.
+	ErrLeased Reason = "Leased"
+	// ErrNoLease: there is no such lease.
+	ErrNoLease Reason = "NoLease"
+	// ErrLeaseExists: the lease's name is taken.
+	ErrLeaseExists Reason = "LeaseExists"
+	// ErrTooDeep: the snapshot would have more than 64 ancestors.
+	ErrTooDeep Reason = "TooDeep"
+	// ErrTooManyActives: 64 snapshots are active.
+	ErrTooManyActives Reason = "TooManyActives"
+	// ErrOverLimit: the namespace hasn't so much free. The Refusal tells what it has.
+	ErrOverLimit Reason = "OverLimit"
+	// ErrBelowCharge: the limit would be below what is charged.
+	ErrBelowCharge Reason = "BelowCharge"
+	// ErrNumbersSpent: ids, or the numbers of entries or sessions, are used up.
+	ErrNumbersSpent Reason = "NumbersSpent"
+	// ErrJournalFull: what is left of the journal is kept for discards.
+	ErrJournalFull Reason = "JournalFull"
+	// ErrNoSession: the session isn't open.
+	ErrNoSession Reason = "NoSession"
+	// ErrNoHand: the snapshot is sealed by a refused commit.
+	ErrNoHand Reason = "NoHand"
+	// ErrStillOut: a snapshot is active, so no new round begins.
+	ErrStillOut Reason = "StillOut"
+)
+
+// Errors of files. A path at which nothing is seen is ErrNotFound.
+const (
+	// ErrNotDir: a directory is asked for, and something else is there (ENOTDIR).
+	ErrNotDir Reason = "NotDir"
+	// ErrIsDir: a directory is there (EISDIR).
+	ErrIsDir Reason = "IsDir"
+	// ErrExists: something is at the path (EEXIST).
+	ErrExists Reason = "Exists"
+	// ErrNotEmpty: the directory has entries (ENOTEMPTY).
+	ErrNotEmpty Reason = "NotEmpty"
+	// ErrCrossDevice: the directory is, whole or in part, of a lower layer (EXDEV).
+	ErrCrossDevice Reason = "CrossDevice"
+	// ErrInvalid: the operation isn't for this file or value (EINVAL).
+	ErrInvalid Reason = "Invalid"
+	// ErrNotPermitted: a directory has no hard links (EPERM).
+	ErrNotPermitted Reason = "NotPermitted"
+	// ErrTooBig: a file or a symlink's target would be too large (EFBIG).
+	ErrTooBig Reason = "TooBig"
+	// ErrTooManyLinks: more than 40 symlinks (ELOOP).
+	ErrTooManyLinks Reason = "TooManyLinks"
+	// ErrBadPath: the text is no path.
+	ErrBadPath Reason = "BadPath"
+	// ErrLayerFull: the layer would have more than 65,536 inodes.
+	ErrLayerFull Reason = "LayerFull"
+)
+
+// A Refusal is the answer to a call that the store doesn't grant.
+type Refusal struct {
+	Reason Reason `json:"error"`
+	// From is "book", "world", or "file" for an error of a file.
+	From string `json:"from"`
+	// Free is what the namespace has free. ErrOverLimit alone tells it.
+	Free Usage `json:"free"`
+}
+
+func (r *Refusal) Error() string { return fmt.Sprintf("%s (from %s)", r.Reason, r.From) }
+
+// Unwrap is the refusal's name.
+func (r *Refusal) Unwrap() error { return r.Reason }
+
+// A Fault is the answer to a line that is no command. Nothing has changed.
+type Fault struct {
+	Words string `json:"fault"`
+	// Line is the line's number, from 1, of all lines that the process was sent.
+	Line uint64 `json:"line"`
+}
+
+func (f *Fault) Error() string { return fmt.Sprintf("line %d: %s", f.Line, f.Words) }

@@ -1,0 +1,3 @@
+module pibroulez
+
+go 1.19
