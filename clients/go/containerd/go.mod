@@ -1,0 +1,10 @@
+module pibroulez/containerd
+
+go 1.19
+
+require (
+	github.com/containerd/containerd v1.6.20
+	pibroulez v0.0.0
+)
+
+replace pibroulez => ../
