@@ -112,6 +112,9 @@ type Seen struct {
 	Mode uint32
 	// Size is that of a file, in bytes.
 	Size uint64
+	// Sized says that the file's bytes aren't kept. Digest is then what its content is known by, or empty.
+	Sized  bool
+	Digest string
 	// Target is that of a symlink.
 	Target string
 }
@@ -121,6 +124,7 @@ func (s *Seen) UnmarshalJSON(text []byte) error {
 	var seen struct {
 		Dir, File *uint32
 		Size      uint64
+		Digest    digest
 		Symlink   *string
 	}
 	if err := json.Unmarshal(text, &seen); err != nil {
@@ -130,7 +134,7 @@ func (s *Seen) UnmarshalJSON(text []byte) error {
 	case seen.Dir != nil:
 		*s = Seen{Type: Directory, Mode: *seen.Dir}
 	case seen.File != nil:
-		*s = Seen{Type: File, Mode: *seen.File, Size: seen.Size}
+		*s = Seen{Type: File, Mode: *seen.File, Size: seen.Size, Sized: seen.Digest.told, Digest: seen.Digest.text}
 	case seen.Symlink != nil:
 		*s = Seen{Type: Symlink, Target: *seen.Symlink}
 	default:
@@ -142,9 +146,38 @@ func (s *Seen) UnmarshalJSON(text []byte) error {
 // Content is the beginning of a file.
 type Content struct {
 	// Head is its first bytes, at most 16.
-	Head Bytes `json:"head"`
+	Head Bytes
 	// Size is the file's, in bytes.
-	Size uint64 `json:"size"`
+	Size uint64
+	// Sized says that the file's bytes aren't kept. Digest is then what its content is known by, or empty.
+	Sized  bool
+	Digest string
+}
+
+// UnmarshalJSON takes what `read` answers.
+func (c *Content) UnmarshalJSON(text []byte) error {
+	var read struct {
+		Head   Bytes
+		Size   uint64
+		Digest digest
+	}
+	if err := json.Unmarshal(text, &read); err != nil {
+		return err
+	}
+	*c = Content{read.Head, read.Size, read.Digest.told, read.Digest.text}
+	return nil
+}
+
+// A digest is told of a file whose bytes aren't kept, as a text or null.
+type digest struct {
+	told bool
+	text string
+}
+
+// UnmarshalJSON is called where the member is there, also where it is null.
+func (d *digest) UnmarshalJSON(text []byte) error {
+	d.told = true
+	return json.Unmarshal(text, &d.text)
 }
 
 // Bytes are told in hexadecimal.
@@ -155,6 +188,19 @@ func (b *Bytes) UnmarshalText(text []byte) error {
 	*b = make([]byte, hex.DecodedLen(len(text)))
 	_, err := hex.Decode(*b, text)
 	return err
+}
+
+// Quota is what a namespace may take and what it takes.
+type Quota struct {
+	Limit Usage `json:"limit"`
+	// Charged is what the committed snapshots are charged and the active ones.
+	Charged   Usage `json:"charged"`
+	Committed Usage `json:"committed"`
+	// Open is what the active snapshots are charged, and Spare what of that a trim gives back.
+	Open  Usage `json:"open"`
+	Spare Usage `json:"spare"`
+	// Free is what the limit leaves.
+	Free Usage `json:"free"`
 }
 
 // Node is a snapshot in a tree.

@@ -2,7 +2,7 @@ package pibroulez
 
 import "context"
 
-// An Option gives a call a field that may be left out.
+// An Option gives a call a field that may be left out. One that the call doesn't have is a Fault.
 type Option struct {
 	field string
 	value any
@@ -25,6 +25,9 @@ func WithUntil(moment uint64) Option { return Option{"until", moment} }
 
 // WithMode gives a new file or directory its mode.
 func WithMode(mode uint32) Option { return Option{"mode", mode} }
+
+// WithDigest says by which digest the content of a file of a size is known.
+func WithDigest(digest string) Option { return Option{"digest", digest} }
 
 // WithExtra has a file command charge so much more, where it makes a charge and that fits.
 func WithExtra(extra Usage) Option { return Option{"extra", extra} }
@@ -51,6 +54,15 @@ func (s *Store) Reopen(ctx context.Context, journal uint64) error {
 		given["journal"] = journal
 	}
 	return s.call(ctx, "reopen", given, nil, nil)
+}
+
+// Roll begins the next round as Reopen does, and snapshots may be active: they stay as they are.
+func (s *Store) Roll(ctx context.Context, journal uint64) error {
+	given := fields{}
+	if journal != 0 {
+		given["journal"] = journal
+	}
+	return s.call(ctx, "roll", given, nil, nil)
 }
 
 // Prepare makes an active snapshot on a committed one, or on none where the parent is empty.
@@ -127,6 +139,15 @@ func (s *Store) Usage(ctx context.Context, namespace, key string, options ...Opt
 	return answer.Usage, err
 }
 
+// ChainUsage tells what is charged for a snapshot and all its ancestors, each once. It makes no entry.
+func (s *Store) ChainUsage(ctx context.Context, namespace, key string) (Usage, error) {
+	var answer struct{ Usage Usage }
+	given := snapshot(namespace, key)
+	given["chain"] = true
+	err := s.call(ctx, "usage", given, nil, &answer)
+	return answer.Usage, err
+}
+
 // Mounts tells how an active snapshot or a view is mounted.
 func (s *Store) Mounts(ctx context.Context, namespace, key string, options ...Option) ([]Mount, error) {
 	var answer struct{ Mounts []Mount }
@@ -186,6 +207,13 @@ func (s *Store) Sweep(ctx context.Context, namespace string, now uint64, options
 	return answer, err
 }
 
+// TrySweep tells what a sweep would take. Nothing goes, and it makes no entry.
+func (s *Store) TrySweep(ctx context.Context, namespace string, now uint64) (Swept, error) {
+	var answer Swept
+	err := s.call(ctx, "sweep", fields{"ns": namespace, "now": now, "try": true}, nil, &answer)
+	return answer, err
+}
+
 // Mkdir makes a directory.
 func (s *Store) Mkdir(ctx context.Context, namespace, key, path string, options ...Option) (Changed, error) {
 	return s.change(ctx, "mkdir", file(namespace, key, path), options)
@@ -194,6 +222,13 @@ func (s *Store) Mkdir(ctx context.Context, namespace, key, path string, options 
 // Create makes an empty file.
 func (s *Store) Create(ctx context.Context, namespace, key, path string, options ...Option) (Changed, error) {
 	return s.change(ctx, "create", file(namespace, key, path), options)
+}
+
+// Put makes a file of a size in bytes, which aren't kept.
+func (s *Store) Put(ctx context.Context, namespace, key, path string, size uint64, options ...Option) (Changed, error) {
+	given := file(namespace, key, path)
+	given["size"] = size
+	return s.change(ctx, "put", given, options)
 }
 
 // WriteText writes a text into a file.
@@ -251,6 +286,16 @@ func (s *Store) Rmdir(ctx context.Context, namespace, key, path string, options 
 	return s.change(ctx, "rmdir", file(namespace, key, path), options)
 }
 
+// Whiteout removes what is at a path, a directory with all that is in it.
+func (s *Store) Whiteout(ctx context.Context, namespace, key, path string, options ...Option) (Changed, error) {
+	return s.change(ctx, "whiteout", file(namespace, key, path), options)
+}
+
+// Opaque hides what the layers below have in a directory.
+func (s *Store) Opaque(ctx context.Context, namespace, key, path string, options ...Option) (Changed, error) {
+	return s.change(ctx, "opaque", file(namespace, key, path), options)
+}
+
 // Look tells what is seen at a path of an active snapshot or a view.
 func (s *Store) Look(ctx context.Context, namespace, key, path string) (Seen, error) {
 	var answer struct{ Seen Seen }
@@ -265,7 +310,7 @@ func (s *Store) List(ctx context.Context, namespace, key, path string) ([]string
 	return answer.Names, err
 }
 
-// Read tells the first bytes of a file, and its size.
+// Read tells the first bytes of a file, and its size; of one whose bytes aren't kept its size and its digest.
 func (s *Store) Read(ctx context.Context, namespace, key, path string) (Content, error) {
 	var answer Content
 	err := s.call(ctx, "read", file(namespace, key, path), nil, &answer)
@@ -277,6 +322,21 @@ func (s *Store) Resolve(ctx context.Context, namespace, key, path string) (strin
 	var answer struct{ Path string }
 	err := s.call(ctx, "resolve", file(namespace, key, path), nil, &answer)
 	return answer.Path, err
+}
+
+// Quota tells what a namespace may take and what it takes.
+func (s *Store) Quota(ctx context.Context, namespace string) (Quota, error) {
+	quotas, err := s.quotas(ctx, fields{"ns": namespace})
+	return quotas[namespace], err
+}
+
+// Quotas tells what each namespace may take and what it takes.
+func (s *Store) Quotas(ctx context.Context) (map[string]Quota, error) { return s.quotas(ctx, fields{}) }
+
+func (s *Store) quotas(ctx context.Context, given fields) (map[string]Quota, error) {
+	var answer struct{ Quota map[string]Quota }
+	err := s.call(ctx, "quota", given, nil, &answer)
+	return answer.Quota, err
 }
 
 // Tree tells all snapshots of a namespace, in byte order of their keys.

@@ -31,7 +31,13 @@ type log struct {
 
 // Commands that change nothing and make no entry in the journal. A log does without them.
 var isLookup = map[string]bool{
-	"look": true, "list": true, "read": true, "resolve": true, "tree": true, "journal": true, "report": true,
+	"look": true, "list": true, "read": true, "resolve": true, "quota": true, "tree": true, "journal": true,
+	"report": true,
+}
+
+// Whether a command changes nothing and makes no entry: a lookup, a sweep that is tried, or the usage of a chain.
+func makesNoEntry(do string, given fields) bool {
+	return isLookup[do] || given["try"] == true || given["chain"] == true
 }
 
 // Commands that change nothing and make an entry. A log has them, since entries are numbered, but they need not have
@@ -106,7 +112,7 @@ func (l *log) keep(answered []delivery) error {
 	var lines []byte
 	sync := false
 	for _, it := range answered {
-		if isFault(it.text) || isLookup[it.call.do] {
+		if isFault(it.text) || it.call.isLookup {
 			continue
 		}
 		lines = append(lines, it.call.line...)

@@ -62,6 +62,8 @@ type Store struct {
 type call struct {
 	do   string
 	line []byte
+	// Whether it changes nothing and makes no entry.
+	isLookup bool
 	// The number of the call, from 1. It is the id of its line, so that its answer is known by it.
 	id     uint64
 	answer chan []byte
@@ -185,7 +187,7 @@ func (s *Store) call(ctx context.Context, do string, given fields, options []Opt
 	if err != nil {
 		return fmt.Errorf("%s: %w", do, err)
 	}
-	text, err := s.exchange(ctx, &call{do: do, line: line, answer: make(chan []byte, 1)})
+	text, err := s.exchange(ctx, &call{do: do, line: line, isLookup: makesNoEntry(do, given), answer: make(chan []byte, 1)})
 	if err != nil {
 		return fmt.Errorf("%s: %w", do, err)
 	}

@@ -127,12 +127,43 @@ func TestFiles(t *testing.T) {
 	equal(t, look("/e"), Seen{})
 	equal(t, must[[]string](t)(store.List(ctx, "a", "k", "/")), []string{"d", "s"})
 	head := append([]byte{0, 0, 'h', 'i'}, make([]byte, 12)...)
-	equal(t, must[Content](t)(store.Read(ctx, "a", "k", "/d/f")), Content{head, 5000})
+	equal(t, must[Content](t)(store.Read(ctx, "a", "k", "/d/f")), Content{Head: head, Size: 5000})
 	equal(t, must[string](t)(store.Resolve(ctx, "a", "k", "/s")), "/d/f")
 	equal(t, must[Usage](t)(store.Trim(ctx, "a", "k")), Usage{4, 4})
 	equal(t, must[Usage](t)(store.Charge(ctx, "a", "k", Usage{10, 10})), Usage{10, 10})
 	equal(t, must[Usage](t)(store.Charge(ctx, "a", "k", Usage{11, 11}, WithWant(Usage{20, 20}))), Usage{20, 20})
 	equal(t, must[Usage](t)(store.Usage(ctx, "a", "k")), Usage{20, 20})
+}
+
+func TestFilesOfASize(t *testing.T) {
+	store := newStore(t, Usage{100, 100})
+	must[Prepared](t)(store.Prepare(ctx, "a", "k", ""))
+	digest := "sha256:ab"
+	put := must[Changed](t)(store.Put(ctx, "a", "k", "/f", 5000, WithMode(0o755), WithDigest(digest)))
+	equal(t, put, Changed{Usage{3, 2}, Usage{3, 2}})
+	equal(t, must[Seen](t)(store.Look(ctx, "a", "k", "/f")), Seen{Type: File, Mode: 0o755, Size: 5000, Sized: true, Digest: digest})
+	equal(t, must[Content](t)(store.Read(ctx, "a", "k", "/f")), Content{Size: 5000, Sized: true, Digest: digest})
+	must[Changed](t)(store.WriteText(ctx, "a", "k", "/f", 8192, "x"))
+	equal(t, must[Content](t)(store.Read(ctx, "a", "k", "/f")), Content{Size: 8193, Sized: true})
+	_, tooBig := store.Put(ctx, "a", "k", "/g", 1<<40+1)
+	if !errors.Is(tooBig, ErrTooBig) {
+		t.Error(tooBig)
+	}
+}
+
+func TestWhatLayersBelowHave(t *testing.T) {
+	store := newStore(t, Usage{100, 100})
+	must[Prepared](t)(store.Prepare(ctx, "a", "k", ""))
+	for _, directory := range []string{"/d", "/e"} {
+		must[Changed](t)(store.Mkdir(ctx, "a", "k", directory))
+		must[Changed](t)(store.Create(ctx, "a", "k", directory+"/f"))
+	}
+	must[Committed](t)(store.Commit(ctx, "a", "k", "base"))
+	must[Prepared](t)(store.Prepare(ctx, "a", "k", "base"))
+	equal(t, must[Changed](t)(store.Opaque(ctx, "a", "k", "/d")), Changed{Usage{2, 2}, Usage{2, 2}})
+	equal(t, must[[]string](t)(store.List(ctx, "a", "k", "/d")), []string{})
+	equal(t, must[Changed](t)(store.Whiteout(ctx, "a", "k", "/e")), Changed{Usage{2, 3}, Usage{2, 3}})
+	equal(t, must[[]string](t)(store.List(ctx, "a", "k", "/")), []string{"d"})
 }
 
 // Each call that makes an entry is counted: the numbers of entries are in the comments.
@@ -160,6 +191,11 @@ func TestSnapshots(t *testing.T) {
 	equal(t, walk(store.Walk(ctx, "a", "", 0, Filter{Kind: KindView})), []Info{view})
 	equal(t, walk(store.Walk(ctx, "a", "", 0, Filter{Labels: map[string]*string{"x": nil, "y": text("2")}})), []Info{base})
 	granted(t, store.LeaseAdd(ctx, "a", "lease", "base")) // 18
+	equal(t, must[Usage](t)(store.ChainUsage(ctx, "a", "v")), Usage{1, 1})
+	equal(t, must[Swept](t)(store.TrySweep(ctx, "a", 0)), Swept{Usage{}, 0, []string{}})
+	quota := Quota{Limit: Usage{100, 100}, Charged: Usage{1, 1}, Committed: Usage{1, 1}, Free: Usage{99, 99}}
+	equal(t, must[Quota](t)(store.Quota(ctx, "a")), quota)
+	equal(t, must[map[string]Quota](t)(store.Quotas(ctx)), map[string]Quota{"a": quota})
 	equal(t, must[[]Node](t)(store.Tree(ctx, "a")), []Node{
 		{"base", "", KindCommitted, 1, Usage{1, 1}, 1},
 		{"v", "base", KindView, 2, Usage{}, 0},
@@ -179,6 +215,11 @@ func TestSnapshots(t *testing.T) {
 	granted(t, store.Reopen(ctx, 10))                            // 26
 	equal(t, must[Report](t)(store.Report(ctx)), Report{1, 0, 0, map[string]Usage{"a": {}}})
 	must[Prepared](t)(store.Prepare(ctx, "a", "k", ""))
+	equal(t, must[Info](t)(store.Stat(ctx, "a", "k")).Created, uint64(27))
+	isError(t, store.Roll(ctx, 1), ErrJournalFull)
+	granted(t, store.Roll(ctx, 2))
+	equal(t, must[Report](t)(store.Report(ctx)), Report{1, 1, 1, map[string]Usage{"a": {1, 1}}})
+	granted(t, store.Roll(ctx, 0))
 	equal(t, must[Info](t)(store.Stat(ctx, "a", "k")).Created, uint64(27))
 }
 
@@ -326,6 +367,17 @@ func TestFaults(t *testing.T) {
 		}
 		equal(t, *fault, Fault{it.words, uint64(line) + 2})
 	}
+	equal(t, must[Report](t)(store.Report(ctx)), Report{1, 0, 0, map[string]Usage{"a": {}}})
+}
+
+// An option that the call doesn't have is a fault, and nothing is made without it.
+func TestUnknownField(t *testing.T) {
+	store := newStore(t, Usage{100, 100})
+	var fault *Fault
+	if _, err := store.Prepare(ctx, "a", "k", "", WithLease("l")); !errors.As(err, &fault) {
+		t.Fatalf("%v, not a fault", err)
+	}
+	equal(t, *fault, Fault{"unknown field lease", 2})
 	equal(t, must[Report](t)(store.Report(ctx)), Report{1, 0, 0, map[string]Usage{"a": {}}})
 }
 

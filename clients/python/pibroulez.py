@@ -32,7 +32,9 @@ from typing import Any, Iterator, Mapping, NamedTuple, Sequence, Tuple, Type, Ty
 PROGRAM = Path(__file__).resolve().parents[2] / "crates/snap_replay/out/snap_replay"
 
 # Commands that change nothing and make no entry in the journal. A log does without them.
-_LOOKUPS = frozenset({"look", "list", "read", "resolve", "tree", "journal", "report"})
+_LOOKUPS = frozenset({"look", "list", "read", "resolve", "quota", "tree", "journal", "report"})
+# Fields by which a command that makes an entry becomes one that makes none.
+_TRIES = ("try", "chain")
 # Commands that change nothing and make an entry. A log has them, since entries are numbered, but need not
 # have reached the disk before they are answered.
 _QUESTIONS = frozenset({"stat", "usage", "mounts", "walk"})
@@ -138,13 +140,23 @@ class File:
 
 
 @dataclass(frozen=True)
+class SizedFile:
+    """A file that is seen at a path and whose bytes aren't kept: its size in bytes, and the digest by which its content
+    is known, or None."""
+
+    mode: int
+    size: int
+    digest: str | None
+
+
+@dataclass(frozen=True)
 class Symlink:
     """A symlink that is seen at a path."""
 
     target: str
 
 
-Seen = Union[Directory, File, Symlink]
+Seen = Union[Directory, File, SizedFile, Symlink]
 
 
 @dataclass(frozen=True)
@@ -153,6 +165,30 @@ class Content:
 
     head: bytes
     size: int
+
+
+@dataclass(frozen=True)
+class SizedContent:
+    """The size in bytes of a file whose bytes aren't kept, and the digest by which its content is known, or None."""
+
+    size: int
+    digest: str | None
+
+
+@dataclass(frozen=True)
+class Quota:
+    """What a namespace may take and what it takes.
+
+    What is charged is what the committed snapshots are charged and the active ones (`open`). What is spare of the
+    latter a trim gives back.
+    """
+
+    limit: Usage
+    charged: Usage
+    committed: Usage
+    open: Usage
+    spare: Usage
+    free: Usage
 
 
 @dataclass(frozen=True)
@@ -498,6 +534,10 @@ def _of_kind(answer: Type[_Answer], fields: Mapping[str, Any]) -> _Answer:
     return answer(**given)
 
 
+def _swept(answer: Mapping[str, Any]) -> Swept:
+    return Swept(Usage(*answer["freed"]), answer["leases"], tuple(answer["removed"]))
+
+
 def _error(answer: Mapping[str, Any]) -> Error | None:
     """The error that an answer tells, if it tells one."""
     if "fault" in answer:
@@ -631,7 +671,7 @@ class Store:
                 self._process.send(self._numbered(line))
                 answer = self._answer()
                 error = _error(answer)
-                self._keep(command.get("do"), line, error)
+                self._keep(command, line, error)
             except BaseException:
                 self._abort()
                 raise
@@ -655,9 +695,12 @@ class Store:
         answer: dict[str, Any] = response["answer"]
         return answer
 
-    def _keep(self, do: object, line: bytes, error: Error | None) -> None:
+    def _keep(self, command: Mapping[str, object], line: bytes, error: Error | None) -> None:
         """Writes the line to the log, where a store's state depends on it."""
-        if self._log and not isinstance(error, Fault) and do not in _LOOKUPS:
+        do = command.get("do")
+        if not self._log or isinstance(error, Fault) or do in _LOOKUPS:
+            return
+        if not any(command.get(it) is True for it in _TRIES):
             self._log.append(line, sync=do not in _QUESTIONS)
 
     def _call(self, do: str, session: int | None = None, **fields: object) -> dict[str, Any]:
@@ -677,8 +720,12 @@ class Store:
         return number
 
     def reopen(self, journal: int | None = None) -> None:
-        """Begins the next round of the journal, of at most so many entries."""
+        """Begins the next round of the journal, of at most so many entries. No snapshot may be active."""
         self._call("reopen", journal=journal)
+
+    def roll(self, journal: int | None = None) -> None:
+        """Begins the next round of the journal, of at most so many entries. Active snapshots stay as they are."""
+        self._call("roll", journal=journal)
 
     # Snapshots
 
@@ -754,6 +801,10 @@ class Store:
         """What is charged for a snapshot alone."""
         return Usage(*self._call("usage", session, ns=namespace, key=key)["usage"])
 
+    def chain_usage(self, namespace: str, key: str) -> Usage:
+        """What is charged for a snapshot and all its ancestors, each once. It makes no entry."""
+        return Usage(*self._call("usage", ns=namespace, key=key, chain=True)["usage"])
+
     def mounts(self, namespace: str, key: str, *, session: int | None = None) -> tuple[Mount, ...]:
         """How an active snapshot or a view is mounted."""
         mounts = self._call("mounts", session, ns=namespace, key=key)["mounts"]
@@ -798,8 +849,11 @@ class Store:
 
     def sweep(self, namespace: str, now: int, *, session: int | None = None) -> Swept:
         """Takes the leases that have ended, and the committed snapshots that nothing in use stands on."""
-        answer = self._call("sweep", session, ns=namespace, now=now)
-        return Swept(Usage(*answer["freed"]), answer["leases"], tuple(answer["removed"]))
+        return _swept(self._call("sweep", session, ns=namespace, now=now))
+
+    def try_sweep(self, namespace: str, now: int) -> Swept:
+        """What a sweep would take. Nothing goes, and it makes no entry."""
+        return _swept(self._call("sweep", ns=namespace, now=now, **{"try": True}))
 
     # Files of an active snapshot. `extra` is charged beyond what is needed, where a charge is made and it fits.
 
@@ -828,6 +882,23 @@ class Store:
     ) -> Changed:
         """Makes an empty file."""
         return self._change("create", session, extra, ns=namespace, key=key, path=path, mode=mode)
+
+    def put(
+        self,
+        namespace: str,
+        key: str,
+        path: str,
+        size: int,
+        digest: str | None = None,
+        mode: int | None = None,
+        *,
+        extra: Pair | None = None,
+        session: int | None = None,
+    ) -> Changed:
+        """Makes a file of a size, whose bytes aren't kept."""
+        return self._change(
+            "put", session, extra, ns=namespace, key=key, path=path, mode=mode, size=size, digest=digest
+        )
 
     def write(
         self,
@@ -925,6 +996,18 @@ class Store:
         """Removes an empty directory."""
         return self._change("rmdir", session, extra, ns=namespace, key=key, path=path)
 
+    def whiteout(
+        self, namespace: str, key: str, path: str, *, extra: Pair | None = None, session: int | None = None
+    ) -> Changed:
+        """Removes what is at a path, a directory with all that is in it."""
+        return self._change("whiteout", session, extra, ns=namespace, key=key, path=path)
+
+    def opaque(
+        self, namespace: str, key: str, path: str, *, extra: Pair | None = None, session: int | None = None
+    ) -> Changed:
+        """Hides what the layers below have in a directory."""
+        return self._change("opaque", session, extra, ns=namespace, key=key, path=path)
+
     # Lookups in an active snapshot or a view. They make no entry.
 
     def look(self, namespace: str, key: str, path: str) -> Seen | None:
@@ -934,6 +1017,8 @@ class Store:
             return None
         if "dir" in seen:
             return Directory(seen["dir"])
+        if "digest" in seen:
+            return SizedFile(seen["file"], seen["size"], seen["digest"])
         if "file" in seen:
             return File(seen["file"], seen["size"])
         return Symlink(seen["symlink"])
@@ -942,9 +1027,11 @@ class Store:
         """The names in a directory, in byte order."""
         return tuple(self._call("list", ns=namespace, key=key, path=path)["names"])
 
-    def read(self, namespace: str, key: str, path: str) -> Content:
-        """The first bytes of a file, and its size."""
+    def read(self, namespace: str, key: str, path: str) -> Content | SizedContent:
+        """The first bytes of a file, and its size; of one whose bytes aren't kept its size and its digest."""
         answer = self._call("read", ns=namespace, key=key, path=path)
+        if "digest" in answer:
+            return SizedContent(answer["size"], answer["digest"])
         return Content(bytes.fromhex(answer["head"]), answer["size"])
 
     def resolve(self, namespace: str, key: str, path: str) -> str:
@@ -953,6 +1040,18 @@ class Store:
         return found
 
     # Questions to the store that make no entry
+
+    def quota(self, namespace: str) -> Quota:
+        """What a namespace may take and what it takes."""
+        return self._quotas(namespace)[namespace]
+
+    def quotas(self) -> dict[str, Quota]:
+        """What each namespace may take and what it takes."""
+        return self._quotas(None)
+
+    def _quotas(self, namespace: str | None) -> dict[str, Quota]:
+        quotas = self._call("quota", ns=namespace)["quota"]
+        return {name: Quota(**{it: Usage(*amount) for it, amount in found.items()}) for name, found in quotas.items()}
 
     def tree(self, namespace: str) -> tuple[Node, ...]:
         """All snapshots of a namespace, in byte order of their keys."""

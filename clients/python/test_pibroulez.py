@@ -39,8 +39,11 @@ from pibroulez import (
     Mount,
     Node,
     Prepared,
+    Quota,
     Refused,
     Report,
+    SizedContent,
+    SizedFile,
     Store,
     Swept,
     Symlink,
@@ -123,6 +126,35 @@ class Commands(unittest.TestCase):
         self.assertEqual(store.read("a", "k", "/d/f"), Content(b"hi" + bytes(14), 5000))
         self.assertEqual(store.resolve("a", "k", "/s"), "/d/f")
 
+    def test_files_of_a_size(self) -> None:
+        digest = "sha256:ab"
+        with open_store() as store:
+            store.prepare("a", "k", "")
+            put = store.put("a", "k", "/f", 5000, digest, 0o755)
+            self.assertEqual(put, Changed(Usage(3, 2), Usage(3, 2)))
+            self.assertEqual(store.look("a", "k", "/f"), SizedFile(0o755, 5000, digest))
+            self.assertEqual(store.read("a", "k", "/f"), SizedContent(5000, digest))
+            store.write("a", "k", "/f", "x", offset=8192)
+            self.assertEqual(store.look("a", "k", "/f"), SizedFile(0o755, 8193, None))
+            store.put("a", "k", "/g", 0)
+            self.assertEqual(store.read("a", "k", "/g"), SizedContent(0, None))
+            with self.assertRaises(pibroulez.TooBig):
+                store.put("a", "k", "/h", (1 << 40) + 1)
+
+    def test_what_layers_below_have(self) -> None:
+        with open_store() as store:
+            store.prepare("a", "k", "")
+            store.mkdir("a", "k", "/d")
+            store.create("a", "k", "/d/f")
+            store.mkdir("a", "k", "/e")
+            store.create("a", "k", "/e/f")
+            store.commit("a", "k", "base")
+            store.prepare("a", "k", "base")
+            self.assertEqual(store.opaque("a", "k", "/d"), Changed(Usage(2, 2), Usage(2, 2)))
+            self.assertEqual(store.list("a", "k", "/d"), ())
+            self.assertEqual(store.whiteout("a", "k", "/e"), Changed(Usage(2, 3), Usage(2, 3)))
+            self.assertEqual(store.list("a", "k", "/"), ("d",))
+
     def snapshots(self, store: Store) -> None:
         """Leaves the journal with 30 entries, and the store empty."""
         self.assertEqual(store.trim("a", "k"), Usage(4, 4))
@@ -151,6 +183,12 @@ class Commands(unittest.TestCase):
         ):
             self.assertEqual(found, (view,))
         store.lease_add("a", "lease", "base")
+        self.assertEqual(store.chain_usage("a", "v"), Usage(4, 4))
+        self.assertEqual(store.try_sweep("a", 0), Swept(Usage(0, 0), 0, ()))
+        nothing = Usage(0, 0)
+        quota = Quota(Usage(100, 100), Usage(4, 4), Usage(4, 4), nothing, nothing, Usage(96, 96))
+        self.assertEqual(store.quota("a"), quota)
+        self.assertEqual(store.quotas(), {"a": quota})
         self.assertEqual(
             store.tree("a"),
             (
@@ -180,6 +218,14 @@ class Commands(unittest.TestCase):
         store.reopen(journal=10)
         self.assertEqual(store.report(), Report(1, 0, 0, {"a": Usage(0, 0)}))
         store.prepare("a", "k", "")
+        self.assertEqual(store.stat("a", "k").created, 35)
+        with self.assertRaises(pibroulez.JournalFull):
+            store.roll(journal=1)
+        store.roll(journal=2)
+        self.assertEqual(store.report(), Report(1, 1, 1, {"a": Usage(1, 1)}))
+        with self.assertRaises(pibroulez.JournalFull):
+            store.stat("a", "k")
+        store.roll()
         self.assertEqual(store.stat("a", "k").created, 35)
 
     def test_texts(self) -> None:
@@ -335,6 +381,15 @@ class Lines(unittest.TestCase):
                         store.request(command)
                     self.assertEqual((caught.exception.fault, caught.exception.line), (fault, line))
             self.assertEqual(store.report(), Report(2, 1, 1, {"a": Usage(1, 1)}))
+
+    def test_unknown_field(self) -> None:
+        """A field that the command doesn't have is a fault, and nothing is made without it."""
+        command = {"do": "prepare", "ns": "a", "key": "k", "parent": "", "lables": {"x": "1"}}
+        with open_store() as store:
+            with self.assertRaises(Fault) as caught:
+                store.request(command)
+            self.assertEqual((caught.exception.fault, caught.exception.line), ("unknown field lables", 2))
+            self.assertEqual(store.report().records, 0)
 
     def test_each_line_has_one_answer(self) -> None:
         """Also one that is empty, no JSON or no object."""

@@ -15,8 +15,11 @@ DEFAULT_DIRECTORY_MODE = 0o755
 DEFAULT_FILE_MODE = 0o644
 HEAD_BYTES = 16
 
+# What marks a file that was made of a size alone. Overlayfs copies it up with the file.
+SIZED = "trusted.sized"
+
 OPERATIONS = frozenset(
-    "mkdir create write truncate setmode symlink link unlink rmdir rename".split()
+    "mkdir create put write truncate setmode symlink link unlink rmdir rename opaque whiteout".split()
 )
 LOOKUPS = frozenset("look list read resolve".split())
 
@@ -68,6 +71,8 @@ def operate(command: Command) -> None:
         case "create":
             flags = os.O_WRONLY | os.O_CREAT | os.O_EXCL
             os.close(os.open(_path(command), flags, command.get("mode", DEFAULT_FILE_MODE)))
+        case "put":
+            _put(_path(command), command.get("mode", DEFAULT_FILE_MODE), command["size"])
         case "write":
             _write(_path(command), bytes_of(command), command.get("offset", 0))
         case "truncate":
@@ -84,6 +89,15 @@ def operate(command: Command) -> None:
             os.rmdir(_path(command))
         case "rename":
             os.rename(command["from"].encode(), command["to"].encode())
+        case "opaque":
+            _copy_up(_path(command))
+        case "whiteout":
+            _remove(_path(command))
+
+
+def is_sized(path: bytes) -> bool:
+    """Whether a file was made of a size alone."""
+    return SIZED in os.listxattr(path, follow_symlinks=False)
 
 
 def look_up(command: Command) -> Answer:
@@ -102,6 +116,15 @@ def look_up(command: Command) -> Answer:
 
 def _path(command: Command) -> bytes:
     return command["path"].encode()
+
+
+def _put(path: bytes, mode: int, size: int) -> None:
+    descriptor = os.open(path, os.O_WRONLY | os.O_CREAT | os.O_EXCL, mode)
+    try:
+        os.ftruncate(descriptor, size)
+        os.setxattr(descriptor, SIZED, b"y")
+    finally:
+        os.close(descriptor)
 
 
 def _write(path: bytes, content: bytes, offset: int) -> None:
@@ -126,6 +149,26 @@ def _set_mode(path: bytes, mode: int) -> None:
         os.chmod(str(descriptor), mode, dir_fd=_descriptors)
     finally:
         os.close(descriptor)
+
+
+def _copy_up(path: bytes) -> None:
+    """Copies a directory up, by setting the mode that it has. The mark is set once it is unmounted."""
+    descriptor = os.open(path, os.O_RDONLY | os.O_DIRECTORY | os.O_NOFOLLOW)
+    try:
+        os.fchmod(descriptor, stat.S_IMODE(os.fstat(descriptor).st_mode))
+    finally:
+        os.close(descriptor)
+
+
+def _remove(path: bytes) -> None:
+    """Takes what is there, a directory with all that is in it."""
+    if path != b"/" and stat.S_ISDIR(os.lstat(path).st_mode):
+        for name in os.listdir(path):
+            _remove(os.path.join(path, name))
+    if stat.S_ISDIR(os.lstat(path).st_mode):
+        os.rmdir(path)
+    else:
+        os.unlink(path)
 
 
 def _look(path: bytes) -> Answer | None:
@@ -155,8 +198,10 @@ def _list(path: bytes) -> list[str]:
 def _read(path: bytes) -> Answer:
     descriptor = os.open(path, os.O_RDONLY | os.O_NOFOLLOW)
     try:
-        head = os.read(descriptor, HEAD_BYTES)
-        return {"head": head.hex(), "size": os.fstat(descriptor).st_size}
+        size = os.fstat(descriptor).st_size
+        if SIZED in os.listxattr(descriptor):
+            return {"size": size}
+        return {"head": os.read(descriptor, HEAD_BYTES).hex(), "size": size}
     finally:
         os.close(descriptor)
 

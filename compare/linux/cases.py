@@ -127,6 +127,10 @@ def _create(path: str, mode: int = 0o644) -> Command:
     return {"do": "create", "path": path, "mode": mode}
 
 
+def _put(path: str, size: int, digest: str = "") -> Command:
+    return {"do": "put", "path": path, "size": size, "digest": digest}
+
+
 def _write(path: str, text: str, offset: int = 0) -> Command:
     return {"do": "write", "path": path, "text": text, "offset": offset}
 
@@ -176,6 +180,22 @@ def files_above_1_mib(trial: Trial) -> None:
     trial.differ(_write("/f", "", offset=1_048_577), GRANTED, "TooBig")
     trial.differ(_write("/f", "x", offset=1_048_576), GRANTED, "TooBig")
     trial.differ(_truncate("/f", 1_048_577), GRANTED, "TooBig")
+
+
+@_case
+def files_above_1_tib(trial: Trial) -> None:
+    """Files of a size end at 2^40 bytes."""
+    trial.start(_put("/f", 1 << 40))
+    trial.differ(_put("/g", (1 << 40) + 1), GRANTED, "TooBig")
+    trial.differ(_write("/f", "x", offset=1 << 40), GRANTED, "TooBig")
+    trial.differ(_truncate("/f", (1 << 40) + 1), GRANTED, "TooBig")
+
+
+@_case
+def digests_above_1024_bytes(trial: Trial) -> None:
+    """A digest has at most 1024 bytes."""
+    trial.start(_put("/f", 1, "d" * 1024))
+    trial.differ(_put("/g", 1, "d" * 1025), GRANTED, "TooBig")
 
 
 @_case
@@ -391,6 +411,19 @@ def marks_of_refused_renames(trial: Trial) -> None:
     trial.start(_mkdir("/p"), _mkdir("/p/d"), _mkdir("/e"), _create("/e/f"))
     trial.differ(_from_to("rename", "/p/d", "/e"), "ENOTEMPTY", "NotEmpty")
     trial.expect("Linux: a mark", trial.has_mark("/p/d"), True)
+
+
+@_case
+def marks_of_roots(trial: Trial) -> None:
+    """An opaque root hides what the layers below have. Linux doesn't look at the mark of a layer's root."""
+    trial.layer(_mkdir("/m"))
+    trial.start(_create("/f"))
+    with trial.layers.inside_layer(NAMESPACE, KEY):
+        os.setxattr("/", OPAQUE, b"y")
+    trial.expect("here: opaque", trial.here(_at("opaque", "/")), GRANTED)
+    trial.commit()
+    trial.start()
+    trial.differ(_at("list", "/"), {"names": ["f", "m"]}, {"names": ["f"]})
 
 
 @_case

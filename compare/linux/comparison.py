@@ -117,6 +117,10 @@ class Comparison:
                 self._compare(command, here if "error" in here else GRANTED, operate)
                 if command["do"] == "mkdir" and "error" not in here:
                     self._take_mode_as_given(command)
+        if command["do"] == "opaque" and "error" not in here:
+            self.layers.make_opaque(ns, key, command["path"])
+            self.counts.declared["marks-of-roots"] += command["path"] == "/"
+        with self.layers.inside(ns, key):
             for lookup, answer in zip(lookups, answers):
                 self._compare(lookup, answer, look_up)
         if here.get("from", "file") == "file":
@@ -157,6 +161,7 @@ class Comparison:
         """Asks Linux too, unless a declared difference is met at which it is not asked."""
         declared = declared_of(command)
         linux = NOT_ASKED if declared and declared.linux is None else _answer_of(call, command)
+        here = _without_digest(here)
         if declared is None:
             self._judge(command, linux, here, linux == here)
             return
@@ -175,6 +180,13 @@ def _answer_of(call: Callable[[Command], Answer | None], command: Command) -> An
         return call(command) or GRANTED
     except OSError as error:
         return refusal(name_of(error))
+
+
+def _without_digest(answer: Answer) -> Answer:
+    """An answer without a digest, of which no mount knows."""
+    if answer.get("seen"):
+        return {"seen": {name: value for name, value in answer["seen"].items() if name != "digest"}}
+    return {name: value for name, value in answer.items() if name != "digest"}
 
 
 def _lookups_around(command: Command) -> Iterator[Command]:

@@ -9,13 +9,15 @@ import stat
 from collections.abc import Callable
 from dataclasses import dataclass
 
-from linux.calls import Answer, Command, bytes_of, paths_of
+from linux.calls import Answer, Command, bytes_of, is_sized, paths_of
 from linux.layers import entries
 
 LONGEST_NAME = 255
 LONGEST_PATH = 4095
 GREATEST_MODE = 0o7777
 LARGEST_FILE = 1_048_576
+LARGEST_SIZED = 1 << 40
+LONGEST_DIGEST = 1024
 
 # A directory made by mkdir(2) keeps these bits of its mode, and gets this one from the directory that it is in.
 MKDIR_MODE = 0o1777
@@ -182,14 +184,27 @@ def _by_the_mode(command: Command, places: list[Place]) -> Declared | None:
 def _by_the_size(command: Command, places: list[Place]) -> Declared | None:
     """Linux lets files be larger."""
     end = command["size"] if command["do"] == "truncate" else command.get("offset", 0) + len(bytes_of(command))
-    if places[0].kind != stat.S_IFREG or end <= LARGEST_FILE:
+    if places[0].kind != stat.S_IFREG:
         return None
-    return Declared("files-above-1-mib", (refusal("TooBig"),))
+    if is_sized(places[0].path.encode()):
+        return Declared("files-above-1-tib", (refusal("TooBig"),)) if end > LARGEST_SIZED else None
+    return Declared("files-above-1-mib", (refusal("TooBig"),)) if end > LARGEST_FILE else None
+
+
+def _by_its_size(command: Command, places: list[Place]) -> Declared | None:
+    """Linux lets files be larger, and knows no digest."""
+    if places[0].error or places[0].kind:
+        return None
+    if command["size"] > LARGEST_SIZED:
+        return Declared("files-above-1-tib", (refusal("TooBig"),))
+    is_long = len(command.get("digest", "").encode()) > LONGEST_DIGEST
+    return Declared("digests-above-1024-bytes", (refusal("TooBig"),)) if is_long else None
 
 
 _RULES: dict[str, list[Rule]] = {
     "mkdir": [_on_the_way, _by_the_mode],
     "create": [_on_the_way, _by_the_mode],
+    "put": [_on_the_way, _by_the_mode, _by_its_size],
     "write": [_on_the_way, _at_a_symlink, _by_the_size],
     "truncate": [_on_the_way, _at_a_symlink, _by_the_size],
     "setmode": [_on_the_way, _at_a_symlink, _by_the_mode],
@@ -197,6 +212,8 @@ _RULES: dict[str, list[Rule]] = {
     "link": [_on_the_way, _by_the_source],
     "unlink": [_on_the_way],
     "rmdir": [_on_the_way, _at_the_root],
+    "opaque": [_on_the_way],
+    "whiteout": [_on_the_way, _at_the_root],
     "rename": [_on_the_way, _at_the_root, _onto_a_directory_above, _past_the_longest_path],
     "look": [_on_the_way],
     "list": [_on_the_way],

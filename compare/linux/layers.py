@@ -63,6 +63,16 @@ class Layers:
         if snapshot:
             _hide(snapshot)
 
+    def make_opaque(self, ns: str, key: str, path: str) -> None:
+        """Sets the mark of a directory of an active snapshot's own layer, while it isn't mounted. Linux doesn't look at
+        that of a layer's root: the layers below are left out."""
+        layers = self.snapshots[ns, key].layers
+        self.drop(ns, key)
+        os.setxattr(self._directory(layers[0]) + path, OPAQUE, b"y", follow_symlinks=False)
+        if path == "/" and len(layers) > 1:
+            layers = [layers[0], self._new_layer(DEFAULT_DIRECTORY_MODE)]
+        self._show(ns, key, layers, is_writable=True)
+
     def is_shown(self, ns: str, key: str) -> bool:
         """Whether this is an active snapshot or a view."""
         snapshot = self.snapshots.get((ns, key))

@@ -3,12 +3,8 @@
 import argparse
 import json
 import os
-import signal
 import sys
-import tempfile
 from collections import Counter
-from collections.abc import Iterator
-from contextlib import contextmanager, suppress
 from pathlib import Path
 from random import Random
 
@@ -16,10 +12,9 @@ from linux.bench import Bench
 from linux.calls import Command
 from linux.cases import CASES, CaseFailed, run_case
 from linux.comparison import Counts, Found
-from linux.layers import OPAQUE, Layers
+from linux.place import CannotMount, mounting_place
 from linux.program import line_of
 from linux.sequences import Sequence
-from linux.system import leave_mount_namespace, unmount
 
 REPOSITORY = Path(__file__).resolve().parents[2]
 PROGRAM = REPOSITORY / "crates/snap_replay/out/snap_replay"
@@ -53,20 +48,16 @@ def main() -> int:
     words = _words()
     sys.stdout.reconfigure(line_buffering=True)
     try:
-        with _place() as place:
+        with mounting_place() as place:
             bench = Bench(str(words.program), place)
             try:
                 return _compare(words, bench)
             except KeyboardInterrupt:
                 print(f"interrupted; {_told(bench.counts)}")
                 return INTERRUPTED
-    except _CannotMount as why:
+    except CannotMount as why:
         print(f"skipped: {why}")
         return 0
-
-
-class _CannotMount(Exception):
-    """Why nothing is compared."""
 
 
 def _words() -> argparse.Namespace:
@@ -91,42 +82,6 @@ def _words() -> argparse.Namespace:
     if not 0 <= words.layers <= MOST_ANCESTORS:
         parser.error(f"--layers is 0 to {MOST_ANCESTORS}")
     return words
-
-
-@contextmanager
-def _place() -> Iterator[str]:
-    """An empty directory, in a namespace in which overlayfs can be mounted."""
-    if os.geteuid() != 0:
-        raise _CannotMount("only root can mount")
-    signal.signal(signal.SIGTERM, lambda *_: sys.exit(1))
-    os.umask(0)
-    try:
-        leave_mount_namespace()
-    except OSError as error:
-        raise _CannotMount(f"no mount namespace: {error}") from error
-    place = tempfile.mkdtemp(prefix="overlayfs-")
-    try:
-        _try_to_mount(place)
-        yield place
-    finally:
-        with suppress(OSError):
-            unmount(place)
-        os.rmdir(place)
-
-
-def _try_to_mount(place: str) -> None:
-    """Root of a container may lack the right to mount, or to set the attributes that overlayfs keeps."""
-    try:
-        layers = Layers(place)
-        try:
-            os.setxattr(place, OPAQUE, b"y")
-            layers.prepare("", "base", "")
-            layers.commit("", "base", "base")
-            layers.prepare("", "key", "base")
-        finally:
-            layers.close()
-    except OSError as error:
-        raise _CannotMount(f"no overlay mount: {error}") from error
 
 
 def _compare(words: argparse.Namespace, bench: Bench) -> int:

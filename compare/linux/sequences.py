@@ -16,11 +16,13 @@ MODES = (0o755, 0o700, 0o644, 0o600, 0o111, 0, 0o1777, 0o2755, 0o4711, 0o7777)
 OFFSETS = (0, 0, 0, 1, 3, 15, 16, 17, 4095, 4096, 9000)
 SIZES = (0, 0, 1, 5, 16, 17, 4095, 4096, 4097, 12_288)
 FILE_ENDS = (1_048_575, 1_048_576, 1_048_577)
+SIZED_ENDS = (104_857_600, (1 << 40) - 1, 1 << 40, (1 << 40) + 1)
+DIGEST = "sha256:ab"
 
 # How often each operation comes in a snapshot: any, or mostly those that build, take away or move.
 MIXED = {
-    "mkdir": 20, "create": 16, "write": 12, "truncate": 4, "setmode": 6, "symlink": 7, "link": 9, "unlink": 9,
-    "rmdir": 8, "rename": 18,
+    "mkdir": 20, "create": 16, "put": 6, "write": 12, "truncate": 4, "setmode": 6, "symlink": 7, "link": 9, "unlink": 9,
+    "rmdir": 8, "rename": 18, "opaque": 3, "whiteout": 3,
 }  # fmt: skip
 BUILDING = MIXED | {"mkdir": 50, "create": 40, "unlink": 2, "rmdir": 2, "rename": 4}
 TAKING = MIXED | {"unlink": 40, "rmdir": 30, "rename": 20, "mkdir": 10}
@@ -41,7 +43,7 @@ class Guess:
         do = command["do"]
         path, target = command.get("path", command.get("from")), command.get("to")
         match do:
-            case "mkdir" | "create" | "symlink":
+            case "mkdir" | "create" | "put" | "symlink":
                 self._make(path, do)
             case "link" if path in self.made_by and not self.is_directory(path):
                 self._make(target, self.made_by[path])
@@ -51,6 +53,9 @@ class Guess:
                 del self.made_by[path]
             case "rename" if path in self.made_by:
                 self._move(path, target)
+            case "whiteout":
+                for each in self.inside(path):
+                    del self.made_by[each]
 
     def find(self, kinds: tuple[str, ...]) -> list[str]:
         """The paths where something of these kinds may stand."""
@@ -82,9 +87,11 @@ class Guess:
 
 
 # What an operation needs at its path.
+FILES = ("create", "put")
 NEEDED = {
-    "write": ("create",), "truncate": ("create",), "unlink": ("create", "symlink"), "rmdir": ("mkdir",),
-    "link": ("create", "symlink"), "setmode": ("create", "mkdir"), "rename": ("create", "symlink", "mkdir"),
+    "write": FILES, "truncate": FILES, "unlink": (*FILES, "symlink"), "rmdir": ("mkdir",),
+    "link": (*FILES, "symlink"), "setmode": (*FILES, "mkdir"), "rename": (*FILES, "symlink", "mkdir"),
+    "opaque": ("mkdir",), "whiteout": (*FILES, "symlink", "mkdir"),
 }  # fmt: skip
 
 
@@ -149,6 +156,8 @@ class Sequence:
         match do:
             case "mkdir" | "create" if self._is(0.3):
                 command["mode"] = self.random.choice(MODES)
+            case "put":
+                self._give_size(command)
             case "setmode":
                 command["mode"] = self.random.choice(MODES)
             case "symlink":
@@ -156,16 +165,29 @@ class Sequence:
             case "write":
                 self._fill(command)
             case "truncate":
-                command["size"] = self.random.choice(FILE_ENDS if self._is(0.01) else SIZES)
+                command["size"] = self._size()
             case "link" | "rename":
                 command["from"] = command.pop("path")
                 command["to"] = self._new_path() if self._is(0.7) else self._path(NEEDED["rename"])
         return command
 
+    def _size(self) -> int:
+        """A size, now and then about the greatest of a file."""
+        ends = FILE_ENDS if self._is(0.5) else SIZED_ENDS
+        return self.random.choice(ends if self._is(0.02) else SIZES)
+
+    def _give_size(self, command: Command) -> None:
+        """What a file of a size has."""
+        command["size"] = self._size()
+        if self._is(0.3):
+            command["mode"] = self.random.choice(MODES)
+        if self._is(0.5):
+            command["digest"] = DIGEST
+
     def _fill(self, command: Command) -> None:
         """What a write writes, and where."""
-        if self._is(0.01):
-            command |= {"offset": self.random.choice(FILE_ENDS), "text": ""}
+        if self._is(0.02):
+            command |= {"offset": self.random.choice(FILE_ENDS + SIZED_ENDS), "text": ""}
             return
         command["offset"] = self.random.choice(OFFSETS)
         if self._is(0.3):
@@ -182,7 +204,7 @@ class Sequence:
 
     def _new_path(self) -> str:
         """A name, mostly in what may be a directory."""
-        kinds = ("mkdir",) if self._is(0.95) else ("create", "symlink")
+        kinds = ("mkdir",) if self._is(0.95) else (*FILES, "symlink")
         places = [path for path in self.guess.find(kinds) if path.count("/") < DEEPEST]
         return f"{self.random.choice(['', '', *places])}/{self.random.choice(NAMES)}"
 

@@ -1,5 +1,5 @@
 // Limits of namespaces, and leases.
-ghost use Rattle.std.specs.Prelude.{◌≡◌, ◌<◌, ◌^◌, ◌+◌, ◌++◌, ◌∷◌, [], IfOk, IfErr, OnOk, OnErr, IsSome, Option, ℕ, true, false};
+ghost use Rattle.std.specs.Prelude.{◌≡◌, ◌<◌, ◌^◌, ◌+◌, ◌++◌, ◌∷◌, [], IfOk, IfErr, OnOk, OnErr, Option, ℕ, true, false};
 ghost use Rattle.snap_lease.specs.Lease.{empty_lease};
 ghost use Rattle.snap_lease.specs.Leases.{has_lease, with_name_added, without_lease};
 ghost use Rattle.snap_call.specs.Records.{open_count};

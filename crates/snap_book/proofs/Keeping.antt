@@ -18,7 +18,7 @@ use Rattle.std.proofs.Common.{Bool}
 use Rattle.std.proofs.lemmas.Bool.{lt-ltb}
 use Rattle.std.specs.Prelude.{if◌then◌else◌}
 use Rattle.snap_accounts.specs.Entries.{IsPlain, IsRecorded}
-use Rattle.snap_book.specs.Book.{JournalValue, BookValue, IsLast, IsOpening, Kept, Recorded, RefusedBy}
+use Rattle.snap_book.specs.Book.{JournalValue, BookValue, IsBeginning, IsLast, Kept, Recorded, RefusedBy}
 use Rattle.snap_call.proofs.Replaying.{replays_step, step-entries}
 
 -- a call that is recorded: j has room made as m, and then the entry as k
@@ -35,7 +35,7 @@ kept_push s t j m k e x kept made pushed is allowed moved below room =
     let began : k.opening.entries ≡ j.opening.entries = ap (λ (o : State). o.entries) opening in
     let replays : Replays j.opening (j.entries ++ e ∷ []) t = replays_step j.opening j.entries s t e kept.replays allowed moved in
     record {
-      began = subst IsOpening (sym opening) kept.began;
+      began = subst IsBeginning (sym opening) kept.began;
       replays = subst (λ (l : List Entry). Replays k.opening l t) (sym entries) (subst (λ (o : State). Replays o (j.entries ++ e ∷ []) t) (sym opening) replays);
       last = subst (λ (v : JournalValue). IsLast v.copy v.entries) (sym pushed) (m.entries, refl);
       below = omega (arith, length-append m.entries (x ∷ []), longer, limit, below);
@@ -60,17 +60,17 @@ recorded_push old s t j m k e x is_old made pushed is allowed moved =
       copy = ap (λ (v : JournalValue). v.copy) pushed ∙ ap (λ (y : Entry). Some y) is;
     }
 
--- a journal without entries, at a state without open snapshots
-pub kept_open : (s : State) (j : JournalValue) → j.entries ≡ [] → j.copy ≡ None → j.opening ≡ s → Good s → s.sessions ≡ 0 → open_count s.records ≡ 0 → s.entries + j.limit ≤ 2 ^ 62 → Kept s j
-kept_open s j none no_copy began good sessions closed numbers =
+-- a journal without entries, with an entry left for the end of each open snapshot
+pub kept_open : (s : State) (j : JournalValue) → j.entries ≡ [] → j.copy ≡ None → j.opening ≡ s → Good s → s.sessions ≡ 0 → open_count s.records ≤ j.limit → open_count s.records ≤ j.room → s.entries + j.limit ≤ 2 ^ 62 → Kept s j
+kept_open s j none no_copy began good sessions below room numbers =
     let empty : length j.entries ≡ 0 = ap (λ (l : List Entry). length l) none in
     let same : j.opening.entries ≡ s.entries = ap (λ (o : State). o.entries) began in
     record {
-      began = subst IsOpening (sym began) (record { good = good; idle = closed; sessions = sessions });
+      began = subst IsBeginning (sym began) (record { good = good; sessions = sessions });
       replays = subst (λ (l : List Entry). Replays j.opening l s) (sym none) (sym began);
       last = subst (λ (c : Option Entry). IsLast c j.entries) (sym no_copy) tt;
-      below = omega (arith, empty, closed);
-      room = omega (arith, closed);
+      below = omega (arith, empty, below);
+      room = room;
       numbered = omega (arith, empty, same);
       numbers = omega (arith, same, numbers);
     }

@@ -2,3 +2,4 @@ pub mod Keeping
 pub mod Rooted
 pub mod Commits
 pub mod Viewing
+mod Asking

@@ -70,7 +70,12 @@ abbrev pub prepare_reply : Result Vacancy Refusal → State → Bytes → Reply
 prepare_reply (Ok v) s parent = Prepared s.next_id v.slot (ids_of (ancestors v.place parent s.records))
 prepare_reply (Err why) s parent = Refused why
 
--- a round begins at a good state without open snapshots and without sessions
+-- a round begins at a good state without sessions; its open snapshots are those that stood there
+pub record IsBeginning (s : State) : Type 0 where
+  pub good : Good s
+  pub sessions : s.sessions ≡ 0
+
+-- a round that was opened or reopened, and not rolled, begins without open snapshots, too
 pub record IsOpening (s : State) : Type 0 where
   pub good : Good s
   pub idle : open_count s.records ≡ 0
@@ -83,7 +88,7 @@ IsLast (Some e) es = (before : List Entry) × (es ≡ before ++ e ∷ [])
 
 -- the round's opening state is one; the entries lead from it to this state; the copy is that of the last entry; each open snapshot has an entry left for its end, and the memory for it; entries are counted from the opening state's, and their numbers stay below 2^62
 pub record Kept (s : State) (j : JournalValue) : Type 0 where
-  pub began : IsOpening j.opening
+  pub began : IsBeginning j.opening
   pub replays : Replays j.opening j.entries s
   pub last : IsLast j.copy j.entries
   pub below : length j.entries + open_count s.records ≤ j.limit

@@ -1,5 +1,7 @@
 pub mod Opening
 pub mod Slot
+pub mod Questions
+pub mod Small
 pub mod Book
 pub mod Round
 pub mod Active

@@ -1,9 +1,10 @@
 -- The next round of a book.
--- Cited by `Book::next_round`, `replay_within`, `replay` and others.
-use Rattle.std.specs.Prelude.{ℕ, ◌+◌, ◌^◌, nat_lt, if◌then◌else◌, Result, Ok, Err}
+-- Cited by `Book::next_round`, `Book::roll`, `replay_within` and others.
+use Rattle.std.specs.Prelude.{ℕ, ◌+◌, ◌^◌, nat_le, nat_lt, if◌then◌else◌, Result, Ok, Err}
 use Rattle.snap_call.specs.declared.refusal.Refusal.{Refusal}
-use Rattle.snap_call.specs.declared.refusal.Refusal.TheVariants.{BadArgument, NumbersSpent}
+use Rattle.snap_call.specs.declared.refusal.Refusal.TheVariants.{BadArgument, JournalFull, NumbersSpent}
 use Rattle.snap_call.specs.declared.state.State.{State}
+use Rattle.snap_call.specs.Records.{open_count}
 
 -- the state that the next round begins at: without sessions; all else stays, the number of entries too
 abbrev pub next_round : State → State
@@ -15,3 +16,12 @@ round_answer s journal =
     if nat_lt 1048576 journal then Err BadArgument else
     if nat_lt (2 ^ 62) (s.entries + journal) then Err NumbersSpent else
     Ok tt
+
+-- a round that may begin has to have, beside the entries that open snapshots are owed, one more
+abbrev pub with_room : ℕ → ℕ → Result Unit Refusal → Result Unit Refusal
+with_room journal owed (Ok done) = if nat_le journal owed then Err JournalFull else Ok tt
+with_room journal owed (Err why) = Err why
+
+-- the answer where snapshots may be open: as above, and the journal has an entry for the end of each, and one more
+abbrev pub roll_answer : State → ℕ → Result Unit Refusal
+roll_answer s journal = with_room journal (open_count s.records) (round_answer s journal)

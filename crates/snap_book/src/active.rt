@@ -184,6 +184,13 @@ impl<N: StoreName> Active<N> {
 }
 
 impl<N: StoreName> Sealed<N> {
+    /// The place of its namespace among those of the configuration, from 0.
+    pub fn namespace(&self) -> usize
+        ensures { result ≡ self.now.namespace }
+    {
+        self.namespace
+    }
+
     /// What its slot is charged. It covers the layer's count.
     pub fn share(&self) -> Usage
         ensures share { result ≡ self.now.share.usage }

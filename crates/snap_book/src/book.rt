@@ -1,5 +1,5 @@
 // A book: its state, its journal, and what is read of both.
-ghost use Rattle.std.specs.Prelude.{◌≡◌, ◌≤◌, ◌<◌, ◌+◌, ◌↔◌, None, length, Ok, Err, IfErr, IsErrOf, ◌⊎◌, [], IfOk, OnErr, false};
+ghost use Rattle.std.specs.Prelude.{◌≡◌, ◌≤◌, ◌<◌, ◌+◌, ◌↔◌, ℕ, None, Some, length, Ok, Err, IfErr, IsErrOf, ◌⊎◌, [], IfOk, OnErr, false};
 ghost use Rattle.snap_call.specs.Good.{Good};
 ghost use Rattle.snap_call.specs.Journal.{Replays};
 ghost use Rattle.snap_call.specs.Records.{open_count, charge_of, sum_of};
@@ -7,19 +7,22 @@ ghost use Rattle.snap_call.specs.declared.call.Call.TheVariants as calls;
 ghost use Rattle.snap_call.specs.declared.call.Given.TheVariants.{Nothing};
 ghost use Rattle.snap_call.specs.declared.reply.Reply.TheVariants.{Opened};
 ghost use Rattle.snap_call.specs.declared.refusal.Refusal.TheVariants.{JournalFull, BadArgument, NumbersSpent, OutOfMemory};
-ghost use Rattle.snap_book.specs.Book.{IsLast, IsOpening, Recorded};
+ghost use Rattle.snap_book.specs.Book.{IsBeginning, IsLast, Recorded};
 ghost use Rattle.snap_call.specs.Forms.{is_config};
-ghost use Rattle.snap_call.specs.State.{opening, place_of, name_at};
+ghost use Rattle.snap_call.specs.State.{opening, limit_at, place_of, name_at};
 ghost use Rattle.snap_call.specs.Totals.{taken_by};
 ghost use Rattle.snap_accounts.specs.Entries.{IsUnrecorded};
 ghost use Rattle.std.specs.Option.{option_map};
 ghost use Rattle.snap_path.specs.Memory.{no_memory};
+ghost use Rattle.snap_usage.specs.Counted.{Covers};
 ghost use Rattle.snap_book.specs.Slot.{found_of, slot_of};
+ghost use Rattle.snap_history.specs.Open.{shares_of};
 
-use crate::journal::{Journal, Opening, session_entry};
+use crate::journal::{Journal, session_entry};
 use snap_accounts::Accounts;
 use snap_call::limits::MAX_SESSIONS;
-use snap_call::{Config, Records, Refusal, SharedEntry};
+use snap_call::{Config, Records, Refusal, SharedEntry, State};
+use snap_history::Shares;
 use snap_ledger::{NewTable, StoreName};
 use snap_record::{Content, Record};
 use snap_usage::Usage;
@@ -69,11 +72,11 @@ impl<N: StoreName> Book<N> {
         }
         let limit = config.journal;
         let accounts = Accounts::opening(alloc, table, config)?;
-        let opening = Opening::of(alloc, accounts.state())?;
+        let journal = Journal::new(alloc, accounts.state(), limit)?;
         Ok(Book {
             alloc,
             accounts,
-            journal: Journal::new(alloc, opening, limit),
+            journal,
         })
     }
 
@@ -127,17 +130,37 @@ impl<N: StoreName> Book<N> {
         self.journal.entries()
     }
 
+    /// The state: the namespaces with their limits, the records, and the leases. Takes no memory. The cost
+    /// is constant.
+    pub fn state(&self) -> &State
+        ensures { result.now ≡ self.now.state }
+    {
+        self.accounts.state()
+    }
+
     /// The records of all snapshots, in order of their namespaces' places and the bytes of their keys.
     /// Takes no memory. The cost is constant.
     pub fn records(&self) -> &Records
         ensures records { result.now ≡ self.now.state.records }
         // What holds of every book.
         ensures good { Good self.now.state }
-        ensures began { IsOpening self.now.opening }
+        ensures began { IsBeginning self.now.opening }
         ensures replays { Replays self.now.opening self.now.journal self.now.state }
         ensures below { length self.now.journal + open_count self.now.state.records ≤ self.now.limit }
     {
         &self.accounts.state().records
+    }
+
+    /// What the open snapshots of the namespace were charged when the round began, for
+    /// [`history`](snap_history::history); none where the store has no such namespace. Takes memory for 64 places.
+    /// The cost grows with the number of namespaces.
+    pub fn opening_shares(&self, namespace: &str) -> Result<Shares, AllocError>
+        ensures { IfOk result (λ shares. (place : ℕ) → place_of namespace.now self.now.state.namespaces ≡ Some place → shares ≡ shares_of place self.now.opening.records) }
+    {
+        match self.accounts.state().place_of(namespace) {
+            Some(place) => self.journal.shares().of_namespace(self.alloc, place),
+            None => Shares::none(self.alloc),
+        }
     }
 
     /// How many snapshots are open. Takes no memory. The cost is constant.
@@ -174,6 +197,16 @@ impl<N: StoreName> Book<N> {
             Some(place) => Some(self.accounts.total(place)),
             None => None,
         }
+    }
+
+    /// What the namespace at a place is charged. Its limit covers that. Takes no memory. The cost is
+    /// constant.
+    pub fn total_at(&self, place: usize) -> Usage
+        requires { place < length self.now.state.namespaces }
+        ensures total { result ≡ charge_of place self.now.state.records }
+        ensures within { Covers (limit_at place self.now.state.namespaces) result }
+    {
+        self.accounts.total(place)
     }
 
     /// The name of the namespace at a place among those of the configuration, from 0; no text past the last

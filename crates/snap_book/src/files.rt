@@ -15,6 +15,7 @@ ghost use Rattle.snap_upper.specs.After.{after, planned, lists_names};
 ghost use Rattle.snap_book.specs.Files.{worked};
 
 use crate::active::{Active, Sealed};
+use snap_layer::Content;
 use snap_ledger::StoreName;
 use snap_merge::{FsError, Seen, Stack};
 use snap_path::{Name, Path};
@@ -59,14 +60,14 @@ impl<N: StoreName> Active<N> {
         self.stack().list(self.alloc, path)
     }
 
-    /// The bytes of the file at the path, lent by the layer that has them.
+    /// The content of the file at the path, lent by the layer that has it.
     ///
     /// Errors, in this order: `NotFound` or `NotDir` at the first directory above the path where
     /// nothing, or something else, is seen; then `NotFound` where nothing is seen at the path, `IsDir`
     /// at a directory, and `Invalid` at a symlink, which isn't followed. Takes no memory. The cost is
     /// that of [`Stack::read`].
-    pub fn read(&self, path: &Path) -> Result<&[u8], FsError>
-        ensures ok { IfOk result (λ bytes. reading (self.now.layer ∷ self.now.lowers) path.now ≡ Ok bytes.now) }
+    pub fn read(&self, path: &Path) -> Result<&Content, FsError>
+        ensures ok { IfOk result (λ content. reading (self.now.layer ∷ self.now.lowers) path.now ≡ Ok content.now) }
         ensures err { IfErr result (λ e. reading (self.now.layer ∷ self.now.lowers) path.now ≡ Err e) }
     {
         self.stack().read(path)

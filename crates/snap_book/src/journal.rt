@@ -3,12 +3,14 @@ ghost use Rattle.std.specs.Prelude.{◌≡◌, ◌↔◌, ◌<◌, ◌≤◌, �
 ghost use Rattle.snap_call.specs.declared.refusal.Refusal.TheVariants.{JournalFull};
 ghost use Rattle.snap_accounts.specs.Entries.{IsUnrecorded};
 ghost use Rattle.snap_call.specs.Journal.{entry};
+ghost use Rattle.snap_history.specs.Open.{open_shares};
 ghost use Rattle.snap_call.specs.declared.call.Call.TheVariants as calls;
 ghost use Rattle.snap_call.specs.declared.call.Given.TheVariants.{Nothing, Count};
 ghost use Rattle.snap_call.specs.declared.reply.Reply.TheVariants.{Opened, Trimmed, Discarded};
 
 use atomic_table::{Play, Seat, Table, TableRule};
 use snap_call::{Call, Entry, EntryRoom, Given, Refusal, Reply, SharedEntry, State};
+use snap_history::OpenShares;
 use snap_usage::Usage;
 use std::alloc::{AllocError, Global};
 use std::marker::Model;
@@ -69,51 +71,57 @@ impl Opening {
     }
 }
 
-// The entries of a round, the state that it began at, the most entries, the second holder of the last entry
-// until it is taken, and room for the entry of a session, where it was made beforehand.
+// The entries of a round, the state that it began at and what its open snapshots were charged, the most entries,
+// the second holder of the last entry until it is taken, and room for the entry of a session, where it was made
+// beforehand.
 #[derive(Drop)]
 pub(crate) struct Journal {
     entries: Vec<SharedEntry>,
     opening: Opening,
+    shares: OpenShares,
     limit: u64,
     copy: Option<SharedEntry>,
     session_room: Option<EntryRoom>,
 }
 
 impl Model for Journal {
-    ghost use Rattle.std.specs.Prelude.{◌-◌, ◌≤◌};
+    ghost use Rattle.std.specs.Prelude.{◌≡◌, ◌-◌, ◌≤◌};
     ghost use Rattle.std.specs.Vec.{vec_capacity, vec_len};
+    ghost use Rattle.snap_history.specs.Open.{open_shares};
     ghost use Rattle.snap_book.specs.Book.{JournalValue};
 
     ghost Value = { JournalValue };
 
     ghost view = { λ j. record { entries = j.entries.items; opening = j.opening; limit = j.limit; copy = j.copy; room = vec_capacity j.entries - vec_len j.entries } };
 
-    ghost invariant = { λ j. j.limit ≤ 1048576 };
+    ghost invariant = { λ j. (j.limit ≤ 1048576) × (j.shares ≡ open_shares j.opening.records) };
 }
 
 impl Journal {
     // Without entries.
-    pub(crate) fn new(alloc: Global, opening: Opening, limit: u64) -> Journal
+    pub(crate) fn new(alloc: Global, state: &State, limit: u64) -> Result<Journal, AllocError>
         requires { limit ≤ 1048576 }
-        ensures { result ≡ record { entries = []; opening = opening; limit = limit; copy = None; room = result.room } }
+        ensures { IfOk result (λ j. j ≡ record { entries = []; opening = state.now; limit = limit; copy = None; room = j.room }) }
     {
-        Journal {
+        Ok(Journal {
             entries: Vec::new(alloc),
-            opening,
+            opening: Opening::of(alloc, state)?,
+            shares: OpenShares::of(alloc, &state.records)?,
             limit,
             copy: None,
             session_room: None,
-        }
+        })
     }
 
     // No entries, at another state. It takes no memory.
     pub(crate) fn begin(&mut self, state: &State, limit: u64)
         requires { limit ≤ 1048576 }
-        ensures { self.new ≡ record { entries = []; opening = state.now; limit = limit; copy = None; room = self.new.room } }
+        ensures room { self.old.room ≤ self.new.room }
+        ensures began { self.new ≡ record { entries = []; opening = state.now; limit = limit; copy = None; room = self.new.room } }
     {
         self.entries.clear();
         self.opening.set(state);
+        self.shares.set(&state.records);
         self.limit = limit;
         self.copy = None;
     }
@@ -207,6 +215,13 @@ impl Journal {
         ensures same { self.new ≡ record self.old { copy = None } }
     {
         self.copy.take()
+    }
+
+    // What the open snapshots of the state that the round began at were charged.
+    pub(crate) fn shares(&self) -> &OpenShares
+        ensures { result.now ≡ open_shares self.now.opening.records }
+    {
+        &self.shares
     }
 
     pub(crate) fn entries(&self) -> &[SharedEntry]

@@ -26,6 +26,7 @@ mod files;
 mod journal;
 mod plain;
 mod prepare;
+mod questions;
 mod round;
 mod view;
 mod viewed;

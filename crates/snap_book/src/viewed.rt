@@ -12,7 +12,7 @@ ghost use Rattle.snap_merge.specs.declared.error.FsError.TheVariants.{OutOfMemor
 ghost use Rattle.snap_book.specs.Viewed.{HasView, IsViewOf};
 
 use snap_accounts::Change;
-use snap_layer::Shared;
+use snap_layer::{Content as FileContent, Shared};
 use snap_merge::{FsError, Seen, Stack};
 use snap_path::{Name, Path};
 use snap_record::{Content, Sequence};
@@ -115,14 +115,14 @@ impl Viewed {
         self.stack().list(self.alloc, path)
     }
 
-    /// The bytes of the file at the path, lent by the layer that has them.
+    /// The content of the file at the path, lent by the layer that has it.
     ///
     /// Errors, in this order: `NotFound` or `NotDir` at the first directory above the path where
     /// nothing, or something else, is seen; then `NotFound` where nothing is seen at the path, `IsDir`
     /// at a directory, and `Invalid` at a symlink, which isn't followed. Takes no memory. The cost is
     /// that of [`Stack::read`].
-    pub fn read(&self, path: &Path) -> Result<&[u8], FsError>
-        ensures ok { IfOk result (λ bytes. reading self.now.lowers path.now ≡ Ok bytes.now) }
+    pub fn read(&self, path: &Path) -> Result<&FileContent, FsError>
+        ensures ok { IfOk result (λ content. reading self.now.lowers path.now ≡ Ok content.now) }
         ensures err { IfErr result (λ e. reading self.now.lowers path.now ≡ Err e) }
     {
         self.stack().read(path)

@@ -1,5 +1,5 @@
 // Which snapshot is active in each slot.
-ghost use Rattle.std.specs.Prelude.{◌≡◌, ◌<◌, ℕ, [], None, Some, length, option_copied, OnOk, OnErr, ◌==◌, if◌then◌else◌};
+ghost use Rattle.std.specs.Prelude.{◌≡◌, ◌<◌, ℕ, [], None, Some, length, option_copied, OnOk, ◌==◌, if◌then◌else◌};
 ghost use Rattle.snap_call.specs.Indexes.{name_in};
 
 use snap_record::Text;

@@ -42,18 +42,18 @@ copied_missing u ls p none = cond-false (is_some (at u p)) u (with_object u p (b
 
 shown_file : (o : Option Body) → IsFile o → is_some (shown_body o) ≡ true
 shown_file None is = absurd is
-shown_file (Some (body_kinds.File m bytes)) is = refl
+shown_file (Some (body_kinds.File m content)) is = refl
 shown_file (Some (body_kinds.Symlink target)) is = absurd is
 
 shown_symlink : (o : Option Body) → IsSymlink o → is_some (shown_body o) ≡ true
 shown_symlink None link = absurd link
-shown_symlink (Some (body_kinds.File m bytes)) link = absurd link
+shown_symlink (Some (body_kinds.File m content)) link = absurd link
 shown_symlink (Some (body_kinds.Symlink target)) link = refl
 
 -- a body is seen as no directory
 pub body_is_no_dir : (o : Option Body) → is_shown_dir (shown_body o) ≡ false
 body_is_no_dir None = refl
-body_is_no_dir (Some (body_kinds.File m bytes)) = refl
+body_is_no_dir (Some (body_kinds.File m content)) = refl
 body_is_no_dir (Some (body_kinds.Symlink target)) = refl
 
 pub nothing_under : (h : Bool) → ◌≡◌ {A = Option Object} (cond h None None) None

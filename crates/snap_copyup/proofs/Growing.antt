@@ -167,6 +167,6 @@ module _ (u t : Tree) (ls : List Tree) (p : Names) (ok : IsLayer u) (none : at u
   pub last_inodes : (last : Last) → inode_count t ≤ inode_count (with_last last t p)
   last_inodes Nothing = omega arith
   last_inodes (Dir mode opaque) = omega (arith, one_more t p (node.Dir mode opaque) 1 sorted empty refl)
-  last_inodes (File mode bytes) = omega (arith, new_inodes (node.File t.next) (body_kinds.File mode bytes) refl)
+  last_inodes (File mode content) = omega (arith, new_inodes (node.File t.next) (body_kinds.File mode content) refl)
   last_inodes (Symlink target) = omega (arith, new_inodes (node.Symlink t.next) (body_kinds.Symlink target) refl)
   last_inodes Whiteout = omega (arith, one_more t p node.Whiteout 1 sorted empty refl, ap (λ (w : Tree). inode_count (with_entry w p node.Whiteout)) untaken)

@@ -45,7 +45,7 @@ step_layer u ls front ok layers is path parent few = by (at u front) refl
       whole = whole;
       few = few;
     })
-    put (Some (file mode bytes)) none is whole few = absurd (cc)
+    put (Some (file mode content)) none is whole few = absurd (cc)
     put (Some (symlink target)) none is whole few = absurd (cc)
 
     by : (o : Option Node) → at u front ≡ o → IsLayer (copied u ls front)
@@ -106,9 +106,9 @@ IsLayer-with_last t p (Dir mode opaque) ok path fit parent within =
     let same = with_node-free t ok p (node.Dir mode opaque) fit.0.free in
     let becomes = dir_becomes t ok p path (inode_count (without t p)) refl mode opaque (room t p fit.0 parent) fit.1 in
     subst IsLayer same (becomes.layer (omega (arith, becomes.count, ap inode_count same, few_from (with_entry t p (node.Dir mode opaque)) within)))
-IsLayer-with_last t p (File mode bytes) ok path fit parent within =
-    let v = with_last (File mode bytes) t p in
-    let becomes = file_becomes t ok p path (inode_count (without t p)) refl (place t p ok fit.0 parent) (omega (arith, last_from v within)) mode bytes fit.1 fit.2 in
+IsLayer-with_last t p (File mode content) ok path fit parent within =
+    let v = with_last (File mode content) t p in
+    let becomes = file_becomes t ok p path (inode_count (without t p)) refl (place t p ok fit.0 parent) (omega (arith, last_from v within)) mode content fit.1 fit.2 in
     becomes.layer (omega (arith, becomes.count, few_from v within))
 IsLayer-with_last t p (Symlink target) ok path fit parent within =
     let v = with_last (Symlink target) t p in

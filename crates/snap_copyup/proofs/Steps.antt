@@ -55,7 +55,7 @@ vacant_same u v p same vacant = record { below_root = vacant.below_root; free = 
 pub fits_same : (last : Last) (u v : Tree) (p : Names) → at v p ≡ at u p → CanStand last u p → CanStand last v p
 fits_same Nothing u v p same fit = fit
 fits_same (Dir mode opaque) u v p same fit = (vacant_same u v p same fit.0, fit.1)
-fits_same (File mode bytes) u v p same fit = (vacant_same u v p same fit.0, fit.1, fit.2)
+fits_same (File mode content) u v p same fit = (vacant_same u v p same fit.0, fit.1, fit.2)
 fits_same (Symlink target) u v p same fit = (vacant_same u v p same fit.0, fit.1)
 fits_same Whiteout u v p same fit = vacant_same u v p same fit
 
@@ -117,7 +117,7 @@ module _ (u : Tree) (ls : List Tree) (p : Names) (k : ℕ) (lt : k < length p) (
       by : (o : Option Object) → below u ls (take k p) ≡ o → is_shown_dir o ≡ true → (mode : ℕ) × (copied u ls (take k p) ≡ with_entry u (take k p) (node.Dir mode false))
       by None e is = absurd (cc)
       by (Some (dir mode)) e is = (mode, copied_missing u ls front none ∙ ap (with_object u front) e)
-      by (Some (file mode bytes)) e is = absurd (cc)
+      by (Some (file mode content)) e is = absurd (cc)
       by (Some (symlink target)) e is = absurd (cc)
 
   -- nothing stands at the path

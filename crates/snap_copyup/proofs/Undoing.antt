@@ -42,7 +42,7 @@ undoes_more (q ∷ ps) p v m u undoes takeable back = (undoes.0, undoes_more ps 
 walk_on_dir : (o : Option Object) (later : Option FsError) → is_shown_dir o ≡ true → later ≡ None → walk_on o later ≡ None
 walk_on_dir None later is none = absurd (cc)
 walk_on_dir (Some (dir mode)) later is none = none
-walk_on_dir (Some (file mode bytes)) later is none = absurd (cc)
+walk_on_dir (Some (file mode content)) later is none = absurd (cc)
 walk_on_dir (Some (symlink target)) later is none = absurd (cc)
 
 -- a walk passes each front, and goes on from there
@@ -117,7 +117,7 @@ module _ (u : Tree) (ls : List Tree) (p : Names) (k : ℕ) (lt : k < length p) (
         by : (o : Option Object) → below m ls f ≡ o → is_shown_dir o ≡ true → (mode : ℕ) × (copied (with_parents u ls (take k p)) ls (take k p) ≡ with_entry (with_parents u ls (take k p)) (take k p) (node.Dir mode false))
         by None e is = absurd (cc)
         by (Some (dir mode)) e is = (mode, copied_missing m ls f missing_here ∙ ap (with_object m f) e)
-        by (Some (file mode bytes)) e is = absurd (cc)
+        by (Some (file mode content)) e is = absurd (cc)
         by (Some (symlink target)) e is = absurd (cc)
 
     added_is : with_parents u ls (take (k + 1) p) ≡ with_entry (with_parents u ls (take k p)) (take k p) (node.Dir is_dir_with.0 false)

@@ -1,5 +1,5 @@
 -- What layers show is within the limits of a layer.
-use Rattle.std.proofs.Common.{◌≡◌, inl, inr, ◌≤◌, Bool, true, false, List, [], ◌∷◌, length, Option, Some, None, Result, Ok, Err, IfErr, IsErrAnd, refl, sym, subst}
+use Rattle.std.proofs.Common.{◌≡◌, inl, inr, ◌≤◌, Bool, true, false, List, [], ◌∷◌, Option, Some, None, Result, Ok, Err, IfErr, IsErrAnd, refl, sym, subst}
 use Rattle.std.specs.Prelude.{if◌then◌else◌}
 use Rattle.snap_path.specs.Text.{Names}
 use Rattle.snap_layer.specs.declared.node.Node.{Node}
@@ -7,6 +7,7 @@ use Rattle.snap_layer.specs.declared.node.Node.TheVariants.{Dir, File, Symlink, 
 use Rattle.snap_layer.specs.declared.node.Body.{Body}
 use Rattle.snap_layer.specs.declared.node.Body.TheVariants as body_kinds
 use Rattle.snap_layer.specs.Tree.{Tree, IsDirAt, at, body, hides}
+use Rattle.snap_layer.specs.Contents.{IsContent}
 use Rattle.snap_layer.specs.Counts.{is_within}
 use Rattle.snap_layer.specs.Layers.{IsLayer, IsWhole, IsFile, IsSymlink, is_target}
 use Rattle.snap_layer.specs.Edits.{IsFree}
@@ -19,17 +20,17 @@ use Rattle.snap_copyup.specs.Places.{IsFreePlace, IsRefusal}
 abbrev pub IsWholeObject : Option Object → Type 0
 IsWholeObject None = Unit {0}
 IsWholeObject (Some (dir mode)) = mode ≤ 4095
-IsWholeObject (Some (file mode bytes)) = (mode ≤ 4095) × (length bytes ≤ 1048576)
+IsWholeObject (Some (file mode content)) = (mode ≤ 4095) × IsContent content
 IsWholeObject (Some (symlink target)) = is_target target ≡ true
 
 whole_file : (o : Option Body) → IsFile o → IsWholeObject (shown_body o)
 whole_file None is = tt
-whole_file (Some (body_kinds.File mode bytes)) is = is
+whole_file (Some (body_kinds.File mode content)) is = is
 whole_file (Some (body_kinds.Symlink target)) is = absurd is
 
 whole_symlink : (o : Option Body) → IsSymlink o → IsWholeObject (shown_body o)
 whole_symlink None is = tt
-whole_symlink (Some (body_kinds.File mode bytes)) is = absurd is
+whole_symlink (Some (body_kinds.File mode content)) is = absurd is
 whole_symlink (Some (body_kinds.Symlink target)) is = is
 
 whole_shown : (t : Tree) (n : Node) → IsWhole t n → IsWholeObject (shown t n)

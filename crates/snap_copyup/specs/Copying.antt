@@ -18,7 +18,7 @@ below u lowers p = if hides u p then None else seen lowers p
 abbrev pub object_body : Option Object → Option Body
 object_body None = None
 object_body (Some (dir mode)) = None
-object_body (Some (file mode bytes)) = Some (body_kinds.File mode bytes)
+object_body (Some (file mode content)) = Some (body_kinds.File mode content)
 object_body (Some (symlink target)) = Some (body_kinds.Symlink target)
 
 -- the node is a directory that is opaque, or there is no directory under it
@@ -34,7 +34,7 @@ is_pure u lowers p = is_pure_over (at u p) (below u lowers p)
 abbrev pub with_object : Tree → Names → Option Object → Tree
 with_object u p None = u
 with_object u p (Some (dir mode)) = with_entry u p (Dir mode false)
-with_object u p (Some (file mode bytes)) = with_new u p (File u.next) (body_kinds.File mode bytes)
+with_object u p (Some (file mode content)) = with_new u p (File u.next) (body_kinds.File mode content)
 with_object u p (Some (symlink target)) = with_new u p (Symlink u.next) (body_kinds.Symlink target)
 
 -- the upper layer with what is below at the path, where it has no node there

@@ -7,6 +7,7 @@ use Rattle.snap_layer.specs.declared.node.Node.{Node}
 use Rattle.snap_layer.specs.declared.node.Node.TheVariants as node
 use Rattle.snap_layer.specs.declared.node.Body.TheVariants as body_kinds
 use Rattle.snap_layer.specs.Tree.{Tree, at, IsDirAt}
+use Rattle.snap_layer.specs.Contents.{IsContent}
 use Rattle.snap_layer.specs.Counts.{inode_count, block_count, is_within}
 use Rattle.snap_layer.specs.Layers.{is_target}
 use Rattle.snap_layer.specs.Edits.{with_entry, with_new, with_node, IsFree}
@@ -20,7 +21,7 @@ use Rattle.snap_copyup.specs.declared.parents.Last.TheVariants.{Nothing, Dir, Fi
 abbrev pub with_last : Last → Tree → Names → Tree
 with_last Nothing t p = t
 with_last (Dir mode opaque) t p = with_entry t p (node.Dir mode opaque)
-with_last (File mode bytes) t p = with_new t p (node.File t.next) (body_kinds.File mode bytes)
+with_last (File mode content) t p = with_new t p (node.File t.next) (body_kinds.File mode content)
 with_last (Symlink target) t p = with_new t p (node.Symlink t.next) (body_kinds.Symlink target)
 with_last Whiteout t p = with_node t p node.Whiteout
 
@@ -29,11 +30,11 @@ pub record IsFreePlace (t : Tree) (p : Names) : Type 0 where
   pub below_root : p ≡ [] → ⊥
   pub free : IsFree (at t p)
 
--- it may be put at the path: there is a place, and its mode, size or target is within the limits of a layer
+-- it may be put at the path: there is a place, and its mode, content or target is within the limits of a layer
 abbrev pub CanStand : Last → Tree → Names → Type 0
 CanStand Nothing t p = Unit {0}
 CanStand (Dir mode opaque) t p = IsFreePlace t p × (mode ≤ 4095)
-CanStand (File mode bytes) t p = IsFreePlace t p × (mode ≤ 4095) × (length bytes ≤ 1048576)
+CanStand (File mode content) t p = IsFreePlace t p × (mode ≤ 4095) × IsContent content
 CanStand (Symlink target) t p = IsFreePlace t p × (is_target target ≡ true)
 CanStand Whiteout t p = IsFreePlace t p
 
@@ -60,5 +61,5 @@ abbrev pub last_of : Option Node → Option Object → Last
 last_of (Some n) under = Nothing
 last_of None None = Nothing
 last_of None (Some (dir mode)) = Dir mode false
-last_of None (Some (file mode bytes)) = File mode bytes
+last_of None (Some (file mode content)) = File mode content
 last_of None (Some (symlink target)) = Symlink target

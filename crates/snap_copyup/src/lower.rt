@@ -18,7 +18,7 @@ use std::alloc::AllocError;
 /// by what stands above the path (overlayfs.rst, "whiteouts and opaque directories"). What the layer has
 /// at the path itself doesn't count.
 ///
-/// Bytes and targets are lent by the layer that has them. Takes no memory. Cost: that of a look through the
+/// Contents and targets are lent by the layer that has them. Takes no memory. Cost: that of a look through the
 /// layers.
 pub fn below<'a>(layer: &Layer, lowers: &'a [Shared], path: &Path) -> Option<Seen<'a>>
     ensures { option_map object result ≡ below layer.now lowers.now path.now }
@@ -58,13 +58,13 @@ pub fn is_pure_over(node: Option<Node>, under: Option<Seen<'_>>) -> bool
 
 /// Copies up what is seen at the path: the layer gets the directories above it, as by `ensure_dirs`, and,
 /// where it has no node at the path, what is below there: a directory with its mode, not opaque, or a file
-/// or a symlink under the layer's next number, with its own copy of the bytes. Other names of a lower file
+/// or a symlink under the layer's next number, with its own copy of the content. Other names of a lower file
 /// stay names of the lower file: a hard link is broken (overlayfs.rst, "Non-standard behavior").
 ///
 /// The condition is that of `ensure_dirs`. Where nothing is seen at the path, only the directories are
 /// added. `LayerFull` where the layer would have more than 65,536 inodes, or where a number is needed and
-/// the file numbers are used up. `OutOfMemory` where memory for the bytes, a path or an entry is refused.
-/// After either the layer is as it was. Cost: that of `ensure_dirs` and of `below`, and the file's bytes.
+/// the file numbers are used up. `OutOfMemory` where memory for the content, a path or an entry is refused.
+/// After either the layer is as it was. Cost: that of `ensure_dirs` and of `below`, and the file's content.
 pub fn copy_up(layer: &mut Layer, lowers: &[Shared], path: &Path) -> Result<(), FsError>
     requires { walk (layer.old ∷ lowers.now) path.now ≡ None }
     ensures ok { OnOk result (layer.new ≡ copied_up layer.old lowers.now path.now) }
@@ -79,7 +79,7 @@ pub fn copy_up(layer: &mut Layer, lowers: &[Shared], path: &Path) -> Result<(), 
     put(layer, lowers, path, last)
 }
 
-/// What a copy-up puts at the path: what is below, where the layer has no node there, with a copy of its bytes.
+/// What a copy-up puts at the path: what is below, where the layer has no node there, with a copy of its content.
 fn copy_below(layer: &Layer, lowers: &[Shared], path: &Path) -> Result<Last, AllocError>
     ensures { IfOk result (λ last. last ≡ last_of (at layer.now path.now) (below layer.now lowers.now path.now)) }
 {
@@ -93,9 +93,9 @@ fn copy_below(layer: &Layer, lowers: &[Shared], path: &Path) -> Result<Last, All
             mode,
             opaque: false,
         }),
-        Some(Seen::File { mode, bytes }) => Ok(Last::File {
+        Some(Seen::File { mode, content }) => Ok(Last::File {
             mode,
-            bytes: Bytes::copy_of(alloc, bytes)?,
+            content: content.clone()?,
         }),
         Some(Seen::Symlink { target }) => Ok(Last::Symlink {
             target: Bytes::copy_of(alloc, target)?,
@@ -105,7 +105,7 @@ fn copy_below(layer: &Layer, lowers: &[Shared], path: &Path) -> Result<Last, All
 
 /// A copy of the file or symlink that is below at the path, or nothing where a directory or nothing is.
 ///
-/// It fails only where memory is refused. Cost: that of `below`, and the file's bytes.
+/// It fails only where memory is refused. Cost: that of `below`, and the file's content.
 pub fn body_below(layer: &Layer, lowers: &[Shared], path: &Path) -> Result<Option<Body>, AllocError>
     ensures { IfOk result (λ body. body ≡ object_body (below layer.now lowers.now path.now)) }
 {
@@ -113,9 +113,9 @@ pub fn body_below(layer: &Layer, lowers: &[Shared], path: &Path) -> Result<Optio
     match below(layer, lowers, path) {
         None => Ok(None),
         Some(Seen::Dir { .. }) => Ok(None),
-        Some(Seen::File { mode, bytes }) => Ok(Some(Body::File {
+        Some(Seen::File { mode, content }) => Ok(Some(Body::File {
             mode,
-            bytes: Bytes::copy_of(alloc, bytes)?,
+            content: content.clone()?,
         })),
         Some(Seen::Symlink { target }) => Ok(Some(Body::Symlink {
             target: Bytes::copy_of(alloc, target)?,

@@ -8,7 +8,7 @@ ghost use Rattle.snap_copyup.specs.Copying.{copied, with_parents, with_parents_f
 ghost use Rattle.snap_copyup.specs.Places.{with_last, CanStand, IsRefusal, ParentStands, StandsAbove, TakesMore};
 
 use super::lower::below;
-use snap_layer::{Bytes, Layer, Shared};
+use snap_layer::{Bytes, Content, Layer, Shared};
 use snap_merge::{FsError, Seen, show_are_layers};
 use snap_path::{Name, Path};
 
@@ -20,7 +20,7 @@ pub enum Last {
     /// A directory.
     Dir { mode: u32, opaque: bool },
     /// A regular file, which gets the layer's next number.
-    File { mode: u32, bytes: Bytes },
+    File { mode: u32, content: Content },
     /// A symlink, which gets the layer's next number.
     Symlink { target: Bytes },
     /// A whiteout.
@@ -51,10 +51,10 @@ pub fn ensure_dirs(layer: &mut Layer, lowers: &[Shared], path: &Path) -> Result<
 /// what is to stand at the path itself. Either all of it is added or nothing.
 ///
 /// The conditions: each directory above the path is seen as one, as in `ensure_dirs`; and what is put is
-/// nothing, or nothing but a whiteout stands at the path, which isn't the root, and the mode, the size or
+/// nothing, or nothing but a whiteout stands at the path, which isn't the root, and the mode, the content or
 /// the target is one that `add_dir`, `add_file` or `add_symlink` takes. `LayerFull` where the layer would
 /// have more than 65,536 inodes, or where the file numbers are used up. `OutOfMemory` where memory is
-/// refused. After either the layer is as it was, and the bytes are gone. Cost: as `ensure_dirs`.
+/// refused. After either the layer is as it was, and the content is gone. Cost: as `ensure_dirs`.
 pub fn put(layer: &mut Layer, lowers: &[Shared], path: &Path, last: Last) -> Result<(), FsError>
     requires way { walk (layer.old ∷ lowers.now) path.now ≡ None }
     requires fit { CanStand last layer.old path.now }
@@ -114,8 +114,8 @@ pub(crate) fn put_last(layer: &mut Layer, path: &Path, last: Last) -> Result<(),
     match last {
         Last::Nothing => {}
         Last::Dir { mode, opaque } => layer.add_dir(path, mode, opaque)?,
-        Last::File { mode, bytes } => {
-            layer.add_file(path, mode, bytes)?;
+        Last::File { mode, content } => {
+            layer.add_file(path, mode, content)?;
         }
         Last::Symlink { target } => {
             layer.add_symlink(path, target)?;

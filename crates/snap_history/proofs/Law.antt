@@ -1,8 +1,9 @@
 -- The charges that the entries tell are those of the states that they lead to.
-use Rattle.std.proofs.Common.{◌≡◌, ℕ, zero, suc, ◌+◌, ◌≤◌, List, [], ◌∷◌, replicate, true, Option, Some, None, refl, sym, ap, ◌∙◌, subst, arith}
+use Rattle.std.proofs.Common.{inl, inr, ◌≡◌, ℕ, zero, suc, ◌+◌, ◌≤◌, ◌<◌, List, [], ◌∷◌, ◌++◌, length, length-append, map, true, Option, Some, None, refl, sym, ap, ◌∙◌, subst, arith}
+use Rattle.std.specs.Option.{option_map}
 use Rattle.std.proofs.Math.Nat.{min-eq_left}
 use Rattle.std.specs.Prelude.{nat_le, if◌then◌else◌, min}
-use Rattle.std.proofs.lemmas.Bool.{and_parts, leb-true}
+use Rattle.std.proofs.lemmas.Bool.{and_parts, cases_eq, leb-true}
 use Rattle.snap_usage.specs.declared.usage.Usage.{Usage}
 use Rattle.snap_ledger.specs.States.{plus, minus}
 use Rattle.snap_record.specs.Labels.{Bytes}
@@ -13,18 +14,19 @@ use Rattle.snap_call.specs.declared.state.State.{State}
 use Rattle.snap_call.specs.Forms.{is_limit}
 use Rattle.snap_call.specs.Good.{Good}
 use Rattle.snap_call.specs.Journal.{Replays}
-use Rattle.snap_call.specs.Records.{active_at, charge_of, open_count}
+use Rattle.snap_call.specs.Records.{active_at, charge_of}
 use Rattle.snap_call.specs.State.{limit_at, place_of}
 use Rattle.snap_call.specs.Step.{step, IsAllowed}
-use Rattle.snap_call.proofs.Counts.{open_count-some}
 use Rattle.snap_call.proofs.Keeping.{place_of-below}
 use Rattle.snap_call.proofs.Kept.{good_step}
 use Rattle.snap_call.proofs.Replaying.{step-entries}
 use Rattle.snap_call.proofs.Sums.{usage, minus-plus}
 use Rattle.snap_history.specs.Entries.{entry_info}
 use Rattle.snap_history.specs.History.{history, is_of, namespace_in, slot_in}
-use Rattle.snap_history.specs.Changes.{change_by, change_of, changes_of, charge_before, infos_of, is_own, no_shares, share_in, shares_after, shares_by, turned}
+use Rattle.snap_history.specs.Changes.{change_by, change_of, changes_of, charge_before, infos_of, is_own, share_in, shares_after, shares_by, turned}
+use Rattle.snap_history.specs.Open.{open_below, open_share, share_for, shares_of}
 use Rattle.snap_history.specs.declared.change.Change.{Change}
+use Rattle.snap_history.specs.declared.open.OpenShare.{OpenShare}
 use Rattle.snap_history.proofs.Names.{Replays-names}
 use Rattle.snap_history.proofs.Turning.{Holds, Turns, share_by, turns, own}
 
@@ -95,30 +97,61 @@ infos_are name place s shares (e ∷ es) t good held h =
     let mine : is_own name shares e.call ≡ is_of place s e.call = sym (own name place s shares good held e.call e.given h.0) in
     λ i. if mine i then entry_info (number i) e (charge i) ∷ rest i else rest i
 
--- a round begins without open snapshots
-no_share : (n slot : ℕ) → share_in slot (replicate n None) ≡ None
-no_share zero slot = refl
-no_share (suc n) zero = refl
-no_share (suc n) (suc slot) = no_share n slot
+-- ---- the shares that a round begins with
 
-none_open : (s : State) → open_count s.records ≡ 0 → (slot : ℕ) → active_at slot s.records ≡ None
-none_open s idle slot = by (active_at slot s.records) refl
-  where
-    by : (o : Option Record) → active_at slot s.records ≡ o → o ≡ None
-    by None e = refl
-    by (Some r) e = let some = open_count-some slot s.records r e in absurd (omega (arith, idle))
+open_below-length : (n : ℕ) (rs : List Record) → length (open_below n rs) ≡ n
+open_below-length zero rs = refl
+open_below-length (suc n) rs = (let one = length-append (open_below n rs) (option_map open_share (active_at n rs) ∷ []) in let before = open_below-length n rs in let h : length (open_below (suc n) rs) ≡ suc n = omega arith in h)
 
-opening_holds : (name : Bytes) (place : ℕ) (s : State) → open_count s.records ≡ 0 → place_of name s.namespaces ≡ Some place → Holds name place no_shares s
-opening_holds name place s idle named = record {
+share_by-is : (place : ℕ) (found : Option Record) → share_for place (option_map open_share found) ≡ share_by place found
+share_by-is place None = refl
+share_by-is place (Some r) = refl
+
+share_in-append_low : (slot : ℕ) (l : List (Option Usage)) (x : Option Usage) → slot < length l → share_in slot (l ++ x ∷ []) ≡ share_in slot l
+share_in-append_low slot [] x low = absurd (omega (arith, low))
+share_in-append_low zero (y ∷ l) x low = refl
+share_in-append_low (suc slot) (y ∷ l) x low = share_in-append_low slot l x (omega (arith, low))
+
+share_in-append_last : (l : List (Option Usage)) (x : Option Usage) → share_in (length l) (l ++ x ∷ []) ≡ x
+share_in-append_last [] x = refl
+share_in-append_last (y ∷ l) x = share_in-append_last l x
+
+map-append_last : (place : ℕ) (l : List (Option OpenShare)) (x : Option OpenShare) → map (share_for place) (l ++ x ∷ []) ≡ map (share_for place) l ++ share_for place x ∷ []
+map-append_last place [] x = refl
+map-append_last place (y ∷ l) x = ap (λ (m : List (Option Usage)). share_for place y ∷ m) (map-append_last place l x)
+
+map-length : (place : ℕ) (l : List (Option OpenShare)) → length (map (share_for place) l) ≡ length l
+map-length place [] = refl
+map-length place (y ∷ l) = ap suc (map-length place l)
+
+shares_below-length : (place n : ℕ) (rs : List Record) → length (map (share_for place) (open_below n rs)) ≡ n
+shares_below-length place n rs = map-length place (open_below n rs) ∙ open_below-length n rs
+
+-- each place has the share of its slot
+shares_below-in : (place n slot : ℕ) (rs : List Record) → slot < n → share_in slot (map (share_for place) (open_below n rs)) ≡ share_by place (active_at slot rs)
+shares_below-in place zero slot rs low = absurd (omega (arith, low))
+shares_below-in place (suc n) slot rs low =
+    let last : Option OpenShare = option_map open_share (active_at n rs) in
+    let before : List (Option Usage) = map (share_for place) (open_below n rs) in
+    let long : length before ≡ n = shares_below-length place n rs in
+    ap (share_in slot) (map-append_last place (open_below n rs) last)
+    ∙ elim (cases_eq slot n) [
+      | inl same ↦ ap (λ (k : ℕ). share_in k (before ++ share_for place last ∷ [])) (same ∙ sym long)
+          ∙ share_in-append_last before (share_for place last) ∙ share_by-is place (active_at n rs) ∙ ap (λ (k : ℕ). share_by place (active_at k rs)) (sym same)
+      | inr apart ↦ (let below : slot < n = omega (arith, low, apart) in share_in-append_low slot before (share_for place last) (omega (arith, below, long)) ∙ shares_below-in place n slot rs below)
+    ]
+
+opening_holds : (name : Bytes) (place : ℕ) (shares : List (Option Usage)) (s : State) → shares ≡ shares_of place s.records → place_of name s.namespaces ≡ Some place → Holds name place shares s
+opening_holds name place shares s are named = record {
   named = named;
-  places = refl;
-  agrees = λ slot low. no_share 64 slot ∙ sym (ap (share_by place) (none_open s idle slot));
+  places = ap (λ (l : List (Option Usage)). length l) are ∙ shares_below-length place 64 s.records;
+  agrees = λ slot low. ap (share_in slot) are ∙ shares_below-in place 64 slot s.records low;
 }
 
 -- what the entries of a round tell, from the charge after them all
-pub told_history : (name : Bytes) (place : ℕ) (s : State) (es : List Entry) (t : State) → Good s → open_count s.records ≡ 0 → Replays s es t → place_of name t.namespaces ≡ Some place
-    → infos_of name s.entries no_shares (charge_before (charge_of place t.records) (changes_of name no_shares es)) es ≡ history place s es
-told_history name place s es t good idle h named =
-    let held = opening_holds name place s idle (sym (Replays-names s es t h name) ∙ named) in
-    ap (λ (u : Usage). infos_of name s.entries no_shares u es) (charge_back name place s no_shares es t good held h)
-    ∙ infos_are name place s no_shares es t good held h
+pub told_history : (name : Bytes) (place : ℕ) (shares : List (Option Usage)) (s : State) (es : List Entry) (t : State) → Good s → shares ≡ shares_of place s.records → Replays s es t → place_of name t.namespaces ≡ Some place
+    → infos_of name s.entries shares (charge_before (charge_of place t.records) (changes_of name shares es)) es ≡ history place s es
+told_history name place shares s es t good are h named =
+    let held = opening_holds name place shares s are (sym (Replays-names s es t h name) ∙ named) in
+    ap (λ (u : Usage). infos_of name s.entries shares u es) (charge_back name place s shares es t good held h)
+    ∙ infos_are name place s shares es t good held h

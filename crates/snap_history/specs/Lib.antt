@@ -1,3 +1,4 @@
 pub mod Entries
 pub mod History
 pub mod Changes
+pub mod Open

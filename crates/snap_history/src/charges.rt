@@ -1,11 +1,12 @@
-ghost use Rattle.std.specs.Prelude.{◌≡◌, ◌-◌, ◌+◌, ◌≤◌, ◌<◌, ◌^◌, ℕ, Some, List, IfOk, length};
+ghost use Rattle.std.specs.Prelude.{◌≡◌, ◌-◌, ◌+◌, ◌≤◌, ◌<◌, ◌^◌, ℕ, Some, IfOk, length};
 ghost use Rattle.snap_call.specs.Good.{Good};
 ghost use Rattle.snap_call.specs.Journal.{Replays};
-ghost use Rattle.snap_call.specs.Records.{charge_of, open_count};
+ghost use Rattle.snap_call.specs.Records.{charge_of};
 ghost use Rattle.snap_call.specs.State.{place_of};
 ghost use Rattle.snap_call.specs.declared.state.State.{State};
-ghost use Rattle.snap_history.specs.Changes.{changes_of, charge_before, infos_of, no_shares};
+ghost use Rattle.snap_history.specs.Changes.{changes_of, charge_before, infos_of};
 ghost use Rattle.snap_history.specs.History.{history, history_page};
+ghost use Rattle.snap_history.specs.Open.{shares_of};
 
 use crate::change::{Change, turned};
 use crate::info::{EntryInfo, entry_info};
@@ -15,11 +16,16 @@ use snap_record::Sequence;
 use snap_usage::Usage;
 use std::alloc::{AllocError, Global};
 
-// The changes of the entries.
-fn changes(alloc: Global, entries: &[SharedEntry], name: &str) -> Result<Vec<Change>, AllocError>
-    ensures { IfOk result (λ changes. changes.items ≡ changes_of name.now no_shares entries.now) }
+// The changes of the entries, from the shares before them.
+fn changes(
+    alloc: Global,
+    entries: &[SharedEntry],
+    name: &str,
+    held: &Shares,
+) -> Result<Vec<Change>, AllocError>
+    ensures { IfOk result (λ changes. changes.items ≡ changes_of name.now held.now entries.now) }
 {
-    let mut shares = Shares::none(alloc)?;
+    let mut shares = held.again(alloc)?;
     let mut changes = Vec::new(alloc);
     for entry in entries {
         let entry = entry.entry();
@@ -43,21 +49,22 @@ fn charge_before(now: Usage, changes: &[Change]) -> Usage
     charge
 }
 
-// The entries of the namespace that have a greater number, at most so many; the first entry has the number
-// after `before`.
+// The entries of the namespace that have a greater number, at most so many, from the shares and the charge
+// before all entries; the first entry has the number after `before`.
 fn infos(
     alloc: Global,
     entries: &[SharedEntry],
     before: u64,
     name: &str,
+    held: &Shares,
     opening: Usage,
     after: u64,
     most: usize,
 ) -> Result<Sequence<EntryInfo>, AllocError>
     requires { before + length entries.now < 2 ^ 64 }
-    ensures { IfOk result (λ infos. infos ≡ history_page after most (infos_of name.now before no_shares opening entries.now)) }
+    ensures { IfOk result (λ infos. infos ≡ history_page after most (infos_of name.now before held.now opening entries.now)) }
 {
-    let mut shares = Shares::none(alloc)?;
+    let mut shares = held.again(alloc)?;
     let mut infos = Sequence::new(alloc);
     let mut charge = opening;
     let mut number = before;
@@ -75,8 +82,8 @@ fn infos(
 }
 
 /// The entries of a round that are a namespace's and have a greater number than `after`, in order, at most
-/// so many, each with what the namespace is charged after it. `last` is the number of the last entry, and
-/// `now` what the namespace is charged after it.
+/// so many, each with what the namespace is charged after it. `last` is the number of the last entry, `now`
+/// what the namespace is charged after it, and `held` what its open snapshots were charged before the entries.
 ///
 /// The cost grows with the entries, and the memory too: a change for each, and what is answered.
 pub fn history(
@@ -84,18 +91,19 @@ pub fn history(
     entries: &[SharedEntry],
     last: u64,
     name: &str,
+    held: &Shares,
     now: Usage,
     after: u64,
     most: usize,
 ) -> Result<Sequence<EntryInfo>, AllocError>
     requires { length entries.now ≤ last }
-    // The entries lead from the state that the round began at to one with this number and this charge.
-    ensures { IfOk result (λ infos. (s t : State) (place : ℕ) → Good s → open_count s.records ≡ 0 → Replays s entries.now t
+    // The entries lead from the state that the round began at, with these shares, to one with this number and this charge.
+    ensures { IfOk result (λ infos. (s t : State) (place : ℕ) → Good s → held.now ≡ shares_of place s.records → Replays s entries.now t
         → place_of name.now t.namespaces ≡ Some place → t.entries ≡ last → charge_of place t.records ≡ now
         → infos ≡ history_page after most (history place s entries.now)) }
 {
     let before = last - entries.len() as u64;
-    let changes = changes(alloc, entries, name)?;
+    let changes = changes(alloc, entries, name, held)?;
     let opening = charge_before(now, &changes);
-    infos(alloc, entries, before, name, opening, after, most)
+    infos(alloc, entries, before, name, held, opening, after, most)
 }

@@ -8,9 +8,12 @@ mod change;
 mod charges;
 mod info;
 mod kind;
+mod open;
 mod shares;
 mod target;
 
 pub use charges::history;
 pub use info::EntryInfo;
 pub use kind::{CallKind, call_kind};
+pub use open::OpenShares;
+pub use shares::Shares;

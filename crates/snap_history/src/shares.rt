@@ -10,10 +10,12 @@ use snap_usage::Usage;
 use std::alloc::{AllocError, Global};
 use std::marker::Model;
 
-// A place for each of the 64 slots.
+/// What the open snapshots of one namespace are charged, in a place for each of the 64 slots.
+///
+/// Contracts see the list of the places.
 #[derive(Drop)]
-pub(crate) struct Shares {
-    list: Vec<Option<Usage>>,
+pub struct Shares {
+    pub(crate) list: Vec<Option<Usage>>,
 }
 
 impl Model for Shares {
@@ -28,14 +30,23 @@ impl Model for Shares {
 }
 
 impl Shares {
-    // No open snapshots.
-    pub(crate) fn none(alloc: Global) -> Result<Shares, AllocError>
+    /// Those of a namespace without open snapshots. Takes memory for 64 places.
+    pub fn none(alloc: Global) -> Result<Shares, AllocError>
         ensures { IfOk result (λ shares. shares ≡ no_shares) }
     {
         let mut list = Vec::with_capacity(alloc, MAX_SLOTS as usize)?;
         for _ in 0..MAX_SLOTS {
             list.push_reserved(None);
         }
+        Ok(Shares { list })
+    }
+
+    // The same once more.
+    pub(crate) fn again(&self, alloc: Global) -> Result<Shares, AllocError>
+        ensures { IfOk result (λ shares. shares ≡ self.now) }
+    {
+        let mut list = Vec::new(alloc);
+        list.extend_from_slice(&self.list)?;
         Ok(Shares { list })
     }
 

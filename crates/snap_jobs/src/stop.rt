@@ -7,7 +7,7 @@ use std::alloc::AllocError;
 use std::fmt;
 
 /// Why jobs were not run and answered.
-#[derive(Clone, Copy, Debug, PartialEq, Eq)]
+#[derive(Debug, PartialEq, Eq, Drop)]
 pub enum JobsStop {
     /// A line is no job, a read or a write failed, or memory was refused.
     Lines(Stop),
@@ -17,8 +17,8 @@ pub enum JobsStop {
 
 impl JobsStop {
     /// The status of a program that ends with it: that of the stop, or 5.
-    pub fn status(self) -> u8
-        ensures { result ≡ status_of self }
+    pub fn status(&self) -> u8
+        ensures { result ≡ status_of self.now }
     {
         match self {
             JobsStop::Lines(stop) => stop.status(),

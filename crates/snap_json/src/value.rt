@@ -33,6 +33,7 @@ impl<'a> Value<'a> {
         member(self.as_object()?, name)
     }
 
+    /// Whether it is an object. Takes no memory, and its cost is constant.
     pub fn is_object(&self) -> bool
         ensures { result ≡ is_some (as_object (view self.now)) }
     {

@@ -10,43 +10,50 @@ use Rattle.std.specs.Map.{lookup, keys_of, values_of}
 use Rattle.std.specs.BTreeMap.{is_at}
 use Rattle.std.proofs.lemmas.Bool.{cond-true, cond-false}
 use Rattle.std.proofs.lemmas.List.Sums.{sum_by-cons}
+use Rattle.snap_layer.specs.declared.content.Content.{Content}
+use Rattle.snap_layer.specs.declared.content.Content.TheVariants.{Bytes, Sized}
 use Rattle.snap_layer.specs.declared.node.Node.{Node}
 use Rattle.snap_layer.specs.declared.node.Node.TheVariants.{Dir, File, Symlink, Whiteout}
 use Rattle.snap_layer.specs.declared.node.Body.{Body}
 use Rattle.snap_layer.specs.declared.node.Body.TheVariants as body_kinds
 use Rattle.snap_layer.specs.Tree.{Tree, Bodies, at, body, number_of}
-use Rattle.snap_layer.specs.Counts.{body_blocks}
+use Rattle.snap_layer.specs.Counts.{blocks_of, body_blocks}
+use Rattle.snap_layer.specs.Contents.{size_of, IsContent}
 use Rattle.snap_layer.specs.Layers.{IsLayer, IsFile, IsSymlink, IsWhole, IsBody}
 use Rattle.snap_layer.proofs.Lists.{lookup_below, at_itself}
 use Rattle.snap_layer.proofs.Looks.{split_number}
 use Rattle.snap_layer.proofs.Kept.{node_with_number}
 
--- a file has at most 256 blocks
-file_blocks : (b : Body) → IsFile (Some b) → body_blocks b ≤ 256
-file_blocks (body_kinds.File mode bytes) file = omega (arith, file.1)
+-- a file has at most 2 ^ 28 blocks
+pub content_blocks : (c : Content) → IsContent c → blocks_of (size_of c) ≤ 268435456
+content_blocks (Bytes bytes) short = omega (arith, short)
+content_blocks (Sized size digest) short = omega (arith, short.0)
+
+file_blocks : (b : Body) → IsFile (Some b) → body_blocks b ≤ 268435456
+file_blocks (body_kinds.File mode content) file = content_blocks content file.1
 file_blocks (body_kinds.Symlink target) file = absurd file
 
-symlink_blocks : (b : Body) → IsSymlink (Some b) → body_blocks b ≤ 256
-symlink_blocks (body_kinds.File mode bytes) link = absurd link
+symlink_blocks : (b : Body) → IsSymlink (Some b) → body_blocks b ≤ 268435456
+symlink_blocks (body_kinds.File mode content) link = absurd link
 symlink_blocks (body_kinds.Symlink target) link = omega arith
 
-pub body_small : (b : Body) → IsBody b → body_blocks b ≤ 256
-body_small (body_kinds.File mode bytes) fits = file_blocks (body_kinds.File mode bytes) fits
+pub body_small : (b : Body) → IsBody b → body_blocks b ≤ 268435456
+body_small (body_kinds.File mode content) fits = file_blocks (body_kinds.File mode content) fits
 body_small (body_kinds.Symlink target) fits = symlink_blocks (body_kinds.Symlink target) fits
 
-whole_blocks : (t : Tree) (n : Node) (k : ℕ) (b : Body) → IsWhole t n → number_of n ≡ Some k → body t k ≡ Some b → body_blocks b ≤ 256
+whole_blocks : (t : Tree) (n : Node) (k : ℕ) (b : Body) → IsWhole t n → number_of n ≡ Some k → body t k ≡ Some b → body_blocks b ≤ 268435456
 whole_blocks t (Dir m o) k b whole e is = absurd (cc)
 whole_blocks t (File j) k b whole e is = let same : j ≡ k = cc in file_blocks b (subst IsFile (ap (body t) same ∙ is) whole)
 whole_blocks t (Symlink j) k b whole e is = let same : j ≡ k = cc in symlink_blocks b (subst IsSymlink (ap (body t) same ∙ is) whole)
 whole_blocks t Whiteout k b whole e is = absurd (cc)
 
-pub blocks_of_body : (t : Tree) → IsLayer t → (k : ℕ) (b : Body) → body t k ≡ Some b → body_blocks b ≤ 256
+pub blocks_of_body : (t : Tree) → IsLayer t → (k : ℕ) (b : Body) → body t k ≡ Some b → body_blocks b ≤ 268435456
 blocks_of_body t ok k b is =
     let name = ok.named k (ap is_some is) in
     let n = node_with_number (at t name.0) k name.1 in
     whole_blocks t n.0 k b (ok.nodes name.0 n.0 n.1) n.2 is
 
-bounded : (bs : Bodies) → IsStrictlySortedBy nat_cmp (keys_of bs) → ((k : ℕ) (b : Body) → lookup (is_at (nat_cmp k)) bs ≡ Some b → body_blocks b ≤ 256) → sum_by body_blocks (values_of bs) ≤ length bs * 256
+bounded : (bs : Bodies) → IsStrictlySortedBy nat_cmp (keys_of bs) → ((k : ℕ) (b : Body) → lookup (is_at (nat_cmp k)) bs ≡ Some b → body_blocks b ≤ 268435456) → sum_by body_blocks (values_of bs) ≤ length bs * 268435456
 unfolding IsStrictlySortedBy
 bounded [] sorted each = omega arith
 bounded (e ∷ bs) sorted each =
@@ -63,6 +70,6 @@ bounded (e ∷ bs) sorted each =
       | inr apart ↦ cond-false _ _ _ apart.1 ∙ is
     ]
 
--- a layer has at most 16,842,752 blocks
-pub blocks_of_bodies : (t : Tree) → IsLayer t → sum_by body_blocks (values_of t.bodies) ≤ 65536 * 256
+-- the blocks of all files
+pub blocks_of_bodies : (t : Tree) → IsLayer t → sum_by body_blocks (values_of t.bodies) ≤ 65536 * 268435456
 blocks_of_bodies t ok = omega (arith, bounded t.bodies ok.sorted_numbers (blocks_of_body t ok), ok.few)

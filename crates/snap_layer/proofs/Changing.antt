@@ -117,7 +117,7 @@ dir_set_makes s t root ps next u m layer q k m0 m1 o0 o1 leads is re = record {
     names : (i : ℕ) → name_count i (with_entry u q (node.Dir m1 o1)).entries ≡ name_count i u.entries
     names i = omega (arith, name_count-insert_entry i u.entries q (node.Dir m1 o1) layer.sorted_paths, ap (weight (λ n. cond (has_number i n) 1 0)) is)
 
--- a file's bytes or mode set
+-- a file's content or mode set
 pub body_set_makes : (s t : View) (root : ℕ) (ps : Places) (next : ℕ) (u : Tree) → Makes s root ps next u → (j k : ℕ) (b : Body) → place ps j ≡ Some k → s.nodes k ≡ Some (leaf_node j b) → Rebodies s t k b → Makes t root ps next (with_body u j b)
 body_set_makes s t root ps next u m j k b found kind re = record {
   table = record {
@@ -229,5 +229,5 @@ mode_set_made s t root ps next u m j k mode b found is re =
     body_set_makes s t root ps next u m j k (body_with_mode b mode) found (node_found s root ps next u m j k found b is ∙ ap (λ (x : Node). Some x) (same_leaf b)) re
   where
     same_leaf : (x : Body) → leaf_node j x ≡ leaf_node j (body_with_mode x mode)
-    same_leaf (body_kinds.File old bytes) = refl
+    same_leaf (body_kinds.File old content) = refl
     same_leaf (body_kinds.Symlink target) = refl

@@ -60,7 +60,7 @@ sum_of_ones : (bs : List Body) → sum_by one bs ≡ length bs
 sum_of_ones [] = refl
 sum_of_ones (b ∷ bs) = omega (arith, sum_by-cons one b bs, sum_of_ones bs)
 
-count_of_bodies : (bs : Bodies) → sum_by one (values_of bs) ≡ length bs
+pub count_of_bodies : (bs : Bodies) → sum_by one (values_of bs) ≡ length bs
 count_of_bodies bs = sum_of_ones (values_of bs) ∙ length-values_of bs
 
 abbrev pub weight_of_body : (Body → ℕ) → Option Body → ℕ

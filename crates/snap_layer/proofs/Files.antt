@@ -196,7 +196,7 @@ shift_makes s t root ps next u m layer qf nf df qt nt dt leaves to_f to_t dir_f 
 -- ---- a new file, at a path
 
 pub leaf_number : (k : ℕ) (b : Body) → number_of (leaf_node k b) ≡ Some k
-leaf_number k (body_kinds.File m bytes) = refl
+leaf_number k (body_kinds.File m content) = refl
 leaf_number k (body_kinds.Symlink t) = refl
 
 -- ---- a move, at its paths

@@ -1,5 +1,5 @@
 -- When an edit would pass a layer's limits.
-use Rattle.std.proofs.Common.{◌≡◌, ℕ, ◌+◌, ◌<◌, ◌≤◌, Bool, true, false, cond, List, length, Option, Some, None, Result, Ok, Err, refl, sym, ap, subst, ◌∙◌, inl, inr, arith}
+use Rattle.std.proofs.Common.{◌≡◌, ℕ, ◌+◌, ◌<◌, ◌≤◌, Bool, true, false, cond, List, Option, Some, None, Result, Ok, Err, refl, sym, ap, subst, ◌∙◌, inl, inr, arith}
 use Rattle.std.specs.Prelude.{is_some, ◌==◌, ◌&&◌, IsErrOf}
 use Rattle.std.specs.Ordering.{nat_cmp}
 use Rattle.std.specs.BTreeMap.{is_at}
@@ -8,12 +8,14 @@ use Rattle.snap_path.specs.Memory.{no_memory}
 use Rattle.snap_path.specs.Text.{Names, IsPath}
 use Rattle.snap_layer.specs.declared.error.LayerError.{LayerError}
 use Rattle.snap_layer.specs.declared.error.LayerError.TheVariants.{LayerFull, OutOfMemory}
+use Rattle.snap_layer.specs.declared.content.Content.{Content}
 use Rattle.snap_layer.specs.declared.node.Node.{Node}
 use Rattle.snap_layer.specs.declared.node.Node.TheVariants.{Dir, File, Symlink, Whiteout}
 use Rattle.snap_layer.specs.declared.node.Body.{Body}
 use Rattle.snap_layer.specs.declared.node.Body.TheVariants as body_kinds
 use Rattle.snap_layer.specs.Tree.{Tree, Entries, at, body, number_of, number_at, leaf_node}
 use Rattle.snap_layer.specs.Counts.{inode_count, name_count, is_within}
+use Rattle.snap_layer.specs.Contents.{IsContent}
 use Rattle.snap_layer.specs.Layers.{IsLayer, IsFile, IsSymlink, IsWhole, IsBody, is_target}
 use Rattle.snap_layer.specs.Edits.{with_node, with_new, without, HasRoom, HasPlace}
 use Rattle.snap_layer.proofs.Counting.{dropped}
@@ -113,11 +115,11 @@ module _ (t : Tree) (ok : IsLayer t) (p : Names) (path : IsPath p) (r : ℕ) (le
   new_body n b = (SetsBody-insert_entry (without t p) (with_new t p n b) t.next b refl).here
 
   module _ (place : HasPlace t p) (last : t.next < 4294967295) where
-    pub file_becomes : (mode : ℕ) (bytes : List ℕ) → mode ≤ 4095 → length bytes ≤ 1048576 → Becomes (with_new t p (File t.next) (body_kinds.File mode bytes)) (r + 1)
-    file_becomes mode bytes low short =
-        let u = with_new t p (File t.next) (body_kinds.File mode bytes) in
-        becomes u (r + 1) (omega (arith, inode_count-with_new t p (File t.next) (body_kinds.File mode bytes) ok refl))
-        (IsLayer-with_new t p (File t.next) (body_kinds.File mode bytes) ok place path refl (subst IsFile (sym (new_body (File t.next) (body_kinds.File mode bytes))) (low, short)) last) (omega arith)
+    pub file_becomes : (mode : ℕ) (content : Content) → mode ≤ 4095 → IsContent content → Becomes (with_new t p (File t.next) (body_kinds.File mode content)) (r + 1)
+    file_becomes mode content low short =
+        let u = with_new t p (File t.next) (body_kinds.File mode content) in
+        becomes u (r + 1) (omega (arith, inode_count-with_new t p (File t.next) (body_kinds.File mode content) ok refl))
+        (IsLayer-with_new t p (File t.next) (body_kinds.File mode content) ok place path refl (subst IsFile (sym (new_body (File t.next) (body_kinds.File mode content))) (low, short)) last) (omega arith)
 
     pub symlink_becomes : (target : List ℕ) → is_target target ≡ true → Becomes (with_new t p (Symlink t.next) (body_kinds.Symlink target)) (r + 1)
     symlink_becomes target fine =
@@ -126,15 +128,15 @@ module _ (t : Tree) (ok : IsLayer t) (p : Names) (path : IsPath p) (r : ℕ) (le
         (IsLayer-with_new t p (Symlink t.next) (body_kinds.Symlink target) ok place path refl (subst IsSymlink (sym (new_body (Symlink t.next) (body_kinds.Symlink target))) fine) last) (omega arith)
 
     pub body_becomes : (b : Body) → IsBody b → Becomes (with_new t p (leaf_node t.next b) b) (r + 1)
-    body_becomes (body_kinds.File mode bytes) fits = file_becomes mode bytes fits.0 fits.1
+    body_becomes (body_kinds.File mode content) fits = file_becomes mode content fits.0 fits.1
     body_becomes (body_kinds.Symlink target) fits = symlink_becomes target fits
 
 -- a number's body tells its kind
-pub file_kind : (m : ℕ) (bytes : List ℕ) (n : Node) (t : Tree) (k : ℕ) → IsWhole t n → number_of n ≡ Some k → body t k ≡ Some (body_kinds.File m bytes) → IsFile (body t k)
-file_kind m bytes (Dir x y) t k whole e is = absurd (cc)
-file_kind m bytes (File j) t k whole e is = let same : j ≡ k = cc in subst (λ (i : ℕ). IsFile (body t i)) same whole
-file_kind m bytes (Symlink j) t k whole e is = let same : j ≡ k = cc in absurd (subst IsSymlink (ap (body t) same ∙ is) whole)
-file_kind m bytes Whiteout t k whole e is = absurd (cc)
+pub file_kind : (m : ℕ) (content : Content) (n : Node) (t : Tree) (k : ℕ) → IsWhole t n → number_of n ≡ Some k → body t k ≡ Some (body_kinds.File m content) → IsFile (body t k)
+file_kind m content (Dir x y) t k whole e is = absurd (cc)
+file_kind m content (File j) t k whole e is = let same : j ≡ k = cc in subst (λ (i : ℕ). IsFile (body t i)) same whole
+file_kind m content (Symlink j) t k whole e is = let same : j ≡ k = cc in absurd (subst IsSymlink (ap (body t) same ∙ is) whole)
+file_kind m content Whiteout t k whole e is = absurd (cc)
 
 pub symlink_kind : (target : List ℕ) (n : Node) (t : Tree) (k : ℕ) → IsWhole t n → number_of n ≡ Some k → body t k ≡ Some (body_kinds.Symlink target) → IsSymlink (body t k)
 symlink_kind target (Dir x y) t k whole e is = absurd (cc)
@@ -143,11 +145,11 @@ symlink_kind target (Symlink j) t k whole e is = let same : j ≡ k = cc in subs
 symlink_kind target Whiteout t k whole e is = absurd (cc)
 
 -- the kind of a body that a layer has under a number
-pub file_there : (t : Tree) → IsLayer t → (k m : ℕ) (bytes : List ℕ) → body t k ≡ Some (body_kinds.File m bytes) → IsFile (body t k)
-file_there t ok k m bytes is =
+pub file_there : (t : Tree) → IsLayer t → (k m : ℕ) (content : Content) → body t k ≡ Some (body_kinds.File m content) → IsFile (body t k)
+file_there t ok k m content is =
     let name = ok.named k (ap is_some is) in
     let n = node_with_number (at t name.0) k name.1 in
-    file_kind m bytes n.0 t k (ok.nodes name.0 n.0 n.1) n.2 is
+    file_kind m content n.0 t k (ok.nodes name.0 n.0 n.1) n.2 is
 
 pub symlink_there : (t : Tree) → IsLayer t → (k : ℕ) (target : List ℕ) → body t k ≡ Some (body_kinds.Symlink target) → IsSymlink (body t k)
 symlink_there t ok k target is =

@@ -357,7 +357,7 @@ IsLayer-with_file t p n b ok puts = record {
 
 -- ---- a body in place of another
 
--- a file's bytes or mode changed
+-- a file's content or mode changed
 pub IsLayer-with_body : (t : Tree) (k : ℕ) (b : Body) → IsLayer t → IsFile (body t k) → IsFile (Some b) → IsLayer (with_body t k b)
 IsLayer-with_body t k b ok was is = record {
   root = ok.root;

@@ -8,6 +8,7 @@ use Rattle.std.specs.Map.{lookup, keys_of}
 use Rattle.std.specs.Str.{bytes_eq}
 use Rattle.std.specs.BTreeMap.{is_at}
 use Rattle.snap_path.specs.Text.{Names, begins}
+use Rattle.snap_layer.specs.declared.content.Content.{Content}
 use Rattle.snap_layer.specs.declared.node.Node.{Node}
 use Rattle.snap_layer.specs.declared.node.Node.TheVariants.{Dir, File, Symlink, Whiteout}
 use Rattle.snap_layer.specs.declared.node.Body.{Body}
@@ -15,7 +16,7 @@ use Rattle.snap_layer.specs.declared.node.Body.TheVariants as body_kinds
 use Rattle.snap_layer.specs.Tree.{Tree, Entries, IsDirAt, path_cmp, at, body, number_of, number_at, name_below, names_below}
 use Rattle.snap_layer.specs.Counts.{inode_count, block_count, body_blocks}
 use Rattle.snap_layer.specs.Layers.{IsLayer}
-use Rattle.snap_layer.specs.Edits.{with_entry, with_node, with_new, with_bytes, with_body, with_mode, with_file_mode, body_with_mode, with_opaque, without, outside, bodies_without}
+use Rattle.snap_layer.specs.Edits.{with_entry, with_node, with_new, with_filled, with_body, with_mode, with_file_mode, body_with_mode, with_opaque, without, outside, bodies_without}
 use Rattle.std.proofs.lemmas.Bool.{cond-true, cond-false}
 use Rattle.std.proofs.lemmas.Slice.Eq.{bytes_eq-Decides}
 use Rattle.snap_layer.proofs.Lists.{at_itself, apart_from, sorted-filter, sorted-insert_entry}
@@ -87,10 +88,10 @@ Replaces-with_new t p n b =
 pub SetsBody-with_new : (t : Tree) (p : Names) (n : Node) (b : Body) → SetsBody (without t p) (with_new t p n b) t.next (Some b)
 SetsBody-with_new t p n b = SetsBody-insert_entry (without t p) (with_new t p n b) t.next b refl
 
-pub at-with_bytes : (t : Tree) (k : ℕ) (o : Option Body) (bytes : List ℕ) (q : Names) → at (with_bytes t k o bytes) q ≡ at t q
-at-with_bytes t k None bytes q = refl
-at-with_bytes t k (Some (body_kinds.File mode old)) bytes q = refl
-at-with_bytes t k (Some (body_kinds.Symlink target)) bytes q = refl
+pub at-with_filled : (t : Tree) (k : ℕ) (o : Option Body) (content : Content) (q : Names) → at (with_filled t k o content) q ≡ at t q
+at-with_filled t k None content q = refl
+at-with_filled t k (Some (body_kinds.File mode old)) content q = refl
+at-with_filled t k (Some (body_kinds.Symlink target)) content q = refl
 
 pub at-with_file_mode : (t : Tree) (k : ℕ) (o : Option Body) (mode : ℕ) (q : Names) → at (with_file_mode t k o mode) q ≡ at t q
 at-with_file_mode t k None mode q = refl
@@ -142,7 +143,7 @@ inode_count-with_file_mode t ok k mode None e = refl
 inode_count-with_file_mode t ok k mode (Some b) e = inode_count-with_body t k (body_with_mode b mode) ok.sorted_numbers (subst IsSome (sym e) refl)
 
 same_blocks : (b : Body) (mode : ℕ) → body_blocks (body_with_mode b mode) ≡ body_blocks b
-same_blocks (body_kinds.File old bytes) mode = refl
+same_blocks (body_kinds.File old content) mode = refl
 same_blocks (body_kinds.Symlink target) mode = refl
 
 block_count-with_file_mode : (t : Tree) → IsLayer t → (k mode : ℕ) (o : Option Body) → body t k ≡ o → block_count (with_file_mode t k o mode) ≡ block_count t

@@ -39,3 +39,7 @@ pub mod Leaves
 pub mod Numbers
 pub mod Linked
 pub mod Rooms
+pub mod Trees
+pub mod Ending
+pub mod TreeLayers
+pub mod Below

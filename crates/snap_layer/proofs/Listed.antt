@@ -142,7 +142,7 @@ module _ (s : Slots Inode) (root : ℕ) (there : (q : Names) (c : ℕ) → walk 
   all_clear order clear = by (items_from s o) (found_each nat_list_cmp_total (items_from s o) order)
     where
       leaf_apart : (k : ℕ) (b : Body) → is_whiteout (leaf_node k b) ≡ true → ⊥
-      leaf_apart k (body_kinds.File mode bytes) e = cc
+      leaf_apart k (body_kinds.File mode content) e = cc
       leaf_apart k (body_kinds.Symlink goal) e = cc
 
       no_inode : (x : Option Inode) → IsSome (node_of x) → IsFree (node_of x) → ⊥

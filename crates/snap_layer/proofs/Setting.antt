@@ -1,7 +1,8 @@
--- A mode, a mark or bytes set in place.
-use Rattle.std.proofs.Common.{◌≡◌, ℕ, ◌≤◌, Bool, List, Option, Some, None, IsSome, refl, ap, subst, arith}
+-- A mode, a mark or a content set in place.
+use Rattle.std.proofs.Common.{◌≡◌, ℕ, ◌≤◌, Bool, Option, Some, None, IsSome, refl, ap, subst, arith}
 use Rattle.std.specs.Prelude.{option_and_then, is_some}
 use Rattle.snap_path.specs.Text.{Names}
+use Rattle.snap_layer.specs.declared.content.Content.{Content}
 use Rattle.snap_layer.specs.declared.node.Node.TheVariants.{Dir, File}
 use Rattle.snap_layer.specs.declared.node.Body.{Body}
 use Rattle.snap_layer.specs.declared.node.Body.TheVariants as body_kinds
@@ -43,7 +44,7 @@ pub file_of_name : (t : Tree) → IsLayer t → (p : Names) (k : ℕ) → at t p
 file_of_name t ok p k is = ok.nodes p (File k) is
 
 -- the file that is there
-pub file_body : (o : Option Body) → IsFile o → (m : ℕ) × (bytes : List ℕ) × (o ≡ Some (body_kinds.File m bytes))
+pub file_body : (o : Option Body) → IsFile o → (m : ℕ) × (content : Content) × (o ≡ Some (body_kinds.File m content))
 file_body None file = absurd file
-file_body (Some (body_kinds.File m bytes)) file = (m, bytes, refl)
+file_body (Some (body_kinds.File m content)) file = (m, content, refl)
 file_body (Some (body_kinds.Symlink target)) file = absurd file

@@ -104,7 +104,7 @@ counts_body t ok k old new v w is had inodes paths blocks = record {
 
 -- ---- bounds
 
-pub few_blocks : (t : Tree) → IsLayer t → block_count t ≤ 65536 + 65536 * 256
+pub few_blocks : (t : Tree) → IsLayer t → block_count t ≤ 65536 + 65536 * 268435456
 few_blocks t ok = omega (arith, ok.few, blocks_of_bodies t ok)
 
 pub fewer_blocks : (t : Tree) (p : Names) → block_count (without t p) ≤ block_count t
@@ -192,11 +192,11 @@ fewer_inodes t ok p = omega (arith, ok.few, inode_count-without t p (has_body t 
 -- ---- one more name
 
 pub name_becomes : (t : Tree) (ok : IsLayer t) (p : Names) → IsPath p → HasPlace t p → (k : ℕ) (b : Body) → (number_at t p ≡ Some k → ⊥) → body t k ≡ Some b → Becomes (with_node t p (leaf_node k b)) (inode_count (without t p))
-name_becomes t ok p path place k (body_kinds.File m bytes) apart is = file_name_becomes t ok p path (inode_count (without t p)) refl k place apart (file_there t ok k m bytes is)
+name_becomes t ok p path place k (body_kinds.File m content) apart is = file_name_becomes t ok p path (inode_count (without t p)) refl k place apart (file_there t ok k m content is)
 name_becomes t ok p path place k (body_kinds.Symlink target) apart is = symlink_name_becomes t ok p path (inode_count (without t p)) refl k place apart (symlink_there t ok k target is)
 
 pub name_no_dir : (k : ℕ) (b : Body) → dirs (leaf_node k b) ≡ 0
-name_no_dir k (body_kinds.File m bytes) = refl
+name_no_dir k (body_kinds.File m content) = refl
 name_no_dir k (body_kinds.Symlink target) = refl
 
 -- where the test fails nothing stands there

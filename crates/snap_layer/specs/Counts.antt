@@ -5,6 +5,7 @@ use Rattle.std.specs.Map.{values_of}
 use Rattle.std.specs.List.{sum_by}
 use Rattle.snap_layer.specs.declared.node.Body.{Body}
 use Rattle.snap_layer.specs.declared.node.Body.TheVariants.{File, Symlink}
+use Rattle.snap_layer.specs.Contents.{size_of}
 use Rattle.snap_layer.specs.Tree.{Tree, Entries, is_dir, is_whiteout, has_number}
 
 -- the paths that are directories
@@ -29,7 +30,7 @@ blocks_of size = (size + 4095) / 4096
 
 -- the blocks of a file, and none of a symlink
 abbrev pub body_blocks : Body → ℕ
-body_blocks (File mode bytes) = blocks_of (length bytes)
+body_blocks (File mode content) = blocks_of (size_of content)
 body_blocks (Symlink target) = 0
 
 -- a block for each directory, and those of each file however many names it has

@@ -6,6 +6,7 @@ use Rattle.std.specs.Ordering.{nat_cmp}
 use Rattle.std.specs.Map.{remove_entry}
 use Rattle.std.specs.BTreeMap.{is_at, insert_entry}
 use Rattle.snap_path.specs.Text.{Names, IsPath, begins}
+use Rattle.snap_layer.specs.declared.content.Content.{Content}
 use Rattle.snap_layer.specs.declared.node.Node.{Node}
 use Rattle.snap_layer.specs.declared.node.Node.TheVariants.{Dir, File, Whiteout}
 use Rattle.snap_layer.specs.declared.node.Body.{Body}
@@ -39,6 +40,23 @@ without t p =
     let es = outside p t.entries in
     record { entries = es; bodies = bodies_without (number_at t p) es t.bodies; next = t.next }
 
+-- the bodies that no entry names, and those that an entry names
+abbrev pub bodies_unnamed : Entries → Bodies → Bodies
+bodies_unnamed es bs = filter (λ b. name_count b.0 es == 0) bs
+
+abbrev pub bodies_named : Entries → Bodies → Bodies
+bodies_named es bs = filter (λ b. not (name_count b.0 es == 0)) bs
+
+-- the layer without what stands at the path and all below it; a body goes with its last name (unlink(2))
+abbrev pub without_tree : Tree → Names → Tree
+without_tree t p =
+    let es = outside p t.entries in
+    record { entries = es; bodies = bodies_named es t.bodies; next = t.next }
+
+-- the same with a whiteout at the path where one is to be left
+abbrev pub with_tree_taken : Tree → Names → Bool → Tree
+with_tree_taken t p leaves = let u = without_tree t p in if leaves then with_entry u p Whiteout else u
+
 -- the layer with the node in place of what stands at the path
 abbrev pub with_node : Tree → Names → Node → Tree
 with_node t p n = with_entry (without t p) p n
@@ -64,14 +82,14 @@ with_linked t p link b =
     let n = leaf_node t.next b in
     with_node (with_new t p n b) link n
 
--- the layer with other bytes of a file
-abbrev pub with_bytes : Tree → ℕ → Option Body → List ℕ → Tree
-with_bytes t k (Some (body_kinds.File mode old)) bytes = with_body t k (body_kinds.File mode bytes)
-with_bytes t k other bytes = t
+-- the layer with another content of a file
+abbrev pub with_filled : Tree → ℕ → Option Body → Content → Tree
+with_filled t k (Some (body_kinds.File mode old)) content = with_body t k (body_kinds.File mode content)
+with_filled t k other content = t
 
 -- a file with another mode
 abbrev pub body_with_mode : Body → ℕ → Body
-body_with_mode (body_kinds.File old bytes) mode = body_kinds.File mode bytes
+body_with_mode (body_kinds.File old content) mode = body_kinds.File mode content
 body_with_mode (body_kinds.Symlink target) mode = body_kinds.Symlink target
 
 -- the layer with another mode of a file
@@ -149,6 +167,11 @@ pub record IsTakeable (t : Tree) (p : Names) : Type 0 where
   pub clear : (n : List ℕ) → IsFree (at t (p ++ n ∷ []))
   pub below_root : p ≡ [] → ⊥
 
+-- a directory stands there, and it is not the root
+pub record IsInnerDir (t : Tree) (p : Names) : Type 0 where
+  pub dir : IsDirAt (at t p)
+  pub below_root : p ≡ [] → ⊥
+
 -- what stands at `from` may move to `to`: neither lies at or below the other, and each moved path is one
 pub record IsMovable (t : Tree) (from to : Names) : Type 0 where
   pub there : IsSome (at t from)
@@ -159,7 +182,7 @@ pub record IsMovable (t : Tree) (from to : Names) : Type 0 where
 
 -- a regular file
 abbrev pub IsRegular : Option Body → Type 0
-IsRegular (Some (body_kinds.File mode bytes)) = Unit {0}
+IsRegular (Some (body_kinds.File mode content)) = Unit {0}
 IsRegular other = ⊥
 
 -- a directory's or a file's mode may be set

@@ -1,12 +1,15 @@
 -- The test of `==`. Two nodes, bodies and layers pass it exactly where they are equal.
 -- Cited by `Layer::eq`, `Layer as PartialEq`, `Layer as Eq` and others.
-use Rattle.std.specs.Prelude.{◌≡◌, ℕ, Bool, true, false, ◌&&◌, ◌==◌, nat_eq, List, refl}
+use Rattle.std.specs.Prelude.{◌≡◌, ℕ, Bool, true, false, ◌&&◌, ◌==◌, nat_eq, List, Option, Some, None, refl}
 use Rattle.std.specs.Bool.{Decides, beq}
+use Rattle.std.specs.Option.{option_eq}
 use Rattle.std.specs.Cmp.{IsEquivalence, decided, unsigned_Decides, booleans_Decides, first_so, second_so}
 use Rattle.std.specs.Cmp.Lexicographic.{pointwise, pointwise_decides}
 use mathlib.Core.Path.{sym, ap, ◌∙◌}
 use mathlib.Core.Bool.{true≢false}
 use Rattle.snap_path.specs.Text.{Names}
+use Rattle.snap_layer.specs.declared.content.Content.{Content}
+use Rattle.snap_layer.specs.declared.content.Content.TheVariants.{Bytes, Sized}
 use Rattle.snap_layer.specs.declared.node.Node.{Node}
 use Rattle.snap_layer.specs.declared.node.Node.TheVariants.{Dir, File, Symlink, Whiteout}
 use Rattle.snap_layer.specs.declared.node.Body.{Body}
@@ -21,9 +24,15 @@ node_eq (Symlink number) (Symlink other) = number == other
 node_eq Whiteout Whiteout = true
 node_eq node other = false
 
--- two files with the same mode and bytes, or two symlinks with the same target
+-- two files with the same bytes, or with the same size and the same digest or none
+abbrev pub content_eq : Content → Content → Bool
+content_eq (Bytes bytes) (Bytes others) = pointwise nat_eq bytes others
+content_eq (Sized size digest) (Sized other others) = size == other && option_eq (pointwise nat_eq) digest others
+content_eq content other = false
+
+-- two files with the same mode and content, or two symlinks with the same target
 abbrev pub body_eq : Body → Body → Bool
-body_eq (body_kinds.File mode bytes) (body_kinds.File other others) = mode == other && pointwise nat_eq bytes others
+body_eq (body_kinds.File mode content) (body_kinds.File other others) = mode == other && content_eq content others
 body_eq (body_kinds.Symlink target) (body_kinds.Symlink other) = pointwise nat_eq target other
 body_eq body other = false
 
@@ -68,12 +77,36 @@ node_same Whiteout Whiteout e = refl
 pub node_eq-Decides : (a b : Node) → Decides (node_eq a b) (a ≡ b)
 node_eq-Decides a b = (node_same a b, λ e. ap (λ (n : Node). node_eq n b) e ∙ node_refl b)
 
+digest_refl : (d : Option (List ℕ)) → option_eq (pointwise nat_eq) d d ≡ true
+digest_refl None = refl
+digest_refl (Some d) = (bytes_Decides d d).1 refl
+
+digest_same : (d e : Option (List ℕ)) → option_eq (pointwise nat_eq) d e ≡ true → d ≡ e
+digest_same None None is = refl
+digest_same None (Some e) is = absurd (no is)
+digest_same (Some d) None is = absurd (no is)
+digest_same (Some d) (Some e) is = λ i. Some ((bytes_Decides d e).0 is i)
+
+content_refl : (c : Content) → content_eq c c ≡ true
+content_refl (Bytes bytes) = (bytes_Decides bytes bytes).1 refl
+content_refl (Sized size digest) = λ i. (unsigned_Decides size size).1 refl i && digest_refl digest i
+
+content_same : (c d : Content) → content_eq c d ≡ true → c ≡ d
+content_same (Bytes xs) (Bytes ys) e = λ i. Bytes ((bytes_Decides xs ys).0 e i)
+content_same (Bytes xs) (Sized n ys) e = absurd (no e)
+content_same (Sized m xs) (Bytes ys) e = absurd (no e)
+content_same (Sized m xs) (Sized n ys) e = λ i. Sized ((unsigned_Decides m n).0 (first_so (m == n) (option_eq (pointwise nat_eq) xs ys) e) i) (digest_same xs ys (second_so (m == n) (option_eq (pointwise nat_eq) xs ys) e) i)
+
+-- two contents pass the test exactly where they are equal
+pub content_eq-Decides : (c d : Content) → Decides (content_eq c d) (c ≡ d)
+content_eq-Decides c d = (content_same c d, λ e. ap (λ (x : Content). content_eq x d) e ∙ content_refl d)
+
 body_refl : (b : Body) → body_eq b b ≡ true
-body_refl (body_kinds.File mode bytes) = λ i. (unsigned_Decides mode mode).1 refl i && (bytes_Decides bytes bytes).1 refl i
+body_refl (body_kinds.File mode content) = λ i. (unsigned_Decides mode mode).1 refl i && content_refl content i
 body_refl (body_kinds.Symlink target) = (bytes_Decides target target).1 refl
 
 body_same : (a b : Body) → body_eq a b ≡ true → a ≡ b
-body_same (body_kinds.File m xs) (body_kinds.File n ys) e = λ i. body_kinds.File ((unsigned_Decides m n).0 (first_so (m == n) (pointwise nat_eq xs ys) e) i) ((bytes_Decides xs ys).0 (second_so (m == n) (pointwise nat_eq xs ys) e) i)
+body_same (body_kinds.File m xs) (body_kinds.File n ys) e = λ i. body_kinds.File ((unsigned_Decides m n).0 (first_so (m == n) (content_eq xs ys) e) i) (content_same xs ys (second_so (m == n) (content_eq xs ys) e) i)
 body_same (body_kinds.File m xs) (body_kinds.Symlink ys) e = absurd (no e)
 body_same (body_kinds.Symlink xs) (body_kinds.File n ys) e = absurd (no e)
 body_same (body_kinds.Symlink xs) (body_kinds.Symlink ys) e = λ i. body_kinds.Symlink ((bytes_Decides xs ys).0 e i)
@@ -105,6 +138,9 @@ tree_eq-Decides t u =
 
 pub node_eq_equiv : IsEquivalence node_eq
 node_eq_equiv = decided node_eq node_eq-Decides
+
+pub content_eq_equiv : IsEquivalence content_eq
+content_eq_equiv = decided content_eq content_eq-Decides
 
 pub body_eq_equiv : IsEquivalence body_eq
 body_eq_equiv = decided body_eq body_eq-Decides

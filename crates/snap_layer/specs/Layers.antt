@@ -12,26 +12,27 @@ use Rattle.snap_layer.specs.declared.node.Body.{Body}
 use Rattle.snap_layer.specs.declared.node.Body.TheVariants as body_kinds
 use Rattle.snap_layer.specs.Tree.{Tree, path_cmp, at, body, number_at, IsDirAt}
 use Rattle.snap_layer.specs.Counts.{inode_count}
+use Rattle.snap_layer.specs.Contents.{IsContent}
 
 -- a symlink's target: 1 to 4095 bytes without NUL (symlink(2), PATH_MAX)
 abbrev pub is_target : List ℕ → Bool
 is_target bs = nat_lt 0 (length bs) && nat_le (length bs) 4095 && not (list_any (λ b. b == 0) bs)
 
--- a file: its mode is at most octal 7777, and it has at most 1,048,576 bytes
+-- a file: its mode is at most octal 7777, and its content is within its limits
 abbrev pub IsFile : Option Body → Type 0
 IsFile None = ⊥
-IsFile (Some (body_kinds.File mode bytes)) = (mode ≤ 4095) × (length bytes ≤ 1048576)
+IsFile (Some (body_kinds.File mode content)) = (mode ≤ 4095) × IsContent content
 IsFile (Some (body_kinds.Symlink target)) = ⊥
 
 -- a symlink with a target
 abbrev pub IsSymlink : Option Body → Type 0
 IsSymlink None = ⊥
-IsSymlink (Some (body_kinds.File mode bytes)) = ⊥
+IsSymlink (Some (body_kinds.File mode content)) = ⊥
 IsSymlink (Some (body_kinds.Symlink target)) = is_target target ≡ true
 
 -- a body that may stand in a layer: a file within its limits, or a symlink with a target
 abbrev pub IsBody : Body → Type 0
-IsBody (body_kinds.File mode bytes) = (mode ≤ 4095) × (length bytes ≤ 1048576)
+IsBody (body_kinds.File mode content) = (mode ≤ 4095) × IsContent content
 IsBody (body_kinds.Symlink target) = is_target target ≡ true
 
 -- a node that may stand in the layer: a directory's mode is at most octal 7777, and a name has its body

@@ -2,6 +2,7 @@ pub mod Tree
 pub mod Counts
 pub mod Layers
 pub mod Edits
+pub mod Ended
 pub mod Equal
 pub mod Walk
 pub mod Holds

@@ -58,7 +58,7 @@ number_of other = None
 
 -- the node that names the file or symlink with the number
 abbrev pub leaf_node : ℕ → Body → Node
-leaf_node k (body_kinds.File mode bytes) = File k
+leaf_node k (body_kinds.File mode content) = File k
 leaf_node k (body_kinds.Symlink target) = Symlink k
 
 -- a node that names the file number

@@ -1,27 +1,30 @@
-// The bytes of a file, and how they change in place.
+// How a file is edited, and how bytes change in place.
 ghost use Rattle.std.specs.Prelude.{◌≡◌, ◌+◌, ◌<◌, ◌≤◌, ℕ, List, IfOk, OnOk, OnErr, length, take, drop, ◌++◌};
-ghost use Rattle.snap_layer.specs.Contents.{edited, resized, written, IsShort};
+ghost use Rattle.snap_layer.specs.Contents.{bytes_resized, bytes_written, changes, edited, size_of, IsShort};
+ghost use Rattle.snap_layer.specs.declared.content.Content.{Content as ContentValue};
+ghost use Rattle.snap_layer.specs.declared.content.Content.TheVariants as content_kinds;
 
+use super::content::Content;
 use super::node::Bytes;
 use std::alloc::{AllocError, Global};
 
-/// How the bytes of a file change.
+/// How a file changes.
 #[derive(Clone, Copy)]
 pub enum Edit<'a> {
-    /// They stay.
+    /// It stays.
     Keep,
     /// The bytes are put at the offset, over a gap of zero bytes where it lies behind the end. No bytes change
-    /// nothing.
+    /// nothing. Of a file of a size, that alone is kept: the greater of its own and where the bytes end.
     Write { offset: usize, bytes: &'a [u8] },
-    /// The file is cut, or filled with zero bytes, to so many.
+    /// The file is cut, or filled with zero bytes, to so many. Of a file of a size, the new one alone is kept; its own
+    /// changes nothing.
     Resize { size: usize },
 }
 
 impl<'a> Edit<'a> {
-    /// The size of a file of `old` bytes afterwards.
-    pub fn size(self, old: usize) -> usize
-        requires { IsShort self }
-        ensures { (was : List ℕ) → length was ≡ old → result ≡ length (edited self.entry was) }
+    /// The size of a file of `old` bytes afterwards, whether they are kept or not.
+    pub fn size(self, old: u64) -> u64
+        ensures { (was : ContentValue) → size_of was ≡ old → IsShort self.entry was → result ≡ size_of (edited self.entry was) }
     {
         match self {
             Edit::Keep => old,
@@ -29,16 +32,27 @@ impl<'a> Edit<'a> {
                 if bytes.is_empty() {
                     return old;
                 }
-                old.max(offset + bytes.len())
+                old.max((offset as u64).saturating_add(bytes.len() as u64))
             }
-            Edit::Resize { size } => size,
+            Edit::Resize { size } => size as u64,
+        }
+    }
+
+    /// Whether it changes a file of the size, whose bytes aren't kept.
+    pub(crate) fn changes(self, old: u64) -> bool
+        ensures { result ≡ changes self.entry old }
+    {
+        match self {
+            Edit::Keep => false,
+            Edit::Write { bytes, .. } => !bytes.is_empty(),
+            Edit::Resize { size } => old != size as u64,
         }
     }
 
     /// How many of `old` bytes the edit goes on from: those behind are cut.
     fn kept(self, old: usize) -> usize
         ensures few { result ≤ old }
-        ensures same { (was : List ℕ) → length was ≡ old → edited self.entry (take result was) ≡ edited self.entry was }
+        ensures same { (was : List ℕ) → length was ≡ old → edited self.entry (content_kinds.Bytes (take result was)) ≡ edited self.entry (content_kinds.Bytes was) }
     {
         match self {
             Edit::Resize { size } => size.min(old),
@@ -47,12 +61,31 @@ impl<'a> Edit<'a> {
         }
     }
 
-    /// A copy of the bytes, changed.
+    /// A copy of the file, edited.
     ///
-    /// It fails only where memory is refused. Cost: the bytes afterwards.
-    pub fn content(self, alloc: Global, old: &[u8]) -> Result<Bytes, AllocError>
-        requires { IsShort self }
-        ensures { IfOk result (λ b. b ≡ edited self.entry old.now) }
+    /// It fails only where memory is refused. Cost: the bytes afterwards, or the digest where it stays.
+    pub fn content(self, alloc: Global, old: &Content) -> Result<Content, AllocError>
+        requires { IsShort self old.now }
+        ensures { IfOk result (λ c. c ≡ edited self.entry old.now) }
+    {
+        match old {
+            Content::Bytes(bytes) => Ok(Content::Bytes(self.bytes(alloc, bytes.as_slice())?)),
+            Content::Sized { size, .. } => {
+                if !self.changes(*size) {
+                    return old.clone();
+                }
+                Ok(Content::Sized {
+                    size: self.size(*size),
+                    digest: None,
+                })
+            }
+        }
+    }
+
+    /// A copy of the bytes, edited.
+    fn bytes(self, alloc: Global, old: &[u8]) -> Result<Bytes, AllocError>
+        requires { IsShort self (content_kinds.Bytes old.now) }
+        ensures { IfOk result (λ b. content_kinds.Bytes b ≡ edited self.entry (content_kinds.Bytes old.now)) }
     {
         let mut bytes = Bytes::copy_of(alloc, &old[..self.kept(old.len())])?;
         bytes.edit(self)?;
@@ -64,8 +97,8 @@ impl<'a> Edit<'a> {
 /// there.
 pub(crate) fn put_at(items: &mut Vec<u8>, offset: usize, bytes: &[u8]) -> Result<(), AllocError>
     requires { offset + length bytes.now ≤ 1048576 }
-    ensures ok { OnOk result (items.new.items ≡ written items.old.items offset bytes.now) }
-    ensures grows { OnErr result (length items.old.items < length (written items.old.items offset bytes.now)) }
+    ensures ok { OnOk result (items.new.items ≡ bytes_written items.old.items offset bytes.now) }
+    ensures grows { OnErr result (length items.old.items < length (bytes_written items.old.items offset bytes.now)) }
     ensures err { OnErr result (items.new.items ≡ items.old.items) }
 {
     if bytes.is_empty() {
@@ -92,8 +125,8 @@ fn overwrite(items: &mut [u8], offset: usize, bytes: &[u8])
 
 /// Cuts to so many, and gives the memory of the others back, or fills up with zero bytes. A cut doesn't fail.
 pub(crate) fn resize(items: &mut Vec<u8>, size: usize) -> Result<(), AllocError>
-    ensures ok { OnOk result (items.new.items ≡ resized items.old.items size) }
-    ensures grows { OnErr result (length items.old.items < length (resized items.old.items size)) }
+    ensures ok { OnOk result (items.new.items ≡ bytes_resized items.old.items size) }
+    ensures grows { OnErr result (length items.old.items < length (bytes_resized items.old.items size)) }
     ensures err { OnErr result (items.new.items ≡ items.old.items) }
 {
     if size <= items.len() {

@@ -10,7 +10,7 @@ ghost use Rattle.snap_layer.specs.Walk.{entry_of, entry_at, node_of, body_of, co
 ghost use Rattle.snap_layer.specs.Holds.{place};
 ghost use Rattle.snap_layer.specs.Edits.{body_with_mode};
 ghost use Rattle.snap_layer.specs.Counts.{body_blocks};
-ghost use Rattle.snap_layer.specs.Contents.{body_bytes, body_edited, Grows, IsShort};
+ghost use Rattle.snap_layer.specs.Contents.{body_content, body_edited, Grows, IsShort};
 ghost use Rattle.snap_layer.specs.declared.node.Node.{Node as ANode};
 ghost use Rattle.snap_layer.specs.declared.node.Body.{Body as BodyValue};
 
@@ -373,17 +373,17 @@ pub(crate) fn set_body(slots: &mut Slab<Inode>, key: usize, body: Body)
     }
 }
 
-/// Changes the bytes of the leaf with the key in place, and gives the blocks that it took and those that it takes.
+/// Edits the file with the key in place, and gives the blocks that it took and those that it takes.
 pub(crate) fn edit_body(
     slots: &mut Slab<Inode>,
     key: usize,
     edit: Edit<'_>,
 ) -> Result<(u64, u64), AllocError>
-    requires short { IsShort edit }
+    requires short { (b : BodyValue) → body_at slots.old key ≡ Some b → IsShort edit (body_content (Some b)) }
     requires leaf { IsSome (body_at slots.old key) }
     ensures ok { (b : BodyValue) → body_at slots.old key ≡ Some b → OnOk result (Rebodies (view_of slots.old) (view_of slots.new) key (body_edited b edit.entry)) }
     ensures blocks { (b : BodyValue) → body_at slots.old key ≡ Some b → IfOk result (λ n. n ≡ (body_blocks b, body_blocks (body_edited b edit.entry))) }
-    ensures grows { (b : BodyValue) → body_at slots.old key ≡ Some b → OnErr result (Grows edit.entry (body_bytes (Some b))) }
+    ensures grows { (b : BodyValue) → body_at slots.old key ≡ Some b → OnErr result (Grows edit.entry (body_content (Some b))) }
     ensures err { OnErr result (Same (view_of slots.old) (view_of slots.new)) }
 {
     let Some(inode) = slots.get_mut(key) else {

@@ -1,15 +1,18 @@
 // The edits of a layer.
-ghost use Rattle.std.specs.Prelude.{◌≡◌, ◌↔◌, ◌<◌, ◌≤◌, ◌+◌, ◌-◌, ℕ, List, Some, None, is_none, if◌then◌else◌, IfOk, OnOk, OnErr, IsErrOf, IsSome, length, true, false};
+ghost use Rattle.std.specs.Prelude.{◌≡◌, ◌↔◌, ◌<◌, ◌≤◌, ◌+◌, ◌-◌, Some, None, is_none, if◌then◌else◌, IfOk, OnOk, OnErr, IsErrOf, IsSome, ◌∷◌, [], true, false};
+ghost use Rattle.std.specs.Map.{keys_of};
 ghost use Rattle.snap_path.specs.Memory.{no_memory};
 ghost use Rattle.snap_path.specs.Text.{IsPath};
 ghost use Rattle.snap_layer.specs.Tree.{at, body, number_at, IsDirAt, leaf_node};
 ghost use Rattle.snap_layer.specs.Counts.{body_blocks, is_within};
-ghost use Rattle.snap_layer.specs.Contents.{body_bytes, edited, Grows, IsShort};
+ghost use Rattle.snap_layer.specs.Contents.{body_content, edited, Grows, IsContent, IsShort};
 ghost use Rattle.snap_layer.specs.Totals.{path_count, fits, IsRoom};
 ghost use Rattle.snap_layer.specs.Layers.{IsLayer, IsBody, is_target};
-ghost use Rattle.snap_layer.specs.Edits.{with_body, with_entry, with_node, with_new, with_name, name_of, with_bytes, with_mode, with_opaque, with_moved, with_linked, without, HasRoom, HasRooms, HasPlace, IsTakeable, IsMovable, IsRegular, HasMode};
+ghost use Rattle.snap_layer.specs.declared.content.Content.{Content as ContentValue};
+ghost use Rattle.snap_layer.specs.Edits.{with_body, with_entry, with_node, with_new, with_name, name_of, with_filled, with_mode, with_opaque, with_moved, with_linked, with_tree_taken, without, without_tree, inside, HasRoom, HasRooms, HasPlace, IsInnerDir, IsTakeable, IsMovable, IsRegular, HasMode};
 
 use super::bytes::Edit;
+use super::content::Content;
 use super::error::LayerError;
 use super::layer::Layer;
 use super::node::{Body, Bytes, Node};
@@ -39,20 +42,20 @@ impl Layer {
 
     /// Adds a regular file with the next number, in place of what stands at the path, and gives the number.
     ///
-    /// The conditions are those of `has_place`, a mode of at most octal 7777, and at most 1,048,576 bytes.
+    /// The conditions are those of `has_place`, a mode of at most octal 7777, and a content within its limits.
     /// `LayerFull` where the layer would have more than 65,536 inodes, or where the file numbers are used
-    /// up. `OutOfMemory` where memory is refused. After either the layer is as it was, and the bytes are
+    /// up. `OutOfMemory` where memory is refused. After either the layer is as it was, and the content is
     /// gone. Cost: as `at`, and where a directory stands there, its entries.
-    pub fn add_file(&mut self, path: &Path, mode: u32, bytes: Bytes) -> Result<u32, LayerError>
+    pub fn add_file(&mut self, path: &Path, mode: u32, content: Content) -> Result<u32, LayerError>
         requires place { HasPlace self.old path.now }
         requires mode { mode ≤ 4095 }
-        requires size { length bytes ≤ 1048576 }
-        ensures ok { OnOk result (self.new ≡ with_new self.old path.now (Node.File self.old.next) (Body.File mode bytes)) }
+        requires content { IsContent content }
+        ensures ok { OnOk result (self.new ≡ with_new self.old path.now (Node.File self.old.next) (Body.File mode content)) }
         ensures number { IfOk result (λ k. k ≡ self.old.next) }
-        ensures full { IsErrOf result LayerError.LayerFull ↔ (is_within (with_new self.old path.now (Node.File self.old.next) (Body.File mode bytes)) ≡ false) }
+        ensures full { IsErrOf result LayerError.LayerFull ↔ (is_within (with_new self.old path.now (Node.File self.old.next) (Body.File mode content)) ≡ false) }
         ensures err { OnErr result (self.new ≡ self.old) }
     {
-        self.add_body(path, Body::File { mode, bytes })
+        self.add_body(path, Body::File { mode, content })
     }
 
     /// Adds a symlink with the next number, in place of what stands at the path, and gives the number.
@@ -167,6 +170,46 @@ impl Layer {
         };
     }
 
+    /// Takes a directory and all that is below it, and leaves a whiteout in its place where `leaves` says so. A file
+    /// or symlink goes with its last name (unlink(2)), and its number is never given again.
+    ///
+    /// The conditions are that a directory stands there, and that it isn't the root. It fails only where memory is
+    /// refused for a list of the paths below it, and the layer is then as it was. Cost: as `left_without_tree`, and
+    /// the texts of these paths.
+    pub fn take_tree(&mut self, path: &Path, leaves: bool) -> Result<(), AllocError>
+        requires { IsInnerDir self.old path.now }
+        ensures ok { OnOk result (self.new ≡ with_tree_taken self.old path.now leaves) }
+        ensures err { OnErr result (self.new ≡ self.old) }
+    {
+        let _ = &self.is_layer;
+        let paths = self.table.paths_inside(path)?;
+        self.take_below(path, paths);
+        let _ = &self.is_layer;
+        if leaves {
+            let _ = self.add_whiteout(path);
+            return Ok(());
+        }
+        self.take_name(path);
+        Ok(())
+    }
+
+    /// Takes what stands at all of the paths but the first, which is that of a directory; the others are those below it,
+    /// in order.
+    fn take_below(&mut self, path: &Path, mut paths: Vec<Path>)
+        requires paths { paths.items ≡ keys_of (inside path.now self.old.entries) }
+        requires dir { IsDirAt (at self.old path.now) }
+        ensures below { keys_of (inside path.now self.new.entries) ≡ path.now ∷ [] }
+        ensures same { at self.new path.now ≡ at self.old path.now }
+        ensures rest { without_tree self.new path.now ≡ without_tree self.old path.now }
+    {
+        let _ = &self.is_layer;
+        while paths.len() > 1 {
+            if let Some(last) = paths.pop() {
+                self.take_name(&last);
+            }
+        }
+    }
+
     /// Moves what stands at `from`, and all below it, to `to`, in place of what stands there, and leaves a
     /// whiteout at `from` where `leaves` says so (rename(2)).
     ///
@@ -188,14 +231,14 @@ impl Layer {
         Ok(())
     }
 
-    /// Gives a file other bytes, for all its names.
+    /// Gives a file another content, for all its names.
     ///
-    /// The conditions are that the number is a regular file's, and at most 1,048,576 bytes. Takes no
+    /// The conditions are that the number is a regular file's, and a content within its limits. Takes no
     /// memory. Cost: the logarithm of the number of files.
-    pub fn set_bytes(&mut self, number: u32, bytes: Bytes)
+    pub fn set_content(&mut self, number: u32, content: Content)
         requires file { IsRegular (body self.old number) }
-        requires size { length bytes ≤ 1048576 }
-        ensures { self.new ≡ with_bytes self.old number (body self.old number) bytes }
+        requires content { IsContent content }
+        ensures { self.new ≡ with_filled self.old number (body self.old number) content }
     {
         let Some(old) = self.body(number) else {
             return;
@@ -203,27 +246,27 @@ impl Layer {
         let freed = old.blocks();
         if let Body::File { mode, .. } = old {
             let mode = *mode;
-            self.fill(number, mode, freed, bytes);
+            self.fill(number, mode, freed, content);
         }
     }
 
-    /// Changes the bytes of a file in place, for all its names.
+    /// Edits a file in place, for all its names.
     ///
-    /// The conditions are that the number is a regular file's, and that what is written ends at 1,048,576 bytes at
+    /// The conditions are that the number is a regular file's, and that what is written ends at its `most_bytes` at
     /// the most, or that the file is to have at most so many. It fails only where memory for more bytes is refused,
-    /// and the layer is then as it was: a write within the file's size takes none, and a cut gives some back. Cost:
-    /// the logarithm of the number of files, and the bytes that are written; where the file grows, in one growth
-    /// of several also its bytes; where it is cut, those that are left.
-    pub fn edit_bytes(&mut self, number: u32, edit: Edit<'_>) -> Result<(), AllocError>
+    /// and the layer is then as it was: a write within the file's size takes none, a cut gives some back, and a file
+    /// of a size takes none. Cost: the logarithm of the number of files, and the bytes that are written; where the
+    /// file grows, in one growth of several also its bytes; where it is cut, those that are left.
+    pub fn edit_content(&mut self, number: u32, edit: Edit<'_>) -> Result<(), AllocError>
         requires file { IsRegular (body self.old number) }
-        requires short { IsShort edit }
-        ensures ok { OnOk result (self.new ≡ with_bytes self.old number (body self.old number) (edited edit.entry (body_bytes (body self.old number)))) }
+        requires short { IsShort edit (body_content (body self.old number)) }
+        ensures ok { OnOk result (self.new ≡ with_filled self.old number (body self.old number) (edited edit.entry (body_content (body self.old number)))) }
         // Only a growth takes memory.
-        ensures grows { OnErr result (Grows edit.entry (body_bytes (body self.old number))) }
+        ensures grows { OnErr result (Grows edit.entry (body_content (body self.old number))) }
         ensures err { OnErr result (self.new ≡ self.old) }
     {
         let _ = &self.is_layer;
-        let (freed, taken) = self.table.edit_bytes(number, edit)?;
+        let (freed, taken) = self.table.edit_content(number, edit)?;
         self.totals.blocks = self.totals.blocks - freed + taken;
         Ok(())
     }
@@ -270,7 +313,7 @@ impl Layer {
         inodes: usize,
         blocks: u64,
     ) -> Result<Totals, LayerError>
-        requires { blocks ≤ 256 }
+        requires { blocks ≤ 268435456 }
         ensures room { IfOk result (λ v. IsRoom v self.now path.now inodes blocks) }
         ensures fits { OnOk result (fits self.now path.now numbers inodes ≡ true) }
         ensures full { IsErrOf result LayerError.LayerFull ↔ (fits self.now path.now numbers inodes ≡ false) }
@@ -313,14 +356,14 @@ impl Layer {
         self.table.set_dir(path, mode, opaque);
     }
 
-    /// Gives the file with the number, which has the mode and takes so many blocks, other bytes.
-    fn fill(&mut self, number: u32, mode: u32, freed: u64, bytes: Bytes)
-        requires there { (old : List ℕ) × (freed ≡ body_blocks (Body.File mode old)) × (body self.old number ≡ Some (Body.File mode old)) }
-        requires size { length bytes ≤ 1048576 }
-        ensures { self.new ≡ with_body self.old number (Body.File mode bytes) }
+    /// Gives the file with the number, which has the mode and takes so many blocks, another content.
+    fn fill(&mut self, number: u32, mode: u32, freed: u64, content: Content)
+        requires there { (old : ContentValue) × (freed ≡ body_blocks (Body.File mode old)) × (body self.old number ≡ Some (Body.File mode old)) }
+        requires content { IsContent content }
+        ensures { self.new ≡ with_body self.old number (Body.File mode content) }
     {
         let _ = &self.is_layer;
-        let new = Body::File { mode, bytes };
+        let new = Body::File { mode, content };
         let blocks = self.totals.blocks - freed + new.blocks();
         self.table.set_body(number, new);
         self.totals.blocks = blocks;

@@ -4,10 +4,10 @@ ghost use Rattle.std.specs.Option.{option_copied};
 ghost use Rattle.std.specs.List.{sum_by};
 ghost use Rattle.std.specs.Map.{keys_of, values_of};
 ghost use Rattle.snap_path.specs.Text.{Names, IsPath, text_below};
-ghost use Rattle.snap_layer.specs.Tree.{at, body, names_below, number_of};
+ghost use Rattle.snap_layer.specs.Tree.{at, body, names_below, number_of, IsDirAt};
 ghost use Rattle.snap_layer.specs.Counts.{dir_count, whiteout_count, name_count, inode_count, block_count, body_blocks};
 ghost use Rattle.snap_layer.specs.Layers.{IsLayer};
-ghost use Rattle.snap_layer.specs.Edits.{root_only, without, HasParent, HasRoom, HasRooms, HasPlace, IsTakeable, IsMovable};
+ghost use Rattle.snap_layer.specs.Edits.{root_only, without, without_tree, HasParent, HasRoom, HasRooms, HasPlace, IsTakeable, IsMovable};
 
 use super::dir::Dir;
 use super::node::{Body, Node};
@@ -192,6 +192,29 @@ impl Layer {
         let node = self.at(path);
         let (dirs, whiteouts) = self.table.tally_inside(path.names(), node);
         let (files, freed) = self.last_body(path, node);
+        (
+            self.totals.inodes - dirs - whiteouts - files,
+            self.totals.blocks - dirs as u64 - freed,
+        )
+    }
+
+    /// The inodes and the blocks that are left where the directory at the path and all below it is taken. A file or
+    /// symlink goes where it has no name elsewhere (unlink(2)).
+    ///
+    /// The condition is that a directory stands there. Takes no memory. Cost: as `at`, and the number of paths below
+    /// it times the logarithm of a directory's entries, once more for each name there of a file that has several.
+    pub fn left_without_tree(&self, path: &Path) -> (usize, u64)
+        requires { IsDirAt (at self.now path.now) }
+        ensures inodes { result.0 ≡ inode_count (without_tree self.now path.now) }
+        ensures blocks { result.1 ≡ block_count (without_tree self.now path.now) }
+        ensures fewer { result.0 + 1 ≤ inode_count self.now }
+        ensures path { IsPath path.now }
+    {
+        let _ = &self.is_layer;
+        let node = self.at(path);
+        let (dirs, whiteouts) = self.table.tally_inside(path.names(), node);
+        let bound = self.totals.paths;
+        let (files, freed) = self.table.ended_below(path.names(), bound);
         (
             self.totals.inodes - dirs - whiteouts - files,
             self.totals.blocks - dirs as u64 - freed,

@@ -9,6 +9,7 @@
 #![tactic(auto)]
 
 mod bytes;
+mod content;
 mod dir;
 mod edit;
 mod edits;
@@ -23,6 +24,7 @@ mod totals;
 mod walk;
 
 pub use bytes::Edit;
+pub use content::Content;
 pub use dir::Dir;
 pub use error::LayerError;
 pub use layer::Layer;

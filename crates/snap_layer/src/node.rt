@@ -1,13 +1,14 @@
-ghost use Rattle.std.specs.Prelude.{◌≡◌, List, ℕ, IfOk, OnOk, OnErr, length};
-ghost use Rattle.snap_layer.specs.Counts.{blocks_of, body_blocks};
-ghost use Rattle.snap_layer.specs.Contents.{edited, body_bytes, body_edited, Grows, IsShort};
+ghost use Rattle.std.specs.Prelude.{◌≡◌, List, ℕ, IfOk, OnOk, OnErr};
+ghost use Rattle.snap_layer.specs.Counts.{body_blocks};
+ghost use Rattle.snap_layer.specs.Contents.{edited, body_content, body_edited, Grows, IsShort};
+ghost use Rattle.snap_layer.specs.declared.content.Content.TheVariants as content_kinds;
 
 use super::bytes::{Edit, put_at, resize};
-use snap_path::limits::BLOCK_BYTES;
+use super::content::Content;
 use std::alloc::{AllocError, Global};
 use std::marker::Model;
 
-/// The bytes of a file, or the target of a symlink.
+/// The bytes of a file, its digest, or the target of a symlink.
 #[derive(Debug)]
 pub struct Bytes {
     items: Vec<u8>,
@@ -51,18 +52,11 @@ impl Bytes {
         self.items.as_slice()
     }
 
-    /// The blocks of 4096 bytes that they take.
-    pub(crate) fn blocks(&self) -> u64
-        ensures { result ≡ blocks_of (length self.now) }
-    {
-        (self.items.len() as u64).div_ceil(BLOCK_BYTES)
-    }
-
     /// Changes the bytes in place. Only a growth takes memory, and nothing changes before it is there.
     pub(crate) fn edit(&mut self, edit: Edit<'_>) -> Result<(), AllocError>
-        requires { IsShort edit }
-        ensures ok { OnOk result (self.new ≡ edited edit.entry self.old) }
-        ensures grows { OnErr result (Grows edit.entry self.old) }
+        requires { IsShort edit (content_kinds.Bytes self.old) }
+        ensures ok { OnOk result (content_kinds.Bytes self.new ≡ edited edit.entry (content_kinds.Bytes self.old)) }
+        ensures grows { OnErr result (Grows edit.entry (content_kinds.Bytes self.old)) }
         ensures err { OnErr result (self.new ≡ self.old) }
     {
         match edit {
@@ -195,8 +189,8 @@ impl Eq for Node {
 /// A file or a symlink, apart from its names.
 #[derive(Clone, Debug, Drop)]
 pub enum Body {
-    /// A regular file: a mode of at most octal 7777, and at most 1,048,576 bytes.
-    File { mode: u32, bytes: Bytes },
+    /// A regular file: a mode of at most octal 7777, and what it has.
+    File { mode: u32, content: Content },
     /// A symlink, with a target of 1 to 4095 bytes without NUL.
     Symlink { target: Bytes },
 }
@@ -211,7 +205,7 @@ impl Body {
         ensures { result ≡ body_blocks self.now }
     {
         match self {
-            Body::File { bytes, .. } => bytes.blocks(),
+            Body::File { content, .. } => content.blocks(),
             Body::Symlink { .. } => 0,
         }
     }
@@ -226,19 +220,19 @@ impl Body {
         }
     }
 
-    /// Changes the bytes of a file in place, and gives the blocks that it took and those that it takes.
+    /// Edits a file in place, and gives the blocks that it took and those that it takes.
     pub(crate) fn edit(&mut self, edit: Edit<'_>) -> Result<(u64, u64), AllocError>
-        requires { IsShort edit }
+        requires { IsShort edit (body_content (Some self.old)) }
         ensures ok { OnOk result (self.new ≡ body_edited self.old edit.entry) }
         ensures blocks { IfOk result (λ b. b ≡ (body_blocks self.old, body_blocks (body_edited self.old edit.entry))) }
-        ensures grows { OnErr result (Grows edit.entry (body_bytes (Some self.old))) }
+        ensures grows { OnErr result (Grows edit.entry (body_content (Some self.old))) }
         ensures err { OnErr result (self.new ≡ self.old) }
     {
         match self {
-            Body::File { bytes, .. } => {
-                let freed = bytes.blocks();
-                bytes.edit(edit)?;
-                Ok((freed, bytes.blocks()))
+            Body::File { content, .. } => {
+                let freed = content.blocks();
+                content.edit(edit)?;
+                Ok((freed, content.blocks()))
             }
             Body::Symlink { .. } => Ok((0, 0)),
         }
@@ -257,12 +251,12 @@ impl PartialEq for Body {
     fn eq(&self, other: &Body) -> bool {
         match (self, other) {
             (
-                Body::File { mode, bytes },
+                Body::File { mode, content },
                 Body::File {
                     mode: other,
-                    bytes: others,
+                    content: others,
                 },
-            ) => *mode == *other && bytes == others,
+            ) => *mode == *other && content == others,
             (Body::Symlink { target }, Body::Symlink { target: other }) => target == other,
             _ => false,
         }

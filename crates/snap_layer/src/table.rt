@@ -4,7 +4,7 @@ ghost use Rattle.std.specs.Option.{option_copied};
 ghost use Rattle.std.specs.Map.{keys_of};
 ghost use Rattle.snap_layer.specs.Tree.{Tree, at, body, number_at, IsDirAt, leaf_node};
 ghost use Rattle.snap_layer.specs.Counts.{name_count, body_blocks};
-ghost use Rattle.snap_layer.specs.Contents.{body_bytes, body_edited, Grows, IsShort};
+ghost use Rattle.snap_layer.specs.Contents.{body_content, body_edited, Grows, IsShort};
 ghost use Rattle.snap_layer.specs.Layers.{IsLayer, IsFile};
 ghost use Rattle.snap_layer.specs.Edits.{root_only, with_body, with_entry, with_node, with_new, without, with_moved, with_file_mode, with_linked, HasPlace, HasRooms, IsTakeable, IsFree, HasParent, IsMovable};
 ghost use Rattle.snap_layer.specs.declared.node.Body.{Body as BodyValue};
@@ -324,14 +324,13 @@ impl Table {
         set_mode(&mut self.slots, key, mode);
     }
 
-    /// Changes the bytes of the file with the number in place, and gives the blocks that it took and those that it
-    /// takes.
-    pub fn edit_bytes(&mut self, number: u32, edit: Edit<'_>) -> Result<(u64, u64), AllocError>
+    /// Edits the file with the number in place, and gives the blocks that it took and those that it takes.
+    pub fn edit_content(&mut self, number: u32, edit: Edit<'_>) -> Result<(u64, u64), AllocError>
         requires file { IsFile (body self.old number) }
-        requires short { IsShort edit }
+        requires short { IsShort edit (body_content (body self.old number)) }
         ensures ok { (b : BodyValue) → body self.old number ≡ Some b → OnOk result (self.new ≡ with_body self.old number (body_edited b edit.entry)) }
         ensures blocks { (b : BodyValue) → body self.old number ≡ Some b → IfOk result (λ n. n ≡ (body_blocks b, body_blocks (body_edited b edit.entry))) }
-        ensures grows { OnErr result (Grows edit.entry (body_bytes (body self.old number))) }
+        ensures grows { OnErr result (Grows edit.entry (body_content (body self.old number))) }
         ensures err { OnErr result (self.new ≡ self.old) }
     {
         let _ = &self.slots;

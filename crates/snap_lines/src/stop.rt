@@ -1,22 +1,22 @@
 ghost use Rattle.std.specs.Prelude.{◌≡◌, Some};
 ghost use Rattle.snap_path.specs.Memory.{no_memory};
-ghost use Rattle.snap_lines.specs.Words.{status_of};
+ghost use Rattle.snap_lines.specs.Words.{fault_status, status_of};
 
 use snap_script::{Fault, Shortage};
 use std::alloc::{AllocError, AllocFailed};
 use std::fmt;
 
 /// The line, counted from 1 with the empty ones, and what is wrong with it.
-#[derive(Clone, Copy, Debug, PartialEq, Eq)]
+#[derive(Debug, PartialEq, Eq, Drop)]
 pub struct LineFault {
     pub line: u64,
     pub cause: Fault,
 }
 
 /// Why a run ended before the end of its input.
-#[derive(Clone, Copy, Debug, PartialEq, Eq)]
+#[derive(Debug, PartialEq, Eq, Drop)]
 pub enum Stop {
-    /// A line is no command.
+    /// A line is no command, or its command was refused where the run ends at that.
     Line(LineFault),
     /// A read failed, or there were more reads than were allowed.
     InputFailed,
@@ -50,13 +50,31 @@ impl<T: Drop> From<AllocFailed<T>> for Stop {
     }
 }
 
+// The status of a program that ends at a line of this fault.
+fn fault_status(fault: &Fault) -> u8
+    ensures { result ≡ fault_status fault.now }
+{
+    match fault {
+        Fault::Refused(_) => 5,
+        Fault::TooLong
+        | Fault::NotJson
+        | Fault::NotAnObject
+        | Fault::FirstLineMustBeOpen
+        | Fault::OpenTwice
+        | Fault::NoSuchCommand
+        | Fault::UnknownField(_)
+        | Fault::BadField(_) => 2,
+    }
+}
+
 impl Stop {
-    /// The status of a program that ends with it: 2 for a line, 3 for a read or a write, 4 for memory.
-    pub fn status(self) -> u8
-        ensures { result ≡ status_of self }
+    /// The status of a program that ends with it: 2 for a line's fault, 3 for a read or a write, 4 for memory, 5 for a
+    /// command that was refused.
+    pub fn status(&self) -> u8
+        ensures { result ≡ status_of self.now }
     {
         match self {
-            Stop::Line(_) => 2,
+            Stop::Line(fault) => fault_status(&fault.cause),
             Stop::InputFailed | Stop::OutputFailed => 3,
             Stop::OutOfMemory(_) => 4,
         }
@@ -88,7 +106,7 @@ impl fmt::Display for LineFault {
     ghost output = { λ s. Some (line_words s) };
 
     fn fmt<W: fmt::Write>(&self, f: &mut fmt::Formatter<W>) -> fmt::Result {
-        let (line, cause) = (self.line, self.cause);
+        let (line, cause) = (self.line, &self.cause);
         write!(f, "line {line}: {cause}")
     }
 }

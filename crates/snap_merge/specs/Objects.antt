@@ -2,6 +2,7 @@
 -- Cited by `show_are_layers`, `is_dir`, `hides` and others.
 use Rattle.std.specs.Prelude.{ℕ, Bool, true, false, List, [], ◌∷◌, Option, Some, None, if◌then◌else◌}
 use Rattle.snap_path.specs.Text.{Names}
+use Rattle.snap_layer.specs.declared.content.Content.{Content}
 use Rattle.snap_layer.specs.declared.node.Node.{Node}
 use Rattle.snap_layer.specs.declared.node.Node.TheVariants.{Dir, File, Symlink, Whiteout}
 use Rattle.snap_layer.specs.declared.node.Body.{Body}
@@ -11,22 +12,22 @@ use Rattle.snap_layer.specs.Layers.{IsLayer}
 use Rattle.snap_merge.specs.declared.look.Seen.{Seen}
 use Rattle.snap_merge.specs.declared.look.Seen.TheVariants as seen_kinds
 
--- a directory with its mode, a regular file with its mode and bytes, or a symlink with its target
+-- a directory with its mode, a regular file with its mode and content, or a symlink with its target
 pub data Object : Type 0 where
   dir : ℕ → Object
-  file : ℕ → List ℕ → Object
+  file : ℕ → Content → Object
   symlink : List ℕ → Object
 
 -- the object of what a call answers
 abbrev pub object : Seen → Object
 object (seen_kinds.Dir mode) = dir mode
-object (seen_kinds.File mode bytes) = file mode bytes.now
+object (seen_kinds.File mode content) = file mode content.now
 object (seen_kinds.Symlink target) = symlink target.now
 
 -- the object of a body, if there is one
 abbrev pub shown_body : Option Body → Option Object
 shown_body None = None
-shown_body (Some (body_kinds.File mode bytes)) = Some (file mode bytes)
+shown_body (Some (body_kinds.File mode content)) = Some (file mode content)
 shown_body (Some (body_kinds.Symlink target)) = Some (symlink target)
 
 -- what a layer's node shows; a whiteout shows nothing (overlayfs.rst, "whiteouts and opaque directories")

@@ -7,16 +7,16 @@ ghost use Rattle.snap_merge.specs.Reach.{Begun, Reached, Steps, Traced};
 ghost use Rattle.snap_merge.specs.Shares.{Shares};
 ghost use Rattle.snap_merge.specs.Rules.{LayerRules};
 
-use snap_layer::{Body, Dir, Layer, Node, Shared};
+use snap_layer::{Body, Content, Dir, Layer, Node, Shared};
 use snap_path::{Name, Path};
 
-/// What is seen at a path. Bytes and targets are lent by the layer that has them.
+/// What is seen at a path. Contents and targets are lent by the layer that has them.
 #[derive(Clone, Copy, Debug)]
 pub enum Seen<'a> {
     /// A directory. Where several layers have it, the mode is the topmost one's.
     Dir { mode: u32 },
     /// A regular file.
-    File { mode: u32, bytes: &'a [u8] },
+    File { mode: u32, content: &'a Content },
     /// A symlink.
     Symlink { target: &'a [u8] },
 }
@@ -232,9 +232,9 @@ fn shown_body<'a>(layer: &'a Layer, number: u32) -> Option<Seen<'a>>
     ensures { option_map object result ≡ shown_body (body layer.now number) }
 {
     match layer.body(number)? {
-        Body::File { mode, bytes } => Some(Seen::File {
+        Body::File { mode, content } => Some(Seen::File {
             mode: *mode,
-            bytes: bytes.as_slice(),
+            content,
         }),
         Body::Symlink { target } => Some(Seen::Symlink {
             target: target.as_slice(),

@@ -15,7 +15,7 @@ use super::error::FsError;
 use super::look::{Reach, Seen, Step, is_dir, reach_below, show_are_layers, step_through};
 use super::names::{put_layer, put_layers, put_some};
 use super::resolve::{check_plain, resolve};
-use snap_layer::{Layer, Shared};
+use snap_layer::{Content, Layer, Shared};
 use snap_path::{Name, Path, PathError};
 use std::alloc::{AllocError, Global};
 use std::collections::BTreeSet;
@@ -61,7 +61,7 @@ impl<'a> Stack<'a> {
         Stack { top: None, lowers }
     }
 
-    /// What is seen at the path, or nothing. No symlink is followed. Bytes and targets are lent by the
+    /// What is seen at the path, or nothing. No symlink is followed. Contents and targets are lent by the
     /// layer that has them.
     ///
     /// Takes no memory. Cost: for each layer down to the one that decides, and each name of the path that it has,
@@ -127,7 +127,7 @@ impl<'a> Stack<'a> {
         Ok(())
     }
 
-    /// Walks to the path as [`walk`](Stack::walk) does, and answers what is seen there, or nothing. Bytes and
+    /// Walks to the path as [`walk`](Stack::walk) does, and answers what is seen there, or nothing. Contents and
     /// targets are lent by the layer that has them.
     ///
     /// Errors and cost are those of `walk`. Takes no memory.
@@ -149,16 +149,16 @@ impl<'a> Stack<'a> {
         }
     }
 
-    /// The bytes of the file at the path, lent by the layer that has them.
+    /// The content of the file at the path, lent by the layer that has it.
     ///
     /// The errors of the walk come first; then `NotFound` where nothing is seen, `IsDir` at a
     /// directory, and `Invalid` at a symlink, which isn't followed. Takes no memory. Cost: that of a look.
-    pub fn read(&self, path: &Path) -> Result<&'a [u8], FsError>
-        ensures ok { IfOk result (λ bytes. reading self.now path.now ≡ Ok bytes.now) }
+    pub fn read(&self, path: &Path) -> Result<&'a Content, FsError>
+        ensures ok { IfOk result (λ content. reading self.now path.now ≡ Ok content.now) }
         ensures err { IfErr result (λ e. reading self.now path.now ≡ Err e) }
     {
         match self.walk_to(path)? {
-            Some(Seen::File { bytes, .. }) => Ok(bytes),
+            Some(Seen::File { content, .. }) => Ok(content),
             Some(Seen::Dir { .. }) => Err(FsError::IsDir),
             Some(Seen::Symlink { .. }) => Err(FsError::Invalid),
             None => Err(FsError::NotFound),

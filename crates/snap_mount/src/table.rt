@@ -1,7 +1,7 @@
-ghost use Rattle.std.specs.Prelude.{◌≡◌, ◌≢◌, ◌++◌, ◌∷◌, [], ◌<◌, not, length, true, IfOk, codes, string_bytes};
+ghost use Rattle.std.specs.Prelude.{◌≡◌, ◌≢◌, ◌∷◌, [], ◌<◌, true, IfOk};
 ghost use Rattle.std.specs.List.{list_any};
 ghost use Rattle.snap_record.specs.declared.kind.Kind.TheVariants.{Committed};
-ghost use Rattle.snap_mount.specs.Mounts.{is_mark, is_root_text, layer_dir, lower_dirs, workdir, upperdir, lowerdir, bind_mount, overlay_mount, mounts_of};
+ghost use Rattle.snap_mount.specs.Mounts.{is_mark, is_root_text, layer_dir, workdir, upperdir, lowerdir, bind_mount, overlay_mount, mounts_of};
 
 use crate::mount::{Mount, MountKind};
 use snap_record::{Kind, Sequence, Text};

@@ -18,8 +18,14 @@ pub const MAX_MODE: u32 = 0o7777;
 /// The mode of a directory where none is given: octal 777 less the usual umask, 022 (umask(2)).
 pub const DEFAULT_MODE: u32 = 0o755;
 
-/// The most bytes of a regular file: a limit of this project.
+/// The most bytes of a regular file whose bytes are kept: a limit of this project.
 pub const MAX_FILE_BYTES: u64 = 1_048_576;
+
+/// The most bytes of a regular file whose size alone is kept, 2^40: a limit of this project.
+pub const MAX_SIZED_BYTES: u64 = 1_099_511_627_776;
+
+/// The most bytes of the digest of such a file: a limit of this project.
+pub const MAX_DIGEST_BYTES: usize = 1024;
 
 /// The most inodes of a layer: a limit of this project.
 pub const MAX_INODES: usize = 65_536;

@@ -1,8 +1,7 @@
-ghost use Rattle.std.specs.Prelude.{◌≡◌, [], ℕ, List, length, option_copied, IsTrue, ◌↔◌, OnOk, OnErr, IfOk, bytes_eq, ◌<◌, ◌^◌};
+ghost use Rattle.std.specs.Prelude.{◌≡◌, [], ℕ, List, length, option_copied, IsTrue, ◌↔◌, OnOk, OnErr, IfOk, ◌<◌, ◌^◌};
 ghost use Rattle.std.specs.List.{list_all};
-ghost use Rattle.std.specs.Map.{lookup};
 ghost use Rattle.std.specs.Map.Iter.{ShowsInOrder, ShowsValuesInOrder, deref_pair};
-ghost use Rattle.snap_record.specs.Labels.{Label, value_of, with_label, without_label, is_label, are_labels, HasDistinctKeys};
+ghost use Rattle.snap_record.specs.Labels.{value_of, with_label, without_label, is_label, are_labels, HasDistinctKeys};
 
 use crate::text::Text;
 use indexmap::IndexMap;

@@ -2,16 +2,17 @@
 -- Cited by invariants and private clauses alone.
 use Rattle.std.specs.Prelude.{ℕ, List, Option, None, Result, Ok, Err}
 use Rattle.snap_lines.specs.Transcripts.{Tells}
+use Rattle.snap_session.specs.declared.run.RunOptions.{RunOptions}
 use Rattle.snap_session.specs.Script.{script, HasStopped}
 use Rattle.snap_session.specs.Service.{service, HasStoppedServing}
 use Rattle.snap_jobs.specs.declared.stop.JobsStop.{JobsStop}
 use Rattle.snap_jobs.specs.declared.stop.JobsStop.TheVariants.{Lines, NotClosed}
 
--- what was written where a replay of these bytes ended so: the text of the script, or that of whole lines of it
-abbrev pub HasReplayed : List ℕ → Option (List ℕ) → Result (Unit {0}) JobsStop → Option (List ℕ) → Option (List ℕ) → Type 0
-HasReplayed bytes left (Ok done) before after = Tells (script bytes) None before after
-HasReplayed bytes left (Err (Lines stop)) before after = HasStopped bytes left stop before after
-HasReplayed bytes left (Err NotClosed) before after = ⊥
+-- what was written where a replay of these bytes, run so, ended so: the text of the script, or that of whole lines of it
+abbrev pub HasReplayed : RunOptions → List ℕ → Option (List ℕ) → Result (Unit {0}) JobsStop → Option (List ℕ) → Option (List ℕ) → Type 0
+HasReplayed options bytes left (Ok done) before after = Tells (script options bytes) None before after
+HasReplayed options bytes left (Err (Lines stop)) before after = HasStopped options bytes left stop before after
+HasReplayed options bytes left (Err NotClosed) before after = ⊥
 
 -- the same of a server
 abbrev pub HasServed : List ℕ → Option (List ℕ) → Result (Unit {0}) JobsStop → Option (List ℕ) → Option (List ℕ) → Type 0

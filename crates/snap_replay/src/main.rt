@@ -14,8 +14,8 @@ use clap::error::ErrorKind as WordsErrorKind;
 use clap::{Arg, ArgAction, ArgMatches, Command, Error, value_parser};
 use snap_jobs::{JobsStop, MAX_WORKERS, write_jobs};
 use snap_lines::Stop;
-use snap_script::Shortage;
-use snap_session::{replay, serve};
+use snap_script::{FieldRule, Shortage};
+use snap_session::{RunOptions, replay, serve};
 use std::alloc::Global;
 use std::io::{BufWriter, ErrorKind, Read, Write};
 use std::process::ExitCode;
@@ -37,10 +37,11 @@ fn replay_from<R: Read, W: Write>(
     alloc: Global,
     input: &mut R,
     output: &mut W,
+    options: RunOptions,
 ) -> Result<(), JobsStop>
-    ensures { IfSome (R.remaining input.old) (λ bytes. HasReplayed bytes (R.remaining input.new) result (W.contents output.old) (W.contents output.new)) }
+    ensures { IfSome (R.remaining input.old) (λ bytes. HasReplayed options bytes (R.remaining input.new) result (W.contents output.old) (W.contents output.new)) }
 {
-    match replay(alloc, input, output) {
+    match replay(alloc, input, output, options) {
         Ok(()) => Ok(()),
         Err(stop) => Err(JobsStop::Lines(stop)),
     }
@@ -60,13 +61,13 @@ fn serve_from<R: Read, W: Write>(
     }
 }
 
-fn replayed<T: Input + Print + AllocGlobal>(rt: &T) -> Result<(), JobsStop> {
+fn replayed<T: Input + Print + AllocGlobal>(rt: &T, options: RunOptions) -> Result<(), JobsStop> {
     let alloc = rt.alloc();
     let mut input = rt.reader();
     let Ok(mut output) = BufWriter::new(alloc, io::writer(rt)) else {
         return Err(WANT_OF_MEMORY);
     };
-    replay_from(alloc, &mut input, &mut output)
+    replay_from(alloc, &mut input, &mut output, options)
 }
 
 fn lines_served<T: Input + Print + AllocGlobal>(rt: &T) -> Result<(), JobsStop> {
@@ -99,7 +100,7 @@ fn status<T: Eprint>(rt: &T, ended: Result<(), JobsStop>) -> u8
     match ended {
         Ok(()) => 0,
         Err(stop) => {
-            let _ = rt.eprintln(stop);
+            let _ = rt.eprintln(&stop);
             stop.status()
         }
     }
@@ -127,7 +128,7 @@ fn words_of(rt: &HostRuntime) -> Result<Vec<String>, u8> {
 #[derive(Clone, Copy, Debug, PartialEq, Eq)]
 enum Task {
     // Replay the script on standard input.
-    Run,
+    Run { options: RunOptions },
     // Answer each line on standard input.
     Serve,
     // Run the jobs on standard input by so many workers, 1 to 16.
@@ -137,17 +138,22 @@ enum Task {
 // The option that says how many workers there are.
 const WORKERS: &str = "workers";
 
+// The option of `run` by which unknown fields are faults, and the one by which it ends at the first refusal.
+const STRICT: &str = "strict";
+
+const STOP: &str = "stop";
+
 // What goes in and out of `run`. The last line works as it stands.
 const RUN_HELP: &str =
     r#"In: a JSON object a line. The first opens a store, as below; docs/SCRIPT.md has them all.
 Out: a JSON object for each; {"error":NAME,"from":WHERE} where it is refused.
-Status: 0 done, 2 bad words or a bad line, 3 a read or a write failed, 4 want of memory.
+Status: 0 done, 2 bad words or a bad line, 3 a read or a write failed, 4 want of memory, 5 refused (--stop).
 Example:
   printf '%s\n' '{"do":"open","root":"/r","namespaces":[["a",9,9]]}' '{"do":"report"}' | snap_replay run"#;
 
 // The same for `serve`.
 const SERVE_HELP: &str =
-    r#"In: a JSON object a line, as run reads them; `id`, a text or a number, may stand in each.
+    r#"In: a JSON object a line, as run --strict reads them; `id`, a text or a number, may stand in each.
 Out: a line for each, in order, before the next is read: its answer, {"fault":WORDS,"line":N} where it is
 no command, {"empty":true} where it is empty; with an id {"answer":ANSWER,"id":ID}.
 Status: 0 at the end of the input, 2 bad words, 3 a read or a write failed, 4 want of memory.
@@ -162,10 +168,25 @@ Status: as of run, and 5 where the store could not be closed.
 Example:
   printf '%s\n' '{"do":"open","root":"/r","namespaces":[["a",9,9]]}' '{"ns":"a","key":"k","parent":"","ops":[],"end":"discard"}' | snap_replay writers --workers 2"#;
 
-fn command<'a>(alloc: Global) -> Result<Command<'a>, Error> {
+// The command `run`.
+fn run_command<'a>(alloc: Global) -> Result<Command<'a>, Error> {
+    let strict = Arg::new(alloc, STRICT)
+        .long(STRICT)
+        .help("A field that a command doesn't have is a fault")
+        .action(ArgAction::SetTrue);
+    let stop = Arg::new(alloc, STOP)
+        .long(STOP)
+        .help("Ends at the first refusal, with status 5")
+        .action(ArgAction::SetTrue);
     let run = Command::new(alloc, "run")
         .about("Replays a script: reads a command a line, writes an answer a line")
-        .after_help(RUN_HELP);
+        .after_help(RUN_HELP)
+        .arg(strict)?
+        .arg(stop)?;
+    Ok(run)
+}
+
+fn command<'a>(alloc: Global) -> Result<Command<'a>, Error> {
     let serve = Command::new(alloc, "serve")
         .about(
             "Serves a client: reads a command a line, answers every line and goes on after faults",
@@ -186,7 +207,7 @@ fn command<'a>(alloc: Global) -> Result<Command<'a>, Error> {
         .about("A container snapshotter with an exact usage ledger")
         .version(VERSION)
         .subcommand_required(true)
-        .subcommand(run)?
+        .subcommand(run_command(alloc)?)?
         .subcommand(serve)?
         .subcommand(writers)?;
     Ok(program)
@@ -201,12 +222,26 @@ fn task_of(alloc: Global, words: &[String]) -> Result<Option<Task>, Error>
     Ok(chosen(&matches))
 }
 
+// How the words want a script to be run.
+fn run_options(words: &ArgMatches<'_>) -> RunOptions {
+    RunOptions {
+        fields: if words.get_flag(STRICT) {
+            FieldRule::Known
+        } else {
+            FieldRule::Any
+        },
+        stops_at_refusal: words.get_flag(STOP),
+    }
+}
+
 // The task, where the words have one; those that clap has let through do.
 fn chosen(matches: &ArgMatches<'_>) -> Option<Task>
     ensures { IfSome result IsTask }
 {
     match matches.subcommand() {
-        Some(("run", _)) => Some(Task::Run),
+        Some(("run", own)) => Some(Task::Run {
+            options: run_options(own),
+        }),
         Some(("serve", _)) => Some(Task::Serve),
         Some(("writers", own)) => {
             let workers = own.get_one::<u32>(WORKERS)?;
@@ -225,7 +260,7 @@ fn run<T: Threads + Wait + Sync + Input + Print + Eprint + AllocGlobal>(
     words: &[String],
 ) -> u8 {
     match task_of(rt.alloc(), words) {
-        Ok(Some(Task::Run)) => status(rt, replayed(rt)),
+        Ok(Some(Task::Run { options })) => status(rt, replayed(rt, options)),
         Ok(Some(Task::Serve)) => status(rt, lines_served(rt)),
         Ok(Some(Task::Writers { workers })) => status(rt, jobs_written(rt, workers)),
         Ok(None) => {

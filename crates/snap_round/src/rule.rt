@@ -1,5 +1,4 @@
 // A round, what a seat knows of it, the rule over all views, and what each step tells.
-ghost use Rattle.std.specs.Prelude.{◌≡◌};
 
 use crate::name::KnownRound;
 use atomic_table::{Join, Play, Split, Table, TableRule};

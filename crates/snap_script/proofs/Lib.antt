@@ -2,3 +2,4 @@ pub mod Items
 pub mod Texts
 pub mod LineValues
 pub mod Maps
+pub mod UnknownFields

@@ -24,6 +24,7 @@ use Rattle.snap_merge.specs.declared.error.FsError.{FsError}
 use Rattle.snap_merge.specs.declared.error.FsError.TheVariants as errors
 use Rattle.snap_script.specs.declared.answer.Shown.{Shown}
 use Rattle.snap_script.specs.declared.answer.Shown.TheVariants as shown
+use Rattle.snap_script.specs.declared.answer.QuotaInfo.{QuotaInfo}
 use Rattle.snap_script.specs.declared.answer.TreeNode.{TreeNode}
 use Rattle.snap_script.specs.declared.answer.Answer.{Answer}
 use Rattle.snap_script.specs.declared.answer.Answer.TheVariants as answers
@@ -108,11 +109,23 @@ error_data name from = object (member (codes "error") (string name) (only (codes
 abbrev pub text_data : List ℕ → Data
 text_data bytes = if is_utf8 bytes then string bytes else null
 
--- what a snapshot shows: null for nothing; a directory's mode; a file's mode and bytes; a symlink's target
+-- a digest, or null where there is none
+abbrev pub digest_data : Option (List ℕ) → Data
+digest_data None = null
+digest_data (Some digest) = text_data digest
+
+-- a file's digest, mode and size
+abbrev pub sized_data : ℕ → ℕ → Option (List ℕ) → Data
+sized_data mode size digest = object
+    (member (codes "digest") (digest_data digest)
+    (member (codes "file") (number_data mode) (only (codes "size") (number_data size))))
+
+-- what a snapshot shows: null for nothing; a directory's mode; a file's mode and size, and its digest where its bytes aren't kept; a symlink's target
 abbrev pub shown_data : Option Shown → Data
 shown_data None = null
 shown_data (Some (shown.Dir mode)) = object (only (codes "dir") (number_data mode))
 shown_data (Some (shown.File mode size)) = object (member (codes "file") (number_data mode) (only (codes "size") (number_data size)))
+shown_data (Some (shown.Sized mode size digest)) = sized_data mode size digest
 shown_data (Some (shown.Symlink target)) = object (only (codes "symlink") (text_data target))
 
 -- a snapshot of a forest, with the word of its kind
@@ -124,6 +137,16 @@ node_data node = object
     (member (codes "kind") (string (kind_word node.kind))
     (member (codes "parent") (string node.parent)
     (only (codes "usage") (usage_data node.usage)))))))
+
+-- what a namespace may take and what it takes
+abbrev pub quota_data : QuotaInfo → Data
+quota_data quota = object
+    (member (codes "charged") (usage_data quota.charged)
+    (member (codes "committed") (usage_data quota.committed)
+    (member (codes "free") (usage_data quota.free)
+    (member (codes "limit") (usage_data quota.limit)
+    (member (codes "open") (usage_data quota.active)
+    (only (codes "spare") (usage_data quota.spare)))))))
 
 -- a member that may be absent, before the others
 abbrev pub maybe : List ℕ → Option Data → Members → Members
@@ -180,7 +203,9 @@ answer_data (answers.Changed count share) = object (member (codes "count") (usag
 answer_data (answers.Seen seen) = object (only (codes "seen") (shown_data seen))
 answer_data (answers.Names names) = object (only (codes "names") (array (items_of (map string names))))
 answer_data (answers.Head head size) = object (member (codes "head") (string (encode_lower head)) (only (codes "size") (number_data size)))
+answer_data (answers.Known size digest) = object (member (codes "digest") (digest_data digest) (only (codes "size") (number_data size)))
 answer_data (answers.Path path) = object (only (codes "path") (string (text_of path)))
+answer_data (answers.Quota quotas) = object (only (codes "quota") (object (members_with quota_data quotas no_members)))
 answer_data (answers.Tree nodes) = object (only (codes "tree") (array (items_of (map node_data nodes))))
 answer_data (answers.Journal entries) = object (only (codes "journal") (array (items_of (map entry_data entries))))
 answer_data (answers.Report entries actives records totals) = object

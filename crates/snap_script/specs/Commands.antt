@@ -1,9 +1,9 @@
 -- The commands of a script; cited by the public clause of `read_line` through Lines.antt. The fields of a command are
 -- tested in the order in which they stand.
 -- Cited by `read_open`, `read_line`, `named` and others.
-use Rattle.std.specs.Prelude.{[], Result, Ok}
+use Rattle.std.specs.Prelude.{ℕ, [], Bool, true, false, Result, Ok}
 use Rattle.serde_json.specs.Data.{Data}
-use Rattle.serde_json.specs.Find.{as_str}
+use Rattle.serde_json.specs.Find.{as_bool, as_str}
 use Rattle.snap_usage.specs.declared.usage.Usage.{Usage}
 use Rattle.snap_record.specs.Labels.{Bytes}
 use Rattle.snap_record.specs.declared.filter.Filter.{Filter}
@@ -46,6 +46,16 @@ filter_of line = do
   labels ← optional as_label_filters fields.Labels (Ok []) line
   Ok (record { name = name; parent = parent; kind = kind; labels = labels })
 
+-- the sweep of a namespace at a moment, or what it would take away, where it is only tried
+abbrev pub sweep_of : Bytes → ℕ → Bool → Command
+sweep_of namespace moment true = commands.TrySweep namespace moment
+sweep_of namespace moment false = commands.Call (calls.Sweep namespace moment)
+
+-- the usage of a snapshot alone, or with its ancestors
+abbrev pub usage_of : Bytes → Bytes → Bool → Command
+usage_of namespace key true = commands.ChainUsage namespace key
+usage_of namespace key false = commands.Call (calls.Usage namespace key)
+
 -- the command of a line that is a call by its kind, mostly on a snapshot s; `prepare`, `view`, `commit`, `remove`, `update` and `walk` are containerd's calls of these names, and a charge wants what it needs where it names no other
 unfoldable pub call_of : CallKind → Data → Result Command Fault
 call_of kinds.Session line = Ok commands.Session
@@ -58,22 +68,24 @@ call_of kinds.Discard line = do s ← named line; Ok (commands.Discard s.0 s.1)
 call_of kinds.Remove line = do s ← named line; Ok (commands.Call (calls.Remove s.0 s.1))
 call_of kinds.Stat line = do s ← named line; Ok (commands.Call (calls.Stat s.0 s.1))
 call_of kinds.Update line = do s ← named line; Ok (commands.Call (calls.Update s.0 s.1 (← required as_labels fields.Labels line) (← optional as_texts fields.Paths (Ok []) line)))
-call_of kinds.Usage line = do s ← named line; Ok (commands.Call (calls.Usage s.0 s.1))
+call_of kinds.Usage line = do s ← named line; Ok (usage_of s.0 s.1 (← optional as_bool fields.Chain (Ok false) line))
 call_of kinds.Mounts line = do s ← named line; Ok (commands.Call (calls.Mounts s.0 s.1))
 call_of kinds.Walk line = do Ok (commands.Call (calls.Walk (← text fields.Namespace line) (← optional as_str fields.After (Ok []) line) (← optional as_natural fields.Most (Ok 64) line) (← filter_of line)))
 call_of kinds.Limit line = do Ok (commands.Call (calls.SetLimit (← text fields.Namespace line) (← limit_of line)))
 call_of kinds.LeaseCreate line = do Ok (commands.Call (calls.LeaseCreate (← text fields.Namespace line) (← text fields.Lease line) (← given as_natural fields.Until line)))
 call_of kinds.LeaseAdd line = do Ok (commands.Call (calls.LeaseAdd (← text fields.Namespace line) (← text fields.Lease line) (← text fields.Name line)))
 call_of kinds.LeaseRelease line = do Ok (commands.Call (calls.LeaseRelease (← text fields.Namespace line) (← text fields.Lease line)))
-call_of kinds.Sweep line = do Ok (commands.Call (calls.Sweep (← text fields.Namespace line) (← required as_natural fields.Moment line)))
+call_of kinds.Sweep line = do Ok (sweep_of (← text fields.Namespace line) (← required as_natural fields.Moment line) (← optional as_bool fields.Try (Ok false) line))
 
 -- the command of a line by its verb; a file command and a lookup are on a snapshot s
 unfoldable pub command_of : Verb → Data → Result Command Fault
 command_of verbs.Open line = do Ok (commands.Open (← config_of line))
 command_of verbs.Reopen line = do Ok (commands.Reopen (← optional as_natural fields.Journal (Ok 1048576) line))
+command_of verbs.Roll line = do Ok (commands.Roll (← optional as_natural fields.Journal (Ok 1048576) line))
 command_of (verbs.Call kind) line = call_of kind line
 command_of (verbs.File verb) line = do s ← named line; Ok (commands.File s.0 s.1 (← file_operation verb line) (← optional as_usage fields.Extra (Ok (record { blocks = 0; inodes = 0 })) line))
 command_of (verbs.Lookup asked) line = do s ← named line; Ok (commands.Lookup s.0 s.1 asked (← path_in fields.Path line))
+command_of verbs.Quota line = do Ok (commands.Quota (← given as_str fields.Namespace line))
 command_of verbs.Tree line = do Ok (commands.Tree (← text fields.Namespace line))
 command_of verbs.Journal line = do Ok (commands.Journal (← text fields.Namespace line) (← optional as_natural fields.After (Ok 0) line) (← optional as_natural fields.Most (Ok 64) line))
 command_of verbs.Report line = Ok commands.Report

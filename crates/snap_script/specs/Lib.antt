@@ -4,9 +4,11 @@ pub mod Fields
 pub mod Words
 pub mod Operations
 pub mod Commands
+pub mod Known
 pub mod Lines
 pub mod Gives
 pub mod Answers
+pub mod Refusals
 pub mod Written
 pub mod Requests
 pub mod Responses

@@ -13,11 +13,13 @@ use Rattle.snap_script.specs.declared.fault.Fault.{Fault}
 use Rattle.snap_script.specs.declared.fault.Fault.TheVariants.{TooLong, NotJson, NotAnObject, FirstLineMustBeOpen, OpenTwice, NoSuchCommand}
 use Rattle.snap_script.specs.declared.line.Line.{Line}
 use Rattle.snap_script.specs.declared.line.Line.TheVariants as lines
+use Rattle.snap_script.specs.declared.unknown.FieldRule.{FieldRule}
 use Rattle.snap_script.specs.declared.verb.Verb.{Verb}
 use Rattle.snap_script.specs.declared.verb.Verb.TheVariants.{Open}
 use Rattle.snap_script.specs.Fields.{text, optional, as_natural}
 use Rattle.snap_script.specs.Words.{verb_of}
 use Rattle.snap_script.specs.Commands.{config_of, command_of}
+use Rattle.snap_script.specs.Known.{known_fields}
 use Rattle.snap_script.specs.Results.{◌>>=◌}
 
 -- nothing but spaces, tabs and carriage returns
@@ -45,15 +47,16 @@ allowed true (Some verb) = Ok verb
 allowed true None = Err NoSuchCommand
 
 -- the command of an object, with its session, 0 where none is named
-unfoldable pub command_in : Bool → Data → Result Line Fault
-command_in opened line = do
+unfoldable pub command_in : FieldRule → Bool → Data → Result Line Fault
+command_in rule opened line = do
   verb ← allowed opened (verb_of (← text fields.Do line))
+  known ← known_fields rule verb line
   session ← optional as_natural fields.Session (Ok 0) line
   Ok (lines.Command session (← command_of verb line))
 
 -- the command of a line that isn't empty
-unfoldable pub command_line : Bool → List ℕ → Result Line Fault
-command_line opened bytes = do command_in opened (← object_in bytes)
+unfoldable pub command_line : FieldRule → Bool → List ℕ → Result Line Fault
+command_line rule opened bytes = do command_in rule opened (← object_in bytes)
 
 -- the store that a first line opens, where no session is named
 unfoldable pub opening_of : Data → Result Config Fault
@@ -61,6 +64,6 @@ opening_of line = do
   verb ← allowed false (verb_of (← text fields.Do line))
   config_of line
 
--- a line, without its line feed: at most 16 MiB
-unfoldable pub line_of : Bool → List ℕ → Result Line Fault
-line_of opened bytes = if nat_lt 16777216 (length bytes) then Err TooLong else (if is_empty bytes then Ok lines.Empty else command_line opened bytes)
+-- a line, without its line feed, by the fields that it may have: at most 16 MiB
+unfoldable pub line_of : FieldRule → Bool → List ℕ → Result Line Fault
+line_of rule opened bytes = if nat_lt 16777216 (length bytes) then Err TooLong else (if is_empty bytes then Ok lines.Empty else command_line rule opened bytes)

@@ -4,7 +4,7 @@
 use Rattle.std.specs.Prelude.{ℕ, if◌then◌else◌, List, [], ◌∷◌, Option, Some, None, option_map, Result, Ok, Err}
 use Rattle.std.specs.Option.{is_some, ok_or, option_zip}
 use Rattle.serde_json.specs.Data.{Data, Items, no_items, item}
-use Rattle.serde_json.specs.Find.{as_array, as_object}
+use Rattle.serde_json.specs.Find.{as_array, as_object, as_str}
 use Rattle.snap_path.specs.Text.{Names, is_path, path_names}
 use Rattle.snap_upper.specs.declared.op.Op.{Op}
 use Rattle.snap_upper.specs.declared.op.Op.TheVariants as ops
@@ -18,7 +18,7 @@ use Rattle.snap_script.specs.declared.verb.FileVerb.{FileVerb}
 use Rattle.snap_script.specs.declared.verb.FileVerb.TheVariants as file_verbs
 use Rattle.snap_script.specs.declared.verb.PathVerb.{PathVerb}
 use Rattle.snap_script.specs.declared.verb.PathVerb.TheVariants as path_verbs
-use Rattle.snap_script.specs.Fields.{text, required, optional, as_natural, as_mode, content_of}
+use Rattle.snap_script.specs.Fields.{text, required, optional, given, as_natural, as_mode, content_of}
 use Rattle.snap_script.specs.Words.{verb_of}
 use Rattle.snap_script.specs.Results.{◌>>=◌}
 
@@ -38,12 +38,15 @@ path field line = do ok_or (← path_in field line) (BadField field)
 unfoldable pub operation_at : PathVerb → Names → Data → Result Op Fault
 operation_at path_verbs.Mkdir path line = do Ok (ops.Mkdir path (← optional as_mode fields.Mode (Ok 493) line))
 operation_at path_verbs.Create path line = do Ok (ops.Create path (← optional as_mode fields.Mode (Ok 420) line))
+operation_at path_verbs.Put path line = do Ok (ops.Put path (← optional as_mode fields.Mode (Ok 420) line) (← required as_natural fields.Size line) (← given as_str fields.Digest line))
 operation_at path_verbs.Write path line = do Ok (ops.Write path (← optional as_natural fields.Offset (Ok 0) line) (← content_of line))
 operation_at path_verbs.Truncate path line = do Ok (ops.Truncate path (← required as_natural fields.Size line))
 operation_at path_verbs.SetMode path line = do Ok (ops.SetMode path (← required as_mode fields.Mode line))
 operation_at path_verbs.Symlink path line = do Ok (ops.Symlink path (← text fields.Target line))
 operation_at path_verbs.Unlink path line = Ok (ops.Unlink path)
 operation_at path_verbs.Rmdir path line = Ok (ops.Rmdir path)
+operation_at path_verbs.Opaque path line = Ok (ops.Opaque path)
+operation_at path_verbs.Whiteout path line = Ok (ops.Whiteout path)
 
 -- ---- file commands
 

@@ -1,10 +1,10 @@
 ghost use Rattle.std.specs.Prelude.{◌≡◌, IfOk, string_bytes};
 ghost use Rattle.snap_call.specs.declared.reply.Reply.TheVariants as replies;
-ghost use Rattle.snap_script.specs.Answers.{answer_data, answer_line, node_data, shown_data};
+ghost use Rattle.snap_script.specs.Answers.{answer_data, answer_line, node_data, quota_data, shown_data};
 ghost use Rattle.snap_script.specs.declared.answer.Answer.TheVariants as answers;
 
 use crate::to_json::{ToJson, member, only, pair};
-use crate::values::{error, error_name, jobs, report};
+use crate::values::{error, error_name, jobs, quotas, report, sized};
 use snap_call::{Refusal, Reply};
 use snap_history::EntryInfo;
 use snap_json::{Token, Writer};
@@ -19,11 +19,24 @@ use std::alloc::{AllocError, Global};
 #[derive(Drop)]
 pub enum Shown {
     /// A directory.
-    Dir { mode: u32 },
-    /// A regular file, and its bytes.
-    File { mode: u32, size: u64 },
+    Dir {
+        mode: u32,
+    },
+    /// A regular file, and how many bytes it has.
+    File {
+        mode: u32,
+        size: u64,
+    },
+    /// A regular file whose size alone is kept, with its digest, if there is one.
+    Sized {
+        mode: u32,
+        size: u64,
+        digest: Option<Bytes>,
+    },
     /// A symlink. Its target is null in the answer where it isn't UTF-8, which no script makes.
-    Symlink { target: Bytes },
+    Symlink {
+        target: Bytes,
+    },
 }
 
 /// What is seen, or null.
@@ -35,6 +48,7 @@ impl ToJson for Option<Shown> {
             None => out.token(Token::Null),
             Some(Shown::Dir { mode }) => only(alloc, out, "dir", mode),
             Some(Shown::File { mode, size }) => pair(alloc, out, "file", mode, "size", size),
+            Some(Shown::Sized { mode, size, digest }) => sized(alloc, out, *mode, *size, digest),
             Some(Shown::Symlink { target }) => only(alloc, out, "symlink", target),
         }
     }
@@ -65,6 +79,37 @@ impl ToJson for TreeNode {
         member(alloc, out, "kind", &self.kind.as_str())?;
         member(alloc, out, "parent", &self.parent)?;
         member(alloc, out, "usage", &self.usage)?;
+        out.token(Token::EndObject)
+    }
+}
+
+/// What a namespace may take and what it takes, in blocks of 4096 bytes and inodes.
+#[derive(Clone, Copy)]
+pub struct QuotaInfo {
+    pub limit: Usage,
+    /// What is charged: what the committed snapshots are charged, and the active ones.
+    pub charged: Usage,
+    /// What the committed snapshots are charged.
+    pub committed: Usage,
+    /// What the active snapshots are charged.
+    pub active: Usage,
+    /// What of that their layers don't take.
+    pub spare: Usage,
+    /// What the limit leaves.
+    pub free: Usage,
+}
+
+impl ToJson for QuotaInfo {
+    ghost value = { quota_data };
+
+    fn write(&self, alloc: Global, out: &mut Writer) -> Result<(), AllocError> {
+        out.token(Token::BeginObject)?;
+        member(alloc, out, "charged", &self.charged)?;
+        member(alloc, out, "committed", &self.committed)?;
+        member(alloc, out, "free", &self.free)?;
+        member(alloc, out, "limit", &self.limit)?;
+        member(alloc, out, "open", &self.active)?;
+        member(alloc, out, "spare", &self.spare)?;
         out.token(Token::EndObject)
     }
 }
@@ -100,6 +145,7 @@ pub enum Answer {
         share: Usage,
     },
     /// What is seen at a path: `{"seen":null}`, `{"seen":{"dir":493}}`, `{"seen":{"file":420,"size":5000}}`,
+    /// `{"seen":{"digest":"sha256:ab","file":493,"size":5000000}}`, with null where nobody knows the digest, and
     /// `{"seen":{"symlink":"d"}}`.
     Seen(Option<Shown>),
     /// The names in a directory, in byte order: `{"names":["x"]}`.
@@ -109,8 +155,16 @@ pub enum Answer {
         head: Bytes,
         size: u64,
     },
+    /// The size of a file whose bytes aren't kept, and its digest or null: `{"digest":"sha256:ab","size":5000000}`.
+    Known {
+        size: u64,
+        digest: Option<Bytes>,
+    },
     /// The path that another leads to: `{"path":"/d/x"}`.
     Path(Path),
+    /// What namespaces may take and what they take:
+    /// `{"quota":{"a":{"charged":[5,4],"committed":[4,3],"free":[95,96],"limit":[100,100],"open":[1,1],"spare":[0,0]}}}`.
+    Quota(Sequence<(Text, QuotaInfo)>),
     /// The snapshots of a namespace, in byte order of their keys:
     /// `{"tree":[{"children":0,"id":1,"key":"k","kind":"Active","parent":"","usage":[1,1]}]}`.
     Tree(Sequence<TreeNode>),
@@ -154,7 +208,9 @@ impl Drop for Answer {
             Answer::Seen(_) => {}
             Answer::Names(_) => {}
             Answer::Head { head: _, size: _ } => {}
+            Answer::Known { size: _, digest: _ } => {}
             Answer::Path(_) => {}
+            Answer::Quota(_) => {}
             Answer::Tree(_) => {}
             Answer::Journal(_) => {}
             Answer::Report {
@@ -214,7 +270,9 @@ impl ToJson for Answer {
                 let head = hex::encode(alloc, head.as_slice())?;
                 pair(alloc, out, "head", &head.as_str(), "size", size)
             }
+            Answer::Known { size, digest } => { pair(alloc, out, "digest", digest, "size", size) }
             Answer::Path(own) => only(alloc, out, "path", &own.as_str()),
+            Answer::Quota(found) => quotas(alloc, out, found.as_slice()),
             Answer::Tree(nodes) => only(alloc, out, "tree", nodes),
             Answer::Journal(entries) => only(alloc, out, "journal", entries),
             Answer::Report {

@@ -20,6 +20,10 @@ pub enum Command {
     Reopen {
         journal: u64,
     },
+    /// The same, and snapshots may be open.
+    Roll {
+        journal: u64,
+    },
     /// A call that the line has all of: `Prepare`, `View`, `Remove`, `Stat`, `Update`, `Usage`, `Mounts`
     /// or `Walk`, as containerd's `Snapshotter` has them, `SetLimit`, `Sweep`, or one on a lease, as its
     /// `leases.Manager` has them.
@@ -63,6 +67,20 @@ pub enum Command {
         key: Text,
         lookup: Lookup,
         path: Option<Path>,
+    },
+    /// Asks what a sweep of a namespace would take away at a moment. Nothing goes.
+    TrySweep {
+        namespace: Text,
+        moment: u64,
+    },
+    /// Asks what a snapshot and its committed ancestors are charged together.
+    ChainUsage {
+        namespace: Text,
+        key: Text,
+    },
+    /// Asks what each namespace may take and what it takes, or one of them.
+    Quota {
+        namespace: Option<Text>,
     },
     /// Asks for the snapshots of a namespace, as a forest by parent.
     Tree {

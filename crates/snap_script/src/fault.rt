@@ -4,7 +4,9 @@ ghost use Rattle.snap_script.specs.Faults.{field_name, fault_words};
 ghost use Rattle.snap_script.specs.declared.fault.ReadError.TheVariants as errors;
 ghost use Rattle.snap_script.specs.declared.fault.Shortage.TheVariants.{Allocator};
 
+use crate::refused::Refused;
 use snap_path::NoMemory;
+use snap_record::Text;
 use std::alloc::{AllocError, AllocFailed};
 use std::fmt;
 
@@ -15,6 +17,8 @@ pub enum Field {
     Do,
     /// `s`, the number of the session.
     Session,
+    /// `id`, what a client calls a line.
+    Id,
     Root,
     Namespaces,
     Journal,
@@ -38,12 +42,17 @@ pub enum Field {
     Until,
     /// `now`, a moment.
     Moment,
+    /// Whether a sweep is only tried.
+    Try,
+    /// Whether a usage is that of a snapshot with its ancestors.
+    Chain,
     Blocks,
     Inodes,
     Path,
     Mode,
     Offset,
     Size,
+    Digest,
     Target,
     From,
     To,
@@ -58,9 +67,10 @@ pub enum Field {
     Open,
 }
 
-/// Why a line is no command. Of several faults, the line has the first in the order below; of
-/// several fields, the first in the order of the command's definition.
-#[derive(Clone, Copy, Debug, PartialEq, Eq)]
+/// Why a line is no command, or why its command ends the run. Of several faults, the line has the first in the order
+/// below; of several unknown fields, the first in byte order; of several bad ones, the first in the order of the
+/// command's definition.
+#[derive(Debug, PartialEq, Eq, Drop)]
 pub enum Fault {
     /// More than 16,777,216 bytes without the line feed; a reader of a whole input may have more limits.
     TooLong,
@@ -72,9 +82,13 @@ pub enum Fault {
     /// A store was opened, and the command is `open`.
     OpenTwice,
     NoSuchCommand,
+    /// The line has a field of this name, and its command has none, where unknown fields are faults.
+    UnknownField(Text),
     /// The field is missing and has no default, or its value is of a wrong kind. `BadField(Do)` comes
     /// before `FirstLineMustBeOpen`.
     BadField(Field),
+    /// The command was refused, where a run ends at that.
+    Refused(Refused),
 }
 
 /// Who tells of want of memory.
@@ -87,7 +101,7 @@ pub enum Shortage {
 }
 
 /// Why no line was read.
-#[derive(Clone, Copy)]
+#[derive(Drop)]
 pub enum ReadError {
     Fault(Fault),
     OutOfMemory(Shortage),
@@ -101,6 +115,7 @@ impl Field {
         match self {
             Field::Do => "do",
             Field::Session => "s",
+            Field::Id => "id",
             Field::Root => "root",
             Field::Namespaces => "namespaces",
             Field::Journal => "journal",
@@ -118,12 +133,15 @@ impl Field {
             Field::Lease => "lease",
             Field::Until => "until",
             Field::Moment => "now",
+            Field::Try => "try",
+            Field::Chain => "chain",
             Field::Blocks => "blocks",
             Field::Inodes => "inodes",
             Field::Path => "path",
             Field::Mode => "mode",
             Field::Offset => "offset",
             Field::Size => "size",
+            Field::Digest => "digest",
             Field::Target => "target",
             Field::From => "from",
             Field::To => "to",
@@ -149,10 +167,12 @@ impl fmt::Display for Fault {
             Fault::FirstLineMustBeOpen => f.write_str("first line must be open"),
             Fault::OpenTwice => f.write_str("open twice"),
             Fault::NoSuchCommand => f.write_str("no such command"),
+            Fault::UnknownField(name) => write!(f, "unknown field {name}"),
             Fault::BadField(field) => {
                 let name = field.name();
                 write!(f, "bad field {name}")
             }
+            Fault::Refused(why) => f.write_str(why.name()),
         }
     }
 }

@@ -1,6 +1,6 @@
 // The fields of a line, each of its kind.
-ghost use Rattle.std.specs.Prelude.{◌≡◌, [], Some, None, Ok, option_map, IfOk};
-ghost use Rattle.serde_json.specs.Find.{get, as_str};
+ghost use Rattle.std.specs.Prelude.{◌≡◌, [], Some, None, Ok, option_map, IfOk, false};
+ghost use Rattle.serde_json.specs.Find.{get, as_bool, as_str};
 ghost use Rattle.snap_json.specs.View.{view, items_view, members_of};
 ghost use Rattle.snap_script.specs.declared.fault.Field.TheVariants as fields;
 ghost use Rattle.snap_script.specs.Faults.{field_name};
@@ -22,6 +22,26 @@ pub(crate) fn find<'v, 'a>(field: Field, line: &'v Value<'a>) -> Option<&'v Valu
     ensures { option_map (λ v. view v.now) result ≡ get (field_name field) (view line.now) }
 {
     line.get(field.name())
+}
+
+fn truth(value: &Value<'_>) -> Option<bool>
+    ensures { result ≡ as_bool (view value.now) }
+{
+    if let Value::Bool(truth) = value {
+        Some(*truth)
+    } else {
+        None
+    }
+}
+
+/// Whether a field is true; it is not where it is absent.
+pub(crate) fn is_true(field: Field, line: &Value<'_>) -> Result<bool, Fault>
+    ensures { result ≡ optional as_bool field (Ok false) (view line.now) }
+{
+    match find(field, line) {
+        Some(value) => truth(value).ok_or(Fault::BadField(field)),
+        None => Ok(false),
+    }
 }
 
 /// A number that may be absent.
@@ -154,7 +174,9 @@ pub(crate) fn paths(alloc: Global, line: &Value<'_>) -> Result<Sequence<Text>, R
     let Some(value) = find(Field::Paths, line) else {
         return Ok(Sequence::new(alloc));
     };
-    let values = value.as_array().ok_or(Fault::BadField(Field::Paths))?;
+    let Some(values) = value.as_array() else {
+        return Err(ReadError::Fault(Fault::BadField(Field::Paths)));
+    };
     let paths = texts_in(alloc, values)?;
     Ok(paths.ok_or(Fault::BadField(Field::Paths))?)
 }
@@ -175,11 +197,10 @@ fn kind_named(word: &str) -> Option<Kind>
 pub(crate) fn optional_kind(line: &Value<'_>) -> Result<Option<Kind>, Fault>
     ensures { result ≡ given as_kind fields.Kind (view line.now) }
 {
-    let fault = Fault::BadField(Field::Kind);
     match find(Field::Kind, line) {
         Some(value) => {
-            let word = value.as_str().ok_or(fault)?;
-            Ok(Some(kind_named(word).ok_or(fault)?))
+            let word = value.as_str().ok_or(Fault::BadField(Field::Kind))?;
+            Ok(Some(kind_named(word).ok_or(Fault::BadField(Field::Kind))?))
         }
         None => Ok(None),
     }
@@ -253,8 +274,12 @@ fn labels_in(
 pub(crate) fn required_labels(alloc: Global, line: &Value<'_>) -> Result<Labels, ReadError>
     ensures { Gives (λ labels. labels) result (required as_labels fields.Labels (view line.now)) }
 {
-    let found = find(Field::Labels, line).ok_or(Fault::BadField(Field::Labels))?;
-    let members = found.as_object().ok_or(Fault::BadField(Field::Labels))?;
+    let Some(found) = find(Field::Labels, line) else {
+        return Err(ReadError::Fault(Fault::BadField(Field::Labels)));
+    };
+    let Some(members) = found.as_object() else {
+        return Err(ReadError::Fault(Fault::BadField(Field::Labels)));
+    };
     let labels = labels_in(alloc, &by_name(alloc, members)?)?;
     Ok(labels.ok_or(Fault::BadField(Field::Labels))?)
 }
@@ -313,7 +338,9 @@ pub(crate) fn label_filters(
     let Some(value) = find(Field::Labels, line) else {
         return Ok(Sequence::new(alloc));
     };
-    let members = value.as_object().ok_or(Fault::BadField(Field::Labels))?;
+    let Some(members) = value.as_object() else {
+        return Err(ReadError::Fault(Fault::BadField(Field::Labels)));
+    };
     let filters = label_filters_in(alloc, &by_name(alloc, members)?)?;
     Ok(filters.ok_or(Fault::BadField(Field::Labels))?)
 }
@@ -358,8 +385,12 @@ fn namespaces_in(
 pub(crate) fn namespaces(alloc: Global, line: &Value<'_>) -> Result<Sequence<Namespace>, ReadError>
     ensures { Gives (λ namespaces. namespaces) result (required as_namespaces fields.Namespaces (view line.now)) }
 {
-    let found = find(Field::Namespaces, line).ok_or(Fault::BadField(Field::Namespaces))?;
-    let values = found.as_array().ok_or(Fault::BadField(Field::Namespaces))?;
+    let Some(found) = find(Field::Namespaces, line) else {
+        return Err(ReadError::Fault(Fault::BadField(Field::Namespaces)));
+    };
+    let Some(values) = found.as_array() else {
+        return Err(ReadError::Fault(Fault::BadField(Field::Namespaces)));
+    };
     let namespaces = namespaces_in(alloc, values)?;
     Ok(namespaces.ok_or(Fault::BadField(Field::Namespaces))?)
 }
@@ -368,11 +399,10 @@ pub(crate) fn namespaces(alloc: Global, line: &Value<'_>) -> Result<Sequence<Nam
 fn fill(alloc: Global, line: &Value<'_>) -> Result<Bytes, ReadError>
     ensures { Gives (λ bytes. bytes) result (required as_fill fields.Fill (view line.now)) }
 {
-    let fault = Fault::BadField(Field::Fill);
-    let value = find(Field::Fill, line).ok_or(fault)?;
-    let (byte, number) = pair(value).ok_or(fault)?;
+    let value = find(Field::Fill, line).ok_or(Fault::BadField(Field::Fill))?;
+    let (byte, number) = pair(value).ok_or(Fault::BadField(Field::Fill))?;
     if byte > 255 || number > MAX_FILE_BYTES {
-        return Err(ReadError::Fault(fault));
+        return Err(ReadError::Fault(Fault::BadField(Field::Fill)));
     }
     Ok(Bytes::new(vec![in alloc; byte as u8; number as usize]?))
 }
@@ -386,6 +416,17 @@ pub(crate) fn content(alloc: Global, line: &Value<'_>) -> Result<Bytes, ReadErro
     };
     let text = value.as_str().ok_or(Fault::BadField(Field::Text))?;
     Ok(Bytes::copy_of(alloc, text.as_bytes())?)
+}
+
+/// The digest of a file, if there is one.
+pub(crate) fn digest(alloc: Global, line: &Value) -> Result<Option<Bytes>, ReadError>
+    ensures { Gives (λ digest. digest) result (given as_str fields.Digest (view line.now)) }
+{
+    let Some(value) = find(Field::Digest, line) else {
+        return Ok(None);
+    };
+    let text = value.as_str().ok_or(Fault::BadField(Field::Digest))?;
+    Ok(Some(Bytes::copy_of(alloc, text.as_bytes())?))
 }
 
 /// The target of a symlink.

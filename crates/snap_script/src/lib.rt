@@ -2,7 +2,8 @@
 //!
 //! A line is JSON as `serde_json` reads it. What it says is one definition, `line_of` in
 //! `specs/Lines.antt`, with the commands in `specs/Commands.antt`, their words in `specs/Words.antt`, file
-//! operations in `specs/Operations.antt` and the kinds of their fields in `specs/Fields.antt`. The line of an
+//! operations in `specs/Operations.antt`, the kinds of their fields in `specs/Fields.antt`, and which fields a line may
+//! have, where unknown ones are faults, in `specs/Known.antt`. The line of an
 //! answer is `answer_line` in `specs/Answers.antt`. Where a client may give a line an id, this is `id_of` in
 //! `specs/Requests.antt`, and the line of a response `response_line` in `specs/Responses.antt`.
 #![tactic(auto)]
@@ -14,17 +15,22 @@ pub mod fields;
 mod line;
 mod operation;
 mod parse;
+mod refused;
 mod request;
 mod response;
 mod to_json;
+mod unknown;
 mod values;
 mod verb;
 
-pub use answer::{Answer, Shown, TreeNode};
+pub use answer::{Answer, QuotaInfo, Shown, TreeNode};
 pub use command::{Command, Lookup, names_of};
 pub use fault::{Fault, Field, ReadError, Shortage};
 pub use line::{Line, MAX_LINE_BYTES, is_empty, read_line, read_object, read_open};
 pub use operation::operations;
 pub use parse::named;
+pub use refused::Refused;
 pub use request::{Id, Request, read_request};
 pub use response::Response;
+pub use snap_json::Scratch;
+pub use unknown::FieldRule;

@@ -7,6 +7,7 @@ use crate::command::Command;
 use crate::fault::{Fault, Field, ReadError};
 use crate::fields::{lent_text, number_or};
 use crate::parse::{command_of, config_of};
+use crate::unknown::{FieldRule, known_fields};
 use crate::verb::{Verb, verb_of};
 use snap_call::Config;
 use snap_json::{Scratch, Unreadable, Value};
@@ -93,23 +94,34 @@ fn allowed(opened: bool, verb: Option<Verb>) -> Result<Verb, Fault>
 
 /// The command of the object that a line is.
 #[tactic(auto, unfolding(crate::specs::Lines::command_in))]
-pub(crate) fn command_in(alloc: Global, opened: bool, line: &Value<'_>) -> Result<Line, ReadError>
-    ensures { Gives (λ line. line) result (command_in opened (view line.now)) }
+pub(crate) fn command_in(
+    alloc: Global,
+    rule: FieldRule,
+    opened: bool,
+    line: &Value<'_>,
+) -> Result<Line, ReadError>
+    ensures { Gives (λ line. line) result (command_in rule opened (view line.now)) }
 {
     let word = lent_text(Field::Do, line)?;
     let verb = allowed(opened, verb_of(word))?;
+    known_fields(alloc, rule, verb, line)?;
     let session = number_or(0, Field::Session, line)?;
     let command = command_of(alloc, verb, line)?;
     Ok(Line::Command { session, command })
 }
 
 #[tactic(auto, unfolding(crate::specs::Lines::command_line))]
-fn command_line(alloc: Global, opened: bool, bytes: &[u8]) -> Result<Line, ReadError>
-    ensures { Gives (λ line. line) result (command_line opened bytes.now) }
+fn command_line(
+    alloc: Global,
+    rule: FieldRule,
+    opened: bool,
+    bytes: &[u8],
+    scratch: &mut Scratch,
+) -> Result<Line, ReadError>
+    ensures { Gives (λ line. line) result (command_line rule opened bytes.now) }
 {
-    let mut scratch = Scratch::new(alloc);
-    let line = read_object(alloc, bytes, &mut scratch)?;
-    command_in(alloc, opened, &line)
+    let line = read_object(alloc, bytes, scratch)?;
+    command_in(alloc, rule, opened, &line)
 }
 
 /// The store that a first line opens, where no session is named: the field `s` isn't looked at.
@@ -126,13 +138,21 @@ pub fn read_open(alloc: Global, line: &Value<'_>) -> Result<Config, ReadError>
     config_of(alloc, line)
 }
 
-/// Reads a line, which stands here without its line feed. `opened` says whether a store was opened.
+/// Reads a line, which stands here without its line feed. `rule` says which fields it may have, and `opened` whether a
+/// store was opened.
 ///
 /// `OutOfMemory` where memory for the line's value or for the command was refused. The memory and the
-/// cost grow with the line, and a `fill` takes as many bytes as it asks for.
+/// cost grow with the line, and a `fill` takes as many bytes as it asks for. The scratch keeps what it took for the
+/// next line.
 #[tactic(auto, unfolding(crate::specs::Lines::line_of))]
-pub fn read_line(alloc: Global, bytes: &[u8], opened: bool) -> Result<Line, ReadError>
-    ensures { Gives (λ line. line) result (line_of opened bytes.now) }
+pub fn read_line(
+    alloc: Global,
+    bytes: &[u8],
+    rule: FieldRule,
+    opened: bool,
+    scratch: &mut Scratch,
+) -> Result<Line, ReadError>
+    ensures { Gives (λ line. line) result (line_of rule opened bytes.now) }
 {
     if bytes.len() > MAX_LINE_BYTES {
         return Err(ReadError::Fault(Fault::TooLong));
@@ -140,5 +160,5 @@ pub fn read_line(alloc: Global, bytes: &[u8], opened: bool) -> Result<Line, Read
     if is_empty(bytes) {
         return Ok(Line::Empty);
     }
-    command_line(alloc, opened, bytes)
+    command_line(alloc, rule, opened, bytes, scratch)
 }

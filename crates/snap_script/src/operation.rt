@@ -1,12 +1,11 @@
 // File operations, read from the values of lines and of jobs.
-ghost use Rattle.std.specs.Prelude.{◌≡◌};
 ghost use Rattle.snap_json.specs.View.{view, items_view};
 ghost use Rattle.snap_script.specs.Operations.{path_in, path, operation_at, file_operation, operation, operations_in, operations};
 ghost use Rattle.snap_script.specs.Gives.{Gives};
 
 use crate::fault::{Fault, Field, ReadError};
 use crate::fields::{
-    content, find, lent_text, mode_or, number_or, required_mode, required_number, target,
+    content, digest, find, lent_text, mode_or, number_or, required_mode, required_number, target,
 };
 use crate::verb::{FileVerb, PathVerb, Verb, verb_of};
 use snap_json::Value;
@@ -64,6 +63,17 @@ fn operation_at(
             path,
             mode: mode_or(FILE_MODE, line)?,
         },
+        PathVerb::Put => {
+            let mode = mode_or(FILE_MODE, line)?;
+            let size = required_number(Field::Size, line)?;
+            let digest = digest(alloc, line)?;
+            Op::Put {
+                path,
+                mode,
+                size,
+                digest,
+            }
+        }
         PathVerb::Write => Op::Write {
             path,
             offset: number_or(0, Field::Offset, line)?,
@@ -83,6 +93,8 @@ fn operation_at(
         },
         PathVerb::Unlink => Op::Unlink { path },
         PathVerb::Rmdir => Op::Rmdir { path },
+        PathVerb::Opaque => Op::Opaque { path },
+        PathVerb::Whiteout => Op::Whiteout { path },
     })
 }
 
@@ -171,7 +183,11 @@ fn operations_in(alloc: Global, values: &[Value<'_>]) -> Result<Sequence<Op>, Re
 pub fn operations(alloc: Global, line: &Value<'_>) -> Result<Sequence<Op>, ReadError>
     ensures { Gives (λ ops. ops) result (operations (view line.now)) }
 {
-    let found = find(Field::Ops, line).ok_or(Fault::BadField(Field::Ops))?;
-    let values = found.as_array().ok_or(Fault::BadField(Field::Ops))?;
+    let Some(found) = find(Field::Ops, line) else {
+        return Err(ReadError::Fault(Fault::BadField(Field::Ops)));
+    };
+    let Some(values) = found.as_array() else {
+        return Err(ReadError::Fault(Fault::BadField(Field::Ops)));
+    };
     operations_in(alloc, values)
 }

@@ -1,5 +1,4 @@
 // The commands of lines, read from their values.
-ghost use Rattle.std.specs.Prelude.{◌≡◌};
 ghost use Rattle.snap_json.specs.View.{view};
 ghost use Rattle.snap_history.specs.declared.kind.CallKind.TheVariants as kinds;
 ghost use Rattle.snap_script.specs.Commands.{named, config_of, filter_of, call_of, command_of};
@@ -8,8 +7,9 @@ ghost use Rattle.snap_script.specs.Gives.{Gives};
 use crate::command::Command;
 use crate::fault::{Field, ReadError};
 use crate::fields::{
-    label_filters, labels, namespaces, number_or, optional_kind, optional_number, optional_text,
-    paths, required_labels, required_number, required_usage, text, text_or_empty, usage_or,
+    is_true, label_filters, labels, namespaces, number_or, optional_kind, optional_number,
+    optional_text, paths, required_labels, required_number, required_usage, text, text_or_empty,
+    usage_or,
 };
 use crate::operation::{file_operation, path_in};
 use crate::verb::Verb;
@@ -174,7 +174,23 @@ fn sweep(alloc: Global, line: &Value<'_>) -> Result<Command, ReadError>
 {
     let namespace = text(alloc, Field::Namespace, line)?;
     let moment = required_number(Field::Moment, line)?;
-    Ok(Command::Call(Call::Sweep { namespace, moment }))
+    if is_true(Field::Try, line)? {
+        Ok(Command::TrySweep { namespace, moment })
+    } else {
+        Ok(Command::Call(Call::Sweep { namespace, moment }))
+    }
+}
+
+#[tactic(auto, unfolding(crate::specs::Commands::call_of))]
+fn usage(alloc: Global, line: &Value<'_>) -> Result<Command, ReadError>
+    ensures { Gives (λ c. c) result (call_of kinds.Usage (view line.now)) }
+{
+    let (namespace, key) = named(alloc, line)?;
+    if is_true(Field::Chain, line)? {
+        Ok(Command::ChainUsage { namespace, key })
+    } else {
+        Ok(Command::Call(Call::Usage { namespace, key }))
+    }
 }
 
 #[tactic(auto, unfolding(crate::specs::Commands::call_of))]
@@ -218,10 +234,7 @@ fn call_of(alloc: Global, kind: CallKind, line: &Value<'_>) -> Result<Command, R
             Ok(Command::Call(Call::Stat { namespace, key }))
         }
         CallKind::Update => update(alloc, line),
-        CallKind::Usage => {
-            let (namespace, key) = named(alloc, line)?;
-            Ok(Command::Call(Call::Usage { namespace, key }))
-        }
+        CallKind::Usage => usage(alloc, line),
         CallKind::Mounts => {
             let (namespace, key) = named(alloc, line)?;
             Ok(Command::Call(Call::Mounts { namespace, key }))
@@ -250,6 +263,9 @@ pub(crate) fn command_of(alloc: Global, verb: Verb, line: &Value<'_>) -> Result<
         Verb::Reopen => Ok(Command::Reopen {
             journal: number_or(MAX_JOURNAL, Field::Journal, line)?,
         }),
+        Verb::Roll => Ok(Command::Roll {
+            journal: number_or(MAX_JOURNAL, Field::Journal, line)?,
+        }),
         Verb::Call(kind) => call_of(alloc, kind, line),
         Verb::File(verb) => {
             let (namespace, key) = named(alloc, line)?;
@@ -269,6 +285,9 @@ pub(crate) fn command_of(alloc: Global, verb: Verb, line: &Value<'_>) -> Result<
                 path: path_in(alloc, Field::Path, line)?,
             })
         }
+        Verb::Quota => Ok(Command::Quota {
+            namespace: optional_text(alloc, Field::Namespace, line)?,
+        }),
         Verb::Tree => Ok(Command::Tree {
             namespace: text(alloc, Field::Namespace, line)?,
         }),

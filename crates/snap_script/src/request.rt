@@ -3,9 +3,11 @@ ghost use Rattle.std.specs.Prelude.{◌≡◌, IfOk, None};
 ghost use Rattle.snap_json.specs.View.{view};
 ghost use Rattle.snap_script.specs.Lines.{command_in, line_of};
 ghost use Rattle.snap_script.specs.Requests.{id_in, id_of};
+ghost use Rattle.snap_script.specs.declared.unknown.FieldRule.TheVariants.{KnownAndId};
 
 use crate::fault::{Fault, ReadError, Shortage};
 use crate::line::{Line, MAX_LINE_BYTES, command_in, is_empty, read_object};
+use crate::unknown::FieldRule;
 use snap_json::{Scratch, Value};
 use snap_record::Text;
 use std::alloc::{AllocError, Global};
@@ -52,10 +54,10 @@ fn id_in(alloc: Global, line: &Value<'_>) -> Result<Option<Id>, AllocError>
 
 /// The request of the object that a line is.
 fn request_in(alloc: Global, opened: bool, line: &Value<'_>) -> Result<Request, Shortage>
-    ensures { IfOk result (λ request. (request.id ≡ id_in (view line.now)) × (request.line ≡ command_in opened (view line.now))) }
+    ensures { IfOk result (λ request. (request.id ≡ id_in (view line.now)) × (request.line ≡ command_in KnownAndId opened (view line.now))) }
 {
     let id = id_in(alloc, line)?;
-    match command_in(alloc, opened, line) {
+    match command_in(alloc, FieldRule::KnownAndId, opened, line) {
         Ok(line) => Ok(Request { id, line: Ok(line) }),
         Err(ReadError::Fault(fault)) => Ok(Request {
             id,
@@ -65,15 +67,21 @@ fn request_in(alloc: Global, opened: bool, line: &Value<'_>) -> Result<Request, 
     }
 }
 
-/// Reads a line, which stands here without its line feed, with its id. `opened` says whether a store was opened. A line
-/// of more than 16,777,216 bytes and one that is no object have no id.
+/// Reads a line, which stands here without its line feed, with its id. Its fields are those of its command, `do`, `s` and
+/// `id`. `opened` says whether a store was opened. A line of more than 16,777,216 bytes and one that is no object have no
+/// id.
 ///
 /// `Shortage` where memory for the line's value or for the command was refused. The memory and the cost are those of
 /// [`read_line`](crate::read_line).
 #[tactic(auto, unfolding(crate::specs::Lines::line_of, crate::specs::Lines::command_line, crate::specs::Requests::id_of))]
-pub fn read_request(alloc: Global, bytes: &[u8], opened: bool) -> Result<Request, Shortage>
+pub fn read_request(
+    alloc: Global,
+    bytes: &[u8],
+    opened: bool,
+    scratch: &mut Scratch,
+) -> Result<Request, Shortage>
     ensures id { IfOk result (λ request. request.id ≡ id_of bytes.now) }
-    ensures line { IfOk result (λ request. request.line ≡ line_of opened bytes.now) }
+    ensures line { IfOk result (λ request. request.line ≡ line_of KnownAndId opened bytes.now) }
 {
     if bytes.len() > MAX_LINE_BYTES {
         return Ok(Request::without_id(Err(Fault::TooLong)));
@@ -81,8 +89,7 @@ pub fn read_request(alloc: Global, bytes: &[u8], opened: bool) -> Result<Request
     if is_empty(bytes) {
         return Ok(Request::without_id(Ok(Line::Empty)));
     }
-    let mut scratch = Scratch::new(alloc);
-    match read_object(alloc, bytes, &mut scratch) {
+    match read_object(alloc, bytes, scratch) {
         Ok(line) => Ok(request_in(alloc, opened, &line)?),
         Err(ReadError::Fault(fault)) => Ok(Request::without_id(Err(fault))),
         Err(ReadError::OutOfMemory(shortage)) => Err(shortage),

@@ -4,7 +4,7 @@ ghost use Rattle.std.specs.Option.{option_map};
 ghost use Rattle.serde_json.specs.Data.{Data, array, boolean, member, object, no_members, string};
 ghost use Rattle.serde_json.specs.View.{items_of};
 ghost use Rattle.snap_json.specs.Tokens.{with_value};
-ghost use Rattle.snap_script.specs.Answers.{members_with, number_data, only, text_data, usage_data};
+ghost use Rattle.snap_script.specs.Answers.{digest_data, members_with, number_data, only, text_data, usage_data};
 ghost use Rattle.snap_script.specs.Written.{members_of, with_maybe, with_member};
 
 use snap_json::{Token, Writer};
@@ -84,6 +84,18 @@ impl ToJson for Bytes {
     }
 }
 
+/// The digest's text, or null where there is none.
+impl ToJson for Option<Bytes> {
+    ghost value = { digest_data };
+
+    fn write(&self, alloc: Global, out: &mut Writer) -> Result<(), AllocError> {
+        match self {
+            Some(digest) => digest.write(alloc, out),
+            None => out.token(Token::Null),
+        }
+    }
+}
+
 /// Blocks, then inodes.
 impl ToJson for Usage {
     ghost value = { usage_data };
@@ -134,18 +146,18 @@ impl ToJson for Labels {
     }
 }
 
-/// An amount for each name, of equal names the last.
+/// A value for each name, of equal names the last.
 #[tactic(auto, using(crate::proofs::Maps::members_of_insert_entry))]
-pub(crate) fn totals(
+pub(crate) fn by_name<V: ToJson + Copy>(
     alloc: Global,
     out: &mut Writer,
-    totals: &[(Text, Usage)],
+    entries: &[(Text, V)],
 ) -> Result<(), AllocError>
-    ensures { OnOk result (out.new ≡ with_value (object (members_with usage_data totals.now no_members)) out.old) }
+    ensures { OnOk result (out.new ≡ with_value (object (members_with V.value entries.now no_members)) out.old) }
 {
     let mut members = BTreeMap::new(alloc);
-    for (name, total) in totals {
-        members.insert(name.as_str(), *total)?;
+    for (name, value) in entries {
+        members.insert(name.as_str(), *value)?;
     }
     members.write(alloc, out)
 }

@@ -3,13 +3,15 @@ ghost use Rattle.std.specs.Prelude.{◌≡◌, OnOk};
 ghost use Rattle.serde_json.specs.Data.{string};
 ghost use Rattle.snap_call.specs.declared.reply.Reply.TheVariants as replies;
 ghost use Rattle.snap_json.specs.Tokens.{with_value};
-ghost use Rattle.snap_script.specs.Answers.{answer_data, entry_data, error_data, error_name, info_data, mount_data, refusal_name, reply_data};
+ghost use Rattle.snap_script.specs.Answers.{answer_data, entry_data, error_data, error_name, info_data, mount_data, refusal_name, reply_data, sized_data};
 ghost use Rattle.snap_script.specs.declared.answer.Answer.TheVariants as answers;
 
-use crate::to_json::{ToJson, maybe, member, only, pair, totals};
+use crate::answer::QuotaInfo;
+use crate::to_json::{ToJson, by_name, maybe, member, only, pair};
 use snap_call::{Refusal, Reply};
 use snap_history::EntryInfo;
 use snap_json::{Token, Writer};
+use snap_layer::Bytes;
 use snap_merge::FsError;
 use snap_mount::Mount;
 use snap_record::{Info, Sequence, Text};
@@ -70,8 +72,25 @@ impl ToJson for EntryInfo {
     }
 }
 
+/// A file whose size alone is kept.
+pub(crate) fn sized(
+    alloc: Global,
+    out: &mut Writer,
+    mode: u32,
+    size: u64,
+    digest: &Option<Bytes>,
+) -> Result<(), AllocError>
+    ensures { OnOk result (out.new ≡ with_value (sized_data mode size digest.now) out.old) }
+{
+    out.token(Token::BeginObject)?;
+    member(alloc, out, "digest", digest)?;
+    member(alloc, out, "file", &mode)?;
+    member(alloc, out, "size", &size)?;
+    out.token(Token::EndObject)
+}
+
 /// The name of a refusal in answers.
-fn refusal_name(refusal: Refusal) -> &'static str
+pub(crate) fn refusal_name(refusal: Refusal) -> &'static str
     ensures { result.now ≡ refusal_name refusal }
 {
     match refusal {
@@ -145,7 +164,7 @@ pub(crate) fn report(
     member(alloc, out, "open", &actives)?;
     member(alloc, out, "records", &records)?;
     out.token(Token::Key("totals"))?;
-    totals(alloc, out, found)?;
+    by_name(alloc, out, found)?;
     out.token(Token::EndObject)
 }
 
@@ -164,7 +183,20 @@ pub(crate) fn jobs(
     member(alloc, out, "discarded", &discarded)?;
     member(alloc, out, "refused", &refused)?;
     out.token(Token::Key("totals"))?;
-    totals(alloc, out, found)?;
+    by_name(alloc, out, found)?;
+    out.token(Token::EndObject)
+}
+
+pub(crate) fn quotas(
+    alloc: Global,
+    out: &mut Writer,
+    found: &[(Text, QuotaInfo)],
+) -> Result<(), AllocError>
+    ensures { OnOk result (out.new ≡ with_value (answer_data (answers.Quota found.now)) out.old) }
+{
+    out.token(Token::BeginObject)?;
+    out.token(Token::Key("quota"))?;
+    by_name(alloc, out, found)?;
     out.token(Token::EndObject)
 }
 

@@ -12,10 +12,12 @@ use snap_history::CallKind;
 pub(crate) enum Verb {
     Open,
     Reopen,
+    Roll,
     /// The word is that of the call in a journal.
     Call(CallKind),
     File(FileVerb),
     Lookup(Lookup),
+    Quota,
     Tree,
     Journal,
     Report,
@@ -35,12 +37,15 @@ pub(crate) enum FileVerb {
 pub(crate) enum PathVerb {
     Mkdir,
     Create,
+    Put,
     Write,
     Truncate,
     SetMode,
     Symlink,
     Unlink,
     Rmdir,
+    Opaque,
+    Whiteout,
 }
 
 /// The calls that are commands.
@@ -66,23 +71,28 @@ const CALLS: [CallKind; 18] = [
 ];
 
 /// The words of the other commands.
-const WORDS: [(&str, Verb); 19] = [
+const WORDS: [(&str, Verb); 24] = [
     ("open", Verb::Open),
     ("reopen", Verb::Reopen),
+    ("roll", Verb::Roll),
     ("mkdir", Verb::File(FileVerb::At(PathVerb::Mkdir))),
     ("create", Verb::File(FileVerb::At(PathVerb::Create))),
+    ("put", Verb::File(FileVerb::At(PathVerb::Put))),
     ("write", Verb::File(FileVerb::At(PathVerb::Write))),
     ("truncate", Verb::File(FileVerb::At(PathVerb::Truncate))),
     ("setmode", Verb::File(FileVerb::At(PathVerb::SetMode))),
     ("symlink", Verb::File(FileVerb::At(PathVerb::Symlink))),
     ("unlink", Verb::File(FileVerb::At(PathVerb::Unlink))),
     ("rmdir", Verb::File(FileVerb::At(PathVerb::Rmdir))),
+    ("opaque", Verb::File(FileVerb::At(PathVerb::Opaque))),
+    ("whiteout", Verb::File(FileVerb::At(PathVerb::Whiteout))),
     ("link", Verb::File(FileVerb::Link)),
     ("rename", Verb::File(FileVerb::Rename)),
     ("look", Verb::Lookup(Lookup::Look)),
     ("list", Verb::Lookup(Lookup::List)),
     ("read", Verb::Lookup(Lookup::Read)),
     ("resolve", Verb::Lookup(Lookup::Resolve)),
+    ("quota", Verb::Quota),
     ("tree", Verb::Tree),
     ("journal", Verb::Journal),
     ("report", Verb::Report),

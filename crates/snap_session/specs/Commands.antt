@@ -1,8 +1,10 @@
 -- What a command of a script answers, and the store after it; cited by the public clauses of `act` and, through Script.antt, of `replay`.
--- Cited by `Script as TakeLine`, `replay_within`, `replay` and others.
+-- Cited by `Runner::new`, `Runner as TakeLine`, `replay_within` and others.
 use Rattle.std.specs.Prelude.{ℕ, Bool, true, false, List, length, map, take, Option, None, Some, Result, Ok, Err, if◌then◌else◌}
 use Rattle.std.specs.Option.{option_map, option_map_or}
 use Rattle.snap_path.specs.Text.{Names}
+use Rattle.snap_layer.specs.declared.content.Content.{Content}
+use Rattle.snap_layer.specs.declared.content.Content.TheVariants as contents
 use Rattle.snap_layer.specs.Tree.{Tree}
 use Rattle.snap_usage.specs.declared.usage.Usage.{Usage}
 use Rattle.snap_merge.specs.declared.error.FsError.{FsError}
@@ -20,6 +22,9 @@ use Rattle.snap_call.specs.declared.refusal.Refusal.TheVariants.{BadArgument}
 use Rattle.snap_call.specs.declared.reply.Reply.TheVariants as replies
 use Rattle.snap_call.specs.Forms.{is_config}
 use Rattle.snap_call.specs.Records.{open_count}
+use Rattle.snap_call.specs.Step.{sweep}
+use Rattle.snap_book.specs.Questions.{chain_usage}
+use Rattle.snap_book.specs.Round.{roll_answer}
 use Rattle.snap_book.specs.Slot.{slot_of}
 use Rattle.snap_book.specs.Wanted.{needed_by, wanted}
 use Rattle.snap_world.specs.declared.step.Step.{Step}
@@ -42,6 +47,7 @@ use Rattle.snap_script.specs.declared.command.Lookup.{Lookup}
 use Rattle.snap_script.specs.declared.command.Lookup.TheVariants as lookups
 use Rattle.snap_session.specs.Opened.{OpenedValue, new_world, share_at, count_at, totals_of}
 use Rattle.snap_session.specs.Journal.{journal_of}
+use Rattle.snap_session.specs.Quota.{quota_answer}
 use Rattle.snap_session.specs.Tree.{tree}
 
 -- ---- one step, and its answer
@@ -103,10 +109,15 @@ performed session slot id None extra w = (w, answers.Failed BadPath)
 
 -- ---- what a snapshot shows
 
--- what is seen, as answers have it: of a file how many bytes it has
+-- a file that is seen: how many bytes it has, and its digest where they aren't kept
+abbrev pub shown_file : ℕ → Content → Shown
+shown_file mode (contents.Bytes bytes) = shown.File mode (length bytes)
+shown_file mode (contents.Sized size digest) = shown.Sized mode size digest
+
+-- what is seen, as answers have it
 abbrev pub shown_of : Object → Shown
 shown_of (dir mode) = shown.Dir mode
-shown_of (file mode bytes) = shown.File mode (length bytes)
+shown_of (file mode content) = shown_file mode content
 shown_of (symlink target) = shown.Symlink target
 
 -- the answer for what was found, or the error
@@ -114,11 +125,16 @@ abbrev pub found_or_failed : {A : Type 0} → (A → Answer) → Result A FsErro
 found_or_failed answer (Ok found) = answer found
 found_or_failed answer (Err e) = answers.Failed e
 
--- what the layers show at a path; of a file that is read the first 16 bytes, and how many it has
+-- a file that is read: its first 16 bytes, and how many it has; or its size and its digest, where its bytes aren't kept
+abbrev pub read_of : Content → Answer
+read_of (contents.Bytes bytes) = answers.Head (take 16 bytes) (length bytes)
+read_of (contents.Sized size digest) = answers.Known size digest
+
+-- what the layers show at a path
 abbrev pub looked_up : Lookup → List Tree → Names → Answer
 looked_up lookups.Look layers path = answers.Seen (option_map shown_of (seen layers path))
 looked_up lookups.List layers path = found_or_failed answers.Names (listing layers path)
-looked_up lookups.Read layers path = found_or_failed (λ bytes. answers.Head (take 16 bytes) (length bytes)) (reading layers path)
+looked_up lookups.Read layers path = found_or_failed read_of (reading layers path)
 looked_up lookups.Resolve layers path = found_or_failed answers.Path (resolution layers path)
 
 -- a lookup in the layers of a snapshot, or why there are none; there is no path where its text was none. No step is made
@@ -147,6 +163,21 @@ if_reopened w journal (Err (faults.Book why)) = (w, answers.Reply (replies.Refus
 abbrev pub reopen : WorldValue → ℕ → WorldValue × Answer
 reopen w journal = if_reopened w journal (reopen_answer w journal)
 
+-- the same, and snapshots may be open
+abbrev pub if_rolled : WorldValue → ℕ → Result Unit Refusal → WorldValue × Answer
+if_rolled w journal (Ok done) = round_opened (move (reopened w journal) (Locked 0 calls.Session))
+if_rolled w journal (Err why) = (w, answers.Reply (replies.Refused why))
+
+abbrev pub roll : WorldValue → ℕ → WorldValue × Answer
+roll w journal = if_rolled w journal (roll_answer w.state journal)
+
+-- ---- what is asked without a step
+
+-- what a snapshot is charged with its ancestors, or why there is none
+abbrev pub usage_answer : Result Usage Refusal → Answer
+usage_answer (Ok usage) = answers.Reply (replies.Usage usage)
+usage_answer (Err why) = answers.Reply (replies.Refused why)
+
 -- ---- commands on a store
 
 -- entries of the round, open snapshots, records, totals
@@ -158,6 +189,7 @@ abbrev pub on_store : OpenedValue → ℕ → Command → WorldValue × Answer
 on_store s n (commands.Open config) = (s.world, answers.Reply (replies.Refused BadArgument))
 on_store s n commands.Session = stepped s.world.state.sessions 0 (Locked s.world.state.sessions calls.Session) s.world
 on_store s n (commands.Reopen journal) = reopen s.world journal
+on_store s n (commands.Roll journal) = roll s.world journal
 on_store s n (commands.Call call) = stepped n 0 (Locked n call) s.world
 on_store s n (commands.Charge namespace key need want) = on_key s.world namespace key (λ slot id. stepped n slot (Locked n (calls.Charge slot id need want)) s.world)
 on_store s n (commands.Trim namespace key) = on_key s.world namespace key (λ slot id. stepped n slot (Locked n (calls.Trim slot id)) s.world)
@@ -165,6 +197,9 @@ on_store s n (commands.Commit namespace key name lease) = on_key s.world namespa
 on_store s n (commands.Discard namespace key) = on_key s.world namespace key (λ slot id. stepped n slot (Locked n (calls.Discard slot id)) s.world)
 on_store s n (commands.File namespace key operation extra) = on_key s.world namespace key (λ slot id. performed n slot id operation extra s.world)
 on_store s n (commands.Lookup namespace key asked path) = (s.world, lookup asked path (stack_of s.world namespace key))
+on_store s n (commands.TrySweep namespace moment) = (s.world, answers.Reply (sweep s.world.state namespace moment).1)
+on_store s n (commands.ChainUsage namespace key) = (s.world, usage_answer (chain_usage s.world.state namespace key))
+on_store s n (commands.Quota namespace) = (s.world, quota_answer s namespace)
 on_store s n (commands.Tree namespace) = (s.world, tree s namespace)
 on_store s n (commands.Journal namespace after most) = (s.world, journal_of s.world namespace after most)
 on_store s n commands.Report = (s.world, report s)

@@ -1,5 +1,5 @@
 -- The round's entries of a namespace.
--- Cited by `Script as TakeLine`, `replay_within`, `replay` and others.
+-- Cited by `Runner::new`, `Runner as TakeLine`, `replay_within` and others.
 use Rattle.std.specs.Prelude.{ℕ, if◌then◌else◌, Option, None, Some}
 use Rattle.snap_record.specs.Labels.{Bytes}
 use Rattle.snap_call.specs.Forms.{is_page}

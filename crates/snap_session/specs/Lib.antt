@@ -1,5 +1,6 @@
 pub mod Opened
 pub mod Tree
+pub mod Quota
 pub mod Journal
 pub mod Commands
 pub mod Wanting

@@ -7,6 +7,7 @@ use Rattle.snap_script.specs.declared.line.Line.{Line}
 use Rattle.snap_script.specs.declared.request.Id.{Id}
 use Rattle.snap_script.specs.declared.response.Response.{Response}
 use Rattle.snap_script.specs.declared.response.Response.TheVariants as responses
+use Rattle.snap_script.specs.declared.unknown.FieldRule.TheVariants.{KnownAndId}
 use Rattle.snap_script.specs.Lines.{line_of}
 use Rattle.snap_script.specs.Requests.{id_of}
 use Rattle.snap_script.specs.Responses.{response_line}
@@ -42,7 +43,7 @@ effect_responded number id after = record { value = record { script = after.0; l
 
 -- what the bytes of a line do, which has no fault
 unfoldable pub served : Effects ServerValue
-served s bytes = Ok (effect_responded (next_number s.lines) (id_of bytes) (responded s.script (next_number s.lines) (line_of (is_some s.script.store) bytes)))
+served s bytes = Ok (effect_responded (next_number s.lines) (id_of bytes) (responded s.script (next_number s.lines) (line_of KnownAndId (is_some s.script.store) bytes)))
 
 -- the transcript of a server, which begins without a store; its lines have no limit
 abbrev pub service : List ℕ → Transcript ServerValue

@@ -1,12 +1,15 @@
-// The commands that are calls of the store.
+// The commands that are calls of the store, and two of its calls asked without an entry.
 ghost use Rattle.std.specs.Prelude.{◌≡◌, IfOk};
 ghost use Rattle.snap_call.specs.declared.call.Call.TheVariants as calls;
 ghost use Rattle.snap_book.specs.Slot.{slot_of};
 ghost use Rattle.snap_world.specs.declared.step.Step.TheVariants.{Locked};
-ghost use Rattle.snap_session.specs.Commands.{stepped, on_key};
+ghost use Rattle.snap_call.specs.Step.{sweep};
+ghost use Rattle.snap_book.specs.Questions.{chain_usage};
+ghost use Rattle.snap_script.specs.declared.answer.Answer.TheVariants as answers;
+ghost use Rattle.snap_session.specs.Commands.{stepped, on_key, usage_answer};
 
 use crate::step::called;
-use snap_call::{Call, Refusal};
+use snap_call::{Call, Refusal, Reply};
 use snap_ledger::StoreName;
 use snap_record::Text;
 use snap_script::Answer;
@@ -108,5 +111,26 @@ pub(crate) fn discard<N: StoreName>(
     match found(world, namespace, key) {
         Ok((slot, id)) => called(world, n, slot, Call::Discard { slot, id }),
         Err(why) => Ok(Answer::refused(why)),
+    }
+}
+
+// What a sweep of the namespace would answer. Nothing goes.
+pub(crate) fn try_sweep<N: StoreName>(
+    world: &World<N>,
+    namespace: Text,
+    moment: u64,
+) -> Result<Answer, NoMemory>
+    ensures { IfOk result (λ answer. answer ≡ answers.Reply (sweep world.now.state namespace moment).1) }
+{
+    Ok(Answer::Reply(world.plan_sweep(namespace.as_str(), moment)?))
+}
+
+// What the snapshot is charged with its ancestors, or why there is none.
+pub(crate) fn chain_usage<N: StoreName>(world: &World<N>, namespace: Text, key: Text) -> Answer
+    ensures { result ≡ usage_answer (chain_usage world.now.state namespace key) }
+{
+    match world.chain_usage(namespace.as_str(), key.as_str()) {
+        Ok(usage) => Answer::Reply(Reply::Usage(usage)),
+        Err(why) => Answer::refused(why),
     }
 }

@@ -29,6 +29,16 @@ pub(crate) fn journal<N: StoreName>(
     };
     let entries = world.journal();
     let last = world.last_entry();
-    let told = history(alloc, entries, last, name, charge, after, most as usize)?;
+    let held = world.opening_shares(name)?;
+    let told = history(
+        alloc,
+        entries,
+        last,
+        name,
+        &held,
+        charge,
+        after,
+        most as usize,
+    )?;
     Ok(Answer::Journal(told))
 }

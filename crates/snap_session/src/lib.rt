@@ -11,6 +11,7 @@ mod file_commands;
 mod journal;
 mod lookups;
 mod opened;
+mod quota;
 mod round;
 mod run;
 mod script;
@@ -18,7 +19,7 @@ mod server;
 mod step;
 mod tree;
 
-pub use run::{replay, replay_within};
+pub use run::{RunOptions, Runner, replay, replay_within};
 pub use script::Script;
 pub use server::{Server, serve};
 pub use snap_lines::{LineFault, Stop};

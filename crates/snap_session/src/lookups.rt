@@ -3,9 +3,9 @@ ghost use Rattle.std.specs.Prelude.{◌≡◌, IfOk, length, take};
 ghost use Rattle.snap_merge.specs.Objects.{object};
 ghost use Rattle.snap_script.specs.declared.answer.Answer.TheVariants as answers;
 ghost use Rattle.snap_world.specs.Stacks.{stack_of};
-ghost use Rattle.snap_session.specs.Commands.{shown_of, looked_up, lookup};
+ghost use Rattle.snap_session.specs.Commands.{read_of, shown_file, shown_of, looked_up, lookup};
 
-use snap_layer::Bytes;
+use snap_layer::{Bytes, Content};
 use snap_ledger::StoreName;
 use snap_merge::{FsError, Seen, Stack};
 use snap_path::Path;
@@ -23,12 +23,39 @@ fn shown_of(alloc: Global, seen: Seen<'_>) -> Result<Shown, AllocError>
 {
     match seen {
         Seen::Dir { mode } => Ok(Shown::Dir { mode }),
-        Seen::File { mode, bytes } => Ok(Shown::File {
-            mode,
-            size: bytes.len() as u64,
-        }),
+        Seen::File { mode, content } => shown_file(alloc, mode, content),
         Seen::Symlink { target } => Ok(Shown::Symlink {
             target: Bytes::copy_of(alloc, target)?,
+        }),
+    }
+}
+
+// A file that is seen, with its own digest.
+fn shown_file(alloc: Global, mode: u32, content: &Content) -> Result<Shown, AllocError>
+    ensures { IfOk result (λ shown. shown ≡ shown_file mode content.now) }
+{
+    match content {
+        Content::Bytes(_) => Ok(Shown::File {
+            mode,
+            size: content.size(),
+        }),
+        Content::Sized { size, digest } => Ok(Shown::Sized {
+            mode,
+            size: *size,
+            digest: digest.clone()?,
+        }),
+    }
+}
+
+// The file's first bytes, and how many it has; or its size and its digest, where its bytes aren't kept.
+fn read_of(alloc: Global, content: &Content) -> Result<Answer, AllocError>
+    ensures { IfOk result (λ answer. answer ≡ read_of content.now) }
+{
+    match content {
+        Content::Bytes(bytes) => head_of(alloc, bytes.as_slice()),
+        Content::Sized { size, digest } => Ok(Answer::Known {
+            size: *size,
+            digest: digest.clone()?,
         }),
     }
 }
@@ -63,7 +90,7 @@ fn looked_up(
             Err(error) => Ok(Answer::Failed(error)),
         },
         Lookup::Read => match stack.read(path) {
-            Ok(bytes) => Ok(head_of(alloc, bytes)?),
+            Ok(content) => Ok(read_of(alloc, content)?),
             Err(error) => Ok(Answer::Failed(error)),
         },
         Lookup::Resolve => match stack.resolve(alloc, path) {

@@ -3,11 +3,12 @@ ghost use Rattle.std.specs.Prelude.{◌≡◌, IfOk, Some};
 ghost use Rattle.snap_session.specs.Opened.{total_of, totals_of};
 ghost use Rattle.snap_session.specs.Commands.{kept, on_store, report};
 
-use crate::calls::{charge, commit, discard, session, trim};
+use crate::calls::{chain_usage, charge, commit, discard, session, trim, try_sweep};
 use crate::file_commands::file;
 use crate::journal::journal;
 use crate::lookups::lookup;
-use crate::round::reopen;
+use crate::quota::quota;
+use crate::round::{reopen, roll};
 use crate::step::called;
 use crate::tree::tree;
 use snap_call::Refusal;
@@ -84,6 +85,7 @@ fn on_store<N: StoreName>(
         Command::Open { config: _ } => Ok(Answer::refused(Refusal::BadArgument)),
         Command::Session => session(world),
         Command::Reopen { journal } => reopen(world, journal),
+        Command::Roll { journal } => roll(world, journal),
         Command::Call(call) => called(world, n, 0, call),
         Command::Charge {
             namespace,
@@ -111,6 +113,9 @@ fn on_store<N: StoreName>(
             lookup: asked,
             path,
         } => lookup(alloc, world, namespace, key, asked, path),
+        Command::TrySweep { namespace, moment } => try_sweep(world, namespace, moment),
+        Command::ChainUsage { namespace, key } => Ok(chain_usage(world, namespace, key)),
+        Command::Quota { namespace } => quota(alloc, world, names, namespace),
         Command::Tree { namespace } => tree(alloc, world, names, namespace),
         Command::Journal {
             namespace,

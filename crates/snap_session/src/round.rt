@@ -4,7 +4,7 @@ ghost use Rattle.snap_call.specs.declared.call.Call.TheVariants as calls;
 ghost use Rattle.snap_world.specs.declared.step.Answer.TheVariants as step_answers;
 ghost use Rattle.snap_world.specs.declared.step.Step.TheVariants.{Locked};
 ghost use Rattle.snap_world.specs.Move.{move};
-ghost use Rattle.snap_session.specs.Commands.{round_opened, is_started, reopen};
+ghost use Rattle.snap_session.specs.Commands.{round_opened, is_started, reopen, roll};
 
 use crate::step::{call, told};
 use snap_call::{Call, Reply};
@@ -50,5 +50,16 @@ pub(crate) fn reopen<N: StoreName>(world: &mut World<N>, journal: u64) -> Result
         Ok(()) => open_round(world),
         Err(ReopenFault::StillOut) => Ok(Answer::StillOut),
         Err(ReopenFault::Book(why)) => Ok(Answer::refused(why)),
+    }
+}
+
+// The next round, in which open snapshots stay, and its session 0, for whose entry memory is taken first.
+pub(crate) fn roll<N: StoreName>(world: &mut World<N>, journal: u64) -> Result<Answer, NoMemory>
+    ensures { IfOk result (λ answer. roll world.old journal ≡ (world.new, answer)) }
+{
+    world.reserve_session()?;
+    match world.roll(journal) {
+        Ok(()) => open_round(world),
+        Err(why) => Ok(Answer::refused(why)),
     }
 }

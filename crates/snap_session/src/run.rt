@@ -1,27 +1,85 @@
-ghost use Rattle.std.specs.Prelude.{◌≡◌, None, OnOk, IfErr, IfSome};
+ghost use Rattle.std.specs.Prelude.{◌≡◌, None, OnOk, IfErr, IfSome, string_bytes};
 ghost use Rattle.snap_lines.specs.Transcripts.{Tells};
-ghost use Rattle.snap_session.specs.Script.{script, effect_of, HasStopped};
+ghost use Rattle.snap_script.specs.Gives.{Gives};
+ghost use Rattle.snap_session.specs.Script.{HasStopped, effect_of, ending, script, text_told, unbegun};
 
 use crate::script::Script;
 use snap_ledger::{NewTable, StoreName};
 use snap_lines::{MAX_BYTES, Stop, TakeLine, read_lines};
-use snap_script::{ReadError, read_line};
+use snap_script::{Answer, Fault, FieldRule, ReadError, Refused, Scratch, read_line};
 use std::alloc::Global;
 use std::io::{Read, Write};
-use std::marker::Brand;
+use std::marker::{Brand, Model};
 
 // The most reads.
 const READS: u32 = 4_294_967_295;
 
-// A line is read and its command carried out; the text is the line of the answer, and none for an empty line.
-impl<N: StoreName> TakeLine for Script<N> {
+/// How a script is run.
+#[derive(Clone, Copy, Debug, PartialEq, Eq)]
+pub struct RunOptions {
+    /// Which fields a line may have.
+    pub fields: FieldRule,
+    /// Whether the run ends at the first command that is refused.
+    pub stops_at_refusal: bool,
+}
+
+/// Runs the lines of a script. Contracts see the script and how it is run.
+#[derive(Drop)]
+pub struct Runner<N: StoreName> {
+    script: Script<N>,
+    options: RunOptions,
+    scratch: Scratch,
+}
+
+impl<N: StoreName> Model for Runner<N> {
+    ghost use Rattle.snap_session.specs.Script.{RunnerValue};
+
+    ghost Value = { RunnerValue };
+
+    ghost view = { λ s. record { script = s.script; options = s.options } };
+}
+
+impl<N: StoreName> Runner<N> {
+    /// A run that has taken no line, and whose script has opened no store. Takes no memory.
+    pub fn new(alloc: Global, table: NewTable, options: RunOptions) -> Runner<N>
+        requires { table ≡ N.table }
+        ensures { result ≡ unbegun options }
+    {
+        Runner {
+            script: Script::new(alloc, table),
+            options,
+            scratch: Scratch::new(alloc),
+        }
+    }
+}
+
+// Why the answer ends the run, where refusals do.
+fn ending(stops: bool, answer: &Answer) -> Option<Refused>
+    ensures { result ≡ ending stops answer.now }
+{
+    if stops { answer.refusal() } else { None }
+}
+
+// The text of an answer that doesn't end the run.
+fn text_told(alloc: Global, stops: bool, answer: &Answer) -> Result<String, ReadError>
+    ensures { Gives string_bytes result (text_told stops answer.now) }
+{
+    match ending(stops, answer) {
+        Some(why) => Err(ReadError::Fault(Fault::Refused(why))),
+        None => Ok(answer.line(alloc)?),
+    }
+}
+
+/// A line is read and its command carried out; the text is the line of the answer, and none for an empty line.
+impl<N: StoreName> TakeLine for Runner<N> {
     ghost effect = { effect_of };
 
     #[tactic(auto, unfolding(crate::specs::Script::effect_of))]
     fn take_line(&mut self, alloc: Global, line: &[u8]) -> Result<Option<String>, ReadError> {
-        let line = read_line(alloc, line, self.is_open())?;
-        match self.step(line)? {
-            Some(answer) => Ok(Some(answer.line(alloc)?)),
+        let opened = self.script.is_open();
+        let line = read_line(alloc, line, self.options.fields, opened, &mut self.scratch)?;
+        match self.script.step(line)? {
+            Some(answer) => Ok(Some(text_told(alloc, self.options.stops_at_refusal, &answer)?)),
             None => Ok(None),
         }
     }
@@ -32,17 +90,18 @@ fn run<N: StoreName, R: Read, W: Write>(
     table: NewTable,
     input: &mut R,
     output: &mut W,
+    options: RunOptions,
     reads: u32,
 ) -> Result<(), Stop>
     requires { table ≡ N.table }
     ensures done { OnOk result (IfSome (R.remaining input.old)
-        (λ bytes. Tells (script bytes) None (W.contents output.old) (W.contents output.new))) }
+        (λ bytes. Tells (script options bytes) None (W.contents output.old) (W.contents output.new))) }
     ensures stopped { IfErr result (λ stop. IfSome (R.remaining input.old) (λ bytes.
-        HasStopped bytes (R.remaining input.new) stop (W.contents output.old) (W.contents output.new))) }
+        HasStopped options bytes (R.remaining input.new) stop (W.contents output.old) (W.contents output.new))) }
 {
-    let mut script: Script<N> = Script::new(alloc, table);
+    let mut runner: Runner<N> = Runner::new(alloc, table, options);
     let most = Some(MAX_BYTES);
-    read_lines(alloc, &mut script, input, output, most, u64::from(reads))
+    read_lines(alloc, &mut runner, input, output, most, u64::from(reads))
 }
 
 /// Runs a script: reads lines from the input, a command each, and writes the line of each answer to the
@@ -54,7 +113,8 @@ fn run<N: StoreName, R: Read, W: Write>(
 /// read that failed, for all that were read; where a write failed, a first part of a text may follow.
 ///
 /// `Line` where a line is no command, has more than 16,777,216 bytes without its line feed, or takes
-/// the bytes of all lines past 1,073,741,824. `InputFailed` where a read failed, or the end of the
+/// the bytes of all lines past 1,073,741,824; also where it has an unknown field, if the options make that a fault,
+/// and where its command was refused, if they end the run there. `InputFailed` where a read failed, or the end of the
 /// input didn't come within so many reads; `OutputFailed` where a write failed; `OutOfMemory` where
 /// memory was refused. What was written stays written, and is flushed before each read and at the end.
 ///
@@ -64,23 +124,29 @@ pub fn replay_within<R: Read, W: Write>(
     alloc: Global,
     input: &mut R,
     output: &mut W,
+    options: RunOptions,
     reads: u32,
 ) -> Result<(), Stop>
     ensures done { OnOk result (IfSome (R.remaining input.old)
-        (λ bytes. Tells (script bytes) None (W.contents output.old) (W.contents output.new))) }
+        (λ bytes. Tells (script options bytes) None (W.contents output.old) (W.contents output.new))) }
     ensures stopped { IfErr result (λ stop. IfSome (R.remaining input.old) (λ bytes.
-        HasStopped bytes (R.remaining input.new) stop (W.contents output.old) (W.contents output.new))) }
+        HasStopped options bytes (R.remaining input.new) stop (W.contents output.old) (W.contents output.new))) }
 {
     let table = NewTable::new(alloc)?;
-    run::<Brand, R, W>(alloc, table, input, output, reads)
+    run::<Brand, R, W>(alloc, table, input, output, options, reads)
 }
 
 /// [`replay_within`] with at most 4,294,967,295 reads.
-pub fn replay<R: Read, W: Write>(alloc: Global, input: &mut R, output: &mut W) -> Result<(), Stop>
+pub fn replay<R: Read, W: Write>(
+    alloc: Global,
+    input: &mut R,
+    output: &mut W,
+    options: RunOptions,
+) -> Result<(), Stop>
     ensures done { OnOk result (IfSome (R.remaining input.old)
-        (λ bytes. Tells (script bytes) None (W.contents output.old) (W.contents output.new))) }
+        (λ bytes. Tells (script options bytes) None (W.contents output.old) (W.contents output.new))) }
     ensures stopped { IfErr result (λ stop. IfSome (R.remaining input.old) (λ bytes.
-        HasStopped bytes (R.remaining input.new) stop (W.contents output.old) (W.contents output.new))) }
+        HasStopped options bytes (R.remaining input.new) stop (W.contents output.old) (W.contents output.new))) }
 {
-    replay_within(alloc, input, output, READS)
+    replay_within(alloc, input, output, options, READS)
 }

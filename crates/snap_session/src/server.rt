@@ -5,7 +5,7 @@ ghost use Rattle.snap_session.specs.Service.{HasStoppedServing, idle, responded,
 use crate::script::Script;
 use snap_ledger::{NewTable, StoreName};
 use snap_lines::{Stop, TakeLine, read_lines};
-use snap_script::{Fault, Line, ReadError, Response, read_request};
+use snap_script::{Fault, Line, ReadError, Response, Scratch, read_request};
 use snap_world::NoMemory;
 use std::alloc::Global;
 use std::io::{Read, Write};
@@ -19,6 +19,7 @@ const READS: u64 = u64::MAX;
 pub struct Server<N: StoreName> {
     script: Script<N>,
     lines: u64,
+    scratch: Scratch,
 }
 
 impl<N: StoreName> Model for Server<N> {
@@ -59,6 +60,7 @@ impl<N: StoreName> Server<N> {
         Server {
             script: Script::new(alloc, table),
             lines: 0,
+            scratch: Scratch::new(alloc),
         }
     }
 }
@@ -69,7 +71,8 @@ impl<N: StoreName> TakeLine for Server<N> {
 
     #[tactic(auto, unfolding(crate::specs::Service::served))]
     fn take_line(&mut self, alloc: Global, line: &[u8]) -> Result<Option<String>, ReadError> {
-        let request = match read_request(alloc, line, self.script.is_open()) {
+        let opened = self.script.is_open();
+        let request = match read_request(alloc, line, opened, &mut self.scratch) {
             Ok(request) => request,
             Err(shortage) => return Err(ReadError::OutOfMemory(shortage)),
         };
@@ -97,7 +100,8 @@ fn run<N: StoreName, R: Read, W: Write>(
 
 /// Serves a client: reads lines from the input, a command each, and writes one line to the output for each of them, in
 /// their order. A line that is no command is answered with its fault and its number, and an empty one with
-/// `{"empty":true}`; neither changes anything. A line that has an id gets it back.
+/// `{"empty":true}`; neither changes anything. A field that is neither one of its command's nor `do`, `s` or `id` is a
+/// fault. A line that has an id gets it back.
 ///
 /// Where it ends well, and the input and the output tell their bytes, what was written is the text of `service` for all
 /// that the input had. Where it stops, what was written is the text for whole lines from the first on: at a read that

@@ -32,9 +32,9 @@ IsCause b sessions (Some SessionsMissing) = (open_count b.state.records ≡ 0) �
 IsCause b sessions (Some (TapeMismatch m)) = (open_count b.state.records ≡ 0) × IsCheck b.journal sessions (Err (faults.Mismatch m))
 IsCause b sessions (Some (OutOfMemory want)) = ⊥
 
--- ---- what holds of every book
+-- ---- what holds of the book of every store
 
--- what holds of every book: the round began at a good state without open snapshots and sessions, and the journal leads, one step for each entry, from there to this state, which is good
+-- what holds of it: the round began at a good state without open snapshots and sessions, and the journal leads, one step for each entry, from there to this state, which is good
 pub record IsKept (b : BookValue) : Type 0 where
   pub began : IsOpening b.opening
   pub replays : Replays b.opening b.journal b.state

@@ -124,6 +124,7 @@ impl<N: RoundName> NotClosed<N> {
         cause: Cause,
     ) -> NotClosed<N>
         requires refused { IsRefusal book sessions.items cause }
+        requires began { open_count book.opening.records ≡ 0 }
         requires whole { tie ≡ whole (round_of book) }
         ensures same { result.store ≡ round_of book }
         ensures returned { result.sessions ≡ sessions }
@@ -143,6 +144,7 @@ impl<N: RoundName> Closed<N> {
     // The closed store of a book.
     fn of(alloc: Global, book: Book<N>, tie: Tie<N>) -> Closed<N>
         requires idle { open_count book.state.records ≡ 0 }
+        requires began { open_count book.opening.records ≡ 0 }
         requires whole { tie ≡ whole (round_of book) }
         ensures closed { result ≡ book }
         ensures kept { IsKept book }

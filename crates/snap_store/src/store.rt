@@ -4,6 +4,7 @@ ghost use Rattle.snap_path.specs.Memory.{no_memory};
 ghost use Rattle.snap_usage.specs.Counted.{count_of};
 ghost use Rattle.snap_call.specs.Forms.{is_config};
 ghost use Rattle.snap_call.specs.Journal.{entry};
+ghost use Rattle.snap_call.specs.Records.{open_count};
 ghost use Rattle.snap_call.specs.State.{opening};
 ghost use Rattle.snap_call.specs.declared.call.Call.TheVariants as calls;
 ghost use Rattle.snap_call.specs.declared.call.Given.TheVariants.{Nothing, Count, Layer as LayerGiven};
@@ -68,6 +69,7 @@ pub struct Store<N: RoundName> {
 
 impl<N: RoundName> Model for Store<N> {
     ghost use Rattle.std.specs.Prelude.{◌≡◌};
+    ghost use Rattle.snap_call.specs.Records.{open_count};
     ghost use Rattle.snap_round.specs.Rounds.{outer};
     ghost use Rattle.snap_round.specs.declared.rule.Round.{Round};
 
@@ -75,12 +77,14 @@ impl<N: RoundName> Model for Store<N> {
 
     ghost view = { λ s. s.tie.round };
 
-    ghost invariant = { λ s. s.tie ≡ outer s.tie.round };
+    // No call rolls the book: the round began without open snapshots.
+    ghost invariant = { λ s. (s.tie ≡ outer s.tie.round) × (open_count s.tie.round.opening.records ≡ 0) };
 }
 
 // The store of a book that begins a round, which the type names.
 fn known<N: RoundName, K: KnownRound>(alloc: Global, book: Book<N>, tie: Tie<N>) -> Store<N>
     requires known { round_of book ≡ K.round }
+    requires idle { open_count book.opening.records ≡ 0 }
     requires whole { tie ≡ whole tie.round }
     ensures { result ≡ round_of book }
 {
@@ -90,6 +94,7 @@ fn known<N: RoundName, K: KnownRound>(alloc: Global, book: Book<N>, tie: Tie<N>)
 // The store of a book that begins a round.
 pub(crate) fn begun<N: RoundName>(alloc: Global, book: Book<N>, tie: Tie<N>) -> Store<N>
     requires begins { book ≡ record { state = book.opening; journal = []; opening = book.opening; limit = book.limit; copy = None } }
+    requires idle { open_count book.opening.records ≡ 0 }
     requires whole { tie ≡ whole tie.round }
     ensures { result ≡ round_of book }
 {
@@ -99,7 +104,8 @@ pub(crate) fn begun<N: RoundName>(alloc: Global, book: Book<N>, tie: Tie<N>) -> 
 impl<N: RoundName> Store<N> {
     // The store of a book, which is of the round of the tie.
     pub(crate) fn of(alloc: Global, book: Book<N>, tie: Tie<N>) -> Store<N>
-        requires { tie ≡ whole (round_of book) }
+        requires whole { tie ≡ whole (round_of book) }
+        requires idle { open_count book.opening.records ≡ 0 }
         ensures { result ≡ round_of book }
     {
         let (tie, half) = tie.split();
@@ -114,6 +120,7 @@ impl<N: RoundName> Store<N> {
     pub(crate) fn into_book(self) -> (Global, Book<N>, Tie<N>)
         ensures round { round_of result.1 ≡ self }
         ensures whole { result.2 ≡ whole (round_of result.1) }
+        ensures idle { open_count result.1.opening.records ≡ 0 }
     {
         let Store { alloc, book, tie } = self;
         let Locked { book, half } = book.into_inner();

@@ -8,6 +8,8 @@ use Rattle.std.specs.BTreeMap.{is_at}
 use Rattle.snap_path.specs.Text.{Names}
 use Rattle.snap_layer.specs.declared.node.Node.{Node}
 use Rattle.snap_layer.specs.declared.node.Node.TheVariants.{Dir, File, Symlink, Whiteout}
+use Rattle.snap_layer.specs.declared.content.Content.{Content}
+use Rattle.snap_layer.specs.declared.content.Content.TheVariants.{Bytes, Sized}
 use Rattle.snap_layer.specs.declared.node.Body.{Body}
 use Rattle.snap_layer.specs.declared.node.Body.TheVariants as body_kinds
 use Rattle.snap_layer.specs.Tree.{Tree, Bodies, at, body, number_at, number_of, node_hides}
@@ -31,13 +33,15 @@ use Rattle.snap_copyup.proofs.Layers.{no_missing}
 use Rattle.snap_merge.specs.Walk.{walk, unless}
 use Rattle.snap_upper.specs.After.{after, tests, first_error, limited, next_layer, is_whiteout_at, with_content}
 use Rattle.snap_upper.proofs.KindErrors.{file_error, mode_error}
-use Rattle.snap_upper.specs.Changed.{ShowsAt, IsName, Turns, with_file_bytes, with_object_mode, changed}
+use Rattle.snap_upper.specs.Changed.{ShowsAt, IsName, Turns, with_file_content, with_object_mode, changed}
 use Rattle.snap_copyup.proofs.Alone.{free_unseen, dir_seen}
 use Rattle.snap_upper.proofs.Erased.{IsErasable-name, IsErasable-dir, erased_changes}
 use Rattle.snap_upper.proofs.Linked.{link_changes}
-use Rattle.snap_upper.proofs.Making.{IsNew, IsNew-passed, IsNewSymlink-passed}
+use Rattle.snap_upper.proofs.Making.{IsNew, IsNew-passed, IsNewSized-passed, IsNewSymlink-passed}
 use Rattle.snap_upper.proofs.Modes.{IsSettable-passed, has_mode, own_mode, dir_copy, file_copy}
+use Rattle.snap_upper.proofs.Opaque.{opaque_changes}
 use Rattle.snap_upper.proofs.Renames.{rename_changes}
+use Rattle.snap_upper.proofs.Trees.{IsErasableTree-passed, tree_changes}
 use Rattle.snap_upper.proofs.Writing.{IsWritable-passed, IsSizable-passed, seen_file, own_or_lower, own_layer, copy_layer}
 use Rattle.snap_copyup.proofs.Elsewhere.{Puts, shown_same, shown_number, seen-put_alike, seen-put_hiding}
 use Rattle.snap_copyup.proofs.ParentDirs.{AddsParents, adds_parents}
@@ -90,25 +94,40 @@ mkdir_changes u ls p m ok passes = record {
 -- ---- a new file
 
 create_changes : (u : Tree) (ls : List Tree) (p : Names) (m : ℕ) → IsLayer u → AreLayers ls → first_error (tests (op.Create p m) (u ∷ ls)) ≡ None
-    → ShowsAt (seen (u ∷ ls)) (seen (next_layer (op.Create p m) u ls ∷ ls)) p (Some (file m []))
+    → ShowsAt (seen (u ∷ ls)) (seen (next_layer (op.Create p m) u ls ∷ ls)) p (Some (file m (Bytes [])))
 create_changes u ls p m ok layers passes =
     let new = IsNew-passed (u ∷ ls) p m passes in
     let t = with_parents u ls p in
     let parents = adds_parents u ls p new.way in
     let free = free_unseen u ls p ok new.unseen in
-    let b = body_kinds.File m [] in
+    let b = body_kinds.File m (Bytes []) in
     record {
       here = new_shown u t ls p ok free parents (File t.next) refl b;
       others = λ q apart. new_elsewhere u t ls p ok free parents (File t.next) refl b layers (ap is_shown_dir (none_from (seen (u ∷ ls) p) new.unseen)) q apart;
     }
 
--- ---- a file's bytes
+-- ---- a new file of a size
+
+put_changes : (u : Tree) (ls : List Tree) (p : Names) (m size : ℕ) (digest : Option (List ℕ)) → IsLayer u → AreLayers ls → first_error (tests (op.Put p m size digest) (u ∷ ls)) ≡ None
+    → ShowsAt (seen (u ∷ ls)) (seen (next_layer (op.Put p m size digest) u ls ∷ ls)) p (Some (file m (Sized size digest)))
+put_changes u ls p m size digest ok layers passes =
+    let new = IsNewSized-passed (u ∷ ls) p m size digest passes in
+    let t = with_parents u ls p in
+    let parents = adds_parents u ls p new.way in
+    let free = free_unseen u ls p ok new.unseen in
+    let b = body_kinds.File m (Sized size digest) in
+    record {
+      here = new_shown u t ls p ok free parents (File t.next) refl b;
+      others = λ q apart. new_elsewhere u t ls p ok free parents (File t.next) refl b layers (ap is_shown_dir (none_from (seen (u ∷ ls) p) new.unseen)) q apart;
+    }
+
+-- ---- a file's content
 
 -- the object of a file is turned into that of its new body
-abbrev Gives : (Object → Object) → ℕ → List ℕ → ℕ → List ℕ → Type 0
+abbrev Gives : (Object → Object) → ℕ → Content → ℕ → Content → Type 0
 Gives f m old n new = f (file m old) ≡ file n new
 
-module _ (u t : Tree) (ls : List Tree) (p : Names) (parents : AddsParents u t ls (length p)) (k m n : ℕ) (old new : List ℕ) (f : Object → Object) (gives : Gives f m old n new) (is : at u p ≡ Some (File k)) (file_is : body u k ≡ Some (body_kinds.File m old)) where
+module _ (u t : Tree) (ls : List Tree) (p : Names) (parents : AddsParents u t ls (length p)) (k m n : ℕ) (old new : Content) (f : Object → Object) (gives : Gives f m old n new) (is : at u p ≡ Some (File k)) (file_is : body u k ≡ Some (body_kinds.File m old)) where
   abbrev own : Tree
   own = with_body t k (body_kinds.File n new)
 
@@ -143,7 +162,7 @@ module _ (u t : Tree) (ls : List Tree) (p : Names) (parents : AddsParents u t ls
         ∙ parents.view q;
   }
 
-module _ (u t : Tree) (ls : List Tree) (p : Names) (ok : IsLayer u) (layers : AreLayers ls) (parents : AddsParents u t ls (length p)) (m n : ℕ) (old new : List ℕ) (f : Object → Object) (gives : Gives f m old n new) (none : at u p ≡ None) (was : seen (u ∷ ls) p ≡ Some (file m old)) where
+module _ (u t : Tree) (ls : List Tree) (p : Names) (ok : IsLayer u) (layers : AreLayers ls) (parents : AddsParents u t ls (length p)) (m n : ℕ) (old new : Content) (f : Object → Object) (gives : Gives f m old n new) (none : at u p ≡ None) (was : seen (u ∷ ls) p ≡ Some (file m old)) where
   free : IsFree (at u p)
   free = subst IsFree (sym none) tt
 
@@ -185,14 +204,14 @@ module _ (u t : Tree) (ls : List Tree) (p : Names) (ok : IsLayer u) (layers : Ar
         ∙ parents.view q;
   }
 
--- ---- bytes
+-- ---- contents
 
-fill_changes : (u : Tree) (ls : List Tree) (p : Names) (g : List ℕ → List ℕ) → IsLayer u → AreLayers ls → walk (u ∷ ls) p ≡ None → file_error (seen (u ∷ ls) p) ≡ None
-    → Turns u (seen (u ∷ ls)) (seen (with_content (copied_up u ls p) (number_at (copied_up u ls p) p) g ∷ ls)) p (with_file_bytes g)
+fill_changes : (u : Tree) (ls : List Tree) (p : Names) (g : Content → Content) → IsLayer u → AreLayers ls → walk (u ∷ ls) p ≡ None → file_error (seen (u ∷ ls) p) ≡ None
+    → Turns u (seen (u ∷ ls)) (seen (with_content (copied_up u ls p) (number_at (copied_up u ls p) p) g ∷ ls)) p (with_file_content g)
 fill_changes u ls p g ok layers way regular = let f = seen_file (seen (u ∷ ls) p) regular in by f.0 f.1 f.2
   where
     Goal : Tree → Type 0
-    Goal v = Turns u (seen (u ∷ ls)) (seen (v ∷ ls)) p (with_file_bytes g)
+    Goal v = Turns u (seen (u ∷ ls)) (seen (v ∷ ls)) p (with_file_content g)
 
     t : Tree
     t = with_parents u ls p
@@ -200,10 +219,10 @@ fill_changes u ls p g ok layers way regular = let f = seen_file (seen (u ∷ ls)
     parents : AddsParents u (with_parents u ls p) ls (length p)
     parents = adds_parents u ls p way
 
-    by : (m : ℕ) (old : List ℕ) → seen (u ∷ ls) p ≡ Some (file m old) → Turns u (seen (u ∷ ls)) (seen (with_content (copied_up u ls p) (number_at (copied_up u ls p) p) g ∷ ls)) p (with_file_bytes g)
+    by : (m : ℕ) (old : Content) → seen (u ∷ ls) p ≡ Some (file m old) → Turns u (seen (u ∷ ls)) (seen (with_content (copied_up u ls p) (number_at (copied_up u ls p) p) g ∷ ls)) p (with_file_content g)
     by m old was = elim (own_or_lower u ls p m old ok was) [
-      | inl none ↦ subst Goal (sym (copy_layer t ls p m old g (parents.leaves p (omega arith) ∙ none) (parents.view p ∙ was))) (copy_changes u t ls p ok layers parents m m old (g old) (with_file_bytes g) refl none was)
-      | inr name ↦ subst Goal (sym (own_layer t ls p name.0 m old g (parents.leaves p (omega arith) ∙ name.1) (ap (λ (bs : Bodies). lookup (is_at (nat_cmp name.0)) bs) parents.bodies ∙ name.2))) (own_changes u t ls p parents name.0 m m old (g old) (with_file_bytes g) refl name.1 name.2)
+      | inl none ↦ subst Goal (sym (copy_layer t ls p m old g (parents.leaves p (omega arith) ∙ none) (parents.view p ∙ was))) (copy_changes u t ls p ok layers parents m m old (g old) (with_file_content g) refl none was)
+      | inr name ↦ subst Goal (sym (own_layer t ls p name.0 m old g (parents.leaves p (omega arith) ∙ name.1) (ap (λ (bs : Bodies). lookup (is_at (nat_cmp name.0)) bs) parents.bodies ∙ name.2))) (own_changes u t ls p parents name.0 m m old (g old) (with_file_content g) refl name.1 name.2)
     ]
 
 -- ---- modes
@@ -232,7 +251,7 @@ entry_changes u t ls p m mode b parents hides none was = record {
     name_here q (inl e) = e
     name_here q (inr (j, here, there)) = absurd (no_some j (sym here ∙ none))
 
-seen_with_mode : (o : Option Object) → mode_error o ≡ None → ((m : ℕ) × (o ≡ Some (dir m))) ⊎ ((m : ℕ) × (old : List ℕ) × (o ≡ Some (file m old)))
+seen_with_mode : (o : Option Object) → mode_error o ≡ None → ((m : ℕ) × (o ≡ Some (dir m))) ⊎ ((m : ℕ) × (old : Content) × (o ≡ Some (file m old)))
 seen_with_mode None e = absurd (cc)
 seen_with_mode (Some (dir m)) e = inl (m, refl)
 seen_with_mode (Some (file m old)) e = inr (m, old, refl)
@@ -307,6 +326,9 @@ after_changes (op.Mkdir p m) u ls v ok layers e =
 after_changes (op.Create p m) u ls v ok layers e =
     let given = after_given (first_error (tests (op.Create p m) (u ∷ ls))) (next_layer (op.Create p m) u ls) v e in
     subst (λ (w : Tree). changed (op.Create p m) u (seen (u ∷ ls)) (seen (w ∷ ls))) given.1 (create_changes u ls p m ok layers given.0)
+after_changes (op.Put p m size digest) u ls v ok layers e =
+    let given = after_given (first_error (tests (op.Put p m size digest) (u ∷ ls))) (next_layer (op.Put p m size digest) u ls) v e in
+    subst (λ (w : Tree). changed (op.Put p m size digest) u (seen (u ∷ ls)) (seen (w ∷ ls))) given.1 (put_changes u ls p m size digest ok layers given.0)
 after_changes (op.Write p offset bytes) u ls v ok layers e =
     let given = after_given (first_error (tests (op.Write p offset bytes) (u ∷ ls))) (next_layer (op.Write p offset bytes) u ls) v e in
     let ready = IsWritable-passed (u ∷ ls) p offset bytes given.0 in
@@ -334,3 +356,9 @@ after_changes (op.Rmdir p) u ls v ok layers e =
 after_changes (op.Rename from to) u ls v ok layers e =
     let given = after_given (first_error (tests (op.Rename from to) (u ∷ ls))) (next_layer (op.Rename from to) u ls) v e in
     subst (λ (w : Tree). changed (op.Rename from to) u (seen (u ∷ ls)) (seen (w ∷ ls))) given.1 (rename_changes u ls from to ok layers given.0)
+after_changes (op.Opaque p) u ls v ok layers e =
+    let given = after_given (first_error (tests (op.Opaque p) (u ∷ ls))) (next_layer (op.Opaque p) u ls) v e in
+    subst (λ (w : Tree). changed (op.Opaque p) u (seen (u ∷ ls)) (seen (w ∷ ls))) given.1 (opaque_changes u ls p ok given.0)
+after_changes (op.Whiteout p) u ls v ok layers e =
+    let given = after_given (first_error (tests (op.Whiteout p) (u ∷ ls))) (next_layer (op.Whiteout p) u ls) v e in
+    subst (λ (w : Tree). changed (op.Whiteout p) u (seen (u ∷ ls)) (seen (w ∷ ls))) given.1 (tree_changes u ls p ok layers (IsErasableTree-passed (u ∷ ls) p given.0))

@@ -13,7 +13,7 @@ use Rattle.snap_layer.specs.declared.node.Node.{Node}
 use Rattle.snap_layer.specs.declared.node.Node.TheVariants.{Dir, File, Symlink, Whiteout}
 use Rattle.snap_layer.specs.Tree.{Tree, Bodies, at, body, hides, node_hides, number_at, number_of}
 use Rattle.snap_layer.specs.Layers.{IsLayer}
-use Rattle.snap_layer.specs.Edits.{HasPlace, IsTakeable, outside, with_node, without}
+use Rattle.snap_layer.specs.Edits.{HasPlace, IsFree, IsTakeable, outside, with_node, without}
 use Rattle.snap_layer.proofs.Paths.{split_front}
 use Rattle.snap_layer.proofs.Looks.{at-without_outside, body-bodies_without, kept_by_name}
 use Rattle.snap_layer.proofs.Laws.{Takes, Takes-without, Replaces, Replaces-with_node}
@@ -28,7 +28,7 @@ use Rattle.snap_merge.proofs.Above.{nothing_seen}
 use Rattle.snap_copyup.specs.declared.parents.Last.TheVariants as last
 use Rattle.snap_copyup.specs.Copying.{below, with_parents}
 use Rattle.snap_copyup.specs.Places.{with_last}
-use Rattle.snap_copyup.proofs.Alone.{below_seen, free_unseen}
+use Rattle.snap_copyup.proofs.Alone.{below_seen}
 use Rattle.snap_copyup.proofs.Elsewhere.{shown_same}
 use Rattle.snap_copyup.proofs.ParentDirs.{AddsParents, adds_parents}
 use Rattle.snap_copyup.proofs.Layers.{no_missing}
@@ -110,15 +110,15 @@ IsErasable-dir s p passes =
 -- ---- what the layer has there
 
 module _ (u : Tree) (ls : List Tree) (p : Names) (ok : IsLayer u) (some : is_some (at u p) ≡ true) where
-  module _ (below_root : p ≡ [] → ⊥) (clear : (n : List ℕ) → is_some (seen (u ∷ ls) (p ++ n ∷ [])) ≡ false) where
+  module _ (below_root : p ≡ [] → ⊥) (clear : (n : List ℕ) → IsFree (at u (p ++ n ∷ []))) where
     pub place_erased : HasPlace u p
     place_erased = record {
-      clear = λ n. free_unseen u ls (p ++ n ∷ []) ok (clear n);
+      clear = clear;
       above = record { below_root = below_root; parent = λ q n is. ok.parents q n (subst (λ (r : Names). is_some (at u r) ≡ true) is some) };
     }
 
     pub takeable_erased : IsTakeable u p
-    takeable_erased = record { there = some; clear = λ n. free_unseen u ls (p ++ n ∷ []) ok (clear n); below_root = below_root }
+    takeable_erased = record { there = some; clear = clear; below_root = below_root }
 
   pub erased_covered : is_some (below u ls p) ≡ true → erased u ls p ≡ with_node u p Whiteout
   erased_covered covers =

@@ -1,10 +1,11 @@
 -- Operations over a lower layer, computed.
 use Rattle.std.proofs.Common.{◌≡◌, ℕ, true, false, List, [], ◌∷◌, Ok, Err, refl}
 use Rattle.snap_layer.specs.declared.node.Node.TheVariants.{Dir, File, Whiteout}
+use Rattle.snap_layer.specs.declared.content.Content.TheVariants.{Bytes}
 use Rattle.snap_layer.specs.declared.node.Body.TheVariants as body_kinds
 use Rattle.snap_layer.specs.Tree.{Tree}
 use Rattle.snap_layer.specs.Edits.{root_only}
-use Rattle.snap_merge.specs.declared.error.FsError.TheVariants.{Exists, IsDir, NotFound, Invalid, CrossDevice, NotPermitted}
+use Rattle.snap_merge.specs.declared.error.FsError.TheVariants.{Exists, IsDir, NotDir, NotFound, Invalid, CrossDevice, NotPermitted}
 use Rattle.snap_upper.specs.declared.op.Op.TheVariants as op
 use Rattle.snap_upper.specs.After.{after}
 
@@ -24,7 +25,7 @@ g = 103 ∷ []
 abbrev lower : Tree
 lower = record {
   entries = ([], Dir 493 false) ∷ (d ∷ [], Dir 448 false) ∷ (d ∷ f ∷ [], File 7) ∷ (d ∷ g ∷ [], File 7) ∷ [];
-  bodies = (7, body_kinds.File 420 (104 ∷ 105 ∷ [])) ∷ [];
+  bodies = (7, body_kinds.File 420 (Bytes (104 ∷ 105 ∷ []))) ∷ [];
   next = 8;
 }
 
@@ -50,7 +51,7 @@ mkdir_over_whiteout = refl
 -- a lower file is copied up under the next number, and its other name stays below
 write_lower : after (op.Write (d ∷ f ∷ []) 3 (33 ∷ [])) empty (lower ∷ []) ≡ Ok (record {
   entries = ([], Dir 493 false) ∷ (d ∷ [], Dir 448 false) ∷ (d ∷ f ∷ [], File 1) ∷ [];
-  bodies = (1, body_kinds.File 420 (104 ∷ 105 ∷ 0 ∷ 33 ∷ [])) ∷ [];
+  bodies = (1, body_kinds.File 420 (Bytes (104 ∷ 105 ∷ 0 ∷ 33 ∷ []))) ∷ [];
   next = 2;
 })
 write_lower = refl
@@ -58,7 +59,7 @@ write_lower = refl
 -- no bytes copy up alone, wherever they are written
 write_nothing : after (op.Write (d ∷ f ∷ []) 9 []) empty (lower ∷ []) ≡ Ok (record {
   entries = ([], Dir 493 false) ∷ (d ∷ [], Dir 448 false) ∷ (d ∷ f ∷ [], File 1) ∷ [];
-  bodies = (1, body_kinds.File 420 (104 ∷ 105 ∷ [])) ∷ [];
+  bodies = (1, body_kinds.File 420 (Bytes (104 ∷ 105 ∷ []))) ∷ [];
   next = 2;
 })
 write_nothing = refl
@@ -75,7 +76,7 @@ create_nowhere = refl
 -- a lower file moves under the next number, and a whiteout hides its old name
 rename_lower : after (op.Rename (d ∷ f ∷ []) (d ∷ e ∷ [])) empty (lower ∷ []) ≡ Ok (record {
   entries = ([], Dir 493 false) ∷ (d ∷ [], Dir 448 false) ∷ (d ∷ e ∷ [], File 1) ∷ (d ∷ f ∷ [], Whiteout) ∷ [];
-  bodies = (1, body_kinds.File 420 (104 ∷ 105 ∷ [])) ∷ [];
+  bodies = (1, body_kinds.File 420 (Bytes (104 ∷ 105 ∷ []))) ∷ [];
   next = 2;
 })
 rename_lower = refl
@@ -83,15 +84,15 @@ rename_lower = refl
 -- it does so in place of its other name too: below they are two files
 rename_to_other_name : after (op.Rename (d ∷ f ∷ []) (d ∷ g ∷ [])) empty (lower ∷ []) ≡ Ok (record {
   entries = ([], Dir 493 false) ∷ (d ∷ [], Dir 448 false) ∷ (d ∷ f ∷ [], Whiteout) ∷ (d ∷ g ∷ [], File 1) ∷ [];
-  bodies = (1, body_kinds.File 420 (104 ∷ 105 ∷ [])) ∷ [];
+  bodies = (1, body_kinds.File 420 (Bytes (104 ∷ 105 ∷ []))) ∷ [];
   next = 2;
 })
 rename_to_other_name = refl
 
 -- a directory is opaque over a lower one
-rename_over_whiteout : after (op.Rename (e ∷ []) (d ∷ [])) (record { entries = ([], Dir 493 false) ∷ (d ∷ [], Whiteout) ∷ (e ∷ [], Dir 511 false) ∷ (e ∷ g ∷ [], File 1) ∷ []; bodies = (1, body_kinds.File 420 []) ∷ []; next = 2 }) (lower ∷ []) ≡ Ok (record {
+rename_over_whiteout : after (op.Rename (e ∷ []) (d ∷ [])) (record { entries = ([], Dir 493 false) ∷ (d ∷ [], Whiteout) ∷ (e ∷ [], Dir 511 false) ∷ (e ∷ g ∷ [], File 1) ∷ []; bodies = (1, body_kinds.File 420 (Bytes [])) ∷ []; next = 2 }) (lower ∷ []) ≡ Ok (record {
   entries = ([], Dir 493 false) ∷ (d ∷ [], Dir 511 true) ∷ (d ∷ g ∷ [], File 1) ∷ [];
-  bodies = (1, body_kinds.File 420 []) ∷ [];
+  bodies = (1, body_kinds.File 420 (Bytes [])) ∷ [];
   next = 2;
 })
 rename_over_whiteout = refl
@@ -100,7 +101,7 @@ rename_over_whiteout = refl
 abbrev upper : Tree
 upper = record {
   entries = ([], Dir 493 false) ∷ (e ∷ [], File 1) ∷ (f ∷ [], File 1) ∷ (g ∷ [], File 2) ∷ [];
-  bodies = (1, body_kinds.File 420 (33 ∷ [])) ∷ (2, body_kinds.File 384 []) ∷ [];
+  bodies = (1, body_kinds.File 420 (Bytes (33 ∷ []))) ∷ (2, body_kinds.File 384 (Bytes [])) ∷ [];
   next = 3;
 }
 
@@ -109,7 +110,7 @@ rename_one_file = refl
 
 rename_over_file : after (op.Rename (e ∷ []) (g ∷ [])) upper (lower ∷ []) ≡ Ok (record {
   entries = ([], Dir 493 false) ∷ (f ∷ [], File 1) ∷ (g ∷ [], File 1) ∷ [];
-  bodies = (1, body_kinds.File 420 (33 ∷ [])) ∷ [];
+  bodies = (1, body_kinds.File 420 (Bytes (33 ∷ []))) ∷ [];
   next = 3;
 })
 rename_over_file = refl
@@ -129,15 +130,15 @@ rename_the_root = refl
 -- both names share the copy, and the other name below is another file
 link_lower : after (op.Link (d ∷ f ∷ []) (e ∷ [])) empty (lower ∷ []) ≡ Ok (record {
   entries = ([], Dir 493 false) ∷ (d ∷ [], Dir 448 false) ∷ (d ∷ f ∷ [], File 1) ∷ (e ∷ [], File 1) ∷ [];
-  bodies = (1, body_kinds.File 420 (104 ∷ 105 ∷ [])) ∷ [];
+  bodies = (1, body_kinds.File 420 (Bytes (104 ∷ 105 ∷ []))) ∷ [];
   next = 2;
 })
 link_lower = refl
 
 -- the new name takes the place of a whiteout
-link_over_whiteout : after (op.Link (e ∷ []) (d ∷ g ∷ [])) (record { entries = ([], Dir 493 false) ∷ (d ∷ [], Dir 448 false) ∷ (d ∷ g ∷ [], Whiteout) ∷ (e ∷ [], File 1) ∷ []; bodies = (1, body_kinds.File 420 []) ∷ []; next = 2 }) (lower ∷ []) ≡ Ok (record {
+link_over_whiteout : after (op.Link (e ∷ []) (d ∷ g ∷ [])) (record { entries = ([], Dir 493 false) ∷ (d ∷ [], Dir 448 false) ∷ (d ∷ g ∷ [], Whiteout) ∷ (e ∷ [], File 1) ∷ []; bodies = (1, body_kinds.File 420 (Bytes [])) ∷ []; next = 2 }) (lower ∷ []) ≡ Ok (record {
   entries = ([], Dir 493 false) ∷ (d ∷ [], Dir 448 false) ∷ (d ∷ g ∷ [], File 1) ∷ (e ∷ [], File 1) ∷ [];
-  bodies = (1, body_kinds.File 420 []) ∷ [];
+  bodies = (1, body_kinds.File 420 (Bytes [])) ∷ [];
   next = 2;
 })
 link_over_whiteout = refl
@@ -147,3 +148,39 @@ link_directory = refl
 
 link_to_seen : after (op.Link (d ∷ f ∷ []) (d ∷ g ∷ [])) empty (lower ∷ []) ≡ Err Exists
 link_to_seen = refl
+
+-- a lower directory is copied up with the mode that is seen, without what is in it
+opaque_lower : after (op.Opaque (d ∷ [])) empty (lower ∷ []) ≡ Ok (record {
+  entries = ([], Dir 493 false) ∷ (d ∷ [], Dir 448 true) ∷ [];
+  bodies = [];
+  next = 1;
+})
+opaque_lower = refl
+
+opaque_file : after (op.Opaque (d ∷ f ∷ [])) empty (lower ∷ []) ≡ Err NotDir
+opaque_file = refl
+
+opaque_nothing : after (op.Opaque (e ∷ [])) empty (lower ∷ []) ≡ Err NotFound
+opaque_nothing = refl
+
+-- a lower directory goes with all that is in it
+whiteout_lower : after (op.Whiteout (d ∷ [])) empty (lower ∷ []) ≡ Ok (record {
+  entries = ([], Dir 493 false) ∷ (d ∷ [], Whiteout) ∷ [];
+  bodies = [];
+  next = 1;
+})
+whiteout_lower = refl
+
+-- what the upper layer has in it goes too, but for the file that has a name beside it
+whiteout_merged : after (op.Whiteout (d ∷ [])) (record { entries = ([], Dir 493 false) ∷ (d ∷ [], Dir 448 false) ∷ (d ∷ f ∷ [], File 1) ∷ (d ∷ g ∷ [], File 2) ∷ (e ∷ [], File 1) ∷ []; bodies = (1, body_kinds.File 420 (Bytes [])) ∷ (2, body_kinds.File 420 (Bytes [])) ∷ []; next = 3 }) (lower ∷ []) ≡ Ok (record {
+  entries = ([], Dir 493 false) ∷ (d ∷ [], Whiteout) ∷ (e ∷ [], File 1) ∷ [];
+  bodies = (1, body_kinds.File 420 (Bytes [])) ∷ [];
+  next = 3;
+})
+whiteout_merged = refl
+
+whiteout_nothing : after (op.Whiteout (e ∷ [])) empty (lower ∷ []) ≡ Err NotFound
+whiteout_nothing = refl
+
+whiteout_the_root : after (op.Whiteout []) empty (lower ∷ []) ≡ Err Invalid
+whiteout_the_root = refl

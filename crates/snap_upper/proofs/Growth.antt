@@ -11,6 +11,7 @@ use Rattle.snap_layer.specs.declared.node.Node.TheVariants as node
 use Rattle.snap_layer.specs.declared.node.Body.{Body}
 use Rattle.snap_layer.specs.declared.node.Body.TheVariants as body_kinds
 use Rattle.snap_layer.specs.Tree.{Tree, Bodies, IsDirAt, at, body, has_number, number_of, path_cmp}
+use Rattle.snap_layer.specs.Contents.{size_of}
 use Rattle.snap_layer.specs.Counts.{inode_count, block_count, name_count, body_blocks, blocks_of}
 use Rattle.snap_layer.specs.Layers.{IsLayer}
 use Rattle.snap_layer.specs.Edits.{IsFree, with_entry, with_node, with_new, without, outside, bodies_without}
@@ -179,7 +180,7 @@ module _ (t : Tree) (p : Names) (has : HasSpace t p) where
   last_adds : (last : Last) (blocks : ℕ) (numbered : Bool) → Takes last blocks numbered → Adds t (with_last last t p) p blocks numbered
   last_adds Nothing blocks numbered is = absurd is
   last_adds (Dir mode opaque) blocks numbered is = retold (with_entry t p (node.Dir mode opaque)) blocks 1 numbered false is.0 is.1 (adds_entry (node.Dir mode opaque) (with_entry t p (node.Dir mode opaque)) refl refl refl)
-  last_adds (File mode bytes) blocks numbered is = retold (with_last (File mode bytes) t p) blocks (blocks_of (length bytes)) numbered true is.0 is.1 (adds_new (node.File t.next) (body_kinds.File mode bytes) refl refl refl)
+  last_adds (File mode content) blocks numbered is = retold (with_last (File mode content) t p) blocks (blocks_of (size_of content)) numbered true is.0 is.1 (adds_new (node.File t.next) (body_kinds.File mode content) refl refl refl)
   last_adds (Symlink target) blocks numbered is = retold (with_last (Symlink target) t p) blocks 0 numbered true is.0 is.1 (adds_new (node.Symlink t.next) (body_kinds.Symlink target) refl refl refl)
   last_adds Whiteout blocks numbered is = retold (with_node t p node.Whiteout) blocks 0 numbered false is.0 is.1 (adds_entry node.Whiteout (with_node t p node.Whiteout) (has.same node.Whiteout) refl refl)
 

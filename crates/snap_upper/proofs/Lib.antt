@@ -4,7 +4,9 @@ pub mod Making
 pub mod Writing
 pub mod Edits
 pub mod Modes
+pub mod Opaque
 pub mod Erased
+pub mod Trees
 pub mod Moved
 pub mod Renamable
 pub mod Renames

@@ -105,12 +105,12 @@ hides_all Whiteout k e = absurd (cc)
 
 file_name : (o : Option Body) (k : ℕ) → IsFile o → name_of k o ≡ Some (File k)
 file_name None k is = absurd is
-file_name (Some (body_kinds.File m bytes)) k is = refl
+file_name (Some (body_kinds.File m content)) k is = refl
 file_name (Some (body_kinds.Symlink target)) k is = absurd is
 
 symlink_name : (o : Option Body) (k : ℕ) → IsSymlink o → name_of k o ≡ Some (Symlink k)
 symlink_name None k is = absurd is
-symlink_name (Some (body_kinds.File m bytes)) k is = absurd is
+symlink_name (Some (body_kinds.File m content)) k is = absurd is
 symlink_name (Some (body_kinds.Symlink target)) k is = refl
 
 -- a name of a number is that of its body
@@ -161,7 +161,7 @@ module _ (u : Tree) (ls : List Tree) (p : Names) (ok : IsLayer u) (way : walk (u
       copy : (o : Option Object) → at u p ≡ None → link_error o ≡ None → CopiesName u (with_object (with_parents u ls p) p o) ls p
       copy None none is = absurd (cc)
       copy (Some (dir m)) none is = absurd (cc)
-      copy (Some (file m bytes)) none is = new none (File parents.next) (body_kinds.File m bytes) refl
+      copy (Some (file m content)) none is = new none (File parents.next) (body_kinds.File m content) refl
       copy (Some (symlink target)) none is = new none (Symlink parents.next) (body_kinds.Symlink target) refl
 
       by : (o : Option Node) → at u p ≡ o → CopiesName u (copied_up u ls p) ls p

@@ -39,7 +39,7 @@ name_there (Some o) e = refl
 pub name_no_dir : (o : Option Object) → link_error o ≡ None → is_shown_dir o ≡ false
 name_no_dir None e = refl
 name_no_dir (Some (dir m)) e = absurd (cc)
-name_no_dir (Some (file m bytes)) e = refl
+name_no_dir (Some (file m content)) e = refl
 name_no_dir (Some (symlink target)) e = refl
 
 -- why an earlier layer was not made is why a later one was not

@@ -27,18 +27,18 @@ use Rattle.snap_upper.proofs.EitherOrder.{IsBare, bare_here, file_inodes, node_i
 -- ---- a body and its name
 
 pub leaf_number : (k : ℕ) (b : Body) → number_of (leaf_node k b) ≡ Some k
-leaf_number k (body_kinds.File mode bytes) = refl
+leaf_number k (body_kinds.File mode content) = refl
 leaf_number k (body_kinds.Symlink target) = refl
 
 leaf_inodes : (k : ℕ) (b : Body) → inodes_of (Some (leaf_node k b)) ≡ 0
-leaf_inodes k (body_kinds.File mode bytes) = refl
+leaf_inodes k (body_kinds.File mode content) = refl
 leaf_inodes k (body_kinds.Symlink target) = refl
 
 -- what layers show is within the limits
 pub body_fits : (o : Option Object) (b : Body) → IsWholeObject o → object_body o ≡ Some b → IsBody b
 body_fits None b whole e = absurd (cc)
 body_fits (Some (dir mode)) b whole e = absurd (cc)
-body_fits (Some (file mode bytes)) b whole e = let same : body_kinds.File mode bytes ≡ b = cc in subst IsBody same whole
+body_fits (Some (file mode content)) b whole e = let same : body_kinds.File mode content ≡ b = cc in subst IsBody same whole
 body_fits (Some (symlink target)) b whole e = let same : body_kinds.Symlink target ≡ b = cc in subst IsBody same whole
 
 -- ---- the layer with the directories above both paths
@@ -118,7 +118,7 @@ module _ (u : Tree) (ls : List Tree) (from to : Names) (ok : IsLayer u) (is : Is
           → (b : Body) × (object_body (below w ls from) ≡ Some b) × (copied_up u ls from ≡ with_new v from (leaf_node v.next b) b)
       by None e some other = absurd (cc)
       by (Some (dir m)) e some other = absurd (cc)
-      by (Some (file m bytes)) e some other = (body_kinds.File m bytes, ap object_body (ready_below ∙ e), copied_missing v ls from (bare_here v from first_bare) ∙ ap (with_object v from) (first_below ∙ e))
+      by (Some (file m content)) e some other = (body_kinds.File m content, ap object_body (ready_below ∙ e), copied_missing v ls from (bare_here v from first_bare) ∙ ap (with_object v from) (first_below ∙ e))
       by (Some (symlink target)) e some other = (body_kinds.Symlink target, ap object_body (ready_below ∙ e), copied_missing v ls from (bare_here v from first_bare) ∙ ap (with_object v from) (first_below ∙ e))
 
   -- the copy is put after all directories as well

@@ -4,7 +4,7 @@ use Rattle.std.specs.Prelude.{if◌then◌else◌}
 use Rattle.std.specs.Result.{IsErrAnd}
 use Rattle.snap_layer.specs.Tree.{Tree, at}
 use Rattle.snap_layer.specs.Counts.{is_within}
-use Rattle.snap_layer.specs.Edits.{with_mode}
+use Rattle.snap_layer.specs.Edits.{with_mode, with_opaque}
 use Rattle.snap_layer.specs.Layers.{IsLayer}
 use Rattle.snap_layer.specs.Contents.{edited}
 use Rattle.snap_merge.specs.declared.error.FsError.{FsError}
@@ -15,8 +15,8 @@ use Rattle.snap_copyup.specs.Places.{with_last}
 use Rattle.snap_upper.specs.declared.op.Op.{Op}
 use Rattle.snap_upper.specs.declared.op.Op.TheVariants as op
 use Rattle.snap_upper.specs.declared.change.Change.{Change}
-use Rattle.snap_upper.specs.declared.change.Change.TheVariants.{Nothing, Put, Fill, SetMode, Erase, Link, Move}
-use Rattle.snap_upper.specs.After.{Outcome, after, limited, with_content, erased, renamed, next_layer}
+use Rattle.snap_upper.specs.declared.change.Change.TheVariants.{Nothing, Put, Fill, SetMode, SetOpaque, Erase, EraseTree, Link, Move}
+use Rattle.snap_upper.specs.After.{Outcome, after, limited, with_content, erased, tree_erased, renamed, next_layer}
 use Rattle.snap_upper.specs.Changed.{changed}
 use Rattle.snap_upper.specs.Changes.{IsChange, as_last, outcome}
 use Rattle.snap_upper.proofs.Changing.{after_changes}
@@ -42,7 +42,9 @@ outcome_err Nothing u ls = tt
 outcome_err (Put path new) u ls = limited_err (with_last (as_last new) (with_parents u ls path.now) path.now)
 outcome_err (Fill number size edit) u ls = limited_err (with_content u (Some number) (edited edit))
 outcome_err (SetMode path mode) u ls = limited_err (with_mode u path.now (at u path.now) mode)
+outcome_err (SetOpaque path) u ls = limited_err (with_opaque u path.now (at u path.now) true)
 outcome_err (Erase path covers) u ls = limited_err (erased u ls path.now)
+outcome_err (EraseTree path covers) u ls = limited_err (tree_erased u ls path.now)
 outcome_err (Link from to) u ls = limited_err (next_layer (op.Link from.now to.now) u ls)
 outcome_err (Move from to leaves covers) u ls = limited_err (renamed u ls from.now to.now)
 

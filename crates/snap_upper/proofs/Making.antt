@@ -16,7 +16,9 @@ use Rattle.snap_merge.specs.Objects.{Object, seen, is_shown_dir}
 use Rattle.snap_merge.specs.Walk.{walk}
 use Rattle.snap_merge.specs.declared.error.FsError.TheVariants.{Exists, Invalid, TooBig}
 use Rattle.snap_upper.specs.declared.op.Op.TheVariants as op
-use Rattle.snap_upper.specs.After.{after, limited, tests, first_error, error_if, is_whiteout_at, is_no_target}
+use Rattle.snap_layer.specs.Contents.{IsContent, IsDigest}
+use Rattle.snap_layer.specs.declared.content.Content.TheVariants.{Bytes, Sized}
+use Rattle.snap_upper.specs.After.{after, limited, tests, first_error, error_if, is_whiteout_at, is_long_digest, is_no_target}
 use Rattle.snap_copyup.proofs.Alone.{free_unseen, dir_seen}
 use Rattle.snap_upper.proofs.Outcomes.{test_passes, error_if_passes, after_passes}
 
@@ -63,8 +65,41 @@ module _ (u : Tree) (ls : List Tree) (p : Names) (mode : ℕ) where
     pub dir_after : (opaque : Bool) → opaque ≡ is_whiteout_at (at u p) → limited (with_last (last.Dir mode opaque) (with_parents u ls p) p) ≡ after (op.Mkdir p mode) u ls
     dir_after opaque is = ap (λ (b : Bool). limited (with_entry (with_parents u ls p) p (Dir mode b))) is ∙ sym (after_passes (op.Mkdir p mode) u ls passes)
 
-    pub file_after : (bytes : List ℕ) → bytes ≡ [] → limited (with_last (last.File mode bytes) (with_parents u ls p) p) ≡ after (op.Create p mode) u ls
-    file_after bytes none = ap (λ (bs : List ℕ). limited (with_last (last.File mode bs) (with_parents u ls p) p)) none ∙ sym (after_passes (op.Create p mode) u ls passes)
+    pub file_after : limited (with_last (last.File mode (Bytes [])) (with_parents u ls p) p) ≡ after (op.Create p mode) u ls
+    file_after = sym (after_passes (op.Create p mode) u ls passes)
+
+-- ---- files of a size
+
+-- the tests of a new file of a size have passed
+pub record IsNewSized (s : List Tree) (p : Names) (mode size : ℕ) (digest : Option (List ℕ)) : Type 0 where
+  pub way : walk s p ≡ None
+  pub unseen : is_some (seen s p) ≡ false
+  pub low : mode ≤ 4095
+  pub content : IsContent (Sized size digest)
+
+digest_from : (digest : Option (List ℕ)) → is_long_digest digest ≡ false → IsDigest digest
+digest_from None e = tt
+digest_from (Some digest) e = ltb-false 1024 (length digest) e
+
+pub IsNewSized-passed : (s : List Tree) (p : Names) (mode size : ℕ) (digest : Option (List ℕ)) → first_error (tests (op.Put p mode size digest) s) ≡ None → IsNewSized s p mode size digest
+IsNewSized-passed s p mode size digest passes =
+    let bad = error_if (nat_lt 4095 mode) Invalid in
+    let big = error_if (nat_lt 1099511627776 size) TooBig in
+    let long = error_if (is_long_digest digest) TooBig in
+    let first = test_passes (walk s p) (error_if (is_some (seen s p)) Exists ∷ bad ∷ big ∷ long ∷ []) passes in
+    let second = test_passes (error_if (is_some (seen s p)) Exists) (bad ∷ big ∷ long ∷ []) first.1 in
+    let third = test_passes bad (big ∷ long ∷ []) second.1 in
+    let fourth = test_passes big (long ∷ []) third.1 in
+    let fifth = test_passes long [] fourth.1 in
+    record {
+      way = first.0;
+      unseen = error_if_passes (is_some (seen s p)) Exists second.0;
+      low = low_mode mode (error_if_passes (nat_lt 4095 mode) Invalid third.0);
+      content = (ltb-false 1099511627776 size (error_if_passes (nat_lt 1099511627776 size) TooBig fourth.0), digest_from digest (error_if_passes (is_long_digest digest) TooBig fifth.0));
+    }
+
+pub sized_after : (u : Tree) (ls : List Tree) (p : Names) (mode size : ℕ) (digest copy : Option (List ℕ)) → first_error (tests (op.Put p mode size digest) (u ∷ ls)) ≡ None → copy ≡ digest → limited (with_last (last.File mode (Sized size copy)) (with_parents u ls p) p) ≡ after (op.Put p mode size digest) u ls
+sized_after u ls p mode size digest copy passes is = ap (λ (d : Option (List ℕ)). limited (with_last (last.File mode (Sized size d)) (with_parents u ls p) p)) is ∙ sym (after_passes (op.Put p mode size digest) u ls passes)
 
 -- ---- symlinks
 

@@ -1,5 +1,5 @@
 -- A mode that is set.
-use Rattle.std.proofs.Common.{◌≡◌, ℕ, ◌≤◌, true, false, List, [], ◌∷◌, Option, Some, None, is_some, length, Result, Ok, refl, sym, ap, subst, ◌∙◌, arith, ltb-false}
+use Rattle.std.proofs.Common.{◌≡◌, ℕ, ◌≤◌, true, false, List, [], ◌∷◌, Option, Some, None, is_some, Result, Ok, refl, sym, ap, subst, ◌∙◌, arith, ltb-false}
 use Rattle.std.specs.Prelude.{nat_lt}
 use Rattle.snap_path.specs.Text.{Names}
 use Rattle.snap_layer.specs.declared.node.Node.{Node}
@@ -11,7 +11,8 @@ use Rattle.snap_layer.specs.Counts.{inode_count, block_count}
 use Rattle.snap_layer.specs.Layers.{IsLayer, IsFile, IsSymlink}
 use Rattle.snap_layer.proofs.Setting.{dir_stays, file_body}
 use Rattle.snap_layer.proofs.Kept.{IsLayer-with_body}
-use Rattle.snap_layer.specs.Contents.{edited, IsShort}
+use Rattle.snap_layer.specs.Contents.{edited, IsContent, IsShort}
+use Rattle.snap_layer.specs.declared.content.Content.{Content}
 use Rattle.snap_usage.specs.declared.usage.Usage.{Usage}
 use Rattle.snap_layer.specs.Edits.{with_entry, with_new, with_body, with_mode, with_file_mode, HasMode}
 use Rattle.snap_layer.proofs.Looks.{Sets-with_entry}
@@ -67,7 +68,7 @@ none_from (Some x) e = absurd (cc)
 -- a symlink has no mode
 symlink_refused : (o : Option Body) → IsSymlink o → mode_error (shown_body o) ≡ None → ⊥
 symlink_refused None is e = is
-symlink_refused (Some (body_kinds.File m bytes)) is e = is
+symlink_refused (Some (body_kinds.File m content)) is e = is
 symlink_refused (Some (body_kinds.Symlink target)) is e = cc
 
 pub has_mode : (u : Tree) (ls : List Tree) (p : Names) → IsLayer u → mode_error (seen (u ∷ ls) p) ≡ None → is_some (at u p) ≡ true → HasMode (at u p)
@@ -91,9 +92,9 @@ copy_dir t p m mode =
     ap (λ (o : Option Node). with_mode (with_entry t p (Dir m false)) p o mode) (Sets-with_entry t p (Dir m false)).here
     ∙ entry_with_entry t p (Dir m false) (Dir mode false)
 
-pub copy_file_body : (t : Tree) (p : Names) (m mode : ℕ) (bytes : List ℕ) → with_mode (with_new t p (File t.next) (body_kinds.File m bytes)) p (at (with_new t p (File t.next) (body_kinds.File m bytes)) p) mode ≡ with_body (with_new t p (File t.next) (body_kinds.File m bytes)) t.next (body_kinds.File mode bytes)
-copy_file_body t p m mode bytes =
-    let b = body_kinds.File m bytes in
+pub copy_file_body : (t : Tree) (p : Names) (m mode : ℕ) (content : Content) → with_mode (with_new t p (File t.next) (body_kinds.File m content)) p (at (with_new t p (File t.next) (body_kinds.File m content)) p) mode ≡ with_body (with_new t p (File t.next) (body_kinds.File m content)) t.next (body_kinds.File mode content)
+copy_file_body t p m mode content =
+    let b = body_kinds.File m content in
     let v = with_new t p (File t.next) b in
     ap (λ (o : Option Node). with_mode v p o mode) (Replaces-with_new t p (File t.next) b).here
     ∙ ap (λ (o : Option Body). with_file_mode v t.next o mode) (SetsBody-with_new t p (File t.next) b).here
@@ -102,7 +103,7 @@ module _ (u : Tree) (ls : List Tree) (p : Names) (way : walk (u ∷ ls) p ≡ No
   abbrev t : Tree
   t = with_parents u ls p
 
-  copied_as : (o : Option Object) → seen (u ∷ ls) p ≡ o → copied_up u ls p ≡ with_object (with_parents u ls p) p o
+  pub copied_as : (o : Option Object) → seen (u ∷ ls) p ≡ o → copied_up u ls p ≡ with_object (with_parents u ls p) p o
   copied_as o was =
       let adds = adds_parents u ls p way in
       let empty = adds.leaves p (omega arith) ∙ none in
@@ -111,8 +112,8 @@ module _ (u : Tree) (ls : List Tree) (p : Names) (way : walk (u ∷ ls) p ≡ No
   pub dir_copy : (m mode : ℕ) → seen (u ∷ ls) p ≡ Some (dir m) → with_mode (copied_up u ls p) p (at (copied_up u ls p) p) mode ≡ with_entry (with_parents u ls p) p (Dir mode false)
   dir_copy m mode was = ap (λ (v : Tree). with_mode v p (at v p) mode) (copied_as (Some (dir m)) was) ∙ copy_dir t p m mode
 
-  pub file_copy : (m mode : ℕ) (bytes : List ℕ) → seen (u ∷ ls) p ≡ Some (file m bytes) → with_mode (copied_up u ls p) p (at (copied_up u ls p) p) mode ≡ with_body (with_new (with_parents u ls p) p (File (with_parents u ls p).next) (body_kinds.File m bytes)) (with_parents u ls p).next (body_kinds.File mode bytes)
-  file_copy m mode bytes was = ap (λ (v : Tree). with_mode v p (at v p) mode) (copied_as (Some (file m bytes)) was) ∙ copy_file_body t p m mode bytes
+  pub file_copy : (m mode : ℕ) (content : Content) → seen (u ∷ ls) p ≡ Some (file m content) → with_mode (copied_up u ls p) p (at (copied_up u ls p) p) mode ≡ with_body (with_new (with_parents u ls p) p (File (with_parents u ls p).next) (body_kinds.File m content)) (with_parents u ls p).next (body_kinds.File mode content)
+  file_copy m mode content was = ap (λ (v : Tree). with_mode v p (at v p) mode) (copied_as (Some (file m content)) was) ∙ copy_file_body t p m mode content
 
   copy_dir_mode : (mode : ℕ) → is_shown_dir (seen (u ∷ ls) p) ≡ true → with_mode (copied_up u ls p) p (at (copied_up u ls p) p) mode ≡ with_entry (with_parents u ls p) p (Dir mode false)
   copy_dir_mode mode is = by (seen (u ∷ ls) p) refl is
@@ -120,11 +121,11 @@ module _ (u : Tree) (ls : List Tree) (p : Names) (way : walk (u ∷ ls) p ≡ No
       by : (o : Option Object) → seen (u ∷ ls) p ≡ o → is_shown_dir o ≡ true → with_mode (copied_up u ls p) p (at (copied_up u ls p) p) mode ≡ with_entry (with_parents u ls p) p (Dir mode false)
       by None e is = absurd (cc)
       by (Some (dir m)) e is = dir_copy m mode e
-      by (Some (file m bytes)) e is = absurd (cc)
+      by (Some (file m content)) e is = absurd (cc)
       by (Some (symlink target)) e is = absurd (cc)
 
-  copy_file_mode : (m mode : ℕ) (bytes : List ℕ) → seen (u ∷ ls) p ≡ Some (file m bytes) → with_mode (copied_up u ls p) p (at (copied_up u ls p) p) mode ≡ with_last (last.File mode bytes) (with_parents u ls p) p
-  copy_file_mode m mode bytes is = file_copy m mode bytes is ∙ new_with_body t p (File t.next) (body_kinds.File m bytes) (body_kinds.File mode bytes)
+  copy_file_mode : (m mode : ℕ) (content : Content) → seen (u ∷ ls) p ≡ Some (file m content) → with_mode (copied_up u ls p) p (at (copied_up u ls p) p) mode ≡ with_last (last.File mode content) (with_parents u ls p) p
+  copy_file_mode m mode content is = file_copy m mode content is ∙ new_with_body t p (File t.next) (body_kinds.File m content) (body_kinds.File mode content)
 
 -- ---- outcomes
 
@@ -171,8 +172,10 @@ module _ (u : Tree) (ls : List Tree) (p : Names) (mode : ℕ) (ok : IsLayer u) (
   lower_ready layers none (new.File m old edit) is =
       let can = settable u ls p mode ok passes in
       let whole = subst IsWholeObject is.1 (whole_seen (u ∷ ls) (ok, layers) p) in
-      let short : length (edited edit old.now) ≤ 1048576 = subst (λ (e : Edit). length (edited e old.now) ≤ 1048576) (sym is.3) whole.1 in
-      (can.way, (vacant u p ok (none_from (at u p) none), subst (λ (x : ℕ). x ≤ 4095) (sym is.2) can.low, short), (subst IsShort (sym is.3) tt, short))
+      let short : IsContent (edited edit old.now) = subst (λ (e : Edit). IsContent (edited e old.now)) (sym is.3) whole.1 in
+      (can.way, (vacant u p ok (none_from (at u p) none), subst (λ (x : ℕ). x ≤ 4095) (sym is.2) can.low, short), (subst (λ (e : Edit). IsShort e old.now) (sym is.3) tt, short))
+  lower_ready layers none (new.Empty m) is = absurd is
+  lower_ready layers none (new.Sized m size digest) is = absurd is
   lower_ready layers none (new.Symlink target) is = absurd is
 
   lower_same : at u p ≡ None → (n : New) → IsWithMode n (seen (u ∷ ls) p) mode → with_last (as_last n) (with_parents u ls p) p ≡ with_mode (copied_up u ls p) p (at (copied_up u ls p) p) mode
@@ -182,6 +185,8 @@ module _ (u : Tree) (ls : List Tree) (p : Names) (mode : ℕ) (ok : IsLayer u) (
   lower_same none (new.File m old edit) is =
       (λ i. with_last (last.File (is.2 i) (edited (is.3 i) old.now)) (with_parents u ls p) p)
       ∙ sym (copy_file_mode u ls p (settable u ls p mode ok passes).way none is.0 mode old.now is.1)
+  lower_same none (new.Empty m) is = absurd is
+  lower_same none (new.Sized m size digest) is = absurd is
   lower_same none (new.Symlink target) is = absurd is
 
   pub lower_after : is_some (at u p) ≡ false → (n : New) → IsWithMode n (seen (u ∷ ls) p) mode → limited (with_last (as_last n) (with_parents u ls p) p) ≡ after (op.SetMode p mode) u ls

@@ -23,7 +23,7 @@ use Rattle.snap_upper.proofs.PreparedCounts.{prepared_layer}
 use Rattle.snap_upper.proofs.Shifted.{last_from, prepared_full, prepared_sorted, shifted_blocks, shifted_inodes, shifted_next}
 
 -- a layer stays one where a directory becomes opaque
-opaque_layer : (t : Tree) → IsLayer t → (p : Names) → IsLayer (with_opaque t p (at t p) true)
+pub opaque_layer : (t : Tree) → IsLayer t → (p : Names) → IsLayer (with_opaque t p (at t p) true)
 opaque_layer t ok p = by (at t p) refl
   where
     by : (o : Option Node) → at t p ≡ o → IsLayer (with_opaque t p o true)

@@ -90,7 +90,7 @@ module _ (u : Tree) (ls : List Tree) (p : Names) (ok : IsLayer u) (way : walk (u
       by : (o : Option Object) → is_some o ≡ true → is_shown_dir o ≡ false → IsCopy u (with_last (last_of None o) w p) p
       by None some no_dir = absurd (cc)
       by (Some (dir m)) some no_dir = absurd (cc)
-      by (Some (file m bytes)) some no_dir = new_copy (File w.next) (body_kinds.File m bytes) refl
+      by (Some (file m content)) some no_dir = new_copy (File w.next) (body_kinds.File m content) refl
       by (Some (symlink target)) some no_dir = new_copy (Symlink w.next) (body_kinds.Symlink target) refl
 
 -- what the layer has is not copied

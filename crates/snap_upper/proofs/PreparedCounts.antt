@@ -8,6 +8,7 @@ use Rattle.std.specs.BTreeMap.{is_at}
 use Rattle.snap_path.specs.Text.{Names, IsPath, begins}
 use Rattle.snap_layer.specs.declared.node.Node.{Node}
 use Rattle.snap_layer.specs.Tree.{Tree, Bodies, path_cmp, at, body, number_at}
+use Rattle.snap_layer.proofs.Bounds.{content_blocks}
 use Rattle.snap_layer.specs.Counts.{inode_count, block_count, name_count}
 use Rattle.snap_layer.specs.Layers.{IsLayer}
 use Rattle.snap_layer.specs.Edits.{IsFree, without}
@@ -43,17 +44,17 @@ pub record LeavesSo (t : Tree) (p : Names) (inodes blocks : ℕ) : Type 0 where
 object_takes : (o : Option Object) → is_some o ≡ true → is_shown_dir o ≡ false → Takes (last_of None o) (object_blocks o) true
 object_takes None some no_dir = absurd (cc)
 object_takes (Some (dir m)) some no_dir = absurd (cc)
-object_takes (Some (file m bytes)) some no_dir = (refl, refl)
+object_takes (Some (file m content)) some no_dir = (refl, refl)
 object_takes (Some (symlink target)) some no_dir = (refl, refl)
 
-few_of_object : (o : Option Object) → IsWholeObject o → object_blocks o ≤ 256
+few_of_object : (o : Option Object) → IsWholeObject o → object_blocks o ≤ 268435456
 few_of_object None whole = omega arith
 few_of_object (Some (dir m)) whole = omega arith
-few_of_object (Some (file m bytes)) whole = omega (arith, whole.1)
+few_of_object (Some (file m content)) whole = content_blocks content whole.1
 few_of_object (Some (symlink target)) whole = omega arith
 
--- what is seen has at most 256 blocks
-pub few_seen : (s : List Tree) → AreLayers s → (p : Names) → object_blocks (seen s p) ≤ 256
+-- what is seen has at most 2 ^ 28 blocks
+pub few_seen : (s : List Tree) → AreLayers s → (p : Names) → object_blocks (seen s p) ≤ 268435456
 few_seen s layers p = few_of_object (seen s p) (whole_seen s layers p)
 
 module _ (u : Tree) (ls : List Tree) (from to : Names) (ok : IsLayer u) (layers : AreLayers ls) (is : IsPlaceable u ls from to) where

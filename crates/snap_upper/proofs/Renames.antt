@@ -145,7 +145,7 @@ module _ (u : Tree) (ls : List Tree) (from : Names) (ok : IsLayer u) (layers : A
       new : (o : Option Object) → at u from ≡ None → below u ls from ≡ o → seen (u ∷ ls) from ≡ o → copied_up u ls from ≡ with_last (last_of None o) (with_parents u ls from) from → IsCopied u (copied_up u ls from) ls from
       new None none e was is = absurd (no_bool (sym there ∙ ap is_some was))
       new (Some (dir mode)) none e was is = absurd (no_bool (sym (stands (ap is_shown_dir was)) ∙ ap is_some none))
-      new (Some (file mode bytes)) none e was is = IsCopied-new (node.File (with_parents u ls from).next) (body_kinds.File mode bytes) none refl is
+      new (Some (file mode content)) none e was is = IsCopied-new (node.File (with_parents u ls from).next) (body_kinds.File mode content) none refl is
       new (Some (symlink target)) none e was is = IsCopied-new (node.Symlink (with_parents u ls from).next) (body_kinds.Symlink target) none refl is
 
       by : (o : Option Node) → at u from ≡ o → IsCopied u (copied_up u ls from) ls from

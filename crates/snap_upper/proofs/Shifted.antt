@@ -157,7 +157,7 @@ refused_first (Err e) x t v is refusal = inl (subst (λ (y : FsError). IsRefusal
 
 -- ---- the layer after the move
 
-opaque_inodes : (t : Tree) (p : Names) → IsStrictlySortedBy path_cmp (keys_of t.entries) → inode_count (with_opaque t p (at t p) true) ≡ inode_count t
+pub opaque_inodes : (t : Tree) (p : Names) → IsStrictlySortedBy path_cmp (keys_of t.entries) → inode_count (with_opaque t p (at t p) true) ≡ inode_count t
 opaque_inodes t p sorted = by (at t p) refl
   where
     by : (o : Option Node) → at t p ≡ o → inode_count (with_opaque t p o true) ≡ inode_count t
@@ -167,7 +167,7 @@ opaque_inodes t p sorted = by (at t p) refl
     by (Some (Symlink k)) e = refl
     by (Some Whiteout) e = refl
 
-opaque_blocks : (t : Tree) (p : Names) → IsStrictlySortedBy path_cmp (keys_of t.entries) → block_count (with_opaque t p (at t p) true) ≡ block_count t
+pub opaque_blocks : (t : Tree) (p : Names) → IsStrictlySortedBy path_cmp (keys_of t.entries) → block_count (with_opaque t p (at t p) true) ≡ block_count t
 opaque_blocks t p sorted = by (at t p) refl
   where
     by : (o : Option Node) → at t p ≡ o → block_count (with_opaque t p o true) ≡ block_count t

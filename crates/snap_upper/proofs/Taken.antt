@@ -172,7 +172,7 @@ module _ (u : Tree) (ls : List Tree) (w : Names) (white : at u w ≡ Some Whiteo
       object_out : (o : Option Object) → with_object (without u w) f o ≡ without (with_object u f o) w
       object_out None = refl
       object_out (Some (dir m)) = entry_out (Dir m false)
-      object_out (Some (file m bytes)) = new_out (File u.next) (body_kinds.File m bytes)
+      object_out (Some (file m content)) = new_out (File u.next) (body_kinds.File m content)
       object_out (Some (symlink target)) = new_out (Symlink u.next) (body_kinds.Symlink target)
 
       -- what is copied elsewhere

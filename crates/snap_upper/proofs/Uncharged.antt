@@ -11,8 +11,8 @@ use Rattle.snap_merge.specs.Objects.{Object, dir, file, symlink, seen, is_shown_
 use Rattle.snap_merge.specs.Walk.{unless, walk, walk_from, walk_on}
 use Rattle.snap_copyup.specs.Copying.{is_pure}
 use Rattle.snap_upper.specs.declared.op.Op.{Op}
-use Rattle.snap_upper.specs.declared.op.Op.TheVariants.{Mkdir, Create, Write, Truncate, SetMode, Symlink, Link, Unlink, Rmdir, Rename}
-use Rattle.snap_upper.specs.After.{Outcome, after, tests, first_error, error_if, kind_error, is_no_target, is_root, has_names, is_same_name, moves_too_long, move_tests, limited, next_layer}
+use Rattle.snap_upper.specs.declared.op.Op.TheVariants.{Mkdir, Create, Put, Write, Truncate, SetMode, Symlink, Link, Unlink, Rmdir, Rename, Opaque, Whiteout}
+use Rattle.snap_upper.specs.After.{Outcome, after, tests, first_error, error_if, most_of, is_long_digest, kind_error, is_no_target, is_root, has_names, is_same_name, moves_too_long, move_tests, limited, next_layer}
 use Rattle.snap_upper.proofs.KindErrors.{file_error, mode_error, name_error, dir_error, link_error}
 
 module _ (need : Usage) where
@@ -21,7 +21,7 @@ module _ (need : Usage) where
   on_walk : (o : Option Object) (later : Option FsError) → (later ≡ Some (NeedsCharge need) → ⊥) → walk_on o later ≡ Some (NeedsCharge need) → ⊥
   on_walk None later never e = cc
   on_walk (Some (dir mode)) later never e = never e
-  on_walk (Some (file mode bytes)) later never e = cc
+  on_walk (Some (file mode content)) later never e = cc
   on_walk (Some (symlink target)) later never e = cc
 
   no_walk_from : (s : List Tree) (front rest : Names) → walk_from s front rest ≡ Some (NeedsCharge need) → ⊥
@@ -35,31 +35,31 @@ module _ (need : Usage) where
   no_file_error : (o : Option Object) → file_error o ≡ Some (NeedsCharge need) → ⊥
   no_file_error None e = cc
   no_file_error (Some (dir mode)) e = cc
-  no_file_error (Some (file mode bytes)) e = cc
+  no_file_error (Some (file mode content)) e = cc
   no_file_error (Some (symlink target)) e = cc
 
   no_mode_error : (o : Option Object) → mode_error o ≡ Some (NeedsCharge need) → ⊥
   no_mode_error None e = cc
   no_mode_error (Some (dir mode)) e = cc
-  no_mode_error (Some (file mode bytes)) e = cc
+  no_mode_error (Some (file mode content)) e = cc
   no_mode_error (Some (symlink target)) e = cc
 
   no_name_error : (o : Option Object) → name_error o ≡ Some (NeedsCharge need) → ⊥
   no_name_error None e = cc
   no_name_error (Some (dir mode)) e = cc
-  no_name_error (Some (file mode bytes)) e = cc
+  no_name_error (Some (file mode content)) e = cc
   no_name_error (Some (symlink target)) e = cc
 
   no_dir_error : (o : Option Object) → dir_error o ≡ Some (NeedsCharge need) → ⊥
   no_dir_error None e = cc
   no_dir_error (Some (dir mode)) e = cc
-  no_dir_error (Some (file mode bytes)) e = cc
+  no_dir_error (Some (file mode content)) e = cc
   no_dir_error (Some (symlink target)) e = cc
 
   no_link_error : (o : Option Object) → link_error o ≡ Some (NeedsCharge need) → ⊥
   no_link_error None e = cc
   no_link_error (Some (dir mode)) e = cc
-  no_link_error (Some (file mode bytes)) e = cc
+  no_link_error (Some (file mode content)) e = cc
   no_link_error (Some (symlink target)) e = cc
 
   no_first : (o : Option FsError) (later : List (Option FsError)) → (o ≡ Some (NeedsCharge need) → ⊥) → (first_error later ≡ Some (NeedsCharge need) → ⊥) → first_error (o ∷ later) ≡ Some (NeedsCharge need) → ⊥
@@ -93,7 +93,7 @@ module _ (need : Usage) where
   no_kind_error : (moved : Option Object) (o : Option Object) → kind_error moved o ≡ Some (NeedsCharge need) → ⊥
   no_kind_error moved None e = cc
   no_kind_error moved (Some (dir mode)) e = no_error_if (not (is_shown_dir moved)) IsDir (λ x. cc) e
-  no_kind_error moved (Some (file mode bytes)) e = no_error_if (is_shown_dir moved) NotDir (λ x. cc) e
+  no_kind_error moved (Some (file mode content)) e = no_error_if (is_shown_dir moved) NotDir (λ x. cc) e
   no_kind_error moved (Some (symlink target)) e = no_error_if (is_shown_dir moved) NotDir (λ x. cc) e
 
   -- a new object's tests
@@ -122,15 +122,21 @@ module _ (need : Usage) where
   no_test : (op : Op) (s : List Tree) → first_error (tests op s) ≡ Some (NeedsCharge need) → ⊥
   no_test (Mkdir p mode) s = no_new s p mode
   no_test (Create p mode) s = no_new s p mode
+  no_test (Put p mode size digest) s =
+      no_first (walk s p) _ (no_walk_from s [] p)
+      (no_first (error_if (is_some (seen s p)) Exists) _ (no_error_if (is_some (seen s p)) Exists not_exists)
+      (no_first (error_if (nat_lt 4095 mode) Invalid) _ (no_error_if (nat_lt 4095 mode) Invalid not_invalid)
+      (no_first (error_if (nat_lt 1099511627776 size) TooBig) _ (no_error_if (nat_lt 1099511627776 size) TooBig not_big)
+      (no_first (error_if (is_long_digest digest) TooBig) [] (no_error_if (is_long_digest digest) TooBig not_big) no_none))))
   no_test (Write p offset bytes) s =
-      let big = nat_lt 1048576 (offset + length bytes) in
+      let big = nat_lt (most_of (seen s p)) (offset + length bytes) in
       no_first (walk s p) _ (no_walk_from s [] p)
       (no_first (file_error (seen s p)) _ (no_file_error (seen s p))
       (no_first (error_if big TooBig) [] (no_error_if big TooBig not_big) no_none))
   no_test (Truncate p size) s =
       no_first (walk s p) _ (no_walk_from s [] p)
       (no_first (file_error (seen s p)) _ (no_file_error (seen s p))
-      (no_first (error_if (nat_lt 1048576 size) TooBig) [] (no_error_if (nat_lt 1048576 size) TooBig not_big) no_none))
+      (no_first (error_if (nat_lt (most_of (seen s p)) size) TooBig) [] (no_error_if (nat_lt (most_of (seen s p)) size) TooBig not_big) no_none))
   no_test (SetMode p mode) s =
       no_first (walk s p) _ (no_walk_from s [] p)
       (no_first (mode_error (seen s p)) _ (no_mode_error (seen s p))
@@ -160,6 +166,13 @@ module _ (need : Usage) where
       (no_first (walk s to) _ (no_walk_from s [] to)
       (no_first (error_if (is_root from || is_root to) Invalid) _ (no_error_if (is_root from || is_root to) Invalid not_invalid)
       (no_first (error_if (not (is_some (seen s from))) NotFound) _ (no_error_if (not (is_some (seen s from))) NotFound not_missing) (no_rename u lowers from to (is_same_name u from to)))))
+  no_test (Opaque p) s =
+      no_first (walk s p) _ (no_walk_from s [] p)
+      (no_first (dir_error (seen s p)) [] (no_dir_error (seen s p)) no_none)
+  no_test (Whiteout p) s =
+      no_first (walk s p) _ (no_walk_from s [] p)
+      (no_first (error_if (is_root p) Invalid) _ (no_error_if (is_root p) Invalid not_invalid)
+      (no_first (error_if (not (is_some (seen s p))) NotFound) [] (no_error_if (not (is_some (seen s p))) NotFound not_missing) no_none))
 
   -- ---- outcomes
 

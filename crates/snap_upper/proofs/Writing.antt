@@ -1,4 +1,4 @@
--- Bytes that are put into a file.
+-- A file that is edited.
 use Rattle.std.proofs.Common.{◌≡◌, ◌⊎◌, inl, inr, ℕ, ◌+◌, ◌*◌, ◌≤◌, false, List, [], ◌∷◌, length, Option, Some, None, is_some, refl, sym, ap, subst, ◌∙◌, arith, ltb-false}
 use Rattle.std.specs.Prelude.{nat_lt, option_and_then}
 use Rattle.std.specs.declared.cmp.Ordering.{Ordering}
@@ -8,6 +8,7 @@ use Rattle.std.specs.Cmp.{IsTotalOrder, nat_cmp_total}
 use Rattle.std.proofs.lemmas.Cmp.{tied_itself}
 use Rattle.std.specs.BTreeMap.{insert_entry}
 use Rattle.snap_path.specs.Text.{Names}
+use Rattle.snap_layer.specs.declared.content.Content.{Content}
 use Rattle.snap_layer.specs.declared.node.Node.{Node}
 use Rattle.snap_layer.specs.declared.node.Node.TheVariants.{Dir, File, Symlink, Whiteout}
 use Rattle.snap_layer.specs.declared.node.Body.{Body}
@@ -15,14 +16,14 @@ use Rattle.snap_layer.specs.declared.node.Body.TheVariants as body_kinds
 use Rattle.snap_layer.specs.Tree.{Tree, Entries, Bodies, path_cmp, at, body, number_at, number_of}
 use Rattle.snap_layer.specs.Counts.{inode_count, block_count, blocks_of, body_blocks}
 use Rattle.snap_layer.specs.Layers.{IsLayer, IsFile, IsSymlink}
-use Rattle.snap_layer.specs.Edits.{with_entry, with_node, with_new, with_body, with_bytes}
+use Rattle.snap_layer.specs.Edits.{with_entry, with_node, with_new, with_body, with_filled}
 use Rattle.snap_layer.proofs.Bounds.{blocks_of_bodies}
 use Rattle.snap_layer.proofs.Paths.{path_cmp_total}
 use Rattle.snap_layer.proofs.Counting.{weight_of_body, inode_count-with_body, block_count-with_body}
 use Rattle.snap_layer.proofs.Filling.{file_there}
 use Rattle.snap_layer.proofs.Kept.{IsLayer-with_body}
 use Rattle.snap_layer.proofs.Laws.{Replaces-with_new, SetsBody-with_new}
-use Rattle.snap_layer.specs.Contents.{body_bytes}
+use Rattle.snap_layer.specs.Contents.{body_content, size_of, IsContent}
 use Rattle.snap_merge.specs.Objects.{Object, dir, file, symlink, seen, shown_body}
 use Rattle.snap_merge.specs.Walk.{walk}
 use Rattle.snap_merge.specs.declared.error.FsError.TheVariants.{TooBig}
@@ -34,7 +35,7 @@ use Rattle.snap_copyup.proofs.Alone.{copied_there, copied_missing, below_seen}
 use Rattle.snap_copyup.proofs.ParentDirs.{adds_parents}
 use Rattle.snap_copyup.proofs.Layers.{no_missing}
 use Rattle.snap_upper.specs.declared.op.Op.TheVariants as op
-use Rattle.snap_upper.specs.After.{tests, first_error, error_if, with_content}
+use Rattle.snap_upper.specs.After.{tests, first_error, error_if, most_of, with_content}
 use Rattle.snap_upper.proofs.KindErrors.{file_error}
 use Rattle.snap_upper.proofs.Outcomes.{test_passes, error_if_passes}
 
@@ -42,41 +43,39 @@ use Rattle.snap_upper.proofs.Outcomes.{test_passes, error_if_passes}
 pub record IsWritable (s : List Tree) (p : Names) (offset : ℕ) (bytes : List ℕ) : Type 0 where
   pub way : walk s p ≡ None
   pub file : file_error (seen s p) ≡ None
-  pub short : offset + length bytes ≤ 1048576
+  pub short : offset + length bytes ≤ most_of (seen s p)
 
-short_end : (n : ℕ) → nat_lt 1048576 n ≡ false → n ≤ 1048576
-short_end n e = ltb-false 1048576 n e
+short_end : (m n : ℕ) → nat_lt m n ≡ false → n ≤ m
+short_end m n e = ltb-false m n e
 
 pub IsWritable-passed : (s : List Tree) (p : Names) (offset : ℕ) (bytes : List ℕ) → first_error (tests (op.Write p offset bytes) s) ≡ None → IsWritable s p offset bytes
 IsWritable-passed s p offset bytes passes =
-    let last = error_if (nat_lt 1048576 (offset + length bytes)) TooBig in
+    let last = error_if (nat_lt (most_of (seen s p)) (offset + length bytes)) TooBig in
     let first = test_passes (walk s p) (file_error (seen s p) ∷ last ∷ []) passes in
     let second = test_passes (file_error (seen s p)) (last ∷ []) first.1 in
     let third = test_passes last [] second.1 in
     record {
       way = first.0;
       file = second.0;
-      short = short_end (offset + length bytes) (error_if_passes (nat_lt 1048576 (offset + length bytes)) TooBig third.0);
+      short = short_end (most_of (seen s p)) (offset + length bytes) (error_if_passes (nat_lt (most_of (seen s p)) (offset + length bytes)) TooBig third.0);
     }
-
--- ---- bytes
 
 -- the tests of a truncation have passed
 pub record IsSizable (s : List Tree) (p : Names) (size : ℕ) : Type 0 where
   pub way : walk s p ≡ None
   pub file : file_error (seen s p) ≡ None
-  pub short : size ≤ 1048576
+  pub short : size ≤ most_of (seen s p)
 
 pub IsSizable-passed : (s : List Tree) (p : Names) (size : ℕ) → first_error (tests (op.Truncate p size) s) ≡ None → IsSizable s p size
 IsSizable-passed s p size passes =
-    let last = error_if (nat_lt 1048576 size) TooBig in
+    let last = error_if (nat_lt (most_of (seen s p)) size) TooBig in
     let first = test_passes (walk s p) (file_error (seen s p) ∷ last ∷ []) passes in
     let second = test_passes (file_error (seen s p)) (last ∷ []) first.1 in
     let third = test_passes last [] second.1 in
     record {
       way = first.0;
       file = second.0;
-      short = short_end size (error_if_passes (nat_lt 1048576 size) TooBig third.0);
+      short = short_end (most_of (seen s p)) size (error_if_passes (nat_lt (most_of (seen s p)) size) TooBig third.0);
     }
 
 -- a value put twice under one key
@@ -101,26 +100,26 @@ entry_with_entry t p old new = ap {B = Tree} (λ (es : Entries). record { entrie
 
 -- ---- the file at a path
 
-pub seen_file : (o : Option Object) → file_error o ≡ None → (m : ℕ) × (old : List ℕ) × (o ≡ Some (file m old))
+pub seen_file : (o : Option Object) → file_error o ≡ None → (m : ℕ) × (old : Content) × (o ≡ Some (file m old))
 seen_file None e = absurd (cc)
 seen_file (Some (dir m)) e = absurd (cc)
 seen_file (Some (file m old)) e = (m, old, refl)
 seen_file (Some (symlink target)) e = absurd (cc)
 
-pub body_shown : (o : Option Body) (m : ℕ) (old : List ℕ) → shown_body o ≡ Some (file m old) → o ≡ Some (body_kinds.File m old)
+pub body_shown : (o : Option Body) (m : ℕ) (old : Content) → shown_body o ≡ Some (file m old) → o ≡ Some (body_kinds.File m old)
 body_shown None m old e = absurd (cc)
-body_shown (Some (body_kinds.File n bytes)) m old e =
+body_shown (Some (body_kinds.File n content)) m old e =
     let mode : n ≡ m = cc in
-    let same : bytes ≡ old = cc in
+    let same : content ≡ old = cc in
     λ i. Some (body_kinds.File (mode i) (same i))
 body_shown (Some (body_kinds.Symlink target)) m old e = absurd (cc)
 
-symlink_shown : (o : Option Body) (m : ℕ) (old : List ℕ) → IsSymlink o → shown_body o ≡ Some (file m old) → ⊥
+symlink_shown : (o : Option Body) (m : ℕ) (old : Content) → IsSymlink o → shown_body o ≡ Some (file m old) → ⊥
 symlink_shown None m old is e = is
-symlink_shown (Some (body_kinds.File n bytes)) m old is e = is
+symlink_shown (Some (body_kinds.File n content)) m old is e = is
 symlink_shown (Some (body_kinds.Symlink target)) m old is e = cc
 
-module _ (u : Tree) (ls : List Tree) (p : Names) (m : ℕ) (old : List ℕ) (ok : IsLayer u) (was : seen (u ∷ ls) p ≡ Some (file m old)) where
+module _ (u : Tree) (ls : List Tree) (p : Names) (m : ℕ) (old : Content) (ok : IsLayer u) (was : seen (u ∷ ls) p ≡ Some (file m old)) where
   -- the layer has no node there, or a name of the file
   pub own_or_lower : (at u p ≡ None) ⊎ ((k : ℕ) × (at u p ≡ Some (File k)) × (body u k ≡ Some (body_kinds.File m old)))
   own_or_lower = by (at u p) refl
@@ -155,34 +154,34 @@ module _ (u : Tree) (ls : List Tree) (p : Names) (m : ℕ) (old : List ℕ) (ok 
       no_some : (j : ℕ) → None ≡ Some j → ⊥
       no_some j e = cc
 
--- ---- the file with other bytes
+-- ---- the file with another content
 
 -- the layer has the file
-pub own_layer : (t : Tree) (ls : List Tree) (p : Names) (k m : ℕ) (old : List ℕ) (g : List ℕ → List ℕ) → at t p ≡ Some (File k) → body t k ≡ Some (body_kinds.File m old) → with_content (copied t ls p) (number_at (copied t ls p) p) g ≡ with_body t k (body_kinds.File m (g old))
+pub own_layer : (t : Tree) (ls : List Tree) (p : Names) (k m : ℕ) (old : Content) (g : Content → Content) → at t p ≡ Some (File k) → body t k ≡ Some (body_kinds.File m old) → with_content (copied t ls p) (number_at (copied t ls p) p) g ≡ with_body t k (body_kinds.File m (g old))
 own_layer t ls p k m old g is file_is =
     ap (λ (v : Tree). with_content v (number_at v p) g) (copied_there t ls p (ap is_some is))
     ∙ ap (λ (o : Option ℕ). with_content t o g) (ap (option_and_then number_of) is)
-    ∙ ap (λ (o : Option Body). with_bytes t k o (g (body_bytes o))) file_is
+    ∙ ap (λ (o : Option Body). with_filled t k o (g (body_content o))) file_is
 
 -- it is copied up
-pub copy_layer : (t : Tree) (ls : List Tree) (p : Names) (m : ℕ) (old : List ℕ) (g : List ℕ → List ℕ) → at t p ≡ None → seen (t ∷ ls) p ≡ Some (file m old)
+pub copy_layer : (t : Tree) (ls : List Tree) (p : Names) (m : ℕ) (old : Content) (g : Content → Content) → at t p ≡ None → seen (t ∷ ls) p ≡ Some (file m old)
     → with_content (copied t ls p) (number_at (copied t ls p) p) g ≡ with_body (with_new t p (File t.next) (body_kinds.File m old)) t.next (body_kinds.File m (g old))
 copy_layer t ls p m old g none was =
     let b = body_kinds.File m old in
     let v = with_new t p (File t.next) b in
     ap (λ (w : Tree). with_content w (number_at w p) g) (copied_missing t ls p none ∙ ap (with_object t p) (sym (below_seen t ls p none) ∙ was))
     ∙ ap (λ (o : Option ℕ). with_content v o g) (ap (option_and_then number_of) (Replaces-with_new t p (File t.next) b).here)
-    ∙ ap (λ (o : Option Body). with_bytes v t.next o (g (body_bytes o))) (SetsBody-with_new t p (File t.next) b).here
+    ∙ ap (λ (o : Option Body). with_filled v t.next o (g (body_content o))) (SetsBody-with_new t p (File t.next) b).here
 
 -- the next layer, where the layer has the file
-pub own_filled : (u : Tree) (ls : List Tree) (p : Names) (k m : ℕ) (old : List ℕ) (f : List ℕ → List ℕ) → IsLayer u → at u p ≡ Some (File k) → body u k ≡ Some (body_kinds.File m old)
+pub own_filled : (u : Tree) (ls : List Tree) (p : Names) (k m : ℕ) (old : Content) (f : Content → Content) → IsLayer u → at u p ≡ Some (File k) → body u k ≡ Some (body_kinds.File m old)
     → with_content (copied_up u ls p) (number_at (copied_up u ls p) p) f ≡ with_body u k (body_kinds.File m (f old))
 own_filled u ls p k m old f ok is file_is =
     ap (λ (t : Tree). with_content (copied t ls p) (number_at (copied t ls p) p) f) (no_missing u ls p ok (ap is_some is))
     ∙ own_layer u ls p k m old f is file_is
 
 -- the next layer, where a lower layer has it
-pub copy_filled : (u : Tree) (ls : List Tree) (p : Names) (m : ℕ) (old : List ℕ) (f : List ℕ → List ℕ) → walk (u ∷ ls) p ≡ None → at u p ≡ None → seen (u ∷ ls) p ≡ Some (file m old)
+pub copy_filled : (u : Tree) (ls : List Tree) (p : Names) (m : ℕ) (old : Content) (f : Content → Content) → walk (u ∷ ls) p ≡ None → at u p ≡ None → seen (u ∷ ls) p ≡ Some (file m old)
     → with_content (copied_up u ls p) (number_at (copied_up u ls p) p) f ≡ with_last (last.File m (f old)) (with_parents u ls p) p
 copy_filled u ls p m old f way none was =
     let adds = adds_parents u ls p way in
@@ -192,12 +191,12 @@ copy_filled u ls p m old f way none was =
 
 -- ---- counts
 
-pub record Rewrites (t : Tree) (k m : ℕ) (old new : List ℕ) : Type 0 where
+pub record Rewrites (t : Tree) (k m : ℕ) (old new : Content) : Type 0 where
   pub layer : IsLayer (with_body t k (body_kinds.File m new))
   pub inodes : inode_count (with_body t k (body_kinds.File m new)) ≡ inode_count t
-  pub blocks : block_count (with_body t k (body_kinds.File m new)) + blocks_of (length old) ≡ block_count t + blocks_of (length new)
+  pub blocks : block_count (with_body t k (body_kinds.File m new)) + blocks_of (size_of old) ≡ block_count t + blocks_of (size_of new)
 
-pub rewrites : (t : Tree) (k m : ℕ) (old new : List ℕ) → IsLayer t → body t k ≡ Some (body_kinds.File m old) → length new ≤ 1048576 → Rewrites t k m old new
+pub rewrites : (t : Tree) (k m : ℕ) (old new : Content) → IsLayer t → body t k ≡ Some (body_kinds.File m old) → IsContent new → Rewrites t k m old new
 rewrites t k m old new ok is short =
     let there = file_there t ok k m old is in
     let b = body_kinds.File m new in
@@ -208,5 +207,5 @@ rewrites t k m old new ok is short =
     }
 
 -- a layer's blocks are few
-pub few_blocks : (t : Tree) → IsLayer t → block_count t ≤ 65536 * 257
+pub few_blocks : (t : Tree) → IsLayer t → block_count t ≤ 65536 + 65536 * 268435456
 few_blocks t ok = omega (arith, ok.few, blocks_of_bodies t ok)

@@ -1,9 +1,10 @@
 -- What is added to a layer, and what it takes.
 -- Cited by invariants and private clauses alone.
-use Rattle.std.specs.Prelude.{◌≡◌, ◌==◌, ◌+◌, [], ◌∷◌, ◌++◌, if◌then◌else◌, ℕ, List, Bool, true, false, length, Option, Some, None, is_some}
+use Rattle.std.specs.Prelude.{◌≡◌, ◌==◌, ◌+◌, [], ◌∷◌, ◌++◌, if◌then◌else◌, ℕ, List, Bool, true, false, Option, Some, None, is_some}
 use Rattle.snap_path.specs.Text.{Names, begins}
 use Rattle.snap_layer.specs.declared.node.Node.TheVariants as node
 use Rattle.snap_layer.specs.declared.node.Body.{Body}
+use Rattle.snap_layer.specs.Contents.{size_of}
 use Rattle.snap_layer.specs.Counts.{blocks_of, body_blocks, name_count, inode_count, block_count, is_within}
 use Rattle.snap_layer.specs.Tree.{Tree, at, body, leaf_node}
 use Rattle.snap_layer.specs.Layers.{IsLayer}
@@ -18,7 +19,7 @@ use Rattle.snap_copyup.specs.declared.parents.Last.TheVariants.{Nothing, Dir, Fi
 abbrev pub Takes : Last → ℕ → Bool → Type 0
 Takes Nothing blocks numbered = ⊥
 Takes (Dir mode opaque) blocks numbered = (blocks ≡ 1) × (numbered ≡ false)
-Takes (File mode bytes) blocks numbered = (blocks ≡ blocks_of (length bytes)) × (numbered ≡ true)
+Takes (File mode content) blocks numbered = (blocks ≡ blocks_of (size_of content)) × (numbered ≡ true)
 Takes (Symlink target) blocks numbered = (blocks ≡ 0) × (numbered ≡ true)
 Takes Whiteout blocks numbered = (blocks ≡ 0) × (numbered ≡ false)
 
@@ -35,7 +36,7 @@ last_blocks t k = if name_count k t.entries == 1 then weight_of (body t k) else 
 abbrev pub object_blocks : Option Object → ℕ
 object_blocks None = 0
 object_blocks (Some (dir mode)) = 1
-object_blocks (Some (file mode bytes)) = blocks_of (length bytes)
+object_blocks (Some (file mode content)) = blocks_of (size_of content)
 object_blocks (Some (symlink target)) = 0
 
 -- what is seen at `from` can get the path `to`: neither path lies at or below the other, what is copied up is no directory, and in `to` there are whiteouts alone

@@ -1,6 +1,6 @@
 -- The upper layer after an operation, or the operation's error.
 -- Cited by `apply`, `apply_within`, `plan` and others.
-use Rattle.std.specs.Prelude.{ℕ, ◌+◌, ◌-◌, ◌==◌, ◌||◌, ◌&&◌, Bool, true, false, nat_lt, not, List, [], ◌∷◌, length, take, Option, Some, None, is_some, if◌then◌else◌, Result, Ok, Err}
+use Rattle.std.specs.Prelude.{ℕ, ◌+◌, ◌==◌, ◌||◌, ◌&&◌, Bool, true, false, nat_lt, not, List, [], ◌∷◌, length, Option, Some, None, is_some, if◌then◌else◌, Result, Ok, Err}
 use Rattle.std.specs.List.{list_any}
 use Rattle.std.specs.Option.{option_map_or}
 use Rattle.snap_layer.specs.declared.node.Node.{Node}
@@ -8,8 +8,10 @@ use Rattle.snap_layer.specs.declared.node.Node.TheVariants as node
 use Rattle.snap_layer.specs.declared.node.Body.TheVariants as body_kinds
 use Rattle.snap_layer.specs.Tree.{Tree, at, body, number_at, is_whiteout}
 use Rattle.snap_layer.specs.Counts.{is_within}
-use Rattle.snap_layer.specs.Contents.{written, resized, body_bytes}
-use Rattle.snap_layer.specs.Edits.{with_entry, with_node, with_new, with_name, with_bytes, with_mode, with_opaque, with_moved, without, inside, relocated}
+use Rattle.snap_layer.specs.Contents.{written, resized, most_bytes, body_content}
+use Rattle.snap_layer.specs.declared.content.Content.{Content}
+use Rattle.snap_layer.specs.declared.content.Content.TheVariants as content_kinds
+use Rattle.snap_layer.specs.Edits.{with_entry, with_node, with_new, with_name, with_filled, with_mode, with_opaque, with_moved, with_tree_taken, without, inside, relocated}
 use Rattle.snap_usage.specs.declared.usage.Usage.{Usage}
 use Rattle.snap_usage.specs.Counted.{count_of, covers}
 use Rattle.snap_merge.specs.declared.error.FsError.{FsError}
@@ -19,7 +21,7 @@ use Rattle.snap_merge.specs.Walk.{walk, unless}
 use Rattle.snap_merge.specs.Listing.{names}
 use Rattle.snap_path.specs.Text.{Names, text_below, begins}
 use Rattle.snap_upper.specs.declared.op.Op.{Op}
-use Rattle.snap_upper.specs.declared.op.Op.TheVariants.{Mkdir, Create, Write, Truncate, SetMode, Symlink, Link, Unlink, Rmdir, Rename}
+use Rattle.snap_upper.specs.declared.op.Op.TheVariants.{Mkdir, Create, Put, Write, Truncate, SetMode, Symlink, Link, Unlink, Rmdir, Rename, Opaque, Whiteout}
 use Rattle.snap_upper.specs.declared.usage.Planned.{Planned}
 use Rattle.snap_copyup.specs.Copying.{below, is_pure, with_parents, copied_up}
 
@@ -33,8 +35,18 @@ error_if holds e = if holds then Some e else None
 abbrev pub error_by_kind : Option FsError → Option FsError → Option FsError → Option Object → Option FsError
 error_by_kind of_dir of_file of_symlink None = Some NotFound
 error_by_kind of_dir of_file of_symlink (Some (dir mode)) = of_dir
-error_by_kind of_dir of_file of_symlink (Some (file mode bytes)) = of_file
+error_by_kind of_dir of_file of_symlink (Some (file mode content)) = of_file
 error_by_kind of_dir of_file of_symlink (Some (symlink target)) = of_symlink
+
+-- how many bytes the file that is seen may have
+abbrev pub most_of : Option Object → ℕ
+most_of (Some (file mode content)) = most_bytes content
+most_of other = 1048576
+
+-- a digest of more than 1024 bytes
+abbrev pub is_long_digest : Option (List ℕ) → Bool
+is_long_digest None = false
+is_long_digest (Some digest) = nat_lt 1024 (length digest)
 
 -- a target that is empty or has a NUL
 abbrev pub is_no_target : List ℕ → Bool
@@ -82,12 +94,13 @@ move_tests u lowers from to =
 abbrev pub rename_tests : Tree → List Tree → Names → Names → List (Option FsError)
 rename_tests u lowers from to = walk (u ∷ lowers) from ∷ walk (u ∷ lowers) to ∷ error_if (is_root from || is_root to) Invalid ∷ error_if (not (is_some (seen (u ∷ lowers) from))) NotFound ∷ (if is_same_name u from to then [] else move_tests u lowers from to)
 
--- the tests of an operation over the layers, in order (mkdir(2), open(2) with O_CREAT and O_EXCL, pwrite(2), truncate(2), chmod(2), symlink(2), link(2), unlink(2), rmdir(2))
+-- the tests of an operation over the layers, in order (mkdir(2), open(2) with O_CREAT and O_EXCL, pwrite(2), truncate(2), chmod(2), symlink(2), link(2), unlink(2), rmdir(2); overlayfs.rst, "whiteouts and opaque directories"; OCI image specification, "Whiteouts")
 abbrev pub tests : Op → List Tree → List (Option FsError)
 tests (Mkdir path mode) s = walk s path ∷ error_if (is_some (seen s path)) Exists ∷ error_if (nat_lt 4095 mode) Invalid ∷ []
 tests (Create path mode) s = walk s path ∷ error_if (is_some (seen s path)) Exists ∷ error_if (nat_lt 4095 mode) Invalid ∷ []
-tests (Write path offset bytes) s = walk s path ∷ error_by_kind (Some IsDir) None (Some Invalid) (seen s path) ∷ error_if (nat_lt 1048576 (offset + length bytes)) TooBig ∷ []
-tests (Truncate path size) s = walk s path ∷ error_by_kind (Some IsDir) None (Some Invalid) (seen s path) ∷ error_if (nat_lt 1048576 size) TooBig ∷ []
+tests (Put path mode size digest) s = walk s path ∷ error_if (is_some (seen s path)) Exists ∷ error_if (nat_lt 4095 mode) Invalid ∷ error_if (nat_lt 1099511627776 size) TooBig ∷ error_if (is_long_digest digest) TooBig ∷ []
+tests (Write path offset bytes) s = walk s path ∷ error_by_kind (Some IsDir) None (Some Invalid) (seen s path) ∷ error_if (nat_lt (most_of (seen s path)) (offset + length bytes)) TooBig ∷ []
+tests (Truncate path size) s = walk s path ∷ error_by_kind (Some IsDir) None (Some Invalid) (seen s path) ∷ error_if (nat_lt (most_of (seen s path)) size) TooBig ∷ []
 tests (SetMode path mode) s = walk s path ∷ error_by_kind None None (Some Invalid) (seen s path) ∷ error_if (nat_lt 4095 mode) Invalid ∷ []
 tests (Symlink path target) s = walk s path ∷ error_if (is_some (seen s path)) Exists ∷ error_if (is_no_target target) Invalid ∷ error_if (nat_lt 4095 (length target)) TooBig ∷ []
 tests (Link from to) s = walk s from ∷ walk s to ∷ error_by_kind (Some NotPermitted) None None (seen s from) ∷ error_if (is_some (seen s to)) Exists ∷ []
@@ -95,6 +108,8 @@ tests (Unlink path) s = walk s path ∷ error_by_kind (Some IsDir) None None (se
 tests (Rmdir path) s = walk s path ∷ error_if (is_root path) Invalid ∷ error_by_kind None (Some NotDir) (Some NotDir) (seen s path) ∷ error_if (has_names s path) NotEmpty ∷ []
 tests (Rename from to) [] = []
 tests (Rename from to) (u ∷ lowers) = rename_tests u lowers from to
+tests (Opaque path) s = walk s path ∷ error_by_kind None (Some NotDir) (Some NotDir) (seen s path) ∷ []
+tests (Whiteout path) s = walk s path ∷ error_if (is_root path) Invalid ∷ error_if (not (is_some (seen s path))) NotFound ∷ []
 
 -- the first error of the tests
 abbrev pub first_error : List (Option FsError) → Option FsError
@@ -108,13 +123,17 @@ first_error (Some e ∷ later) = Some e
 abbrev pub is_whiteout_at : Option Node → Bool
 is_whiteout_at o = option_map_or is_whiteout o false
 
--- the layer with other bytes of the file with the number, for all its names
-abbrev pub with_content : Tree → Option ℕ → (List ℕ → List ℕ) → Tree
-with_content t o f = option_map_or (λ k. with_bytes t k (body t k) (f (body_bytes (body t k)))) o t
+-- the layer with another content of the file with the number, for all its names
+abbrev pub with_content : Tree → Option ℕ → (Content → Content) → Tree
+with_content t o f = option_map_or (λ k. with_filled t k (body t k) (f (body_content (body t k)))) o t
 
 -- the layer without what stands at the path, and with a whiteout there where something is below (overlayfs.rst, "whiteouts and opaque directories")
 abbrev pub erased : Tree → List Tree → Names → Tree
 erased u lowers p = let t = with_parents u lowers p in if is_some (below u lowers p) then with_node t p node.Whiteout else without t p
+
+-- the layer without what stands at the path and all below it, and with a whiteout there where something is below (OCI image specification, "Whiteouts")
+abbrev pub tree_erased : Tree → List Tree → Names → Tree
+tree_erased u lowers p = with_tree_taken (with_parents u lowers p) p (is_some (below u lowers p))
 
 -- the layer before a move: what is seen at `from` is copied up, and the directories above `to` are there (overlayfs.rst, "Non-directories")
 abbrev pub before_move : Tree → List Tree → Names → Names → Tree
@@ -131,7 +150,8 @@ renamed u lowers from to = shifted (before_move u lowers from to) from to (is_so
 -- the effect of an operation on the upper layer
 abbrev pub next_layer : Op → Tree → List Tree → Tree
 next_layer (Mkdir path mode) u lowers = with_entry (with_parents u lowers path) path (node.Dir mode (is_whiteout_at (at u path)))
-next_layer (Create path mode) u lowers = let t = with_parents u lowers path in with_new t path (node.File t.next) (body_kinds.File mode [])
+next_layer (Create path mode) u lowers = let t = with_parents u lowers path in with_new t path (node.File t.next) (body_kinds.File mode (content_kinds.Bytes []))
+next_layer (Put path mode size digest) u lowers = let t = with_parents u lowers path in with_new t path (node.File t.next) (body_kinds.File mode (content_kinds.Sized size digest))
 next_layer (Write path offset bytes) u lowers = let t = copied_up u lowers path in with_content t (number_at t path) (λ old. written old offset bytes)
 next_layer (Truncate path size) u lowers = let t = copied_up u lowers path in with_content t (number_at t path) (λ old. resized old size)
 next_layer (SetMode path mode) u lowers = let t = copied_up u lowers path in with_mode t path (at t path) mode
@@ -140,6 +160,8 @@ next_layer (Link from to) u lowers = let t = with_parents (copied_up u lowers fr
 next_layer (Unlink path) u lowers = erased u lowers path
 next_layer (Rmdir path) u lowers = erased u lowers path
 next_layer (Rename from to) u lowers = if is_same_name u from to then u else renamed u lowers from to
+next_layer (Opaque path) u lowers = let t = copied_up u lowers path in with_opaque t path (at t path) true
+next_layer (Whiteout path) u lowers = tree_erased u lowers path
 
 -- ---- both
 

@@ -3,10 +3,12 @@
 use Rattle.std.specs.Prelude.{◌≡◌, ◌⊎◌, ℕ, List, [], ◌∷◌, ◌++◌, Option, Some, None, Ok}
 use Rattle.std.specs.Option.{option_map}
 use Rattle.snap_path.specs.Text.{Names}
+use Rattle.snap_layer.specs.declared.content.Content.{Content}
+use Rattle.snap_layer.specs.declared.content.Content.TheVariants as content_kinds
 use Rattle.snap_layer.specs.Tree.{Tree, number_at}
 use Rattle.snap_merge.specs.Objects.{Object, dir, file, symlink, seen, AreLayers}
 use Rattle.snap_upper.specs.declared.op.Op.{Op}
-use Rattle.snap_upper.specs.declared.op.Op.TheVariants.{Mkdir, Create, Write, Truncate, SetMode, Symlink, Link, Unlink, Rmdir, Rename}
+use Rattle.snap_upper.specs.declared.op.Op.TheVariants.{Mkdir, Create, Put, Write, Truncate, SetMode, Symlink, Link, Unlink, Rmdir, Rename, Opaque, Whiteout}
 use Rattle.snap_layer.specs.Contents.{written, resized}
 use Rattle.snap_upper.specs.After.{after}
 
@@ -34,34 +36,47 @@ pub record ShowsMoved (v w : View) (from to : Names) : Type 0 where
   pub gone : (r : Names) → w (from ++ r) ≡ None
   pub others : (q : Names) → ((r : Names) → q ≡ from ++ r → ⊥) → ((r : Names) → q ≡ to ++ r → ⊥) → w q ≡ v q
 
+-- w shows in the directory at the path what the upper layer alone shows there, and at every other path what v shows
+pub record ShowsOpaque (u : Tree) (v w : View) (p : Names) : Type 0 where
+  pub below : (n : List ℕ) (r : Names) → w (p ++ n ∷ r) ≡ seen (u ∷ []) (p ++ n ∷ r)
+  pub others : (q : Names) → ((n : List ℕ) (r : Names) → q ≡ p ++ n ∷ r → ⊥) → w q ≡ v q
+
+-- w shows nothing at the path and below it, and at every other path what v shows
+pub record ShowsGone (v w : View) (p : Names) : Type 0 where
+  pub gone : (r : Names) → w (p ++ r) ≡ None
+  pub others : (q : Names) → ((r : Names) → q ≡ p ++ r → ⊥) → w q ≡ v q
+
 -- w shows what v shows
 abbrev pub Stays : View → View → Type 0
 Stays v w = (q : Names) → w q ≡ v q
 
--- the object with other bytes, where it is a file
-abbrev pub with_file_bytes : (List ℕ → List ℕ) → Object → Object
-with_file_bytes f (dir mode) = dir mode
-with_file_bytes f (file mode bytes) = file mode (f bytes)
-with_file_bytes f (symlink target) = symlink target
+-- the object with another content, where it is a file
+abbrev pub with_file_content : (Content → Content) → Object → Object
+with_file_content f (dir mode) = dir mode
+with_file_content f (file mode content) = file mode (f content)
+with_file_content f (symlink target) = symlink target
 
 -- the directory or file with another mode
 abbrev pub with_object_mode : ℕ → Object → Object
 with_object_mode mode (dir old) = dir mode
-with_object_mode mode (file old bytes) = file mode bytes
+with_object_mode mode (file old content) = file mode content
 with_object_mode mode (symlink target) = symlink target
 
 -- how the view v before the operation and the view w after it are related, over the upper layer before
 abbrev pub changed : Op → Tree → View → View → Type 0
 changed (Mkdir path mode) u v w = ShowsAt v w path (Some (dir mode))
-changed (Create path mode) u v w = ShowsAt v w path (Some (file mode []))
-changed (Write path offset bytes) u v w = Turns u v w path (with_file_bytes (λ old. written old offset bytes))
-changed (Truncate path size) u v w = Turns u v w path (with_file_bytes (λ old. resized old size))
+changed (Create path mode) u v w = ShowsAt v w path (Some (file mode (content_kinds.Bytes [])))
+changed (Put path mode size digest) u v w = ShowsAt v w path (Some (file mode (content_kinds.Sized size digest)))
+changed (Write path offset bytes) u v w = Turns u v w path (with_file_content (λ old. written old offset bytes))
+changed (Truncate path size) u v w = Turns u v w path (with_file_content (λ old. resized old size))
 changed (SetMode path mode) u v w = Turns u v w path (with_object_mode mode)
 changed (Symlink path target) u v w = ShowsAt v w path (Some (symlink target))
 changed (Link from to) u v w = ShowsAt v w to (v from)
 changed (Unlink path) u v w = ShowsAt v w path None
 changed (Rmdir path) u v w = ShowsAt v w path None
 changed (Rename from to) u v w = (IsName u from to × Stays v w) ⊎ ((IsName u from to → ⊥) × ShowsMoved v w from to)
+changed (Opaque path) u v w = ShowsOpaque u v w path
+changed (Whiteout path) u v w = ShowsGone v w path
 
 -- with any layers below, an operation that gives a next upper layer changes what is seen as `changed` says
 abbrev pub Changes : Op → Tree → Type 0

@@ -1,10 +1,13 @@
 -- What an operation does to the layer, once its tests have passed.
 -- Cited by invariants and private clauses alone.
-use Rattle.std.specs.Prelude.{◌≡◌, ◌+◌, ◌≤◌, ℕ, ◌∷◌, ◌++◌, [], Bool, true, false, List, length, Option, Some, None, Ok, is_some}
-use Rattle.snap_layer.specs.Tree.{Tree, at, body}
+use Rattle.std.specs.Prelude.{◌≡◌, ◌≤◌, ℕ, ◌∷◌, ◌++◌, [], Bool, true, false, List, Option, Some, None, Ok, is_some}
+use Rattle.std.specs.Option.{option_copied}
+use Rattle.snap_layer.specs.Tree.{Tree, at, body, IsDirAt}
 use Rattle.snap_layer.specs.declared.bytes.Edit.TheVariants.{Keep}
-use Rattle.snap_layer.specs.Contents.{edited, IsShort}
-use Rattle.snap_layer.specs.Edits.{HasMode, with_mode}
+use Rattle.snap_layer.specs.Contents.{edited, size_of, IsContent, IsShort}
+use Rattle.snap_layer.specs.declared.content.Content.{Content}
+use Rattle.snap_layer.specs.declared.content.Content.TheVariants as content_kinds
+use Rattle.snap_layer.specs.Edits.{HasMode, IsFree, IsInnerDir, with_mode, with_opaque}
 use Rattle.snap_merge.specs.Objects.{Object, file, seen, is_shown_dir, AreLayers}
 use Rattle.snap_layer.specs.declared.node.Body.TheVariants as body_kinds
 use Rattle.snap_merge.specs.Walk.{walk}
@@ -15,27 +18,33 @@ use Rattle.snap_copyup.specs.Places.{with_last, CanStand}
 use Rattle.snap_upper.specs.declared.op.Op.{Op}
 use Rattle.snap_upper.specs.declared.op.Op.TheVariants as op
 use Rattle.snap_upper.specs.declared.change.New.{New}
-use Rattle.snap_upper.specs.declared.change.New.TheVariants.{Dir, File, Symlink}
+use Rattle.snap_upper.specs.declared.change.New.TheVariants.{Dir, Empty, Sized, File, Symlink}
 use Rattle.snap_upper.specs.declared.change.Change.{Change}
-use Rattle.snap_upper.specs.declared.change.Change.TheVariants.{Nothing, Put, Fill, SetMode, Erase, Link, Move}
-use Rattle.snap_upper.specs.After.{Outcome, after, limited, with_content, erased, renamed, next_layer, first_error, tests, is_same_name}
+use Rattle.snap_upper.specs.declared.change.Change.TheVariants.{Nothing, Put, Fill, SetMode, SetOpaque, Erase, EraseTree, Link, Move}
+use Rattle.snap_upper.specs.After.{Outcome, after, limited, with_content, erased, tree_erased, renamed, next_layer, first_error, tests, is_same_name}
 
--- what is put, with its bytes
+-- what is put, with its content
 abbrev pub as_last : New → Last
 as_last (Dir mode opaque) = last.Dir mode opaque
+as_last (Empty mode) = last.File mode (content_kinds.Bytes [])
+as_last (Sized mode size digest) = last.File mode (content_kinds.Sized size (option_copied digest))
 as_last (File mode old edit) = last.File mode (edited edit old.now)
 as_last (Symlink target) = last.Symlink target.now
 
 -- it takes a file number
 abbrev pub is_numbered : New → Bool
 is_numbered (Dir mode opaque) = false
+is_numbered (Empty mode) = true
+is_numbered (Sized mode size digest) = true
 is_numbered (File mode old edit) = true
 is_numbered (Symlink target) = true
 
--- its bytes are those of a layer's file, changed by a short edit
+-- its content is within its limits: that of a layer's file is changed by a short edit
 abbrev pub IsSound : New → Type 0
 IsSound (Dir mode opaque) = Unit {0}
-IsSound (File mode old edit) = IsShort edit × (length (edited edit old.now) ≤ 1048576)
+IsSound (Empty mode) = Unit {0}
+IsSound (Sized mode size digest) = IsContent (content_kinds.Sized size (option_copied digest))
+IsSound (File mode old edit) = IsShort edit old.now × IsContent (edited edit old.now)
 IsSound (Symlink target) = Unit {0}
 
 -- the next layer, or the error of one that passes the limits
@@ -44,7 +53,9 @@ outcome Nothing u lowers = Ok u
 outcome (Put path new) u lowers = limited (with_last (as_last new) (with_parents u lowers path.now) path.now)
 outcome (Fill number size edit) u lowers = limited (with_content u (Some number) (edited edit))
 outcome (SetMode path mode) u lowers = limited (with_mode u path.now (at u path.now) mode)
+outcome (SetOpaque path) u lowers = limited (with_opaque u path.now (at u path.now) true)
 outcome (Erase path covers) u lowers = limited (erased u lowers path.now)
+outcome (EraseTree path covers) u lowers = limited (tree_erased u lowers path.now)
 outcome (Link from to) u lowers = limited (next_layer (op.Link from.now to.now) u lowers)
 outcome (Move from to leaves covers) u lowers = limited (renamed u lowers from.now to.now)
 
@@ -52,15 +63,19 @@ outcome (Move from to leaves covers) u lowers = limited (renamed u lowers from.n
 abbrev pub IsReady : Change → Tree → List Tree → Type 0
 IsReady Nothing u lowers = Unit {0}
 IsReady (Put path new) u lowers = (walk (u ∷ lowers) path.now ≡ None) × CanStand (as_last new) u path.now × IsSound new
-IsReady (Fill number size edit) u lowers = (m : ℕ) × (old : List ℕ) × (body u number ≡ Some (body_kinds.File m old)) × (size ≡ length old) × IsShort edit × (length (edited edit old) ≤ 1048576)
+IsReady (Fill number size edit) u lowers = (m : ℕ) × (old : Content) × (body u number ≡ Some (body_kinds.File m old)) × (size ≡ size_of old) × IsShort edit old × IsContent (edited edit old)
 IsReady (SetMode path mode) u lowers = HasMode (at u path.now) × (mode ≤ 4095)
-IsReady (Erase path covers) u lowers = (walk (u ∷ lowers) path.now ≡ None) × (is_some (seen (u ∷ lowers) path.now) ≡ true) × (path.now ≡ [] → ⊥) × ((n : List ℕ) → is_some (seen (u ∷ lowers) (path.now ++ n ∷ [])) ≡ false) × (covers ≡ is_some (below u lowers path.now))
+IsReady (SetOpaque path) u lowers = IsDirAt (at u path.now)
+IsReady (Erase path covers) u lowers = (walk (u ∷ lowers) path.now ≡ None) × (is_some (seen (u ∷ lowers) path.now) ≡ true) × (path.now ≡ [] → ⊥) × ((n : List ℕ) → IsFree (at u (path.now ++ n ∷ []))) × (covers ≡ is_some (below u lowers path.now))
+IsReady (EraseTree path covers) u lowers = IsInnerDir u path.now × (covers ≡ is_some (below u lowers path.now))
 IsReady (Link from to) u lowers = first_error (tests (op.Link from.now to.now) (u ∷ lowers)) ≡ None
 IsReady (Move from to leaves covers) u lowers = (first_error (tests (op.Rename from.now to.now) (u ∷ lowers)) ≡ None) × (is_same_name u from.now to.now ≡ false) × (leaves ≡ is_some (below u lowers from.now)) × (covers ≡ is_some (below u lowers to.now))
 
 -- it is the directory or file that is seen, with the mode
 abbrev pub IsWithMode : New → Option Object → ℕ → Type 0
 IsWithMode (Dir mode opaque) o m = (is_shown_dir o ≡ true) × (mode ≡ m) × (opaque ≡ false)
+IsWithMode (Empty mode) o m = ⊥
+IsWithMode (Sized mode size digest) o m = ⊥
 IsWithMode (File mode old edit) o m = (n : ℕ) × (o ≡ Some (file n old.now)) × (mode ≡ m) × (edit ≡ Keep)
 IsWithMode (Symlink target) o m = ⊥
 

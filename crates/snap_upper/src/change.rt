@@ -1,27 +1,40 @@
 // What an operation does to the layer, once its tests have passed.
-ghost use Rattle.std.specs.Prelude.{◌≡◌, ◌≤◌, Bool, IfOk};
-ghost use Rattle.snap_layer.specs.Tree.{number_at};
+ghost use Rattle.std.specs.Prelude.{◌≡◌, ◌↔◌, ◌≤◌, Bool, IfOk, IsTrue};
+ghost use Rattle.std.specs.Option.{option_copied};
+ghost use Rattle.snap_layer.specs.Counts.{blocks_of};
+ghost use Rattle.snap_layer.specs.Contents.{edited, size_of, IsContent, IsShort};
+ghost use Rattle.snap_layer.specs.Tree.{at, number_at, IsDirAt};
 ghost use Rattle.snap_upper.specs.Adding.{Takes};
 ghost use Rattle.snap_upper.specs.Changes.{as_last, is_numbered, IsSound};
 ghost use Rattle.snap_upper.specs.After.{is_whiteout_at};
 
 use snap_copyup::Last;
-use snap_layer::{Bytes, Edit, Layer, Node};
+use snap_layer::{Bytes, Content, Edit, Layer, Node};
 use snap_path::Path;
 use snap_usage::blocks_of;
 use std::alloc::{AllocError, Global};
 
-/// What is put at a path: as `Last`, whose bytes and targets aren't made yet.
+/// What is put at a path: as `Last`, whose contents and targets aren't made yet.
 #[derive(Clone, Copy)]
 pub(crate) enum New<'a> {
     Dir {
         mode: u32,
         opaque: bool,
     },
-    /// A file with what the edit makes of the old bytes.
+    /// A file without bytes.
+    Empty {
+        mode: u32,
+    },
+    /// A file of a size, whose bytes aren't kept.
+    Sized {
+        mode: u32,
+        size: u64,
+        digest: Option<&'a Bytes>,
+    },
+    /// A file with what the edit makes of the old content.
     File {
         mode: u32,
-        old: &'a [u8],
+        old: &'a Content,
         edit: Edit<'a>,
     },
     Symlink {
@@ -39,10 +52,10 @@ pub(crate) enum Change<'a> {
         path: &'a Path,
         new: New<'a>,
     },
-    /// The bytes of the layer's own file with the number, which has so many, change.
+    /// The layer's own file with the number, which has so many bytes, is edited.
     Fill {
         number: u32,
-        size: usize,
+        size: u64,
         edit: Edit<'a>,
     },
     /// The mode of the layer's own directory or file changes.
@@ -50,8 +63,18 @@ pub(crate) enum Change<'a> {
         path: &'a Path,
         mode: u32,
     },
-    /// What is seen goes. A whiteout is put where `covers` says that a lower layer shows something.
+    /// The layer's own directory becomes opaque.
+    SetOpaque {
+        path: &'a Path,
+    },
+    /// What is seen goes: no directory of the layer, or one that has whiteouts alone. A whiteout is put where `covers`
+    /// says that a lower layer shows something.
     Erase {
+        path: &'a Path,
+        covers: bool,
+    },
+    /// The layer's own directory goes, with all that is in it. A whiteout is put as in `Erase`.
+    EraseTree {
         path: &'a Path,
         covers: bool,
     },
@@ -74,12 +97,14 @@ impl<'a> New<'a> {
     /// The blocks that it takes.
     pub(crate) fn blocks(self) -> u64
         requires { IsSound self }
-        ensures few { result ≤ 256 }
+        ensures few { result ≤ 268435456 }
         ensures takes { (numbered : Bool) → is_numbered self.entry ≡ numbered → Takes (as_last self.entry) result numbered }
     {
         match self {
             New::Dir { .. } => 1,
-            New::File { old, edit, .. } => blocks_of(edit.size(old.len()) as u64),
+            New::Empty { .. } => 0,
+            New::Sized { size, .. } => blocks_of(size),
+            New::File { old, edit, .. } => edited_blocks(old, edit),
             New::Symlink { .. } => 0,
         }
     }
@@ -90,26 +115,59 @@ impl<'a> New<'a> {
     {
         match self {
             New::Dir { .. } => false,
+            New::Empty { .. } => true,
+            New::Sized { .. } => true,
             New::File { .. } => true,
             New::Symlink { .. } => true,
         }
     }
 
-    /// The same with its own bytes.
+    /// The same with its own content.
     pub(crate) fn last(self, alloc: Global) -> Result<Last, AllocError>
         requires { IsSound self }
         ensures { IfOk result (λ last. last ≡ as_last self.entry) }
     {
         match self {
             New::Dir { mode, opaque } => Ok(Last::Dir { mode, opaque }),
+            New::Empty { mode } => Ok(Last::File {
+                mode,
+                content: Content::empty(alloc),
+            }),
+            New::Sized { mode, size, digest } => {
+                let digest = copy_of(digest)?;
+                let content = Content::Sized { size, digest };
+                Ok(Last::File { mode, content })
+            }
             New::File { mode, old, edit } => Ok(Last::File {
                 mode,
-                bytes: edit.content(alloc, old)?,
+                content: edit.content(alloc, old)?,
             }),
             New::Symlink { target } => Ok(Last::Symlink {
                 target: Bytes::copy_of(alloc, target)?,
             }),
         }
+    }
+}
+
+/// The blocks of a file after the edit.
+fn edited_blocks(old: &Content, edit: Edit<'_>) -> u64
+    requires short { IsShort edit old.now }
+    requires fits { IsContent (edited edit old.now) }
+    ensures same { result ≡ blocks_of (size_of (edited edit.entry old.now)) }
+    ensures few { result ≤ 268435456 }
+{
+    let was = old.size();
+    let after = edit.size(was);
+    blocks_of(after)
+}
+
+/// A copy of the digest, if there is one.
+fn copy_of(digest: Option<&Bytes>) -> Result<Option<Bytes>, AllocError>
+    ensures { IfOk result (λ copy. copy ≡ option_copied digest.entry) }
+{
+    match digest {
+        Some(digest) => Ok(Some(digest.clone()?)),
+        None => Ok(None),
     }
 }
 
@@ -128,4 +186,14 @@ pub(crate) fn own_number(layer: &Layer, path: &Path) -> Option<u32>
     ensures { result ≡ number_at layer.now path.now }
 {
     layer.at(path)?.number()
+}
+
+/// Whether the layer has a directory at the path.
+pub(crate) fn is_dir_there(layer: &Layer, path: &Path) -> bool
+    ensures { IsTrue result ↔ IsDirAt (at layer.now path.now) }
+{
+    match layer.at(path) {
+        Some(node) => node.is_dir(),
+        None => false,
+    }
 }

@@ -1,23 +1,25 @@
 // The tests that an operation has to pass.
-ghost use Rattle.std.specs.Prelude.{◌≡◌, ℕ, List, length, ◌⊎◌, ◌==◌, [], ◌∷◌, is_some, true, false, None, Some, OnOk, IfErr, MatchOption, ◌||◌, ◌&&◌, not, IfOk, Ok, Err};
+ghost use Rattle.std.specs.Prelude.{◌≡◌, ℕ, ◌⊎◌, ◌==◌, [], ◌∷◌, is_some, true, false, None, Some, OnOk, IfErr, MatchOption, ◌||◌, ◌&&◌, not, IfOk, Ok, Err};
 ghost use Rattle.std.specs.Option.{option_map};
 ghost use Rattle.std.specs.Result.{result_err};
 ghost use Rattle.std.specs.List.{list_any};
 ghost use Rattle.snap_path.specs.Memory.{no_memory};
 ghost use Rattle.snap_path.specs.Text.{begins};
+ghost use Rattle.snap_layer.specs.Contents.{most_bytes, size_of};
+ghost use Rattle.snap_layer.specs.declared.content.Content.{Content as ContentValue};
 ghost use Rattle.snap_merge.specs.declared.error.FsError.{FsError};
-ghost use Rattle.snap_merge.specs.Objects.{object, file, seen, is_shown_dir, AreLayers};
+ghost use Rattle.snap_merge.specs.Objects.{object, dir, file, seen, is_shown_dir, AreLayers};
 ghost use Rattle.snap_merge.specs.Walk.{walk};
 ghost use Rattle.snap_copyup.specs.Copying.{below};
-ghost use Rattle.snap_upper.specs.After.{tests, first_error, error_if, has_names, is_no_target, move_tests, kind_error, is_root, is_same_name, is_same_path, is_same_number, moves_too_long, is_late, lists_names, error_by_kind};
+ghost use Rattle.snap_upper.specs.After.{tests, most_of, first_error, error_if, has_names, is_long_digest, is_no_target, move_tests, kind_error, is_root, is_same_name, is_same_path, is_same_number, moves_too_long, is_late, lists_names, error_by_kind};
 ghost use Rattle.snap_upper.specs.declared.op.Op.TheVariants as op;
 
 use super::change::own_number;
 use snap_copyup::{below, is_pure_over};
-use snap_layer::{Bytes, Layer, Shared};
+use snap_layer::{Bytes, Content, Layer, Shared};
 use snap_merge::{FsError, Seen, Stack, is_dir};
 use snap_path::Path;
-use snap_path::limits::{MAX_FILE_BYTES, MAX_MODE, MAX_TARGET_BYTES};
+use snap_path::limits::{MAX_DIGEST_BYTES, MAX_MODE, MAX_SIZED_BYTES, MAX_TARGET_BYTES};
 use std::alloc::Global;
 
 /// Walks to the path, at which nothing may be seen.
@@ -43,36 +45,67 @@ pub(crate) fn check_new(stack: &Stack<'_>, path: &Path, mode: u32) -> Result<(),
     Ok(())
 }
 
+/// Tests whether a file of the size can be made at the path, with the mode and the digest.
+pub(crate) fn check_put(
+    stack: &Stack<'_>,
+    path: &Path,
+    mode: u32,
+    size: u64,
+    digest: &Option<Bytes>,
+) -> Result<(), FsError>
+    ensures error { result_err result ≡ first_error (tests (op.Put path.now mode size digest.now) stack.now) }
+    ensures layers { AreLayers stack.now }
+{
+    check_unseen(stack, path)?;
+    if mode > MAX_MODE {
+        return Err(FsError::Invalid);
+    }
+    if size > MAX_SIZED_BYTES || is_long_digest(digest) {
+        return Err(FsError::TooBig);
+    }
+    Ok(())
+}
+
+/// Whether the digest has more than 1024 bytes.
+fn is_long_digest(digest: &Option<Bytes>) -> bool
+    ensures { result ≡ is_long_digest digest.now }
+{
+    match digest {
+        Some(digest) => digest.as_slice().len() > MAX_DIGEST_BYTES,
+        None => false,
+    }
+}
+
 /// Tests whether the bytes can be put at the offset of the file at the path, and gives the file's size.
 pub(crate) fn check_write(
     stack: &Stack<'_>,
     path: &Path,
     offset: u64,
     bytes: &Bytes,
-) -> Result<usize, FsError>
+) -> Result<u64, FsError>
     ensures error { result_err result ≡ first_error (tests (op.Write path.now offset bytes.now) stack.now) }
-    ensures size { IfOk result (λ n. (m : ℕ) (old : List ℕ) → seen stack.now path.now ≡ Some (file m old) → n ≡ length old) }
-    ensures layers { AreLayers stack.now }
-{
-    let size = check_file(stack.walk_to(path)?)?;
-    let end = offset.saturating_add(bytes.as_slice().len() as u64);
-    if end > MAX_FILE_BYTES {
-        return Err(FsError::TooBig);
-    }
-    Ok(size)
-}
-
-/// Tests whether the file at the path can be given so many bytes, and gives the file's size.
-pub(crate) fn check_truncate(stack: &Stack<'_>, path: &Path, size: u64) -> Result<usize, FsError>
-    ensures error { result_err result ≡ first_error (tests (op.Truncate path.now size) stack.now) }
-    ensures size { IfOk result (λ n. (m : ℕ) (old : List ℕ) → seen stack.now path.now ≡ Some (file m old) → n ≡ length old) }
+    ensures size { IfOk result (λ n. (m : ℕ) (old : ContentValue) → seen stack.now path.now ≡ Some (file m old) → n ≡ size_of old) }
     ensures layers { AreLayers stack.now }
 {
     let old = check_file(stack.walk_to(path)?)?;
-    if size > MAX_FILE_BYTES {
+    let end = offset.saturating_add(bytes.as_slice().len() as u64);
+    if end > old.most_bytes() {
         return Err(FsError::TooBig);
     }
-    Ok(old)
+    Ok(old.size())
+}
+
+/// Tests whether the file at the path can be given so many bytes, and gives the file's size.
+pub(crate) fn check_truncate(stack: &Stack<'_>, path: &Path, size: u64) -> Result<u64, FsError>
+    ensures error { result_err result ≡ first_error (tests (op.Truncate path.now size) stack.now) }
+    ensures size { IfOk result (λ n. (m : ℕ) (old : ContentValue) → seen stack.now path.now ≡ Some (file m old) → n ≡ size_of old) }
+    ensures layers { AreLayers stack.now }
+{
+    let old = check_file(stack.walk_to(path)?)?;
+    if size > old.most_bytes() {
+        return Err(FsError::TooBig);
+    }
+    Ok(old.size())
 }
 
 /// Tests whether the directory or file at the path can be given the mode.
@@ -116,13 +149,14 @@ fn has_nul(bytes: &[u8]) -> bool
     bytes.iter().any(|byte| *byte == 0)
 }
 
-/// Tests whether a regular file is seen, and gives its size.
-fn check_file(found: Option<Seen<'_>>) -> Result<usize, FsError>
+/// Tests whether a regular file is seen, and gives its content.
+fn check_file<'a>(found: Option<Seen<'a>>) -> Result<&'a Content, FsError>
     ensures error { result_err result ≡ error_by_kind (Some FsError.IsDir) None (Some FsError.Invalid) (option_map object found.entry) }
-    ensures size { IfOk result (λ n. (m : ℕ) (old : List ℕ) → option_map object found.entry ≡ Some (file m old) → n ≡ length old) }
+    ensures most { IfOk result (λ own. most_of (option_map object found.entry) ≡ most_bytes own.now) }
+    ensures size { IfOk result (λ own. (m : ℕ) (old : ContentValue) → option_map object found.entry ≡ Some (file m old) → size_of own.now ≡ size_of old) }
 {
     match found {
-        Some(Seen::File { bytes, .. }) => Ok(bytes.len()),
+        Some(Seen::File { content, .. }) => Ok(content),
         Some(Seen::Dir { .. }) => Err(FsError::IsDir),
         Some(Seen::Symlink { .. }) => Err(FsError::Invalid),
         None => Err(FsError::NotFound),
@@ -235,16 +269,45 @@ fn check_empty(
     Ok(())
 }
 
-/// Tests whether a directory is seen.
-fn check_dir(found: Option<Seen<'_>>) -> Result<(), FsError>
-    ensures { result_err result ≡ error_by_kind None (Some FsError.NotDir) (Some FsError.NotDir) (option_map object found.entry) }
+/// Tests whether a directory is seen, and gives its mode.
+fn check_dir(found: Option<Seen<'_>>) -> Result<u32, FsError>
+    ensures error { result_err result ≡ error_by_kind None (Some FsError.NotDir) (Some FsError.NotDir) (option_map object found.entry) }
+    ensures mode { IfOk result (λ m. option_map object found.entry ≡ Some (dir m)) }
 {
     match found {
-        Some(Seen::Dir { .. }) => Ok(()),
+        Some(Seen::Dir { mode }) => Ok(mode),
         Some(Seen::File { .. }) => Err(FsError::NotDir),
         Some(Seen::Symlink { .. }) => Err(FsError::NotDir),
         None => Err(FsError::NotFound),
     }
+}
+
+/// Tests whether something other than the root is seen at the path, and gives it.
+pub(crate) fn check_whiteout<'a>(
+    stack: &Stack<'a>,
+    path: &Path,
+) -> Result<Option<Seen<'a>>, FsError>
+    ensures error { result_err result ≡ first_error (tests (op.Whiteout path.now) stack.now) }
+    ensures seen { IfOk result (λ o. option_map object o ≡ seen stack.now path.now) }
+    ensures layers { AreLayers stack.now }
+{
+    let found = stack.walk_to(path)?;
+    if path.names().is_empty() {
+        return Err(FsError::Invalid);
+    }
+    if found.is_none() {
+        return Err(FsError::NotFound);
+    }
+    Ok(found)
+}
+
+/// Tests whether a directory is seen at the path, and gives its mode.
+pub(crate) fn check_opaque(stack: &Stack<'_>, path: &Path) -> Result<u32, FsError>
+    ensures error { result_err result ≡ first_error (tests (op.Opaque path.now) stack.now) }
+    ensures mode { IfOk result (λ m. seen stack.now path.now ≡ Some (dir m)) }
+    ensures layers { AreLayers stack.now }
+{
+    check_dir(stack.walk_to(path)?)
 }
 
 /// What the lower layers show at both ends of a rename, and the layer doesn't hide.

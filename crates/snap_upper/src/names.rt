@@ -1,8 +1,8 @@
 // Names in the upper layer: one more for a file or a symlink, and a rename.
-ghost use Rattle.std.specs.Prelude.{◌≡◌, ◌⊎◌, ◌∷◌, OnOk, OnErr, IfErr, Ok, Err, Some, None, IsSome, ◌↔◌, IsTrue, is_some, false};
+ghost use Rattle.std.specs.Prelude.{◌≡◌, ◌⊎◌, ◌∷◌, OnOk, OnErr, IfErr, Ok, Err, Some, None, IsSome, is_some, false};
 ghost use Rattle.snap_path.specs.Memory.{no_memory};
 ghost use Rattle.snap_path.specs.Text.{begins};
-ghost use Rattle.snap_layer.specs.Tree.{at, body, leaf_node, number_at, IsDirAt};
+ghost use Rattle.snap_layer.specs.Tree.{at, body, leaf_node, number_at};
 ghost use Rattle.snap_layer.specs.Layers.{IsBody, IsLayer};
 ghost use Rattle.snap_layer.specs.Edits.{with_linked, with_name, with_new, with_node, name_of, HasParent, HasPlace, HasRooms, IsMovable};
 ghost use Rattle.snap_layer.specs.declared.node.Body.{Body};
@@ -16,7 +16,7 @@ ghost use Rattle.snap_upper.specs.After.{tests, first_error, limited, next_layer
 ghost use Rattle.snap_upper.specs.Adding.{with_shifted};
 ghost use Rattle.snap_upper.specs.declared.op.Op.TheVariants as op;
 
-use super::change::own_number;
+use super::change::{is_dir_there, own_number};
 use snap_copyup::{add_dirs, add_dirs_of_both, body_below, take_all};
 use snap_layer::{Body, Layer, Shared};
 use snap_merge::FsError;
@@ -214,8 +214,8 @@ fn put_body(layer: &mut Layer, path: &Path, body: Body) -> Result<(), FsError>
     ensures unchanged { OnErr result (layer.new ≡ layer.old) }
 {
     match body {
-        Body::File { mode, bytes } => {
-            layer.add_file(path, mode, bytes)?;
+        Body::File { mode, content } => {
+            layer.add_file(path, mode, content)?;
         }
         Body::Symlink { target } => {
             layer.add_symlink(path, target)?;
@@ -268,14 +268,4 @@ fn relocate(
         layer.set_opaque(to, true);
     }
     Ok(())
-}
-
-/// Whether the layer has a directory at the path.
-fn is_dir_there(layer: &Layer, path: &Path) -> bool
-    ensures { IsTrue result ↔ IsDirAt (at layer.now path.now) }
-{
-    match layer.at(path) {
-        Some(node) => node.is_dir(),
-        None => false,
-    }
 }

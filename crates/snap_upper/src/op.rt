@@ -23,15 +23,26 @@ pub enum Op {
         path: Path,
         mode: u32,
     },
+    /// Makes a regular file of so many bytes, at most 2^40, where nothing is seen. They aren't kept: the
+    /// digest says which they are, a text of at most 1024 bytes, or nothing does (OCI image specification,
+    /// "Descriptors"). It gets the upper layer's next file number.
+    Put {
+        path: Path,
+        mode: u32,
+        size: u64,
+        digest: Option<Bytes>,
+    },
     /// Puts the bytes into a regular file at the offset, which is in bytes (pwrite(2)). A gap between
     /// the file's end and the offset is filled with zero bytes. No bytes change neither the file's
-    /// bytes nor its size.
+    /// bytes nor its size. Of a file whose bytes aren't kept, its size reaches as far as they do, and its
+    /// digest goes.
     Write {
         path: Path,
         offset: u64,
         bytes: Bytes,
     },
-    /// Cuts a regular file to so many bytes, or fills it with zero bytes up to so many (truncate(2)).
+    /// Cuts a regular file to so many bytes, or fills it with zero bytes up to so many (truncate(2)). A file
+    /// whose bytes aren't kept loses its digest where its size changes.
     Truncate {
         path: Path,
         size: u64,
@@ -74,6 +85,16 @@ pub enum Op {
         from: Path,
         to: Path,
     },
+    /// Hides what the lower layers have in a directory. What the upper layer has in it stays, whiteouts too
+    /// (overlayfs.rst, "whiteouts and opaque directories").
+    Opaque {
+        path: Path,
+    },
+    /// Takes all that is seen at a path: a file, a symlink, or a directory with all that is in it, in one step. A
+    /// whiteout is put as in `Unlink` (OCI image specification, "Whiteouts").
+    Whiteout {
+        path: Path,
+    },
 }
 
 impl Clone for Op {
@@ -89,6 +110,12 @@ impl Clone for Op {
                 path: path.clone()?,
                 mode: *mode,
             },
+            Op::Put {
+                path,
+                mode,
+                size,
+                digest,
+            } => clone_put(path, *mode, *size, digest)?,
             Op::Write {
                 path,
                 offset,
@@ -111,8 +138,25 @@ impl Clone for Op {
                 path: path.clone()?,
             },
             Op::Rename { from, to } => clone_rename(from, to)?,
+            Op::Opaque { path } => Op::Opaque {
+                path: path.clone()?,
+            },
+            Op::Whiteout { path } => Op::Whiteout {
+                path: path.clone()?,
+            },
         })
     }
+}
+
+fn clone_put(path: &Path, mode: u32, size: u64, digest: &Option<Bytes>) -> Result<Op, AllocError>
+    ensures { IfOk result (λ copy. copy ≡ op.Put path.now mode size digest.now) }
+{
+    Ok(Op::Put {
+        path: path.clone()?,
+        mode,
+        size,
+        digest: digest.clone()?,
+    })
 }
 
 fn clone_write(path: &Path, offset: u64, bytes: &Bytes) -> Result<Op, AllocError>

@@ -1,8 +1,9 @@
 // The rule of each operation: its tests, and the change that it makes where they pass.
-ghost use Rattle.std.specs.Prelude.{◌≡◌, ◌⊎◌, ◌∷◌, ℕ, List, Some, None, IfOk, IfErr, Err, false, is_some, length};
+ghost use Rattle.std.specs.Prelude.{◌≡◌, ◌⊎◌, ◌∷◌, ℕ, Some, None, IfOk, IfErr, Err, false, is_some};
 ghost use Rattle.snap_path.specs.Memory.{no_memory};
 ghost use Rattle.snap_layer.specs.Tree.{at, number_at};
-ghost use Rattle.snap_layer.specs.Contents.{edited, IsShort};
+ghost use Rattle.snap_layer.specs.Contents.{edited, size_of, IsShort};
+ghost use Rattle.snap_layer.specs.declared.content.Content.{Content as ContentValue};
 ghost use Rattle.snap_merge.specs.declared.error.FsError.{FsError};
 ghost use Rattle.snap_merge.specs.Objects.{file, seen, AreLayers};
 ghost use Rattle.snap_merge.specs.Walk.{walk};
@@ -11,10 +12,10 @@ ghost use Rattle.snap_upper.specs.After.{after, limited, with_content, lists_nam
 ghost use Rattle.snap_upper.specs.Changes.{outcome, IsChange, IsReady, IsWithMode};
 ghost use Rattle.snap_upper.specs.declared.op.Op.TheVariants as op;
 
-use super::change::{Change, New, is_whiteout, own_number};
+use super::change::{Change, New, is_dir_there, is_whiteout, own_number};
 use super::checks::{
-    check_link, check_mode, check_new, check_rename, check_rmdir, check_symlink, check_truncate,
-    check_unlink, check_write, is_below,
+    check_link, check_mode, check_new, check_opaque, check_put, check_rename, check_rmdir,
+    check_symlink, check_truncate, check_unlink, check_whiteout, check_write, is_below,
 };
 use super::op::Op;
 use snap_copyup::below;
@@ -35,6 +36,12 @@ pub(crate) fn rule<'a>(
     match op {
         Op::Mkdir { path, mode } => mkdir(layer, lowers, path, *mode),
         Op::Create { path, mode } => create(layer, lowers, path, *mode),
+        Op::Put {
+            path,
+            mode,
+            size,
+            digest,
+        } => put(layer, lowers, path, *mode, *size, digest),
         Op::Write {
             path,
             offset,
@@ -47,6 +54,8 @@ pub(crate) fn rule<'a>(
         Op::Unlink { path } => unlink(layer, lowers, path),
         Op::Rmdir { path } => rmdir(layer, lowers, path),
         Op::Rename { from, to } => rename(layer, lowers, from, to),
+        Op::Opaque { path } => opaque(layer, lowers, path),
+        Op::Whiteout { path } => whiteout(layer, lowers, path),
     }
 }
 
@@ -77,9 +86,25 @@ fn create<'a>(
 {
     check_new(&Stack::over(layer, lowers), path, mode)?;
     let _ = &layer.is_layer;
-    let old: &[u8] = &[];
-    let edit = Edit::Keep;
-    let new = New::File { mode, old, edit };
+    let new = New::Empty { mode };
+    Ok(Change::Put { path, new })
+}
+
+fn put<'a>(
+    layer: &Layer,
+    lowers: &'a [Shared],
+    path: &'a Path,
+    mode: u32,
+    size: u64,
+    digest: &'a Option<Bytes>,
+) -> Result<Change<'a>, FsError>
+    ensures ok { IfOk result (λ c. IsChange c (op.Put path.now mode size digest.now) layer.now lowers.now) }
+    ensures error { IfErr result (λ e. after (op.Put path.now mode size digest.now) layer.now lowers.now ≡ Err e) }
+{
+    check_put(&Stack::over(layer, lowers), path, mode, size, digest)?;
+    let _ = &layer.is_layer;
+    let digest = digest.as_ref();
+    let new = New::Sized { mode, size, digest };
     Ok(Change::Put { path, new })
 }
 
@@ -135,20 +160,20 @@ fn truncate<'a>(
     editing(layer, lowers, path, old, edit)
 }
 
-/// The change of the bytes of the regular file that is seen at the path and has so many: of the layer's own, or of
-/// a lower one, which is copied up with the new bytes in place of its own.
+/// The edit of the regular file that is seen at the path and has so many bytes: of the layer's own, or of a lower
+/// one, which is copied up with the new content in place of its own.
 fn editing<'a>(
     layer: &Layer,
     lowers: &'a [Shared],
     path: &'a Path,
-    size: usize,
+    size: u64,
     edit: Edit<'a>,
 ) -> Result<Change<'a>, FsError>
     requires layers { AreLayers lowers.now }
     requires way { walk (layer.now ∷ lowers.now) path.now ≡ None }
-    requires there { (m : ℕ) × (old : List ℕ) × (seen (layer.now ∷ lowers.now) path.now ≡ Some (file m old)) }
-    requires size { (m : ℕ) (old : List ℕ) → seen (layer.now ∷ lowers.now) path.now ≡ Some (file m old) → size ≡ length old }
-    requires short { IsShort edit }
+    requires there { (m : ℕ) × (old : ContentValue) × (seen (layer.now ∷ lowers.now) path.now ≡ Some (file m old)) }
+    requires size { (m : ℕ) (old : ContentValue) → seen (layer.now ∷ lowers.now) path.now ≡ Some (file m old) → size ≡ size_of old }
+    requires short { (m : ℕ) (old : ContentValue) → seen (layer.now ∷ lowers.now) path.now ≡ Some (file m old) → IsShort edit old }
     ensures ok { IfOk result (λ c. IsReady c layer.now lowers.now × (outcome c layer.now lowers.now ≡ limited (with_content (copied_up layer.now lowers.now path.now) (number_at (copied_up layer.now lowers.now path.now) path.now) (edited edit.entry)))) }
     ensures sure { IfErr result (λ e. ⊥) }
 {
@@ -156,10 +181,10 @@ fn editing<'a>(
     if let Some(number) = own_number(layer, path) {
         return Ok(Change::Fill { number, size, edit });
     }
-    let Some(Seen::File { mode, bytes }) = below(layer, lowers, path) else {
+    let Some(Seen::File { mode, content }) = below(layer, lowers, path) else {
         return Err(FsError::NotFound);
     };
-    let old = bytes;
+    let old = content;
     let new = New::File { mode, old, edit };
     Ok(Change::Put { path, new })
 }
@@ -199,8 +224,8 @@ fn lower_with<'a>(
             let opaque = false;
             Ok(New::Dir { mode, opaque })
         }
-        Some(Seen::File { bytes, .. }) => {
-            let old = bytes;
+        Some(Seen::File { content, .. }) => {
+            let old = content;
             let edit = Edit::Keep;
             Ok(New::File { mode, old, edit })
         }
@@ -262,4 +287,31 @@ fn rename<'a>(
         leaves: sides.leaves,
         covers: sides.covers,
     })
+}
+
+fn opaque<'a>(layer: &Layer, lowers: &'a [Shared], path: &'a Path) -> Result<Change<'a>, FsError>
+    ensures ok { IfOk result (λ c. IsChange c (op.Opaque path.now) layer.now lowers.now) }
+    ensures error { IfErr result (λ e. after (op.Opaque path.now) layer.now lowers.now ≡ Err e) }
+{
+    let mode = check_opaque(&Stack::over(layer, lowers), path)?;
+    let _ = &layer.is_layer;
+    if layer.at(path).is_some() {
+        return Ok(Change::SetOpaque { path });
+    }
+    let opaque = true;
+    let new = New::Dir { mode, opaque };
+    Ok(Change::Put { path, new })
+}
+
+fn whiteout<'a>(layer: &Layer, lowers: &'a [Shared], path: &'a Path) -> Result<Change<'a>, FsError>
+    ensures ok { IfOk result (λ c. IsChange c (op.Whiteout path.now) layer.now lowers.now) }
+    ensures error { IfErr result (λ e. after (op.Whiteout path.now) layer.now lowers.now ≡ Err e) }
+{
+    let found = check_whiteout(&Stack::over(layer, lowers), path)?;
+    let _ = &layer.is_layer;
+    let covers = is_below(layer, lowers, path, found);
+    if is_dir_there(layer, path) {
+        return Ok(Change::EraseTree { path, covers });
+    }
+    Ok(Change::Erase { path, covers })
 }

@@ -1,16 +1,18 @@
 // The upper layer, on which an operation is done.
 ghost use Rattle.std.specs.Prelude.{◌≡◌, ◌⊎◌, ◌∷◌, OnOk, OnErr, IfErr, Ok, Err, false, ℕ, List, Some, None, [], ◌++◌, is_some, true};
 ghost use Rattle.snap_path.specs.Memory.{no_memory};
-ghost use Rattle.snap_layer.specs.Tree.{body};
+ghost use Rattle.snap_layer.specs.Tree.{at, body};
+ghost use Rattle.snap_layer.specs.Edits.{IsFree, IsInnerDir};
 ghost use Rattle.snap_layer.specs.declared.node.Body.TheVariants as body_kinds;
 ghost use Rattle.snap_layer.specs.Contents.{edited, IsShort};
+ghost use Rattle.snap_layer.specs.declared.content.Content.{Content as ContentValue};
 ghost use Rattle.snap_usage.specs.Counted.{count_of, Covers};
 ghost use Rattle.snap_merge.specs.declared.error.FsError.{FsError};
 ghost use Rattle.snap_merge.specs.Objects.{seen, AreLayers};
 ghost use Rattle.snap_merge.specs.Walk.{walk};
 ghost use Rattle.snap_copyup.specs.Copying.{below, with_parents};
 ghost use Rattle.snap_copyup.specs.Places.{with_last, CanStand};
-ghost use Rattle.snap_upper.specs.After.{after, lists_names, within_share, limited, with_content, erased};
+ghost use Rattle.snap_upper.specs.After.{after, lists_names, within_share, limited, with_content, erased, tree_erased};
 ghost use Rattle.snap_upper.specs.Changed.{changed, Changes};
 ghost use Rattle.snap_upper.specs.Changes.{outcome, IsReady, as_last, IsSound};
 
@@ -38,7 +40,8 @@ use snap_usage::Usage;
 ///   `IsDir`: nothing or a directory is seen where a name is to be taken; `Invalid`, `NotFound`, `NotDir`,
 ///   `NotEmpty`: the root, nothing, no directory or a directory with names where one is to be taken;
 ///   `NotFound`, `NotPermitted`, `Exists`: nothing or a directory is seen that is to get one more name,
-///   or something where that name is to be.
+///   or something where that name is to be; `NotFound`, `NotDir`: nothing or no directory is seen where one
+///   is to hide what lies below; `Invalid`, `NotFound`: the root, or nothing is seen where all is to be taken.
 /// - Of a rename, after the errors above `from` and then above `to`: `Invalid`: one is the root;
 ///   `NotFound`: nothing is seen at `from`; `Invalid`: `from` is a directory, and `to` lies below it;
 ///   `NotDir`, `IsDir`: a directory would take the place of another object, or another object that of a
@@ -46,7 +49,8 @@ use snap_usage::Usage;
 ///   `NotEmpty`: `to` is a directory with names; `BadPath`: a moved path would have more than 4095 bytes.
 ///   Where it has nothing to do, none of the last six comes.
 /// - `Invalid`: the mode is above octal 7777, or the target is empty or has a NUL; `TooBig`: the file
-///   would have more than 1,048,576 bytes, or the target has more than 4095.
+///   would have more than 1,048,576 bytes, or more than 2^40 where they aren't kept, or the target has more
+///   than 4095, or a digest more than 1024.
 /// - `LayerFull`: the layer would have more than 65,536 inodes, or a new file's number would pass
 ///   4,294,967,294.
 /// - `OutOfMemory`: a growth was refused, which may be found before `LayerFull` is.
@@ -118,7 +122,13 @@ fn perform(layer: &mut Layer, lowers: &[Shared], change: Change<'_>) -> Result<(
             let _ = &layer.is_layer;
             Ok(())
         }
+        Change::SetOpaque { path } => {
+            layer.set_opaque(path, true);
+            let _ = &layer.is_layer;
+            Ok(())
+        }
         Change::Erase { path, covers } => erase(layer, lowers, path, covers),
+        Change::EraseTree { path, covers } => erase_tree(layer, lowers, path, covers),
         Change::Link { from, to } => link(layer, lowers, from, to),
         Change::Move {
             from,
@@ -144,7 +154,7 @@ fn grow(layer: &mut Layer, lowers: &[Shared], path: &Path, last: Last) -> Result
     Ok(())
 }
 
-/// Makes it with its own bytes, and puts it at the path, with the directories that are missing above it.
+/// Makes it with its own content, and puts it at the path, with the directories that are missing above it.
 fn put_new(layer: &mut Layer, lowers: &[Shared], path: &Path, new: New<'_>) -> Result<(), FsError>
     requires way { walk (layer.old ∷ lowers.now) path.now ≡ None }
     requires fit { CanStand (as_last new) layer.old path.now }
@@ -157,14 +167,14 @@ fn put_new(layer: &mut Layer, lowers: &[Shared], path: &Path, new: New<'_>) -> R
     grow(layer, lowers, path, last)
 }
 
-/// Edits the bytes of the layer's file with the number, in place.
+/// Edits the layer's file with the number, in place.
 fn fill(layer: &mut Layer, number: u32, edit: Edit<'_>) -> Result<(), FsError>
-    requires there { (m : ℕ) × (old : List ℕ) × (body layer.old number ≡ Some (body_kinds.File m old)) × IsShort edit }
+    requires there { (m : ℕ) × (old : ContentValue) × (body layer.old number ≡ Some (body_kinds.File m old)) × IsShort edit old }
     ensures ok { OnOk result (limited (with_content layer.old (Some number) (edited edit.entry)) ≡ Ok layer.new) }
     ensures error { IfErr result (λ e. e ≡ FsError.OutOfMemory no_memory) }
     ensures unchanged { OnErr result (layer.new ≡ layer.old) }
 {
-    layer.edit_bytes(number, edit)?;
+    layer.edit_content(number, edit)?;
     let _ = &layer.is_layer;
     Ok(())
 }
@@ -175,7 +185,7 @@ fn erase(layer: &mut Layer, lowers: &[Shared], path: &Path, covers: bool) -> Res
     requires way { walk (layer.old ∷ lowers.now) path.now ≡ None }
     requires there { is_some (seen (layer.old ∷ lowers.now) path.now) ≡ true }
     requires below_root { path.now ≡ [] → ⊥ }
-    requires clear { (n : List ℕ) → is_some (seen (layer.old ∷ lowers.now) (path.now ++ n ∷ [])) ≡ false }
+    requires clear { (n : List ℕ) → IsFree (at layer.old (path.now ++ n ∷ [])) }
     requires covers { covers ≡ is_some (below layer.old lowers.now path.now) }
     ensures ok { OnOk result (limited (erased layer.old lowers.now path.now) ≡ Ok layer.new) }
     ensures error { IfErr result (λ e. (e ≡ FsError.OutOfMemory no_memory) ⊎ (limited (erased layer.old lowers.now path.now) ≡ Err e)) }
@@ -193,6 +203,26 @@ fn erase(layer: &mut Layer, lowers: &[Shared], path: &Path, covers: bool) -> Res
         return Ok(());
     }
     layer.take_name(path);
+    let _ = &layer.is_layer;
+    Ok(())
+}
+
+/// Takes the layer's directory at the path and all that is in it, and puts a whiteout there where `covers` says that a
+/// lower layer shows something. It takes memory for a list of the paths in the directory.
+fn erase_tree(
+    layer: &mut Layer,
+    lowers: &[Shared],
+    path: &Path,
+    covers: bool,
+) -> Result<(), FsError>
+    requires there { IsInnerDir layer.old path.now }
+    requires covers { covers ≡ is_some (below layer.old lowers.now path.now) }
+    ensures ok { OnOk result (limited (tree_erased layer.old lowers.now path.now) ≡ Ok layer.new) }
+    ensures error { IfErr result (λ e. e ≡ FsError.OutOfMemory no_memory) }
+    ensures unchanged { OnErr result (layer.new ≡ layer.old) }
+{
+    let _ = &layer.is_layer;
+    layer.take_tree(path, covers)?;
     let _ = &layer.is_layer;
     Ok(())
 }

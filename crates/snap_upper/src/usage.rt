@@ -1,17 +1,18 @@
 // How much the upper layer takes after an operation.
-ghost use Rattle.std.specs.Prelude.{◌≡◌, [], ◌∷◌, ◌++◌, ◌+◌, ◌≤◌, ℕ, List, None, Some, Ok, is_some, true, false, length};
+ghost use Rattle.std.specs.Prelude.{◌≡◌, [], ◌∷◌, ◌++◌, ◌+◌, ◌≤◌, ℕ, List, None, Some, Ok, is_some, true, false};
 ghost use Rattle.std.specs.Option.{option_map};
-ghost use Rattle.snap_layer.specs.Tree.{Tree, at, body};
+ghost use Rattle.snap_layer.specs.Tree.{Tree, at, body, IsDirAt};
 ghost use Rattle.snap_layer.specs.Counts.{block_count, inode_count};
-ghost use Rattle.snap_layer.specs.Edits.{IsFree, HasMode, with_mode, without};
+ghost use Rattle.snap_layer.specs.Edits.{IsFree, IsInnerDir, HasMode, with_mode, with_opaque, without};
 ghost use Rattle.snap_layer.specs.declared.node.Body.TheVariants as body_kinds;
-ghost use Rattle.snap_layer.specs.Contents.{edited, IsShort};
+ghost use Rattle.snap_layer.specs.Contents.{edited, size_of, IsContent, IsShort};
+ghost use Rattle.snap_layer.specs.declared.content.Content.{Content as ContentValue};
 ghost use Rattle.snap_merge.specs.Objects.{object, seen, AreLayers};
 ghost use Rattle.snap_merge.specs.Walk.{walk, Answers};
 ghost use Rattle.snap_copyup.specs.declared.parents.Last.{Last};
 ghost use Rattle.snap_copyup.specs.Copying.{below, with_parents};
 ghost use Rattle.snap_copyup.specs.Places.{with_last, CanStand};
-ghost use Rattle.snap_upper.specs.After.{after, first_error, tests, planned, limited, next_layer, erased, before_move, renamed, is_same_name, with_content, lists_names};
+ghost use Rattle.snap_upper.specs.After.{after, first_error, tests, planned, limited, next_layer, erased, tree_erased, before_move, renamed, is_same_name, with_content, lists_names};
 ghost use Rattle.snap_upper.specs.Changes.{outcome, IsReady};
 ghost use Rattle.snap_upper.specs.Adding.{Takes, weight_of, last_blocks, object_blocks, IsPlaceable, IsNext};
 ghost use Rattle.snap_upper.specs.declared.op.Op.TheVariants as op;
@@ -65,7 +66,9 @@ pub(crate) fn weigh(
         Change::Put { path, new } => plan_growth(layer, path, new.blocks(), new.is_numbered()),
         Change::Fill { number, size, edit } => plan_filling(layer, number, size, edit),
         Change::SetMode { path, mode } => Ok(counted_with_mode(layer, path, mode)),
+        Change::SetOpaque { path } => Ok(counted_opaque(layer, path)),
         Change::Erase { path, covers } => plan_erasing(layer, path, covers),
+        Change::EraseTree { path, covers } => Ok(counted_without(layer, path, covers)),
         Change::Link { from, to } => plan_link(layer, lowers, from, to),
         Change::Move {
             from,
@@ -93,6 +96,29 @@ fn counted_with_mode(layer: &Layer, path: &Path, mode: u32) -> Planned
 {
     let _ = &layer.is_layer;
     let after = count(layer);
+    Planned { after }
+}
+
+/// What the layer takes, which a directory's mark doesn't change.
+fn counted_opaque(layer: &Layer, path: &Path) -> Planned
+    requires { IsDirAt (at layer.now path.now) }
+    ensures { Ok result ≡ planned (limited (with_opaque layer.now path.now (at layer.now path.now) true)) }
+{
+    let _ = &layer.is_layer;
+    let after = count(layer);
+    Planned { after }
+}
+
+/// What the layer takes without its directory at the path and all that is in it. A whiteout is put there where `covers`
+/// says that a lower layer shows something.
+fn counted_without(layer: &Layer, path: &Path, covers: bool) -> Planned
+    requires { IsInnerDir layer.now path.now }
+    ensures { (lowers : List Tree) → covers ≡ is_some (below layer.now lowers path.now) → Ok result ≡ planned (limited (tree_erased layer.now lowers path.now)) }
+{
+    let _ = &layer.is_layer;
+    let (inodes, blocks) = layer.left_without_tree(path);
+    let inodes = inodes as u64 + u64::from(covers);
+    let after = Usage { blocks, inodes };
     Planned { after }
 }
 
@@ -140,7 +166,7 @@ fn seen_blocks(seen: Option<Seen<'_>>) -> u64
     ensures { result ≡ object_blocks (option_map object seen.entry) }
 {
     match seen {
-        Some(Seen::File { bytes, .. }) => blocks_of(bytes.len() as u64),
+        Some(Seen::File { content, .. }) => blocks_of(content.size()),
         Some(Seen::Dir { .. }) => 1,
         Some(Seen::Symlink { .. }) => 0,
         None => 0,
@@ -245,7 +271,7 @@ fn file_blocks(layer: &Layer, number: u32) -> u64
 /// How much the layer takes where what takes so many blocks, and a file number where `numbered` says so,
 /// is put at the path, and the directories that are missing above it.
 fn plan_growth(layer: &Layer, path: &Path, blocks: u64, numbered: bool) -> Result<Planned, FsError>
-    requires few { blocks ≤ 256 }
+    requires few { blocks ≤ 268435456 }
     requires free { IsFree (at layer.now path.now) }
     ensures { (last : Last) (lowers : List Tree) → Takes last blocks numbered → AreLayers lowers → walk (layer.now ∷ lowers) path.now ≡ None → CanStand last layer.now path.now → result ≡ planned (limited (with_last last (with_parents layer.now lowers path.now) path.now)) }
 {
@@ -276,14 +302,14 @@ fn fitting(layer: &Layer, after: Usage, numbered: bool) -> Result<Planned, FsErr
 }
 
 /// How much the layer takes where its file with the number, which has so many bytes, is edited.
-fn plan_filling(layer: &Layer, number: u32, size: usize, edit: Edit<'_>) -> Result<Planned, FsError>
-    requires there { (m : ℕ) × (old : List ℕ) × (body layer.now number ≡ Some (body_kinds.File m old)) × (size ≡ length old) × IsShort edit × (length (edited edit old) ≤ 1048576) }
+fn plan_filling(layer: &Layer, number: u32, size: u64, edit: Edit<'_>) -> Result<Planned, FsError>
+    requires there { (m : ℕ) × (old : ContentValue) × (body layer.now number ≡ Some (body_kinds.File m old)) × (size ≡ size_of old) × IsShort edit old × IsContent (edited edit old) }
     ensures { result ≡ planned (limited (with_content layer.now (Some number) (edited edit.entry))) }
 {
     let _ = &layer.is_layer;
     let now = count(layer);
-    let new = blocks_of(edit.size(size) as u64);
-    let old = blocks_of(size as u64);
+    let new = blocks_of(edit.size(size));
+    let old = blocks_of(size);
     let after = Usage {
         blocks: now.blocks - old + new,
         inodes: now.inodes,

@@ -1,5 +1,6 @@
 mod Places
 mod Standing
+mod Summing
 mod Ends
 mod Steps
 mod Hold

@@ -21,7 +21,7 @@ not_false false h = absurd (h refl)
 opened_fits : (c : Config) → is_config c ≡ true → Fits (record { state = opening c; journal = []; opening = opening c; limit = c.journal; hands = replicate 64 None })
 opened_fits c valid = record {
   good = good_opening c valid;
-  began = record { good = good_opening c valid; idle = refl; sessions = refl };
+  began = record { good = good_opening c valid; sessions = refl };
   replays = refl;
   places = refl;
   hands = λ slot low. subst (λ (o : Option HandValue). AgreesAt slot [] o None) (sym (no_hand 64 slot)) tt;

@@ -11,7 +11,7 @@ use Rattle.snap_call.specs.Journal.{Replays}
 use Rattle.snap_call.specs.Records.{active_at}
 use Rattle.snap_call.specs.State.{ancestors, layers_of}
 use Rattle.snap_book.specs.Active.{ActiveValue}
-use Rattle.snap_book.specs.Book.{BookValue, IsOpening}
+use Rattle.snap_book.specs.Book.{BookValue, IsBeginning}
 
 -- the hand of an open slot: the snapshot as its writer has it, and whether its layer is sealed
 pub record HandValue : Type 0 where
@@ -57,7 +57,7 @@ AgreesAt slot rs o found = ⊥
 -- the state is good, the entries lead to it from a state that a round begins at, and the hands are those of the open slots
 pub record Fits (w : WorldValue) : Type 0 where
   pub good : Good w.state
-  pub began : IsOpening w.opening
+  pub began : IsBeginning w.opening
   pub replays : Replays w.opening w.journal w.state
   pub places : length w.hands ≡ 64
   pub hands : (slot : ℕ) → slot < 64 → AgreesAt slot w.state.records (hand_at slot w.hands) (active_at slot w.state.records)

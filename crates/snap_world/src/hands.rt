@@ -5,12 +5,13 @@ ghost use Rattle.snap_book.specs.Held.{share_of};
 ghost use Rattle.snap_world.specs.World.{hand_at, with_hand};
 ghost use Rattle.snap_world.specs.Move.{is_under, is_unsealed, is_working, meets};
 ghost use Rattle.snap_world.specs.Stacks.{layers_in};
+ghost use Rattle.snap_world.specs.Sums.{spare_in};
 
 use snap_book::{Active, Book, Held, Sealed};
 use snap_ledger::{MAX_SLOTS, StoreName};
 use snap_merge::Stack;
 use snap_path::NoMemory;
-use snap_usage::Usage;
+use snap_usage::{Usage, difference};
 use std::alloc::{AllocError, Global};
 use std::marker::Model;
 use std::mem;
@@ -73,6 +74,16 @@ impl<N: StoreName> Hand<N> {
         }
     }
 
+    // The place of its namespace.
+    pub(crate) fn namespace(&self) -> usize
+        ensures { result ≡ self.now.snapshot.namespace }
+    {
+        match &self.held {
+            Held::Active(active) => active.namespace(),
+            Held::Sealed(sealed) => sealed.namespace(),
+        }
+    }
+
     // What its slot is charged.
     pub(crate) fn share(&self) -> Usage
         ensures { result ≡ self.now.snapshot.share.usage }
@@ -90,6 +101,16 @@ impl<N: StoreName> Hand<N> {
         match &self.held {
             Held::Active(active) => active.count(),
             Held::Sealed(sealed) => sealed.usage(),
+        }
+    }
+
+    // What its slot is charged beyond what its layer takes.
+    pub(crate) fn spare(&self) -> Usage
+        ensures { result ≡ spare_in self.now }
+    {
+        match &self.held {
+            Held::Active(active) => active.spare(),
+            Held::Sealed(sealed) => difference(sealed.share(), sealed.usage()),
         }
     }
 

@@ -5,10 +5,12 @@
 #![tactic(auto)]
 
 mod hands;
+mod quota;
 mod round;
 mod step;
 mod world;
 
+pub use quota::Quota;
 pub use round::ReopenFault;
 pub use snap_call::{Call, Config, Entry, Given, Namespace, Refusal, Reply, SharedEntry};
 pub use snap_merge::FsError;

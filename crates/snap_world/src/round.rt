@@ -1,5 +1,6 @@
 // The next round of a world.
 ghost use Rattle.std.specs.Prelude.{◌≡◌, OnOk, OnErr};
+ghost use Rattle.snap_book.specs.Round.{roll_answer};
 ghost use Rattle.snap_world.specs.Round.{reopen_answer, reopened};
 
 use crate::world::World;
@@ -48,5 +49,18 @@ impl<N: StoreName> World<N> {
             Ok(()) => Ok(()),
             Err(why) => Err(ReopenFault::Book(why)),
         }
+    }
+    /// Begins the next round as [`World::reopen`] does, and snapshots may be open: they stay in their hands as
+    /// they are. It needs no place in the journal of the round that ends.
+    ///
+    /// The refusals are those of [`Book::roll`](snap_book::Book::roll), `JournalFull` among them where the new
+    /// journal has not an entry for the end of each open snapshot and one more; the world is then as it was. No
+    /// entry is made. Takes no memory. The cost is that of dropping the entries of the round that ends.
+    pub fn roll(&mut self, journal: u64) -> Result<(), Refusal>
+        ensures answer { result ≡ roll_answer self.old.state journal }
+        ensures began { OnOk result (self.new ≡ reopened self.old journal) }
+        ensures same { OnErr result (self.new ≡ self.old) }
+    {
+        self.book.roll(journal)
     }
 }

@@ -1,4 +1,4 @@
-ghost use Rattle.std.specs.Prelude.{◌≡◌, ◌↔◌, ◌⊎◌, [], Err, None, IfOk, IfErr, OnErr, IsErrOf, false, replicate};
+ghost use Rattle.std.specs.Prelude.{◌≡◌, ◌↔◌, ◌⊎◌, ℕ, [], Err, None, Some, IfOk, IfErr, OnErr, IsErrOf, false, replicate};
 ghost use Rattle.std.specs.Option.{option_map};
 ghost use Rattle.snap_path.specs.Memory.{no_memory};
 ghost use Rattle.snap_usage.specs.Counted.{count_of};
@@ -8,8 +8,9 @@ ghost use Rattle.snap_call.specs.Records.{charge_of, open_count, sum_of};
 ghost use Rattle.snap_call.specs.State.{opening, place_of};
 ghost use Rattle.snap_call.specs.Totals.{taken_by};
 ghost use Rattle.snap_call.specs.declared.refusal.Refusal.TheVariants.{BadArgument, OutOfMemory};
-ghost use Rattle.snap_book.specs.Book.{IsOpening};
+ghost use Rattle.snap_book.specs.Book.{IsBeginning};
 ghost use Rattle.snap_book.specs.Slot.{found_of, slot_of};
+ghost use Rattle.snap_history.specs.Open.{shares_of};
 ghost use Rattle.snap_world.specs.declared.step.Step.TheVariants.{Hand, Locked};
 ghost use Rattle.snap_world.specs.World.{Fits, hand_at};
 ghost use Rattle.snap_world.specs.Runs.{Moves, Runs};
@@ -19,13 +20,14 @@ use crate::hands::Hands;
 use crate::step::{Answer, Step};
 use snap_book::Book;
 use snap_call::{Call, Config, Records, Refusal, SharedEntry};
+use snap_history::Shares;
 use snap_ledger::{NewTable, StoreName};
 use snap_merge::Stack;
 use snap_path::NoMemory;
 use snap_record::Content;
 use snap_upper::Op;
 use snap_usage::Usage;
-use std::alloc::Global;
+use std::alloc::{AllocError, Global};
 use std::marker::Model;
 
 /// A store of snapshots and the hands of all its writers, in one thread.
@@ -34,7 +36,7 @@ use std::marker::Model;
 /// an operation on the layer of an open snapshot. Dropping it discards its open snapshots.
 pub struct World<N: StoreName> {
     pub(crate) book: Book<N>,
-    hands: Hands<N>,
+    pub(crate) hands: Hands<N>,
 }
 
 impl<N: StoreName> Model for World<N> {
@@ -193,6 +195,14 @@ impl<N: StoreName> World<N> {
         self.book.totals(namespace)
     }
 
+    /// What the open snapshots of the namespace were charged when the round began, as
+    /// [`Book::opening_shares`](snap_book::Book::opening_shares) has it.
+    pub fn opening_shares(&self, namespace: &str) -> Result<Shares, AllocError>
+        ensures { IfOk result (λ shares. (place : ℕ) → place_of namespace.now self.now.state.namespaces ≡ Some place → shares ≡ shares_of place self.now.opening.records) }
+    {
+        self.book.opening_shares(namespace)
+    }
+
     /// How many snapshots are open. Takes no memory. The cost is constant.
     pub fn open_slots(&self) -> u64
         ensures { result ≡ open_count self.now.state.records }
@@ -214,7 +224,7 @@ impl<N: StoreName> World<N> {
     pub fn journal(&self) -> &[SharedEntry]
         ensures entries { result.now ≡ self.now.journal }
         // They lead from the state that the round began at to this one.
-        ensures began { IsOpening self.now.opening }
+        ensures began { IsBeginning self.now.opening }
         ensures replays { Replays self.now.opening self.now.journal self.now.state }
     {
         self.book.journal()

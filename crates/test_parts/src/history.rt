@@ -9,7 +9,7 @@ use crate::setup::{equal, text, usage};
 use snap_call::Given::{Count, Nothing};
 use snap_call::Reply::{Charged, Discarded, Opened, Refused, Removed, Trimmed};
 use snap_call::{Call, Entry, Given, Refusal, Reply, SharedEntry};
-use snap_history::{CallKind, EntryInfo, history};
+use snap_history::{CallKind, EntryInfo, Shares, history};
 use snap_record::{Labels, Sequence, Text};
 use snap_usage::Usage;
 use std::alloc::{AllocError, Global};
@@ -77,7 +77,16 @@ fn first_page(alloc: Global) -> Result<Sequence<EntryInfo>, AllocError>
     ensures { IfOk result (λ page. map (λ info. info.charge) page ≡ usage 1 1 ∷ []) }
 {
     let entries = small_round(alloc)?;
-    history(alloc, &entries, 3, "a", usage(4, 3), 1, 1)
+    history(
+        alloc,
+        &entries,
+        3,
+        "a",
+        &Shares::none(alloc)?,
+        usage(4, 3),
+        1,
+        1,
+    )
 }
 
 // Entries 101 to 109. That of the session and those on `b` are none of `a`, which was charged 10/10 before them.
@@ -140,6 +149,7 @@ fn the_charge_after_each_entry(rt: HostRuntime) {
     let page = first_page(alloc).expect(&rt, "memory for a page");
     are(&rt, alloc, &page, &[(2, CallKind::Prepare, usage(1, 1))]);
     let entries = round(&rt, alloc);
+    let held = Shares::none(alloc).expect(&rt, "memory for shares");
     assert_eq!(rt; entries.len(), 9);
     let rows = [
         (102, CallKind::Prepare, usage(11, 11)),
@@ -154,7 +164,7 @@ fn the_charge_after_each_entry(rt: HostRuntime) {
         ("a", usage(6, 6), 102, 2, &rows[1..3]),
         ("z", usage(0, 0), 0, 64, &[]),
     ] {
-        let page = history(alloc, &entries, 109, namespace, now, after, most);
+        let page = history(alloc, &entries, 109, namespace, &held, now, after, most);
         are(&rt, alloc, &page.expect(&rt, "memory for a page"), wanted);
     }
 }

@@ -1,6 +1,6 @@
 // Edits of a layer, and what they make of its nodes and of its usage.
 use crate::setup::{layer, path};
-use snap_layer::{Body, Bytes, Layer, LayerError, Node};
+use snap_layer::{Body, Bytes, Content, Layer, LayerError, Node};
 use snap_path::Path;
 use snap_path::limits::DEFAULT_MODE;
 use snap_usage::{count, recount};
@@ -62,7 +62,7 @@ fn a_file(rt: HostRuntime) {
     let bytes = Bytes::copy_of(rt.alloc(), b"hi").expect(&rt, "memory for bytes");
     assert!(rt; layer.has_place(&path));
     let number = layer
-        .add_file(&path, 420, bytes)
+        .add_file(&path, 420, Content::Bytes(bytes))
         .expect(&rt, "memory for a file");
     prove!(number == 1);
     let usage = count(&layer);
@@ -76,7 +76,8 @@ fn a_file_with_two_names(rt: HostRuntime) {
     let (file, link) = (path(&rt, rt.alloc(), "/f"), path(&rt, rt.alloc(), "/g"));
     let bytes = Bytes::copy_of(rt.alloc(), b"hi").expect(&rt, "memory for bytes");
     assert!(rt; layer.has_rooms(&file, &link));
-    let added = layer.add_linked(&file, &link, Body::File { mode: 420, bytes });
+    let content = Content::Bytes(bytes);
+    let added = layer.add_linked(&file, &link, Body::File { mode: 420, content });
     added.expect(&rt, "memory for a file");
     let usage = count(&layer);
     prove!(usage.blocks == 2);
@@ -93,6 +94,6 @@ fn file_numbers_end(rt: HostRuntime) {
     let mut layer = last.expect(&rt, "memory for a layer");
     let path = path(&rt, rt.alloc(), "/f");
     assert!(rt; layer.has_place(&path));
-    let refused = layer.add_file(&path, 420, Bytes::new(Vec::new(rt.alloc())));
+    let refused = layer.add_file(&path, 420, Content::empty(rt.alloc()));
     prove!(matches!(&refused, Err(LayerError::LayerFull)));
 }

@@ -32,6 +32,37 @@ fn plans(rt: HostRuntime) {
 }
 
 #[test]
+fn a_file_of_a_size_is_planned(rt: HostRuntime) {
+    let layer = layer(&rt, rt.alloc(), DEFAULT_MODE);
+    let op = Op::Put {
+        path: path(&rt, rt.alloc(), "/b"),
+        mode: 493,
+        size: 5_000_000,
+        digest: None,
+    };
+    let answer = plan_alone(&layer, op);
+    let after = usage(1222, 2);
+    prove!(answer == Ok(Planned { after }));
+}
+
+#[test]
+fn an_opaque_root_is_planned(rt: HostRuntime) {
+    let layer = layer(&rt, rt.alloc(), DEFAULT_MODE);
+    let path = Path::root(rt.alloc());
+    let answer = plan_alone(&layer, Op::Opaque { path });
+    let after = usage(1, 1);
+    prove!(answer == Ok(Planned { after }));
+}
+
+#[test]
+fn a_whiteout_of_nothing_is_refused(rt: HostRuntime) {
+    let layer = layer(&rt, rt.alloc(), DEFAULT_MODE);
+    let path = path(&rt, rt.alloc(), "/d");
+    let answer = plan_alone(&layer, Op::Whiteout { path });
+    prove!(answer == Err(FsError::NotFound));
+}
+
+#[test]
 fn no_number_is_left(rt: HostRuntime) {
     let last = Layer::empty_from(rt.alloc(), DEFAULT_MODE, 4_294_967_295);
     let layer = last.expect(&rt, "memory for a layer");

@@ -2,19 +2,52 @@
 use crate::refused::Refused;
 use crate::round::Round;
 use snap_book::Held;
-use snap_layer::Bytes;
+use snap_layer::{Bytes, Content};
 use snap_merge::{FsError, Seen, Stack};
 use snap_path::Path;
 use snap_record::Sequence;
 use snap_script::{Answer, Lookup, Shown};
 use snap_store::RoundName;
-use std::alloc::Global;
+use std::alloc::{AllocError, Global};
 use std::sync::Wait;
 
 // How many of a file's bytes are shown.
 const HEAD_BYTES: usize = 16;
 
-// What is seen, with its own target. Of a file that is read, the first bytes, and how many it has.
+// A file that is seen, with its own digest.
+fn shown(mode: u32, content: &Content) -> Result<Shown, AllocError> {
+    Ok(match content {
+        Content::Bytes(_) => Shown::File {
+            mode,
+            size: content.size(),
+        },
+        Content::Sized { size, digest } => Shown::Sized {
+            mode,
+            size: *size,
+            digest: digest.clone()?,
+        },
+    })
+}
+
+// The first bytes of a file, and how many it has; or its size and its digest.
+fn read(alloc: Global, content: &Content) -> Result<Answer, AllocError> {
+    match content {
+        Content::Bytes(bytes) => {
+            let bytes = bytes.as_slice();
+            let first = &bytes[..HEAD_BYTES.min(bytes.len())];
+            Ok(Answer::Head {
+                head: Bytes::copy_of(alloc, first)?,
+                size: bytes.len() as u64,
+            })
+        }
+        Content::Sized { size, digest } => Ok(Answer::Known {
+            size: *size,
+            digest: digest.clone()?,
+        }),
+    }
+}
+
+// What is seen, with its own target.
 fn looked_up(
     alloc: Global,
     lookup: Lookup,
@@ -24,10 +57,7 @@ fn looked_up(
     match lookup {
         Lookup::Look => match stack.look(path) {
             Some(Seen::Dir { mode }) => Ok(Answer::Seen(Some(Shown::Dir { mode }))),
-            Some(Seen::File { mode, bytes }) => {
-                let size = bytes.len() as u64;
-                Ok(Answer::Seen(Some(Shown::File { mode, size })))
-            }
+            Some(Seen::File { mode, content }) => Ok(Answer::Seen(Some(shown(mode, content)?))),
             Some(Seen::Symlink { target }) => {
                 let target = Bytes::copy_of(alloc, target)?;
                 Ok(Answer::Seen(Some(Shown::Symlink { target })))
@@ -35,14 +65,7 @@ fn looked_up(
             None => Ok(Answer::Seen(None)),
         },
         Lookup::List => Ok(Answer::Names(Sequence::from(stack.list(alloc, path)?))),
-        Lookup::Read => {
-            let bytes = stack.read(path)?;
-            let first = &bytes[..HEAD_BYTES.min(bytes.len())];
-            Ok(Answer::Head {
-                head: Bytes::copy_of(alloc, first)?,
-                size: bytes.len() as u64,
-            })
-        }
+        Lookup::Read => Ok(read(alloc, stack.read(path)?)?),
         Lookup::Resolve => Ok(Answer::Path(stack.resolve(alloc, path)?)),
     }
 }

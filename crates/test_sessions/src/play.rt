@@ -5,7 +5,7 @@ use crate::round::Round;
 use crate::stop::Stop;
 use snap_book::Refusal;
 use snap_call::limits::MAX_JOURNAL;
-use snap_script::{Answer, Command, Line, read_line};
+use snap_script::{Answer, Command, FieldRule, Line, Scratch, read_line};
 use snap_store::RoundName;
 use std::io::Write;
 use std::str::Lines;
@@ -55,8 +55,8 @@ impl<'a, N: RoundName, R: Wait> Round<'a, N, R> {
         }
     }
 
-    // What a command is answered: nothing where the round ends for the next one, nor for a report, a tree or a
-    // journal, nor on a snapshot that the script doesn't hold. No round ends as long as a snapshot is open.
+    // What a command is answered: nothing where the round ends for the next one, nor where it asks for what a store
+    // doesn't lend, nor on a snapshot that the script doesn't hold. No round ends as long as a snapshot is open.
     fn answer(&mut self, n: u64, command: &Command) -> Result<Option<Answer>, Stop> {
         let refused = match command {
             Command::Reopen { journal } => {
@@ -69,7 +69,12 @@ impl<'a, N: RoundName, R: Wait> Round<'a, N, R> {
                     return Ok(None);
                 }
             }
-            Command::Tree { .. } | Command::Journal { .. } | Command::Report => return Ok(None),
+            Command::TrySweep { .. }
+            | Command::ChainUsage { .. }
+            | Command::Quota { .. }
+            | Command::Tree { .. }
+            | Command::Journal { .. }
+            | Command::Report => return Ok(None),
             command => match self.do_command(n, command) {
                 Ok(answer) => return Ok(Some(answer)),
                 Err(refused) => refused,
@@ -80,7 +85,13 @@ impl<'a, N: RoundName, R: Wait> Round<'a, N, R> {
 
     // What a line is answered.
     fn attempt(&mut self, line: &str) -> Result<Option<Answer>, Stop> {
-        match read_line(self.alloc, line.as_bytes(), true)? {
+        match read_line(
+            self.alloc,
+            line.as_bytes(),
+            FieldRule::Any,
+            true,
+            &mut Scratch::new(self.alloc),
+        )? {
             Line::Empty => Ok(None),
             Line::Command { session, command } => self.answer(session, &command),
         }

@@ -6,7 +6,7 @@ use crate::round::{Round, View};
 use crate::stop::Stop;
 use snap_book::{Config, Refusal};
 use snap_record::{Sequence, Text};
-use snap_script::{Answer, Command, Line, names_of, read_line};
+use snap_script::{Answer, Command, FieldRule, Line, Scratch, names_of, read_line};
 use snap_store::{Cause, Closed, NewStore, NotClosed, RoundName, Session, Store};
 use snap_usage::Usage;
 use std::alloc::{AllocError, Global};
@@ -24,7 +24,13 @@ fn first_config<W: Write>(
         let Some(line) = lines.next() else {
             return Ok(None);
         };
-        let config = match read_line(alloc, line.as_bytes(), false)? {
+        let config = match read_line(
+            alloc,
+            line.as_bytes(),
+            FieldRule::Any,
+            false,
+            &mut Scratch::new(alloc),
+        )? {
             Line::Empty => continue,
             Line::Command {
                 session: _,

@@ -5,7 +5,7 @@ use crate::lines::{write_answer, write_line};
 use crate::stop::Stop;
 use snap_ledger::{NewTable, StoreName};
 use snap_record::Text;
-use snap_script::{Answer, Command, Line, read_line};
+use snap_script::{Answer, Command, FieldRule, Line, Scratch, read_line};
 use snap_session::Script;
 use std::alloc::Global;
 use std::io::Write;
@@ -53,7 +53,13 @@ fn attempt<N: StoreName>(
     script: &mut Script<N>,
     line: &[u8],
 ) -> Result<Option<Answer>, Stop> {
-    match read_line(alloc, line, script.is_open())? {
+    match read_line(
+        alloc,
+        line,
+        FieldRule::Any,
+        script.is_open(),
+        &mut Scratch::new(alloc),
+    )? {
         Line::Empty => Ok(None),
         Line::Command { session, command } => match script.act(session, command) {
             Ok(answer) => Ok(Some(answer)),

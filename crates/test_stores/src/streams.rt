@@ -1,10 +1,15 @@
 // Streams that fail or have no end, and what a program that ends early is told.
 use crate::setup::equal;
 use snap_jobs::{JobsStop, write_jobs_within};
-use snap_script::{Field, Shortage};
-use snap_session::{Stop, replay, replay_within};
+use snap_script::{Field, FieldRule, Shortage};
+use snap_session::{RunOptions, Stop, replay, replay_within};
 use std::io;
 use std::io::BufWriter;
+
+const PLAIN: RunOptions = RunOptions {
+    fields: FieldRule::Any,
+    stops_at_refusal: false,
+};
 
 const THREE: &[u8] = br#"{"do":"open","root":"/r","namespaces":[]}
 {"do":"report"}
@@ -69,7 +74,7 @@ fn streams_that_fail(rt: HostRuntime) {
         reads: 1,
     };
     let mut output = BufWriter::new(alloc, Vec::new(alloc)).expect(&rt, "a buffer");
-    let ended = replay(alloc, &mut three, &mut output);
+    let ended = replay(alloc, &mut three, &mut output, PLAIN);
     let found = (ended, output.get_ref().as_slice());
     let wanted = (Err(Stop::InputFailed), ANSWERS);
     equal(&rt, "answers are out before a read fails", found, wanted);
@@ -86,7 +91,7 @@ fn streams_that_fail(rt: HostRuntime) {
             most,
             bytes: Vec::new(alloc),
         };
-        let ended = replay(alloc, &mut three, &mut slow);
+        let ended = replay(alloc, &mut three, &mut slow, PLAIN);
         let found = (ended, slow.bytes.as_slice());
         let past_most = slow.writes.saturating_sub(most);
         equal(&rt, shown, (found, past_most), (wanted, past));
@@ -108,7 +113,7 @@ fn streams_without_end(rt: HostRuntime) {
         reads: usize::MAX,
     };
     let mut output = Vec::new(alloc);
-    let ended = replay_within(alloc, &mut spaces, &mut output, 100);
+    let ended = replay_within(alloc, &mut spaces, &mut output, PLAIN, 100);
     let wanted = (Err(Stop::InputFailed), 0);
     equal(&rt, "a script", (ended, output.len()), wanted);
 
@@ -117,7 +122,7 @@ fn streams_without_end(rt: HostRuntime) {
     equal(&rt, "a script of jobs", (ended, output.len()), wanted);
 
     let mut three = THREE;
-    let ended = replay_within(alloc, &mut three, &mut output, 1);
+    let ended = replay_within(alloc, &mut three, &mut output, PLAIN, 1);
     let wanted = (Err(Stop::InputFailed), ANSWERS);
     equal(&rt, "a read too many", (ended, output.as_slice()), wanted);
 }

@@ -5,7 +5,7 @@ ghost use Rattle.snap_layer.specs.Layers.{is_target};
 
 use super::edit::{Answer, Edit, Kind};
 use super::plain::Standing;
-use snap_layer::{Body, Bytes, Layer, LayerError, Node};
+use snap_layer::{Body, Bytes, Content, Layer, LayerError, Node};
 use snap_path::Path;
 use snap_path::limits::{MAX_FILE_BYTES, MAX_MODE, MAX_TARGET_BYTES};
 
@@ -83,14 +83,15 @@ fn edit_body(layer: &mut Layer, edit: &Edit) -> Result<Answer, LayerError> {
     }
     match edit.kind {
         Kind::AddFile if layer.has_place(path) => {
-            Ok(Answer::Numbered(layer.add_file(path, mode, bytes)?))
+            Ok(Answer::Numbered(layer.add_file(path, mode, Content::Bytes(bytes))?))
         }
         Kind::AddLinked if layer.has_rooms(path, to) => {
-            layer.add_linked(path, to, Body::File { mode, bytes })?;
+            let content = Content::Bytes(bytes);
+            layer.add_linked(path, to, Body::File { mode, content })?;
             Ok(Answer::Made)
         }
         Kind::SetBytes if matches!(layer.body(edit.number), Some(Body::File { .. })) => {
-            layer.set_bytes(edit.number, bytes);
+            layer.set_content(edit.number, Content::Bytes(bytes));
             Ok(Answer::Made)
         }
         _ => Ok(Answer::Refused),

@@ -2,7 +2,7 @@
 use super::edit::{Answer, Edit, Kind};
 use super::on_layer::{is_short, is_target};
 use super::plain::Plain;
-use snap_layer::{Body, Bytes, LayerError, Node};
+use snap_layer::{Body, Bytes, Content, LayerError, Node};
 use snap_path::Path;
 use snap_path::limits::{MAX_INODES, MAX_MODE};
 use std::alloc::{AllocError, Global};
@@ -133,17 +133,17 @@ impl Plain {
 
     /// Gives a file its mode, or other bytes. The number is a file's, by the condition.
     fn set_body(&mut self, number: u32, edit: &Edit) -> Result<(), AllocError> {
-        let Some(Body::File { mode, bytes }) = self.bodies.remove(&number) else {
+        let Some(Body::File { mode, content }) = self.bodies.remove(&number) else {
             return Ok(());
         };
         let body = match edit.kind {
             Kind::SetBytes => Body::File {
                 mode,
-                bytes: Bytes::copy_of(self.alloc, edit.bytes)?,
+                content: Content::Bytes(Bytes::copy_of(self.alloc, edit.bytes)?),
             },
             _ => Body::File {
                 mode: edit.mode,
-                bytes,
+                content,
             },
         };
         self.bodies.insert(number, body)?;
@@ -168,7 +168,10 @@ impl Plain {
         let (bytes, mode) = (Bytes::copy_of(self.alloc, edit.bytes)?, edit.mode);
         let (node, body) = match edit.kind {
             Kind::AddSymlink => (Node::Symlink { number }, Body::Symlink { target: bytes }),
-            _ => (Node::File { number }, Body::File { mode, bytes }),
+            _ => {
+                let content = Content::Bytes(bytes);
+                (Node::File { number }, Body::File { mode, content })
+            }
         };
         self.bodies.insert(number, body)?;
         self.replace(path, node)?;

@@ -1,12 +1,14 @@
 // What is read of a table entry by entry.
-ghost use Rattle.std.specs.Prelude.{[], ◌≡◌, ◌∷◌, ◌++◌, ◌↔◌, ◌≤◌, ◌+◌, ℕ, List, IfOk, IsSome, IsTrue, count_by, length};
-ghost use Rattle.std.specs.List.{list_all};
+ghost use Rattle.std.specs.Prelude.{[], ◌≡◌, ◌∷◌, ◌++◌, ◌↔◌, ◌<◌, ◌≤◌, ◌+◌, ℕ, List, IfOk, IsSome, IsTrue, count_by, length, take};
+ghost use Rattle.std.specs.List.{list_all, sum_by};
 ghost use Rattle.std.specs.List.Sorted.{IsStrictlySortedBy};
 ghost use Rattle.std.specs.Map.{keys_of, values_of};
 ghost use Rattle.snap_path.specs.Text.{Names, text_of, text_below};
-ghost use Rattle.snap_layer.specs.Tree.{at, is_dir, is_whiteout, names_below, IsDirAt};
-ghost use Rattle.snap_layer.specs.Counts.{dir_count, whiteout_count};
-ghost use Rattle.snap_layer.specs.Edits.{inside, IsFree};
+ghost use Rattle.snap_layer.specs.Tree.{Entries, at, has_number, is_dir, is_whiteout, names_below, IsDirAt};
+ghost use Rattle.snap_layer.specs.Counts.{body_blocks, dir_count, name_count, whiteout_count};
+ghost use Rattle.snap_layer.specs.Edits.{bodies_unnamed, inside, outside, IsFree};
+ghost use Rattle.snap_layer.specs.Ended.{ended};
+ghost use Rattle.snap_layer.specs.Totals.{path_count};
 ghost use Rattle.snap_layer.specs.Walk.{node_at, seen, walk, entry_at};
 ghost use Rattle.snap_layer.specs.Rows.{name_cmp, items_in, own, targets_whiteout, is_text_within};
 
@@ -17,7 +19,7 @@ use super::super::walk::{stands, walk};
 use super::Table;
 use slab::Slab;
 use snap_path::limits::MAX_PATH_BYTES;
-use snap_path::{Name, Path};
+use snap_path::{Name, Path, PathError};
 use std::alloc::{AllocError, Global};
 use std::collections::BTreeMap;
 
@@ -39,6 +41,29 @@ fn is_directory(node: Option<Node>) -> bool
     match node {
         Some(node) => node.is_dir(),
         None => false,
+    }
+}
+
+/// Whether the node names the file number.
+fn has_number(node: Node, number: u32) -> bool
+    ensures { result ≡ has_number number node }
+{
+    match node.number() {
+        Some(own) => own == number,
+        None => false,
+    }
+}
+
+/// The path of the first so many names of a path, and the name.
+fn path_beside(path: &Path, names: usize, name: &Name) -> Result<Path, AllocError>
+    requires names { names ≤ length path.now }
+    requires short { length (text_below (take names path.now ++ name.now ∷ [])) ≤ 4095 }
+    ensures { IfOk result (λ p. p ≡ take names path.now ++ name.now ∷ []) }
+{
+    match path.front(names)?.join(name) {
+        Ok(path) => Ok(path),
+        Err(PathError::OutOfMemory(no_memory)) => Err(no_memory.into()),
+        Err(PathError::BadPath) => unreachable!(),
     }
 }
 
@@ -136,6 +161,86 @@ impl Table {
         ensures { result ≡ (dir_count self.now, whiteout_count self.now) }
     {
         self.tally_walk(&[])
+    }
+
+    /// The path and the paths below it at which something stands, in order.
+    ///
+    /// The condition is that something stands at the path. It fails only where memory is refused. Cost: the texts
+    /// of the paths, and the number of paths times the logarithm of a directory's entries.
+    pub(crate) fn paths_inside(&self, front: &Path) -> Result<Vec<Path>, AllocError>
+        requires { IsSome (at self.now front.now) }
+        ensures { IfOk result (λ paths. paths.items ≡ keys_of (inside front.now self.now.entries)) }
+    {
+        let _ = self.next_number();
+        let mut paths = Vec::new(self.alloc);
+        let mut last = front.clone()?;
+        let mut rows = self.below(front.names());
+        while let Some(row) = rows.next() {
+            let path = path_beside(&last, row.above, row.name)?;
+            paths.push(last)?;
+            last = path;
+        }
+        paths.push(last)?;
+        Ok(paths)
+    }
+
+    /// How many of the first so many entries below the path are names of the file number.
+    fn names_among(&self, front: &[Name], number: u32, many: usize) -> usize
+        ensures { (rest : Entries) → inside front.now self.now.entries ≡ own front.now (at self.now front.now) ++ rest → result ≡ name_count number (take many rest) }
+    {
+        let _ = self.next_number();
+        let (mut names, mut left) = (0, many);
+        let mut rows = self.below(front);
+        while let Some(row) = rows.next() {
+            if left == 0 {
+                return names;
+            }
+            left -= 1;
+            names += usize::from(has_number(row.node, number));
+        }
+        names
+    }
+
+    /// The inode and the blocks of the file or symlink whose last name is the entry, which is that many entries below
+    /// the path: none where it has a name further on, or beside the path.
+    fn ended_at(&self, front: &[Name], node: Node, many: usize) -> (usize, u64)
+        requires there { (rest : Entries) × (q : Names) × (past : Entries) × (inside front.now self.now.entries ≡ own front.now (at self.now front.now) ++ rest) × (rest ≡ take many rest ++ past) × (pre : Entries) × (take many rest ≡ pre ++ (q, node) ∷ []) }
+        ensures { (rest : Entries) → inside front.now self.now.entries ≡ own front.now (at self.now front.now) ++ rest → result ≡ ended self.now node (take many rest) }
+    {
+        let Some(number) = node.number() else {
+            return (0, 0);
+        };
+        let links = self.link_count(number);
+        if links > 1 && self.names_among(front, number, many) != links {
+            return (0, 0);
+        }
+        match self.body(number) {
+            Some(body) => (1, body.blocks()),
+            None => (0, 0),
+        }
+    }
+
+    /// The inodes and the blocks of the files and symlinks that have all their names below the directory. The bound is
+    /// one on the number of paths.
+    ///
+    /// Takes no memory. Cost: the number of paths below it times the logarithm of a directory's entries, once more
+    /// for each name there of a file that has several.
+    pub(crate) fn ended_below(&self, front: &[Name], bound: usize) -> (usize, u64)
+        requires dir { IsDirAt (at self.now front.now) }
+        requires few { path_count self.now < bound }
+        ensures inodes { result.0 ≡ length (bodies_unnamed (outside front.now self.now.entries) self.now.bodies) }
+        ensures blocks { result.1 ≡ sum_by body_blocks (values_of (bodies_unnamed (outside front.now self.now.entries) self.now.bodies)) }
+    {
+        let _ = self.next_number();
+        let (mut inodes, mut blocks, mut many) = (0, 0, 0);
+        let mut rows = self.below(front);
+        while let Some(row) = rows.next() {
+            many += 1;
+            let (file, freed) = self.ended_at(front, row.node, many);
+            inodes += file;
+            blocks += freed;
+        }
+        (inodes, blocks)
     }
 
     /// The names in a directory, in byte order, whiteouts among them. There are none where no directory

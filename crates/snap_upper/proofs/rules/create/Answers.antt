@@ -1,4 +1,4 @@
-use Rattle.std.proofs.Common.{[], ◌∷◌, refl, subst, arith}
+use Rattle.std.proofs.Common.{◌∷◌, subst, arith}
 use Rattle.snap_merge.specs.Objects.{AreLayers}
 use Rattle.snap_upper.specs.declared.op.Op.TheVariants as op
 use Rattle.snap_upper.proofs.Outcomes.{stack_passes}
@@ -16,6 +16,6 @@ returns-clause-ok c =
     let made = new u ls p c.args.mode passes in
     record {
       layers = (subst AreLayers c.over.ensures c.in_ok-check_new.ensures.layers).1;
-      ready = (made.way, (vacant_unseen u ls p ok made.unseen, made.low, omega arith), (tt, omega arith));
-      same = file_after u ls p c.args.mode passes [] refl;
+      ready = (made.way, (vacant_unseen u ls p ok made.unseen, made.low, omega arith), tt);
+      same = file_after u ls p c.args.mode passes;
     }

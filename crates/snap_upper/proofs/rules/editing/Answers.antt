@@ -9,4 +9,4 @@ returns-in-Some-clause-ok c =
 
 pub returns-clause-ok : goal.returns-clause-ok
 returns-clause-ok c =
-    lower_edit c.args.layer.now c.args.lowers.now c.args.path.now c.args.edit (subst IsLayer c.layer.view_is c.layer.invariant.1) c.requires.layers c.requires.there.0 c.requires.there.1 c.requires.there.2 c.requires.short c.requires.way (sym c.own_number.ensures ∙ c.in_default.is) c.in-Some-File.mode c.in-Some-File.bytes.now (sym c.below.ensures ∙ search rules)
+    lower_edit c.args.layer.now c.args.lowers.now c.args.path.now c.args.edit (subst IsLayer c.layer.view_is c.layer.invariant.1) c.requires.layers c.requires.there.0 c.requires.there.1 c.requires.there.2 c.requires.short c.requires.way (sym c.own_number.ensures ∙ c.in_default.is) c.in-Some-File.mode c.in-Some-File.content.now (sym c.below.ensures ∙ search rules)

@@ -1,0 +1,31 @@
+-- What the open snapshots of a state are charged, each in the place of its slot.
+-- Cited by `OpenShares::of`, `OpenShares::set`, `OpenShares::of_namespace` and others.
+use Rattle.std.specs.Prelude.{ℕ, zero, suc, ◌==◌, if◌then◌else◌, List, [], ◌∷◌, ◌++◌, map, Option, None, Some}
+use Rattle.std.specs.Option.{option_map}
+use Rattle.snap_usage.specs.declared.usage.Usage.{Usage}
+use Rattle.snap_record.specs.Records.{usage_of}
+use Rattle.snap_record.specs.declared.record.Record.{Record}
+use Rattle.snap_call.specs.Records.{active_at}
+use Rattle.snap_history.specs.declared.open.OpenShare.{OpenShare}
+
+-- the place of the snapshot's namespace, and what the snapshot is charged
+abbrev pub open_share : Record → OpenShare
+open_share r = record { namespace = r.namespace; charged = usage_of r.content }
+
+-- those of the first slots, so many
+abbrev pub open_below : ℕ → List Record → List (Option OpenShare)
+open_below zero rs = []
+open_below (suc slot) rs = open_below slot rs ++ option_map open_share (active_at slot rs) ∷ []
+
+-- those of all 64 slots
+abbrev pub open_shares : List Record → List (Option OpenShare)
+open_shares rs = open_below 64 rs
+
+-- what the snapshot is charged, where it is of the namespace at the place
+abbrev pub share_for : ℕ → Option OpenShare → Option Usage
+share_for place None = None
+share_for place (Some s) = if s.namespace == place then Some s.charged else None
+
+-- what the open snapshots of the namespace at the place are charged, each in the place of its slot
+abbrev pub shares_of : ℕ → List Record → List (Option Usage)
+shares_of place rs = map (share_for place) (open_shares rs)

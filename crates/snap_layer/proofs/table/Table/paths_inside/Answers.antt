@@ -1,0 +1,25 @@
+use Rattle.std.proofs.Common.{◌≡◌, ◌≤◌, ◌++◌, ◌∷◌, [], List, length, take, sym, ap, subst, ◌∙◌}
+use Rattle.snap_path.specs.Text.{Names, text_below}
+use Rattle.snap_layer.specs.Tree.{at}
+use Rattle.snap_layer.specs.Edits.{inside}
+use Rattle.snap_layer.specs.Rows.{own}
+use Rattle.snap_layer.proofs.Below.{AreListed, listed_first, next_path}
+use Rattle.snap_layer.proofs.table.Table.paths_inside.Goals as goal
+
+pub loop-row-init : goal.loop-row-init
+loop-row-init c =
+    let t = c.args.self.now in
+    let p = c.args.front.now in
+    record {
+      last = c.in_ok-last.ensures.cases ∙ sym (c.below-rows.ensures.path ∙ c.names.ensures.names);
+      listed =
+          subst (λ (q : Names). AreListed t p c.new-paths.result.items q c.below-rows.result.rest) (sym c.in_ok-last.ensures.cases)
+          (subst (λ (ps : List Names). AreListed t p ps p c.below-rows.result.rest) (sym c.new-paths.ensures.items)
+          (listed_first t p c.below-rows.result.rest c.requires (subst (λ (q : Names). inside q t.entries ≡ own q (at t q) ++ c.below-rows.result.rest) c.names.ensures.names c.below-rows.ensures.rest)));
+    }
+
+pub path_beside-requires-clause-short : goal.path_beside-requires-clause-short
+path_beside-requires-clause-short c =
+    subst (λ (q : Names). length (text_below q) ≤ 4095)
+    (c.in-Some.ensures.path ∙ ap (λ (q : Names). take c.in-Some.row.above q ++ c.in-Some.row.name.now ∷ []) (sym c.loop-row.invariant.last))
+    (next_path c.args.self.now c.next_number.ensures.layer c.args.front.now c.loop-row.paths.items c.loop-row.last c.next.new.self.path c.in-Some.row.node c.loop-row.rows.rest c.next.new.self.rest c.loop-row.invariant.listed c.in-Some.ensures.row).1

@@ -1,0 +1,92 @@
+-- The fields that a line may have, where unknown ones are faults; cited by the public clauses of `read_line` and
+-- `read_request` through Lines.antt.
+-- Cited by `read_line`, `read_request`, `Runner::new` and others.
+use Rattle.std.specs.Prelude.{ℕ, Bool, ◌||◌, if◌then◌else◌, List, [], ◌∷◌, Option, Some, None, option_and_then, Result, Ok, Err}
+use Rattle.std.specs.List.{list_any}
+use Rattle.std.specs.Str.{bytes_eq}
+use Rattle.serde_json.specs.Data.{Data, Members, no_members, member}
+use Rattle.serde_json.specs.Find.{as_object}
+use Rattle.snap_history.specs.declared.kind.CallKind.TheVariants as kinds
+use Rattle.snap_script.specs.declared.fault.Field.{Field}
+use Rattle.snap_script.specs.declared.fault.Field.TheVariants as fields
+use Rattle.snap_script.specs.declared.fault.Fault.{Fault}
+use Rattle.snap_script.specs.declared.fault.Fault.TheVariants.{UnknownField}
+use Rattle.snap_script.specs.declared.unknown.FieldRule.{FieldRule}
+use Rattle.snap_script.specs.declared.unknown.FieldRule.TheVariants as rules
+use Rattle.snap_script.specs.declared.verb.Verb.{Verb}
+use Rattle.snap_script.specs.declared.verb.Verb.TheVariants as verbs
+use Rattle.snap_script.specs.declared.verb.FileVerb.TheVariants as file_verbs
+use Rattle.snap_script.specs.declared.verb.PathVerb.TheVariants as path_verbs
+use Rattle.snap_script.specs.Faults.{field_name}
+
+-- the fields that each command has, with and without a default
+abbrev pub fields_of : Verb → List Field
+fields_of verbs.Open = fields.Root ∷ fields.Namespaces ∷ fields.Journal ∷ []
+fields_of verbs.Reopen = fields.Journal ∷ []
+fields_of verbs.Roll = fields.Journal ∷ []
+fields_of (verbs.Call kinds.Session) = []
+fields_of (verbs.Call kinds.Prepare) = fields.Namespace ∷ fields.Key ∷ fields.Parent ∷ fields.Labels ∷ []
+fields_of (verbs.Call kinds.View) = fields.Namespace ∷ fields.Key ∷ fields.Parent ∷ fields.Labels ∷ []
+fields_of (verbs.Call kinds.Charge) = fields.Namespace ∷ fields.Key ∷ fields.Need ∷ fields.Want ∷ []
+fields_of (verbs.Call kinds.Trim) = fields.Namespace ∷ fields.Key ∷ []
+fields_of (verbs.Call kinds.Commit) = fields.Namespace ∷ fields.Key ∷ fields.Name ∷ fields.Lease ∷ []
+fields_of (verbs.Call kinds.Discard) = fields.Namespace ∷ fields.Key ∷ []
+fields_of (verbs.Call kinds.Remove) = fields.Namespace ∷ fields.Key ∷ []
+fields_of (verbs.Call kinds.Stat) = fields.Namespace ∷ fields.Key ∷ []
+fields_of (verbs.Call kinds.Update) = fields.Namespace ∷ fields.Key ∷ fields.Labels ∷ fields.Paths ∷ []
+fields_of (verbs.Call kinds.Usage) = fields.Namespace ∷ fields.Key ∷ fields.Chain ∷ []
+fields_of (verbs.Call kinds.Mounts) = fields.Namespace ∷ fields.Key ∷ []
+fields_of (verbs.Call kinds.Walk) = fields.Namespace ∷ fields.After ∷ fields.Most ∷ fields.Name ∷ fields.Parent ∷ fields.Kind ∷ fields.Labels ∷ []
+fields_of (verbs.Call kinds.Limit) = fields.Namespace ∷ fields.Blocks ∷ fields.Inodes ∷ []
+fields_of (verbs.Call kinds.LeaseCreate) = fields.Namespace ∷ fields.Lease ∷ fields.Until ∷ []
+fields_of (verbs.Call kinds.LeaseAdd) = fields.Namespace ∷ fields.Lease ∷ fields.Name ∷ []
+fields_of (verbs.Call kinds.LeaseRelease) = fields.Namespace ∷ fields.Lease ∷ []
+fields_of (verbs.Call kinds.Sweep) = fields.Namespace ∷ fields.Moment ∷ fields.Try ∷ []
+fields_of (verbs.File (file_verbs.At path_verbs.Mkdir)) = fields.Namespace ∷ fields.Key ∷ fields.Path ∷ fields.Mode ∷ fields.Extra ∷ []
+fields_of (verbs.File (file_verbs.At path_verbs.Create)) = fields.Namespace ∷ fields.Key ∷ fields.Path ∷ fields.Mode ∷ fields.Extra ∷ []
+fields_of (verbs.File (file_verbs.At path_verbs.Put)) = fields.Namespace ∷ fields.Key ∷ fields.Path ∷ fields.Mode ∷ fields.Size ∷ fields.Digest ∷ fields.Extra ∷ []
+fields_of (verbs.File (file_verbs.At path_verbs.Write)) = fields.Namespace ∷ fields.Key ∷ fields.Path ∷ fields.Offset ∷ fields.Text ∷ fields.Fill ∷ fields.Extra ∷ []
+fields_of (verbs.File (file_verbs.At path_verbs.Truncate)) = fields.Namespace ∷ fields.Key ∷ fields.Path ∷ fields.Size ∷ fields.Extra ∷ []
+fields_of (verbs.File (file_verbs.At path_verbs.SetMode)) = fields.Namespace ∷ fields.Key ∷ fields.Path ∷ fields.Mode ∷ fields.Extra ∷ []
+fields_of (verbs.File (file_verbs.At path_verbs.Symlink)) = fields.Namespace ∷ fields.Key ∷ fields.Path ∷ fields.Target ∷ fields.Extra ∷ []
+fields_of (verbs.File (file_verbs.At path_verbs.Unlink)) = fields.Namespace ∷ fields.Key ∷ fields.Path ∷ fields.Extra ∷ []
+fields_of (verbs.File (file_verbs.At path_verbs.Rmdir)) = fields.Namespace ∷ fields.Key ∷ fields.Path ∷ fields.Extra ∷ []
+fields_of (verbs.File (file_verbs.At path_verbs.Opaque)) = fields.Namespace ∷ fields.Key ∷ fields.Path ∷ fields.Extra ∷ []
+fields_of (verbs.File (file_verbs.At path_verbs.Whiteout)) = fields.Namespace ∷ fields.Key ∷ fields.Path ∷ fields.Extra ∷ []
+fields_of (verbs.File file_verbs.Link) = fields.Namespace ∷ fields.Key ∷ fields.From ∷ fields.To ∷ fields.Extra ∷ []
+fields_of (verbs.File file_verbs.Rename) = fields.Namespace ∷ fields.Key ∷ fields.From ∷ fields.To ∷ fields.Extra ∷ []
+fields_of (verbs.Lookup asked) = fields.Namespace ∷ fields.Key ∷ fields.Path ∷ []
+fields_of verbs.Quota = fields.Namespace ∷ []
+fields_of verbs.Tree = fields.Namespace ∷ []
+fields_of verbs.Journal = fields.Namespace ∷ fields.After ∷ fields.Most ∷ []
+fields_of verbs.Report = []
+
+-- the fields that a line may have with any command, where it may not have just any: the command's word, the session, and a client's id of the line
+abbrev pub common_fields : FieldRule → List Field
+common_fields rules.Any = []
+common_fields rules.Known = fields.Do ∷ fields.Session ∷ []
+common_fields rules.KnownAndId = fields.Do ∷ fields.Session ∷ fields.Id ∷ []
+
+-- one of the fields has the name
+abbrev pub is_among : List Field → List ℕ → Bool
+is_among those name = list_any (λ field. bytes_eq name (field_name field)) those
+
+-- the same of a command's own fields and the common ones
+abbrev pub is_known : List Field → List Field → List ℕ → Bool
+is_known common own name = is_among common name || is_among own name
+
+-- the first member, in byte order of the names, that isn't known
+abbrev pub unknown_among : List Field → List Field → Members → Option (List ℕ)
+unknown_among common own no_members = None
+unknown_among common own (member name d ms) = if is_known common own name then unknown_among common own ms else Some name
+
+-- a field that isn't known is a fault
+abbrev pub unless_unknown : Option (List ℕ) → Result Unit Fault
+unless_unknown None = Ok tt
+unless_unknown (Some name) = Err (UnknownField name)
+
+-- the line of a command has no field but those that it may have
+unfoldable pub known_fields : FieldRule → Verb → Data → Result Unit Fault
+known_fields rules.Any verb line = Ok tt
+known_fields rules.Known verb line = unless_unknown (option_and_then (unknown_among (common_fields rules.Known) (fields_of verb)) (as_object line))
+known_fields rules.KnownAndId verb line = unless_unknown (option_and_then (unknown_among (common_fields rules.KnownAndId) (fields_of verb)) (as_object line))

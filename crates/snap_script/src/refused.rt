@@ -1,0 +1,66 @@
+ghost use Rattle.std.specs.Prelude.{◌≡◌};
+ghost use Rattle.snap_script.specs.Refusals.{refusal_in, refused_name};
+
+use crate::answer::Answer;
+use crate::values::{error_name, refusal_name};
+use snap_call::{Refusal, Reply};
+use snap_merge::FsError;
+
+/// Why a command was refused.
+#[derive(Clone, Copy, Debug, PartialEq, Eq)]
+pub enum Refused {
+    /// The store refuses the call.
+    Book(Refusal),
+    /// The file operation or the lookup has this error.
+    File(FsError),
+    /// The session isn't open.
+    NoSession,
+    /// The snapshot is sealed.
+    NoHand,
+    /// A snapshot is active, so no new round begins.
+    StillOut,
+}
+
+impl Refused {
+    /// The name of the refusal, as its answer has it. Takes no memory.
+    pub fn name(self) -> &'static str
+        ensures { result.now ≡ refused_name self }
+    {
+        match self {
+            Refused::Book(why) => refusal_name(why),
+            Refused::File(error) => error_name(error),
+            Refused::NoSession => "NoSession",
+            Refused::NoHand => "NoHand",
+            Refused::StillOut => "StillOut",
+        }
+    }
+}
+
+impl Answer {
+    /// Why the command was refused, where the answer says so. Takes no memory.
+    pub fn refusal(&self) -> Option<Refused>
+        ensures { result ≡ refusal_in self.now }
+    {
+        match self {
+            Answer::Reply(Reply::Refused(why)) => Some(Refused::Book(*why)),
+            Answer::Failed(error) => Some(Refused::File(*error)),
+            Answer::NoSession => Some(Refused::NoSession),
+            Answer::NoHand => Some(Refused::NoHand),
+            Answer::StillOut => Some(Refused::StillOut),
+            Answer::Reply(_)
+            | Answer::Session(_)
+            | Answer::Share(_)
+            | Answer::Changed { .. }
+            | Answer::Seen(_)
+            | Answer::Names(_)
+            | Answer::Head { .. }
+            | Answer::Known { .. }
+            | Answer::Path(_)
+            | Answer::Quota(_)
+            | Answer::Tree(_)
+            | Answer::Journal(_)
+            | Answer::Report { .. }
+            | Answer::Jobs { .. } => None,
+        }
+    }
+}

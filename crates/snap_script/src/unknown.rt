@@ -1,0 +1,232 @@
+// The fields that a line may have, and the members of its object that are none of them.
+ghost use Rattle.std.specs.Prelude.{◌≡◌, IfOk, option_and_then, option_map};
+ghost use Rattle.std.specs.List.{list_all};
+ghost use Rattle.serde_json.specs.Find.{as_object};
+ghost use Rattle.snap_json.specs.View.{view, members_of};
+ghost use Rattle.snap_history.specs.declared.kind.CallKind.TheVariants as kinds;
+ghost use Rattle.snap_script.specs.Known.{common_fields, fields_of, is_among, is_known, known_fields, unknown_among};
+ghost use Rattle.snap_script.specs.Gives.{Gives};
+ghost use Rattle.snap_script.specs.declared.verb.Verb.TheVariants as verbs;
+ghost use Rattle.snap_script.specs.declared.verb.FileVerb.TheVariants as file_verbs;
+
+use crate::fault::{Fault, Field, ReadError};
+use crate::verb::{FileVerb, PathVerb, Verb};
+use snap_history::CallKind;
+use snap_json::{Member, Value, by_name};
+use snap_record::Text;
+use std::alloc::{AllocError, Global};
+use std::collections::BTreeMap;
+
+/// Which fields a line may have.
+#[derive(Clone, Copy, Debug, PartialEq, Eq)]
+pub enum FieldRule {
+    /// Any: those that its command doesn't have aren't looked at.
+    Any,
+    /// `do`, `s` and those of its command.
+    Known,
+    /// The same, and `id`.
+    KnownAndId,
+}
+
+/// The fields of a line beside those of its command, where not any may stand there.
+fn common_fields(rule: FieldRule) -> &'static [Field]
+    ensures { result.now ≡ common_fields rule }
+{
+    match rule {
+        FieldRule::Any => &[],
+        FieldRule::Known => &[Field::Do, Field::Session],
+        FieldRule::KnownAndId => &[Field::Do, Field::Session, Field::Id],
+    }
+}
+
+/// The fields of a call.
+fn call_fields(kind: CallKind) -> &'static [Field]
+    ensures { result.now ≡ fields_of (verbs.Call kind) }
+{
+    match kind {
+        CallKind::Session => &[],
+        CallKind::Prepare | CallKind::View => {
+            &[Field::Namespace, Field::Key, Field::Parent, Field::Labels]
+        }
+        CallKind::Charge => &[Field::Namespace, Field::Key, Field::Need, Field::Want],
+        CallKind::Commit => &[Field::Namespace, Field::Key, Field::Name, Field::Lease],
+        CallKind::Update => &[Field::Namespace, Field::Key, Field::Labels, Field::Paths],
+        CallKind::Trim | CallKind::Discard | CallKind::Remove | CallKind::Stat | CallKind::Mounts =>
+            &[Field::Namespace, Field::Key],
+        CallKind::Usage => &[Field::Namespace, Field::Key, Field::Chain],
+        CallKind::Walk => &[
+            Field::Namespace,
+            Field::After,
+            Field::Most,
+            Field::Name,
+            Field::Parent,
+            Field::Kind,
+            Field::Labels,
+        ],
+        CallKind::Limit => &[Field::Namespace, Field::Blocks, Field::Inodes],
+        CallKind::LeaseCreate => &[Field::Namespace, Field::Lease, Field::Until],
+        CallKind::LeaseAdd => &[Field::Namespace, Field::Lease, Field::Name],
+        CallKind::LeaseRelease => &[Field::Namespace, Field::Lease],
+        CallKind::Sweep => &[Field::Namespace, Field::Moment, Field::Try],
+    }
+}
+
+/// The fields of a file command at one path.
+fn path_fields(verb: PathVerb) -> &'static [Field]
+    ensures { result.now ≡ fields_of (verbs.File (file_verbs.At verb)) }
+{
+    match verb {
+        PathVerb::Mkdir | PathVerb::Create | PathVerb::SetMode => &[
+            Field::Namespace,
+            Field::Key,
+            Field::Path,
+            Field::Mode,
+            Field::Extra,
+        ],
+        PathVerb::Put => &[
+            Field::Namespace,
+            Field::Key,
+            Field::Path,
+            Field::Mode,
+            Field::Size,
+            Field::Digest,
+            Field::Extra,
+        ],
+        PathVerb::Write => &[
+            Field::Namespace,
+            Field::Key,
+            Field::Path,
+            Field::Offset,
+            Field::Text,
+            Field::Fill,
+            Field::Extra,
+        ],
+        PathVerb::Truncate => &[
+            Field::Namespace,
+            Field::Key,
+            Field::Path,
+            Field::Size,
+            Field::Extra,
+        ],
+        PathVerb::Symlink => &[
+            Field::Namespace,
+            Field::Key,
+            Field::Path,
+            Field::Target,
+            Field::Extra,
+        ],
+        PathVerb::Unlink | PathVerb::Rmdir | PathVerb::Opaque | PathVerb::Whiteout => {
+            &[Field::Namespace, Field::Key, Field::Path, Field::Extra]
+        }
+    }
+}
+
+/// The fields of a command.
+fn fields_of(verb: Verb) -> &'static [Field]
+    ensures { result.now ≡ fields_of verb }
+{
+    match verb {
+        Verb::Open => &[Field::Root, Field::Namespaces, Field::Journal],
+        Verb::Reopen | Verb::Roll => &[Field::Journal],
+        Verb::Call(kind) => call_fields(kind),
+        Verb::File(FileVerb::At(verb)) => path_fields(verb),
+        Verb::File(FileVerb::Link | FileVerb::Rename) => &[
+            Field::Namespace,
+            Field::Key,
+            Field::From,
+            Field::To,
+            Field::Extra,
+        ],
+        Verb::Lookup(_) => &[Field::Namespace, Field::Key, Field::Path],
+        Verb::Quota | Verb::Tree => &[Field::Namespace],
+        Verb::Journal => &[Field::Namespace, Field::After, Field::Most],
+        Verb::Report => &[],
+    }
+}
+
+/// Whether one of the fields has the name.
+fn is_among(mut fields: &[Field], name: &str) -> bool
+    ensures { result ≡ is_among fields.entry.now name.now }
+{
+    while let [field, rest @ ..] = fields {
+        if name == field.name() {
+            return true;
+        }
+        fields = rest;
+    }
+    false
+}
+
+fn is_known(common: &[Field], own: &[Field], name: &str) -> bool
+    ensures { result ≡ is_known common.now own.now name.now }
+{
+    is_among(common, name) || is_among(own, name)
+}
+
+/// Whether the name of each member is known.
+fn are_known(common: &[Field], own: &[Field], members: &[Member<'_>]) -> bool
+    ensures { result ≡ list_all (λ m. is_known common.now own.now m.0.now) members.now }
+{
+    for member in members {
+        if !is_known(common, own, member.0) {
+            return false;
+        }
+    }
+    true
+}
+
+/// The first name that isn't known, in byte order.
+fn first_unknown<'a>(
+    common: &[Field],
+    own: &[Field],
+    members: &BTreeMap<&'a str, &Value<'a>>,
+) -> Option<&'a str>
+    ensures { option_map (λ name. name.now) result ≡ unknown_among common.now own.now (members_of members.now.entries) }
+{
+    for (name, _) in members.iter() {
+        if !is_known(common, own, name) {
+            return Some(*name);
+        }
+    }
+    None
+}
+
+/// The name of a member that isn't known, the first in byte order. Memory is taken only where there is one.
+fn unknown_in(
+    alloc: Global,
+    common: &[Field],
+    own: &[Field],
+    line: &Value<'_>,
+) -> Result<Option<Text>, AllocError>
+    ensures { IfOk result (λ name. name ≡ option_and_then (unknown_among common.now own.now) (as_object (view line.now))) }
+{
+    let Some(members) = line.as_object() else {
+        return Ok(None);
+    };
+    if are_known(common, own, members) {
+        return Ok(None);
+    }
+    match first_unknown(common, own, &by_name(alloc, members)?) {
+        Some(name) => Ok(Some(Text::copy_of(alloc, name)?)),
+        None => Ok(None),
+    }
+}
+
+/// That the line has no field but those that it may have. The cost grows with the members.
+#[tactic(auto, unfolding(crate::specs::Known::known_fields))]
+pub(crate) fn known_fields(
+    alloc: Global,
+    rule: FieldRule,
+    verb: Verb,
+    line: &Value<'_>,
+) -> Result<(), ReadError>
+    ensures { Gives (λ done. done) result (known_fields rule verb (view line.now)) }
+{
+    if rule == FieldRule::Any {
+        return Ok(());
+    }
+    match unknown_in(alloc, common_fields(rule), fields_of(verb), line)? {
+        Some(name) => Err(ReadError::Fault(Fault::UnknownField(name))),
+        None => Ok(()),
+    }
+}

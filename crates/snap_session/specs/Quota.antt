@@ -1,0 +1,35 @@
+-- What namespaces may take and what they take.
+-- Cited by `Runner::new`, `Runner as TakeLine`, `replay_within` and others.
+use Rattle.std.specs.Prelude.{List, [], ◌∷◌, Option, None, Some, option_map, filter_map}
+use Rattle.snap_record.specs.Labels.{Bytes}
+use Rattle.snap_call.specs.declared.reply.Reply.TheVariants as replies
+use Rattle.snap_call.specs.declared.refusal.Refusal.TheVariants.{NoNamespace}
+use Rattle.snap_world.specs.declared.quota.Quota.{Quota}
+use Rattle.snap_world.specs.World.{WorldValue}
+use Rattle.snap_world.specs.Quota.{quota}
+use Rattle.snap_script.specs.declared.answer.QuotaInfo.{QuotaInfo}
+use Rattle.snap_script.specs.declared.answer.Answer.{Answer}
+use Rattle.snap_script.specs.declared.answer.Answer.TheVariants as answers
+use Rattle.snap_session.specs.Opened.{OpenedValue}
+
+-- a quota as answers have it
+abbrev pub quota_info : Quota → QuotaInfo
+quota_info q = record { limit = q.limit; charged = q.charged; committed = q.committed; active = q.active; spare = q.spare; free = q.free }
+
+-- a name with its quota, if the store has such a namespace
+abbrev pub named_quota : WorldValue → Bytes → Option (Bytes × QuotaInfo)
+named_quota w name = option_map (λ q. (name, quota_info q)) (quota w name)
+
+-- of each of these names
+abbrev pub quotas : WorldValue → List Bytes → List (Bytes × QuotaInfo)
+quotas w names = filter_map (named_quota w) names
+
+-- that of the one namespace, or that there is none
+abbrev pub one_quota : Option (Bytes × QuotaInfo) → Answer
+one_quota (Some found) = answers.Quota (found ∷ [])
+one_quota None = answers.Reply (replies.Refused NoNamespace)
+
+-- those of all namespaces, or of the one that is named
+abbrev pub quota_answer : OpenedValue → Option Bytes → Answer
+quota_answer s None = answers.Quota (quotas s.world s.names)
+quota_answer s (Some name) = one_quota (named_quota s.world name)

@@ -1,0 +1,77 @@
+// What namespaces may take and what they take.
+ghost use Rattle.std.specs.Prelude.{◌≡◌, IfOk};
+ghost use Rattle.snap_session.specs.Quota.{named_quota, one_quota, quota_answer, quota_info, quotas};
+
+use snap_call::Refusal;
+use snap_ledger::StoreName;
+use snap_record::{Sequence, Text};
+use snap_script::{Answer, QuotaInfo};
+use snap_world::{NoMemory, Quota, World};
+use std::alloc::{AllocError, Global};
+
+fn quota_info(quota: Quota) -> QuotaInfo
+    ensures { result ≡ quota_info quota }
+{
+    QuotaInfo {
+        limit: quota.limit,
+        charged: quota.charged,
+        committed: quota.committed,
+        active: quota.active,
+        spare: quota.spare,
+        free: quota.free,
+    }
+}
+
+fn named_quota<N: StoreName>(
+    world: &World<N>,
+    name: &Text,
+) -> Result<Option<(Text, QuotaInfo)>, AllocError>
+    ensures { IfOk result (λ found. found ≡ named_quota world.now name.now) }
+{
+    match world.quota(name.as_str()) {
+        Some(quota) => Ok(Some((name.clone()?, quota_info(quota)))),
+        None => Ok(None),
+    }
+}
+
+fn quotas<N: StoreName>(
+    alloc: Global,
+    world: &World<N>,
+    names: &[Text],
+) -> Result<Sequence<(Text, QuotaInfo)>, AllocError>
+    ensures { IfOk result (λ found. found ≡ quotas world.now names.now) }
+{
+    let mut found = Sequence::new(alloc);
+    for name in names {
+        if let Some(quota) = named_quota(world, name)? {
+            found.push(quota)?;
+        }
+    }
+    Ok(found)
+}
+
+// The one quota, where there is such a namespace.
+fn one_quota(alloc: Global, quota: Option<(Text, QuotaInfo)>) -> Result<Answer, AllocError>
+    ensures { IfOk result (λ answer. answer ≡ one_quota quota) }
+{
+    let Some(quota) = quota else {
+        return Ok(Answer::refused(Refusal::NoNamespace));
+    };
+    let mut found = Sequence::new(alloc);
+    found.push(quota)?;
+    Ok(Answer::Quota(found))
+}
+
+pub(crate) fn quota<N: StoreName>(
+    alloc: Global,
+    world: &World<N>,
+    names: &[Text],
+    namespace: Option<Text>,
+) -> Result<Answer, NoMemory>
+    ensures { IfOk result (λ answer. answer ≡ quota_answer (record { world = world.now; names = names.now }) namespace) }
+{
+    match namespace {
+        None => Ok(Answer::Quota(quotas(alloc, world, names)?)),
+        Some(name) => Ok(one_quota(alloc, named_quota(world, &name)?)?),
+    }
+}
