@@ -50,6 +50,7 @@ impl<N: StoreName> World<N> {
             Err(why) => Err(ReopenFault::Book(why)),
         }
     }
+
     /// Begins the next round as [`World::reopen`] does, and snapshots may be open: they stay in their hands as
     /// they are. It needs no place in the journal of the round that ends.
     ///
