@@ -8,6 +8,13 @@ WIDTH, HEIGHT = 460, 330
 LEFT, RIGHT, TOP, BOTTOM = 58, 34, 30, 44
 KEY_HEIGHT = 18
 COLOURS = ("#1b6ca8", "#c2410c", "#15803d", "#7e22ce", "#a16207", "#be123c", "#0f766e", "#525252")
+# A circle, a square, a diamond and a triangle around a point.
+MARKS = (
+    "m-2.8 0a2.8 2.8 0 1 0 5.6 0a2.8 2.8 0 1 0-5.6 0z",
+    "m-2.6-2.6h5.2v5.2h-5.2z",
+    "m0-3.7l3.7 3.7l-3.7 3.7l-3.7-3.7z",
+    "m0-3.6l3.4 6h-6.8z",
+)
 
 
 @dataclass
@@ -61,7 +68,7 @@ def drawn_axes(panel, axes):
     for x in axes.ticks:
         place = axes.across(x)
         yield f'<path d="M{place:.1f} {TOP}V{HEIGHT - BOTTOM}" stroke="#e5e7eb"/>'
-        yield text_at(place, HEIGHT - BOTTOM + 16, number(x), 'text-anchor="middle"')
+        yield text_at(place, HEIGHT - BOTTOM + 18, number(x), 'text-anchor="middle"')
     for y in axes.levels:
         place = axes.up(y)
         yield f'<path d="M{LEFT} {place:.1f}H{WIDTH - RIGHT}" stroke="#e5e7eb"/>'
@@ -72,29 +79,54 @@ def drawn_axes(panel, axes):
     yield text_at(14, HEIGHT / 2, panel.up, turned)
 
 
-def drawn_line(axes, points, colour, is_plain):
-    path = " ".join(f"{axes.across(x):.1f},{axes.up(y):.1f}" for x, y in points)
+@dataclass
+class Style:
+    colour: str
+    mark: str
+
+
+PROGRAMS = Style("#111", MARKS[0])
+
+
+def drawn_line(points, style, is_plain):
+    """A line through places, with a mark on each: filled ones of the product, open ones of the plain program."""
+    path = " ".join(f"{x:.1f},{y:.1f}" for x, y in points)
     dashes = ' stroke-dasharray="5 4"' if is_plain else ""
-    yield f'<polyline points="{path}" fill="none" stroke="{colour}" stroke-width="1.8"{dashes}/>'
-    for x, y in points:
-        fill = "#fff" if is_plain else colour
-        yield f'<circle cx="{axes.across(x):.1f}" cy="{axes.up(y):.1f}" r="2.6" fill="{fill}" stroke="{colour}"/>'
+    yield f'<polyline points="{path}" fill="none" stroke="{style.colour}" stroke-width="1.8"{dashes}/>'
+    marks = "".join(f"M{x:.1f} {y:.1f}{style.mark}" for x, y in points)
+    yield f'<path d="{marks}" fill="{"#fff" if is_plain else style.colour}" stroke="{style.colour}"/>'
 
 
-def drawn_panel(panel, colours):
+def drawn_panel(panel, styles):
     axes = Axes(panel)
     yield from drawn_axes(panel, axes)
-    for name, (ours, plain) in panel.lines.items():
-        yield from drawn_line(axes, plain, colours[name], True)
-        yield from drawn_line(axes, ours, colours[name], False)
+    for name, both in panel.lines.items():
+        for is_plain, points in ((True, both[1]), (False, both[0])):
+            places = [(axes.across(x), axes.up(y)) for x, y in points]
+            yield from drawn_line(places, styles[name], is_plain)
+
+
+def drawn_key(styles, top, columns):
+    """The names in so many columns, and what both kinds of lines are."""
+    rows = math.ceil(len(styles) / columns)
+    entries = [(place // rows, place % rows, name, style, False) for place, (name, style) in enumerate(styles.items())]
+    entries.append((0, rows + 0.5, "the product", PROGRAMS, False))
+    entries.append((0, rows + 1.5, "the plain program", PROGRAMS, True))
+    for column, row, text, style, is_plain in entries:
+        x, y = LEFT + column * WIDTH, top + row * KEY_HEIGHT
+        yield from drawn_line([(x, y), (x + 15, y), (x + 30, y)], style, is_plain)
+        yield text_at(x + 40, y + 4, text)
+    yield text_at(LEFT, top + (rows + 2.5) * KEY_HEIGHT + 4, "Times are of the processor. The axes are logarithmic.")
 
 
 def picture(panels, columns=2):
     """The panels in rows of so many, with a key below them."""
     names = list(dict.fromkeys(name for panel in panels for name in panel.lines))
-    colours = dict(zip(names, itertools.cycle(COLOURS)))
+    styles = {name: Style(*each) for name, each in zip(names, zip(itertools.cycle(COLOURS), itertools.cycle(MARKS)))}
+    columns = min(columns, len(panels))
     rows = math.ceil(len(panels) / columns)
-    width, height = WIDTH * min(columns, len(panels)), HEIGHT * rows + KEY_HEIGHT * (len(names) + 2) + 12
+    key = KEY_HEIGHT * (math.ceil(len(names) / columns) + 4)
+    width, height = WIDTH * columns, HEIGHT * rows + key
     parts = [
         f'<svg xmlns="http://www.w3.org/2000/svg" viewBox="0 0 {width} {height}" width="{width}" height="{height}" '
         'font-family="sans-serif" font-size="12" fill="#111">',
@@ -102,13 +134,5 @@ def picture(panels, columns=2):
     ]
     for place, panel in enumerate(panels):
         x, y = place % columns * WIDTH, place // columns * HEIGHT
-        parts += [f'<g transform="translate({x} {y})">', *drawn_panel(panel, colours), "</g>"]
-    y = HEIGHT * rows + 14
-    for name in names:
-        parts.append(f'<path d="M{LEFT} {y - 4}h30" stroke="{colours[name]}" stroke-width="3"/>')
-        parts.append(text_at(LEFT + 40, y, name))
-        y += KEY_HEIGHT
-    for text in ("Filled points: the product. Dashed lines: the plain program.", "Times are of the processor."):
-        parts.append(text_at(LEFT, y, text))
-        y += KEY_HEIGHT
-    return "\n".join([*parts, "</svg>", ""])
+        parts += [f'<g transform="translate({x} {y})">', *drawn_panel(panel, styles), "</g>"]
+    return "\n".join([*parts, *drawn_key(styles, HEIGHT * rows + 14, columns), "</svg>", ""])
