@@ -22,6 +22,12 @@ def crates():
     return found
 
 
+def is_static(name):
+    """Whether a crate is a static library."""
+    with open(f"{TOP}/crates.txt", encoding="utf-8") as lines:
+        return any(line.split()[:2] == [name, "staticlib:"] for line in lines)
+
+
 def all_below(table, name, found=None):
     """The crates of the repository that a crate reaches."""
     found = [] if found is None else found
@@ -56,5 +62,6 @@ def check_words(table, name, kit_folder):
         words += ["--extern", f"{it}={where}"]
     for it in all_below(table, name):
         words += ["-L", f"dependency={built(it)}"]
+    words += ["--crate-type", "staticlib"] * is_static(name)
     words += ["--antt-project", f"{kit_folder}/rattle/logic/antt-project.json"]
     return [*words, "--logic-built", f"{kit_folder}/logic_built", "--links", f"{name}="]
