@@ -168,6 +168,31 @@ func (c *Content) UnmarshalJSON(text []byte) error {
 	return nil
 }
 
+// Part is a part of the bytes of a file.
+type Part struct {
+	// Bytes are those from the offset on, and none of a file whose bytes aren't kept.
+	Bytes Bytes
+	// Size is the file's, in bytes.
+	Size uint64
+	// Sized says that the file's bytes aren't kept. Digest is then what its content is known by, or empty.
+	Sized  bool
+	Digest string
+}
+
+// UnmarshalJSON takes what `read` answers where it is asked for a part.
+func (p *Part) UnmarshalJSON(text []byte) error {
+	var read struct {
+		Bytes  Bytes
+		Size   uint64
+		Digest digest
+	}
+	if err := json.Unmarshal(text, &read); err != nil {
+		return err
+	}
+	*p = Part{read.Bytes, read.Size, read.Digest.told, read.Digest.text}
+	return nil
+}
+
 // A digest is told of a file whose bytes aren't kept, as a text or null.
 type digest struct {
 	told bool
@@ -228,6 +253,8 @@ type Entry struct {
 	ID uint64 `json:"id"`
 	// Refused is the refusal's name, or empty.
 	Refused Reason `json:"refused"`
+	// Line is the line of a script that makes its call, where the journal is asked for in full, or empty.
+	Line string `json:"line"`
 }
 
 // Report is the whole store.

@@ -317,6 +317,19 @@ func (s *Store) Read(ctx context.Context, namespace, key, path string) (Content,
 	return answer, err
 }
 
+// ReadPart tells the bytes of a file from an offset on, at most max of them, or all where it is 0, and its size; of one
+// whose bytes aren't kept its size and its digest.
+func (s *Store) ReadPart(ctx context.Context, namespace, key, path string, offset, max uint64) (Part, error) {
+	var answer Part
+	given := file(namespace, key, path)
+	given["offset"] = offset
+	if max != 0 {
+		given["max"] = max
+	}
+	err := s.call(ctx, "read", given, nil, &answer)
+	return answer, err
+}
+
 // Resolve tells where a path leads, its symlinks followed.
 func (s *Store) Resolve(ctx context.Context, namespace, key, path string) (string, error) {
 	var answer struct{ Path string }
@@ -349,8 +362,16 @@ func (s *Store) Tree(ctx context.Context, namespace string) ([]Node, error) {
 // Journal tells a page of the entries of a namespace, in order: those after a number, and of these the first max,
 // 1 to 64, or 64 where it is 0.
 func (s *Store) Journal(ctx context.Context, namespace string, after uint64, max int) ([]Entry, error) {
+	return s.journal(ctx, fields{"ns": namespace, "after": after}, max)
+}
+
+// FullJournal tells the same with the lines that make the calls of the entries.
+func (s *Store) FullJournal(ctx context.Context, namespace string, after uint64, max int) ([]Entry, error) {
+	return s.journal(ctx, fields{"ns": namespace, "after": after, "full": true}, max)
+}
+
+func (s *Store) journal(ctx context.Context, given fields, max int) ([]Entry, error) {
 	var answer struct{ Journal []Entry }
-	given := fields{"ns": namespace, "after": after}
 	if max != 0 {
 		given["max"] = max
 	}

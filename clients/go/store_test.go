@@ -128,6 +128,10 @@ func TestFiles(t *testing.T) {
 	equal(t, must[[]string](t)(store.List(ctx, "a", "k", "/")), []string{"d", "s"})
 	head := append([]byte{0, 0, 'h', 'i'}, make([]byte, 12)...)
 	equal(t, must[Content](t)(store.Read(ctx, "a", "k", "/d/f")), Content{Head: head, Size: 5000})
+	part := must[Part](t)
+	equal(t, part(store.ReadPart(ctx, "a", "k", "/d/f", 2, 3)), Part{Bytes: []byte{'h', 'i', 0}, Size: 5000})
+	equal(t, part(store.ReadPart(ctx, "a", "k", "/d/f", 4999, 0)), Part{Bytes: []byte{0}, Size: 5000})
+	equal(t, part(store.ReadPart(ctx, "a", "k", "/d/f", 5001, 1)), Part{Bytes: []byte{}, Size: 5000})
 	equal(t, must[string](t)(store.Resolve(ctx, "a", "k", "/s")), "/d/f")
 	equal(t, must[Usage](t)(store.Trim(ctx, "a", "k")), Usage{4, 4})
 	equal(t, must[Usage](t)(store.Charge(ctx, "a", "k", Usage{10, 10})), Usage{10, 10})
@@ -143,6 +147,7 @@ func TestFilesOfASize(t *testing.T) {
 	equal(t, put, Changed{Usage{3, 2}, Usage{3, 2}})
 	equal(t, must[Seen](t)(store.Look(ctx, "a", "k", "/f")), Seen{Type: File, Mode: 0o755, Size: 5000, Sized: true, Digest: digest})
 	equal(t, must[Content](t)(store.Read(ctx, "a", "k", "/f")), Content{Size: 5000, Sized: true, Digest: digest})
+	equal(t, must[Part](t)(store.ReadPart(ctx, "a", "k", "/f", 1, 2)), Part{Size: 5000, Sized: true, Digest: digest})
 	must[Changed](t)(store.WriteText(ctx, "a", "k", "/f", 8192, "x"))
 	equal(t, must[Content](t)(store.Read(ctx, "a", "k", "/f")), Content{Size: 8193, Sized: true})
 	_, tooBig := store.Put(ctx, "a", "k", "/g", 1<<40+1)
@@ -201,9 +206,12 @@ func TestSnapshots(t *testing.T) {
 		{"v", "base", KindView, 2, Usage{}, 0},
 	})
 	equal(t, must[[]Entry](t)(store.Journal(ctx, "a", 6, 3)), []Entry{
-		{7, 0, "commit", Usage{1, 1}, "base", 1, ""},
-		{8, 0, "view", Usage{1, 1}, "v", 2, ""},
-		{9, 0, "prepare", Usage{2, 2}, "k2", 3, ""},
+		{7, 0, "commit", Usage{1, 1}, "base", 1, "", ""},
+		{8, 0, "view", Usage{1, 1}, "v", 2, "", ""},
+		{9, 0, "prepare", Usage{2, 2}, "k2", 3, "", ""},
+	})
+	equal(t, must[[]Entry](t)(store.FullJournal(ctx, "a", 9, 1)), []Entry{
+		{10, 0, "discard", Usage{1, 1}, "", 3, "", `{"do":"discard","key":"k2","ns":"a","s":0}`},
 	})
 	equal(t, must[Usage](t)(store.Remove(ctx, "a", "v")), Usage{}) // 19
 	granted(t, store.LeaseRelease(ctx, "a", "lease"))

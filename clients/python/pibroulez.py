@@ -168,6 +168,14 @@ class Content:
 
 
 @dataclass(frozen=True)
+class Part:
+    """A part of the bytes of a file, and the file's size in bytes."""
+
+    data: bytes
+    size: int
+
+
+@dataclass(frozen=True)
 class SizedContent:
     """The size in bytes of a file whose bytes aren't kept, and the digest by which its content is known, or None."""
 
@@ -205,7 +213,10 @@ class Node:
 
 @dataclass(frozen=True)
 class Entry:
-    """An entry of the journal, and what its namespace is charged after it. A refused call has the refusal's name."""
+    """An entry of the journal, and what its namespace is charged after it. A refused call has the refusal's name.
+
+    `line` is the line of a script that makes its call, where the journal is asked for in full.
+    """
 
     number: int
     session: int
@@ -214,6 +225,7 @@ class Entry:
     key: str | None = None
     id: int | None = None
     refused: str | None = None
+    line: str | None = None
 
 
 @dataclass(frozen=True)
@@ -1034,6 +1046,16 @@ class Store:
             return SizedContent(answer["size"], answer["digest"])
         return Content(bytes.fromhex(answer["head"]), answer["size"])
 
+    def read_part(
+        self, namespace: str, key: str, path: str, offset: int = 0, max: int | None = None
+    ) -> Part | SizedContent:
+        """The bytes of a file from an offset on, at most so many, or all, and its size; of one whose bytes aren't kept
+        its size and its digest."""
+        answer = self._call("read", ns=namespace, key=key, path=path, offset=offset, max=max)
+        if "digest" in answer:
+            return SizedContent(answer["size"], answer["digest"])
+        return Part(bytes.fromhex(answer["bytes"]), answer["size"])
+
     def resolve(self, namespace: str, key: str, path: str) -> str:
         """Where a path leads, its symlinks followed."""
         found: str = self._call("resolve", ns=namespace, key=key, path=path)["path"]
@@ -1058,10 +1080,12 @@ class Store:
         nodes = self._call("tree", ns=namespace)["tree"]
         return tuple(_of_kind(Node, {**it, "usage": Usage(*it["usage"])}) for it in nodes)
 
-    def journal(self, namespace: str, after: int | None = None, max: int | None = None) -> tuple[Entry, ...]:
-        """A page of the entries of a namespace, in order, from the number `after` on."""
+    def journal(
+        self, namespace: str, after: int | None = None, max: int | None = None, full: bool = False
+    ) -> tuple[Entry, ...]:
+        """A page of the entries of a namespace, in order, from the number `after` on, in full with their lines."""
         entries: Sequence[dict[str, Any]]
-        entries = self._call("journal", ns=namespace, after=after, max=max)["journal"]
+        entries = self._call("journal", ns=namespace, after=after, max=max, full=full or None)["journal"]
         return tuple(Entry(charge=Usage(*it.pop("charge")), **it) for it in entries)
 
     def report(self) -> Report:

@@ -38,6 +38,7 @@ from pibroulez import (
     Kind,
     Mount,
     Node,
+    Part,
     Prepared,
     Quota,
     Refused,
@@ -124,6 +125,10 @@ class Commands(unittest.TestCase):
         self.assertIsNone(store.look("a", "k", "/e"))
         self.assertEqual(store.list("a", "k", "/"), ("d", "s"))
         self.assertEqual(store.read("a", "k", "/d/f"), Content(b"hi" + bytes(14), 5000))
+        self.assertEqual(store.read_part("a", "k", "/d/f"), Part(b"hi" + bytes(4998), 5000))
+        self.assertEqual(store.read_part("a", "k", "/d/f", 1, max=2), Part(b"i\0", 5000))
+        self.assertEqual(store.read_part("a", "k", "/d/f", 4999), Part(b"\0", 5000))
+        self.assertEqual(store.read_part("a", "k", "/d/f", 5001), Part(b"", 5000))
         self.assertEqual(store.resolve("a", "k", "/s"), "/d/f")
 
     def test_files_of_a_size(self) -> None:
@@ -134,12 +139,38 @@ class Commands(unittest.TestCase):
             self.assertEqual(put, Changed(Usage(3, 2), Usage(3, 2)))
             self.assertEqual(store.look("a", "k", "/f"), SizedFile(0o755, 5000, digest))
             self.assertEqual(store.read("a", "k", "/f"), SizedContent(5000, digest))
+            self.assertEqual(store.read_part("a", "k", "/f", 1, 2), SizedContent(5000, digest))
             store.write("a", "k", "/f", "x", offset=8192)
             self.assertEqual(store.look("a", "k", "/f"), SizedFile(0o755, 8193, None))
             store.put("a", "k", "/g", 0)
             self.assertEqual(store.read("a", "k", "/g"), SizedContent(0, None))
             with self.assertRaises(pibroulez.TooBig):
                 store.put("a", "k", "/h", (1 << 40) + 1)
+
+    def test_lines_of_a_journal(self) -> None:
+        """A store that is given the lines of another one's journal comes to have the same journal."""
+        with open_store() as store, open_store() as other:
+            store.prepare("a", "k", "", labels={"x": "1"})
+            store.charge("a", "k", (2, 3), (4, 5))
+            store.lease_create("a", "lease", until=5)
+            with self.assertRaises(pibroulez.NoLease):
+                store.commit("a", "k", "base", lease="none")
+            store.commit("a", "k", "base", lease="lease")
+            store.view("a", "v", "base")
+            store.update("a", "v", {"y": "2"}, ["labels.y"])
+            store.walk("a", "a", 2, parent="base", kind=Kind.VIEW, labels={"y": None, "x": "1"})
+            store.prepare("a", "k2", "base")
+            store.trim("a", "k2")
+            store.discard("a", "k2")
+            store.limit("a", 50, 60)
+            store.remove("a", "v")
+            store.sweep("a", 6)
+            lines = [entry.line or "" for entry in store.journal("a", full=True)]
+            self.assertEqual(len(lines), 14)
+            for line in lines:
+                with contextlib.suppress(pibroulez.NoLease):
+                    other.request(json.loads(line))
+            self.assertEqual(other.journal("a", full=True), store.journal("a", full=True))
 
     def test_what_layers_below_have(self) -> None:
         with open_store() as store:
@@ -204,6 +235,9 @@ class Commands(unittest.TestCase):
                 Entry(19, 0, "prepare", Usage(5, 5), "k2", 3),
             ),
         )
+        (view,) = store.journal("a", after=17, max=1, full=True)
+        line = '{"do":"view","key":"v","labels":{"z":""},"ns":"a","parent":"base","s":0}'
+        self.assertEqual(view, Entry(18, 0, "view", Usage(4, 4), "v", 2, line=line))
         self.assertEqual(store.remove("a", "v"), Usage(0, 0))
         store.lease_release("a", "lease")
         store.limit("a", 50, 50)

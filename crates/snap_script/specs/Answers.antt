@@ -19,13 +19,13 @@ use Rattle.snap_call.specs.declared.refusal.Refusal.TheVariants as refusals
 use Rattle.snap_call.specs.declared.reply.Reply.{Reply}
 use Rattle.snap_call.specs.declared.reply.Reply.TheVariants as replies
 use Rattle.snap_history.specs.Entries.{call_word}
-use Rattle.snap_history.specs.declared.info.EntryInfo.{EntryInfo}
 use Rattle.snap_merge.specs.declared.error.FsError.{FsError}
 use Rattle.snap_merge.specs.declared.error.FsError.TheVariants as errors
 use Rattle.snap_script.specs.declared.answer.Shown.{Shown}
 use Rattle.snap_script.specs.declared.answer.Shown.TheVariants as shown
 use Rattle.snap_script.specs.declared.answer.QuotaInfo.{QuotaInfo}
 use Rattle.snap_script.specs.declared.answer.TreeNode.{TreeNode}
+use Rattle.snap_script.specs.declared.answer.JournalEntry.{JournalEntry}
 use Rattle.snap_script.specs.declared.answer.Answer.{Answer}
 use Rattle.snap_script.specs.declared.answer.Answer.TheVariants as answers
 
@@ -152,16 +152,17 @@ quota_data quota = object
 abbrev pub maybe : List ℕ → Option Data → Members → Members
 maybe key value rest = option_map_or (λ it. member key it rest) value rest
 
--- an entry of a namespace, with the word of its call: without an id, a key or a refusal where it has none
-abbrev pub entry_data : EntryInfo → Data
-entry_data entry = object
-    (member (codes "call") (string (call_word entry.call))
-    (member (codes "charge") (usage_data entry.charge)
-    (maybe (codes "id") (option_map number_data entry.id)
-    (maybe (codes "key") (option_map string entry.key)
-    (member (codes "number") (number_data entry.number)
-    (maybe (codes "refused") (option_map (λ why. string (refusal_name why)) entry.refused)
-    (only (codes "session") (number_data entry.session))))))))
+-- an entry of a namespace, with the word of its call: without an id, a key or a refusal where it has none, and with a line where that is told
+abbrev pub entry_data : JournalEntry → Data
+entry_data told = object
+    (member (codes "call") (string (call_word told.entry.call))
+    (member (codes "charge") (usage_data told.entry.charge)
+    (maybe (codes "id") (option_map number_data told.entry.id)
+    (maybe (codes "key") (option_map string told.entry.key)
+    (maybe (codes "line") (option_map string told.line)
+    (member (codes "number") (number_data told.entry.number)
+    (maybe (codes "refused") (option_map (λ why. string (refusal_name why)) told.entry.refused)
+    (only (codes "session") (number_data told.entry.session)))))))))
 
 -- nothing is to be told but that it was done
 abbrev pub ok_data : Data
@@ -194,7 +195,7 @@ reply_data (replies.Refused (refusals.OverLimit free_blocks free_inodes)) = obje
     (only (codes "from") (string (codes "book")))))
 reply_data (replies.Refused refusal) = error_data (refusal_name refusal) (codes "book")
 
--- an answer: a reply has its own data, and the first bytes of a file are in lower hexadecimal
+-- an answer: a reply has its own data, and the bytes of a file are in lower hexadecimal
 abbrev pub answer_data : Answer → Data
 answer_data (answers.Reply reply) = reply_data reply
 answer_data (answers.Session session) = object (only (codes "session") (number_data session))
@@ -203,6 +204,7 @@ answer_data (answers.Changed count share) = object (member (codes "count") (usag
 answer_data (answers.Seen seen) = object (only (codes "seen") (shown_data seen))
 answer_data (answers.Names names) = object (only (codes "names") (array (items_of (map string names))))
 answer_data (answers.Head head size) = object (member (codes "head") (string (encode_lower head)) (only (codes "size") (number_data size)))
+answer_data (answers.Part bytes size) = object (member (codes "bytes") (string (encode_lower bytes)) (only (codes "size") (number_data size)))
 answer_data (answers.Known size digest) = object (member (codes "digest") (digest_data digest) (only (codes "size") (number_data size)))
 answer_data (answers.Path path) = object (only (codes "path") (string (text_of path)))
 answer_data (answers.Quota quotas) = object (only (codes "quota") (object (members_with quota_data quotas no_members)))

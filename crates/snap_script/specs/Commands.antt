@@ -1,7 +1,7 @@
 -- The commands of a script; cited by the public clause of `read_line` through Lines.antt. The fields of a command are
 -- tested in the order in which they stand.
 -- Cited by `read_open`, `read_line`, `named` and others.
-use Rattle.std.specs.Prelude.{ℕ, [], Bool, true, false, Result, Ok}
+use Rattle.std.specs.Prelude.{ℕ, [], Bool, true, false, Option, Some, None, Result, Ok}
 use Rattle.serde_json.specs.Data.{Data}
 use Rattle.serde_json.specs.Find.{as_bool, as_str}
 use Rattle.snap_usage.specs.declared.usage.Usage.{Usage}
@@ -15,8 +15,12 @@ use Rattle.snap_script.specs.declared.fault.Field.TheVariants as fields
 use Rattle.snap_script.specs.declared.fault.Fault.{Fault}
 use Rattle.snap_script.specs.declared.command.Command.{Command}
 use Rattle.snap_script.specs.declared.command.Command.TheVariants as commands
+use Rattle.snap_script.specs.declared.command.Lookup.{Lookup}
+use Rattle.snap_script.specs.declared.command.Lookup.TheVariants as lookups
 use Rattle.snap_script.specs.declared.verb.Verb.{Verb}
 use Rattle.snap_script.specs.declared.verb.Verb.TheVariants as verbs
+use Rattle.snap_script.specs.declared.verb.LookupVerb.{LookupVerb}
+use Rattle.snap_script.specs.declared.verb.LookupVerb.TheVariants as lookup_verbs
 use Rattle.snap_script.specs.Fields.{text, required, optional, given, as_natural, as_usage, as_texts, as_kind, as_labels, as_label_filters, as_namespaces}
 use Rattle.snap_script.specs.Operations.{path_in, file_operation}
 use Rattle.snap_script.specs.Results.{◌>>=◌}
@@ -77,6 +81,20 @@ call_of kinds.LeaseAdd line = do Ok (commands.Call (calls.LeaseAdd (← text fie
 call_of kinds.LeaseRelease line = do Ok (commands.Call (calls.LeaseRelease (← text fields.Namespace line) (← text fields.Lease line)))
 call_of kinds.Sweep line = do Ok (sweep_of (← text fields.Namespace line) (← required as_natural fields.Moment line) (← optional as_bool fields.Try (Ok false) line))
 
+-- what a read asks for: without an offset and a number of bytes the first ones, else a part, which begins at the first byte where no offset is named and has as many bytes as a file may have where no number is
+abbrev pub read_asked : Option ℕ → Option ℕ → Lookup
+read_asked None None = lookups.Read
+read_asked (Some offset) None = lookups.Part offset 1048576
+read_asked None (Some most) = lookups.Part 0 most
+read_asked (Some offset) (Some most) = lookups.Part offset most
+
+-- what a line asks of a path
+unfoldable pub lookup_of : LookupVerb → Data → Result Lookup Fault
+lookup_of lookup_verbs.Look line = Ok lookups.Look
+lookup_of lookup_verbs.List line = Ok lookups.List
+lookup_of lookup_verbs.Read line = do Ok (read_asked (← given as_natural fields.Offset line) (← given as_natural fields.Most line))
+lookup_of lookup_verbs.Resolve line = Ok lookups.Resolve
+
 -- the command of a line by its verb; a file command and a lookup are on a snapshot s
 unfoldable pub command_of : Verb → Data → Result Command Fault
 command_of verbs.Open line = do Ok (commands.Open (← config_of line))
@@ -84,8 +102,8 @@ command_of verbs.Reopen line = do Ok (commands.Reopen (← optional as_natural f
 command_of verbs.Roll line = do Ok (commands.Roll (← optional as_natural fields.Journal (Ok 1048576) line))
 command_of (verbs.Call kind) line = call_of kind line
 command_of (verbs.File verb) line = do s ← named line; Ok (commands.File s.0 s.1 (← file_operation verb line) (← optional as_usage fields.Extra (Ok (record { blocks = 0; inodes = 0 })) line))
-command_of (verbs.Lookup asked) line = do s ← named line; Ok (commands.Lookup s.0 s.1 asked (← path_in fields.Path line))
+command_of (verbs.Lookup verb) line = do s ← named line; path ← path_in fields.Path line; Ok (commands.Lookup s.0 s.1 (← lookup_of verb line) path)
 command_of verbs.Quota line = do Ok (commands.Quota (← given as_str fields.Namespace line))
 command_of verbs.Tree line = do Ok (commands.Tree (← text fields.Namespace line))
-command_of verbs.Journal line = do Ok (commands.Journal (← text fields.Namespace line) (← optional as_natural fields.After (Ok 0) line) (← optional as_natural fields.Most (Ok 64) line))
+command_of verbs.Journal line = do Ok (commands.Journal (← text fields.Namespace line) (← optional as_natural fields.After (Ok 0) line) (← optional as_natural fields.Most (Ok 64) line) (← optional as_bool fields.Full (Ok false) line))
 command_of verbs.Report line = Ok commands.Report

@@ -17,6 +17,7 @@ use Rattle.snap_script.specs.declared.verb.Verb.{Verb}
 use Rattle.snap_script.specs.declared.verb.Verb.TheVariants as verbs
 use Rattle.snap_script.specs.declared.verb.FileVerb.TheVariants as file_verbs
 use Rattle.snap_script.specs.declared.verb.PathVerb.TheVariants as path_verbs
+use Rattle.snap_script.specs.declared.verb.LookupVerb.TheVariants as lookup_verbs
 use Rattle.snap_script.specs.Faults.{field_name}
 
 -- the fields that each command has, with and without a default
@@ -55,10 +56,13 @@ fields_of (verbs.File (file_verbs.At path_verbs.Opaque)) = fields.Namespace ∷ 
 fields_of (verbs.File (file_verbs.At path_verbs.Whiteout)) = fields.Namespace ∷ fields.Key ∷ fields.Path ∷ fields.Extra ∷ []
 fields_of (verbs.File file_verbs.Link) = fields.Namespace ∷ fields.Key ∷ fields.From ∷ fields.To ∷ fields.Extra ∷ []
 fields_of (verbs.File file_verbs.Rename) = fields.Namespace ∷ fields.Key ∷ fields.From ∷ fields.To ∷ fields.Extra ∷ []
-fields_of (verbs.Lookup asked) = fields.Namespace ∷ fields.Key ∷ fields.Path ∷ []
+fields_of (verbs.Lookup lookup_verbs.Look) = fields.Namespace ∷ fields.Key ∷ fields.Path ∷ []
+fields_of (verbs.Lookup lookup_verbs.List) = fields.Namespace ∷ fields.Key ∷ fields.Path ∷ []
+fields_of (verbs.Lookup lookup_verbs.Read) = fields.Namespace ∷ fields.Key ∷ fields.Path ∷ fields.Offset ∷ fields.Most ∷ []
+fields_of (verbs.Lookup lookup_verbs.Resolve) = fields.Namespace ∷ fields.Key ∷ fields.Path ∷ []
 fields_of verbs.Quota = fields.Namespace ∷ []
 fields_of verbs.Tree = fields.Namespace ∷ []
-fields_of verbs.Journal = fields.Namespace ∷ fields.After ∷ fields.Most ∷ []
+fields_of verbs.Journal = fields.Namespace ∷ fields.After ∷ fields.Most ∷ fields.Full ∷ []
 fields_of verbs.Report = []
 
 -- the fields that a line may have with any command, where it may not have just any: the command's word, the session, and a client's id of the line

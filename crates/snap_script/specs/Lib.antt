@@ -8,6 +8,7 @@ pub mod Known
 pub mod Lines
 pub mod Gives
 pub mod Answers
+pub mod Calls
 pub mod Refusals
 pub mod Written
 pub mod Requests

@@ -8,11 +8,11 @@ use Rattle.std.specs.Str.{bytes_eq}
 use Rattle.snap_history.specs.declared.kind.CallKind.{CallKind}
 use Rattle.snap_history.specs.declared.kind.CallKind.TheVariants as kinds
 use Rattle.snap_history.specs.Entries.{call_word}
-use Rattle.snap_script.specs.declared.command.Lookup.TheVariants as lookups
 use Rattle.snap_script.specs.declared.verb.Verb.{Verb}
 use Rattle.snap_script.specs.declared.verb.Verb.TheVariants as verbs
 use Rattle.snap_script.specs.declared.verb.FileVerb.TheVariants as file_verbs
 use Rattle.snap_script.specs.declared.verb.PathVerb.TheVariants as path_verbs
+use Rattle.snap_script.specs.declared.verb.LookupVerb.TheVariants as lookup_verbs
 
 -- the calls that are commands
 abbrev pub calls : List CallKind
@@ -45,10 +45,10 @@ words =
     ∷ (codes "whiteout", verbs.File (file_verbs.At path_verbs.Whiteout))
     ∷ (codes "link", verbs.File file_verbs.Link)
     ∷ (codes "rename", verbs.File file_verbs.Rename)
-    ∷ (codes "look", verbs.Lookup lookups.Look)
-    ∷ (codes "list", verbs.Lookup lookups.List)
-    ∷ (codes "read", verbs.Lookup lookups.Read)
-    ∷ (codes "resolve", verbs.Lookup lookups.Resolve)
+    ∷ (codes "look", verbs.Lookup lookup_verbs.Look)
+    ∷ (codes "list", verbs.Lookup lookup_verbs.List)
+    ∷ (codes "read", verbs.Lookup lookup_verbs.Read)
+    ∷ (codes "resolve", verbs.Lookup lookup_verbs.Resolve)
     ∷ (codes "quota", verbs.Quota)
     ∷ (codes "tree", verbs.Tree)
     ∷ (codes "journal", verbs.Journal)

@@ -114,6 +114,13 @@ impl ToJson for QuotaInfo {
     }
 }
 
+/// An entry of a namespace, and the line of a script that makes its call, where that is asked for.
+#[derive(Drop)]
+pub struct JournalEntry {
+    pub entry: EntryInfo,
+    pub line: Option<Text>,
+}
+
 /// What a line of a script is answered, and the lines of a script of jobs together.
 pub enum Answer {
     /// What the store replies to a call, each reply with members of its own:
@@ -155,6 +162,11 @@ pub enum Answer {
         head: Bytes,
         size: u64,
     },
+    /// A part of a file's bytes, in lower hexadecimal, and how many the file has: `{"bytes":"69","size":2}`.
+    Part {
+        bytes: Bytes,
+        size: u64,
+    },
     /// The size of a file whose bytes aren't kept, and its digest or null: `{"digest":"sha256:ab","size":5000000}`.
     Known {
         size: u64,
@@ -170,8 +182,9 @@ pub enum Answer {
     Tree(Sequence<TreeNode>),
     /// The round's entries of a namespace, each with what the namespace is charged after it:
     /// `{"journal":[{"call":"prepare","charge":[1,1],"id":1,"key":"k","number":2,"session":0}]}`, where it was
-    /// refused with the refusal's name, `"refused":"NotFound"`.
-    Journal(Sequence<EntryInfo>),
+    /// refused with the refusal's name, `"refused":"NotFound"`, and where all is asked for with the line that
+    /// makes its call, `"line":"{\"do\":\"prepare\",\"key\":\"k\",\"labels\":{},\"ns\":\"a\",\"parent\":\"\",\"s\":0}"`.
+    Journal(Sequence<JournalEntry>),
     /// The journal's entries, the open snapshots, the records, and the total of each namespace:
     /// `{"entries":8,"open":0,"records":1,"totals":{"a":[4,3]}}`.
     Report {
@@ -208,6 +221,7 @@ impl Drop for Answer {
             Answer::Seen(_) => {}
             Answer::Names(_) => {}
             Answer::Head { head: _, size: _ } => {}
+            Answer::Part { bytes: _, size: _ } => {}
             Answer::Known { size: _, digest: _ } => {}
             Answer::Path(_) => {}
             Answer::Quota(_) => {}
@@ -269,6 +283,10 @@ impl ToJson for Answer {
             Answer::Head { head, size } => {
                 let head = hex::encode(alloc, head.as_slice())?;
                 pair(alloc, out, "head", &head.as_str(), "size", size)
+            }
+            Answer::Part { bytes, size } => {
+                let bytes = hex::encode(alloc, bytes.as_slice())?;
+                pair(alloc, out, "bytes", &bytes.as_str(), "size", size)
             }
             Answer::Known { size, digest } => { pair(alloc, out, "digest", digest, "size", size) }
             Answer::Path(own) => only(alloc, out, "path", &own.as_str()),

@@ -86,11 +86,13 @@ pub enum Command {
     Tree {
         namespace: Text,
     },
-    /// Asks for the round's entries of a namespace, after the entry of a number, at most so many.
+    /// Asks for the round's entries of a namespace, after the entry of a number, at most so many, and in full also
+    /// for the lines that make their calls.
     Journal {
         namespace: Text,
         after: u64,
         most: u64,
+        full: bool,
     },
     /// Asks for the store's totals.
     Report,
@@ -103,8 +105,10 @@ pub enum Lookup {
     Look,
     /// The names in the directory.
     List,
-    /// The bytes of the regular file.
+    /// The first bytes of the regular file.
     Read,
+    /// The bytes of the regular file from an offset on, at most so many.
+    Part { offset: u64, most: u64 },
     /// The path that it leads to, once the symlinks in it are followed.
     Resolve,
 }

@@ -31,7 +31,7 @@ pub enum Field {
     Paths,
     /// The key after which a walk begins, or the number of the entry after which those of a journal begin.
     After,
-    /// `max`, the most snapshots that a walk gives, or entries of a journal.
+    /// `max`, the most snapshots that a walk gives, entries of a journal, or bytes of a part of a file.
     Most,
     Kind,
     Need,
@@ -46,6 +46,8 @@ pub enum Field {
     Try,
     /// Whether a usage is that of a snapshot with its ancestors.
     Chain,
+    /// Whether a journal tells the lines that make the calls.
+    Full,
     Blocks,
     Inodes,
     Path,
@@ -135,6 +137,7 @@ impl Field {
             Field::Moment => "now",
             Field::Try => "try",
             Field::Chain => "chain",
+            Field::Full => "full",
             Field::Blocks => "blocks",
             Field::Inodes => "inodes",
             Field::Path => "path",

@@ -5,10 +5,12 @@
 //! operations in `specs/Operations.antt`, the kinds of their fields in `specs/Fields.antt`, and which fields a line may
 //! have, where unknown ones are faults, in `specs/Known.antt`. The line of an
 //! answer is `answer_line` in `specs/Answers.antt`. Where a client may give a line an id, this is `id_of` in
-//! `specs/Requests.antt`, and the line of a response `response_line` in `specs/Responses.antt`.
+//! `specs/Requests.antt`, and the line of a response `response_line` in `specs/Responses.antt`. The line that makes a
+//! call which an entry of a journal has is `call_line` in `specs/Calls.antt`.
 #![tactic(auto)]
 
 mod answer;
+mod calls;
 mod command;
 mod fault;
 pub mod fields;
@@ -23,7 +25,8 @@ mod unknown;
 mod values;
 mod verb;
 
-pub use answer::{Answer, QuotaInfo, Shown, TreeNode};
+pub use answer::{Answer, JournalEntry, QuotaInfo, Shown, TreeNode};
+pub use calls::call_line;
 pub use command::{Command, Lookup, names_of};
 pub use fault::{Fault, Field, ReadError, Shortage};
 pub use line::{Line, MAX_LINE_BYTES, is_empty, read_line, read_object, read_open};

@@ -1,22 +1,24 @@
 // The commands of lines, read from their values.
+ghost use Rattle.std.specs.Prelude.{◌≡◌};
 ghost use Rattle.snap_json.specs.View.{view};
 ghost use Rattle.snap_history.specs.declared.kind.CallKind.TheVariants as kinds;
-ghost use Rattle.snap_script.specs.Commands.{named, config_of, filter_of, call_of, command_of};
+ghost use Rattle.snap_script.specs.Commands.{named, config_of, filter_of, call_of, read_asked, lookup_of, command_of};
 ghost use Rattle.snap_script.specs.Gives.{Gives};
 
-use crate::command::Command;
-use crate::fault::{Field, ReadError};
+use crate::command::{Command, Lookup};
+use crate::fault::{Fault, Field, ReadError};
 use crate::fields::{
     is_true, label_filters, labels, namespaces, number_or, optional_kind, optional_number,
     optional_text, paths, required_labels, required_number, required_usage, text, text_or_empty,
     usage_or,
 };
 use crate::operation::{file_operation, path_in};
-use crate::verb::Verb;
+use crate::verb::{LookupVerb, Verb};
 use snap_call::limits::MAX_JOURNAL;
 use snap_call::{Call, Config};
 use snap_history::CallKind;
 use snap_json::Value;
+use snap_path::limits::MAX_FILE_BYTES;
 use snap_record::{Filter, Text};
 use snap_usage::Usage;
 use std::alloc::Global;
@@ -251,6 +253,38 @@ fn call_of(alloc: Global, kind: CallKind, line: &Value<'_>) -> Result<Command, R
     }
 }
 
+/// What a read asks for: the first bytes, or a part from the offset on, at most so many bytes.
+fn read_asked(offset: Option<u64>, most: Option<u64>) -> Lookup
+    ensures { result ≡ read_asked offset most }
+{
+    match (offset, most) {
+        (None, None) => Lookup::Read,
+        (Some(offset), None) => Lookup::Part {
+            offset,
+            most: MAX_FILE_BYTES,
+        },
+        (None, Some(most)) => Lookup::Part { offset: 0, most },
+        (Some(offset), Some(most)) => Lookup::Part { offset, most },
+    }
+}
+
+/// What a line asks of a path.
+#[tactic(auto, unfolding(crate::specs::Commands::lookup_of))]
+fn lookup_of(verb: LookupVerb, line: &Value<'_>) -> Result<Lookup, Fault>
+    ensures { result ≡ lookup_of verb (view line.now) }
+{
+    match verb {
+        LookupVerb::Look => Ok(Lookup::Look),
+        LookupVerb::List => Ok(Lookup::List),
+        LookupVerb::Read => {
+            let offset = optional_number(Field::Offset, line)?;
+            let most = optional_number(Field::Most, line)?;
+            Ok(read_asked(offset, most))
+        }
+        LookupVerb::Resolve => Ok(Lookup::Resolve),
+    }
+}
+
 /// The command of a line by its verb.
 #[tactic(auto, unfolding(crate::specs::Commands::command_of))]
 pub(crate) fn command_of(alloc: Global, verb: Verb, line: &Value<'_>) -> Result<Command, ReadError>
@@ -276,13 +310,14 @@ pub(crate) fn command_of(alloc: Global, verb: Verb, line: &Value<'_>) -> Result<
                 extra: usage_or(Usage::ZERO, Field::Extra, line)?,
             })
         }
-        Verb::Lookup(lookup) => {
+        Verb::Lookup(verb) => {
             let (namespace, key) = named(alloc, line)?;
+            let path = path_in(alloc, Field::Path, line)?;
             Ok(Command::Lookup {
                 namespace,
                 key,
-                lookup,
-                path: path_in(alloc, Field::Path, line)?,
+                lookup: lookup_of(verb, line)?,
+                path,
             })
         }
         Verb::Quota => Ok(Command::Quota {
@@ -295,6 +330,7 @@ pub(crate) fn command_of(alloc: Global, verb: Verb, line: &Value<'_>) -> Result<
             namespace: text(alloc, Field::Namespace, line)?,
             after: number_or(0, Field::After, line)?,
             most: number_or(PAGE, Field::Most, line)?,
+            full: is_true(Field::Full, line)?,
         }),
         Verb::Report => Ok(Command::Report),
     }

@@ -54,6 +54,7 @@ impl Answer {
             | Answer::Seen(_)
             | Answer::Names(_)
             | Answer::Head { .. }
+            | Answer::Part { .. }
             | Answer::Known { .. }
             | Answer::Path(_)
             | Answer::Quota(_)

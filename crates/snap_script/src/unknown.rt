@@ -10,7 +10,7 @@ ghost use Rattle.snap_script.specs.declared.verb.Verb.TheVariants as verbs;
 ghost use Rattle.snap_script.specs.declared.verb.FileVerb.TheVariants as file_verbs;
 
 use crate::fault::{Fault, Field, ReadError};
-use crate::verb::{FileVerb, PathVerb, Verb};
+use crate::verb::{FileVerb, LookupVerb, PathVerb, Verb};
 use snap_history::CallKind;
 use snap_json::{Member, Value, by_name};
 use snap_record::Text;
@@ -137,9 +137,18 @@ fn fields_of(verb: Verb) -> &'static [Field]
             Field::To,
             Field::Extra,
         ],
-        Verb::Lookup(_) => &[Field::Namespace, Field::Key, Field::Path],
+        Verb::Lookup(LookupVerb::Look | LookupVerb::List | LookupVerb::Resolve) => {
+            &[Field::Namespace, Field::Key, Field::Path]
+        }
+        Verb::Lookup(LookupVerb::Read) => &[
+            Field::Namespace,
+            Field::Key,
+            Field::Path,
+            Field::Offset,
+            Field::Most,
+        ],
         Verb::Quota | Verb::Tree => &[Field::Namespace],
-        Verb::Journal => &[Field::Namespace, Field::After, Field::Most],
+        Verb::Journal => &[Field::Namespace, Field::After, Field::Most, Field::Full],
         Verb::Report => &[],
     }
 }

@@ -6,10 +6,9 @@ ghost use Rattle.snap_json.specs.Tokens.{with_value};
 ghost use Rattle.snap_script.specs.Answers.{answer_data, entry_data, error_data, error_name, info_data, mount_data, refusal_name, reply_data, sized_data};
 ghost use Rattle.snap_script.specs.declared.answer.Answer.TheVariants as answers;
 
-use crate::answer::QuotaInfo;
+use crate::answer::{JournalEntry, QuotaInfo};
 use crate::to_json::{ToJson, by_name, maybe, member, only, pair};
 use snap_call::{Refusal, Reply};
-use snap_history::EntryInfo;
 use snap_json::{Token, Writer};
 use snap_layer::Bytes;
 use snap_merge::FsError;
@@ -55,19 +54,21 @@ impl ToJson for Refusal {
     }
 }
 
-impl ToJson for EntryInfo {
+impl ToJson for JournalEntry {
     ghost value = { entry_data };
 
     #[tactic(auto, using(crate::proofs::Maps::with_members_maybe))]
     fn write(&self, alloc: Global, out: &mut Writer) -> Result<(), AllocError> {
+        let entry = &self.entry;
         out.token(Token::BeginObject)?;
-        member(alloc, out, "call", &self.call.as_str())?;
-        member(alloc, out, "charge", &self.charge)?;
-        maybe(alloc, out, "id", &self.id)?;
-        maybe(alloc, out, "key", &self.key)?;
-        member(alloc, out, "number", &self.number)?;
-        maybe(alloc, out, "refused", &self.refused)?;
-        member(alloc, out, "session", &self.session)?;
+        member(alloc, out, "call", &entry.call.as_str())?;
+        member(alloc, out, "charge", &entry.charge)?;
+        maybe(alloc, out, "id", &entry.id)?;
+        maybe(alloc, out, "key", &entry.key)?;
+        maybe(alloc, out, "line", &self.line)?;
+        member(alloc, out, "number", &entry.number)?;
+        maybe(alloc, out, "refused", &entry.refused)?;
+        member(alloc, out, "session", &entry.session)?;
         out.token(Token::EndObject)
     }
 }

@@ -4,7 +4,6 @@ ghost use Rattle.std.specs.Str.{bytes_eq};
 ghost use Rattle.snap_history.specs.Entries.{call_word};
 ghost use Rattle.snap_script.specs.Words.{verb_of};
 
-use crate::command::Lookup;
 use snap_history::CallKind;
 
 /// The commands by their words.
@@ -16,7 +15,7 @@ pub(crate) enum Verb {
     /// The word is that of the call in a journal.
     Call(CallKind),
     File(FileVerb),
-    Lookup(Lookup),
+    Lookup(LookupVerb),
     Quota,
     Tree,
     Journal,
@@ -46,6 +45,15 @@ pub(crate) enum PathVerb {
     Rmdir,
     Opaque,
     Whiteout,
+}
+
+/// The lookups by their words.
+#[derive(Clone, Copy)]
+pub(crate) enum LookupVerb {
+    Look,
+    List,
+    Read,
+    Resolve,
 }
 
 /// The calls that are commands.
@@ -88,10 +96,10 @@ const WORDS: [(&str, Verb); 24] = [
     ("whiteout", Verb::File(FileVerb::At(PathVerb::Whiteout))),
     ("link", Verb::File(FileVerb::Link)),
     ("rename", Verb::File(FileVerb::Rename)),
-    ("look", Verb::Lookup(Lookup::Look)),
-    ("list", Verb::Lookup(Lookup::List)),
-    ("read", Verb::Lookup(Lookup::Read)),
-    ("resolve", Verb::Lookup(Lookup::Resolve)),
+    ("look", Verb::Lookup(LookupVerb::Look)),
+    ("list", Verb::Lookup(LookupVerb::List)),
+    ("read", Verb::Lookup(LookupVerb::Read)),
+    ("resolve", Verb::Lookup(LookupVerb::Resolve)),
     ("quota", Verb::Quota),
     ("tree", Verb::Tree),
     ("journal", Verb::Journal),

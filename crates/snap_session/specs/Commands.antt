@@ -1,6 +1,6 @@
 -- What a command of a script answers, and the store after it; cited by the public clauses of `act` and, through Script.antt, of `replay`.
 -- Cited by `Runner::new`, `Runner as TakeLine`, `replay_within` and others.
-use Rattle.std.specs.Prelude.{ℕ, Bool, true, false, List, length, map, take, Option, None, Some, Result, Ok, Err, if◌then◌else◌}
+use Rattle.std.specs.Prelude.{ℕ, Bool, true, false, List, length, map, take, drop, Option, None, Some, Result, Ok, Err, if◌then◌else◌}
 use Rattle.std.specs.Option.{option_map, option_map_or}
 use Rattle.snap_path.specs.Text.{Names}
 use Rattle.snap_layer.specs.declared.content.Content.{Content}
@@ -130,11 +130,17 @@ abbrev pub read_of : Content → Answer
 read_of (contents.Bytes bytes) = answers.Head (take 16 bytes) (length bytes)
 read_of (contents.Sized size digest) = answers.Known size digest
 
+-- a part of a file that is read: its bytes from the offset on, at most so many, and how many it has (pread(2)); or its size and its digest, where its bytes aren't kept
+abbrev pub part_of : ℕ → ℕ → Content → Answer
+part_of offset most (contents.Bytes bytes) = answers.Part (take most (drop offset bytes)) (length bytes)
+part_of offset most (contents.Sized size digest) = answers.Known size digest
+
 -- what the layers show at a path
 abbrev pub looked_up : Lookup → List Tree → Names → Answer
 looked_up lookups.Look layers path = answers.Seen (option_map shown_of (seen layers path))
 looked_up lookups.List layers path = found_or_failed answers.Names (listing layers path)
 looked_up lookups.Read layers path = found_or_failed read_of (reading layers path)
+looked_up (lookups.Part offset most) layers path = found_or_failed (part_of offset most) (reading layers path)
 looked_up lookups.Resolve layers path = found_or_failed answers.Path (resolution layers path)
 
 -- a lookup in the layers of a snapshot, or why there are none; there is no path where its text was none. No step is made
@@ -201,7 +207,7 @@ on_store s n (commands.TrySweep namespace moment) = (s.world, answers.Reply (swe
 on_store s n (commands.ChainUsage namespace key) = (s.world, usage_answer (chain_usage s.world.state namespace key))
 on_store s n (commands.Quota namespace) = (s.world, quota_answer s namespace)
 on_store s n (commands.Tree namespace) = (s.world, tree s namespace)
-on_store s n (commands.Journal namespace after most) = (s.world, journal_of s.world namespace after most)
+on_store s n (commands.Journal namespace after most full) = (s.world, journal_of s.world namespace after most full)
 on_store s n commands.Report = (s.world, report s)
 
 -- ---- opening

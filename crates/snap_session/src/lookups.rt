@@ -1,9 +1,9 @@
 // What a snapshot shows at a path.
-ghost use Rattle.std.specs.Prelude.{◌≡◌, IfOk, length, take};
+ghost use Rattle.std.specs.Prelude.{◌≡◌, IfOk, drop, length, take};
 ghost use Rattle.snap_merge.specs.Objects.{object};
 ghost use Rattle.snap_script.specs.declared.answer.Answer.TheVariants as answers;
 ghost use Rattle.snap_world.specs.Stacks.{stack_of};
-ghost use Rattle.snap_session.specs.Commands.{read_of, shown_file, shown_of, looked_up, lookup};
+ghost use Rattle.snap_session.specs.Commands.{part_of, read_of, shown_file, shown_of, looked_up, lookup};
 
 use snap_layer::{Bytes, Content};
 use snap_ledger::StoreName;
@@ -71,6 +71,32 @@ fn head_of(alloc: Global, bytes: &[u8]) -> Result<Answer, AllocError>
     })
 }
 
+// A part of the file's bytes, and how many it has; or its size and its digest, where its bytes aren't kept.
+fn part_of(alloc: Global, content: &Content, offset: u64, most: u64) -> Result<Answer, AllocError>
+    ensures { IfOk result (λ answer. answer ≡ part_of offset most content.now) }
+{
+    match content {
+        Content::Bytes(bytes) => part_in(alloc, bytes.as_slice(), offset, most),
+        Content::Sized { size, digest } => Ok(Answer::Known {
+            size: *size,
+            digest: digest.clone()?,
+        }),
+    }
+}
+
+// The file's bytes from the offset on, at most so many, and how many it has.
+#[tactic(auto, using(std::proofs::lemmas::List::drop_min, std::proofs::lemmas::List::take_min))]
+fn part_in(alloc: Global, bytes: &[u8], offset: u64, most: u64) -> Result<Answer, AllocError>
+    ensures { IfOk result (λ answer. answer ≡ answers.Part (take most (drop offset bytes.now)) (length bytes.now)) }
+{
+    let (_, rest) = bytes.split_at((offset as usize).min(bytes.len()));
+    let (part, _) = rest.split_at((most as usize).min(rest.len()));
+    Ok(Answer::Part {
+        bytes: Bytes::copy_of(alloc, part)?,
+        size: bytes.len() as u64,
+    })
+}
+
 fn looked_up(
     alloc: Global,
     lookup: Lookup,
@@ -91,6 +117,10 @@ fn looked_up(
         },
         Lookup::Read => match stack.read(path) {
             Ok(content) => Ok(read_of(alloc, content)?),
+            Err(error) => Ok(Answer::Failed(error)),
+        },
+        Lookup::Part { offset, most } => match stack.read(path) {
+            Ok(content) => Ok(part_of(alloc, content, offset, most)?),
             Err(error) => Ok(Answer::Failed(error)),
         },
         Lookup::Resolve => match stack.resolve(alloc, path) {

@@ -121,7 +121,8 @@ fn on_store<N: StoreName>(
             namespace,
             after,
             most,
-        } => journal(alloc, world, namespace, after, most),
+            full,
+        } => journal(alloc, world, namespace, after, most, full),
         Command::Report => report(alloc, world, names),
     }
 }

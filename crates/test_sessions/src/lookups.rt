@@ -47,6 +47,25 @@ fn read(alloc: Global, content: &Content) -> Result<Answer, AllocError> {
     }
 }
 
+// The bytes of a file from the offset on, at most so many, and how many it has; or its size and its digest.
+fn part(alloc: Global, content: &Content, offset: u64, most: u64) -> Result<Answer, AllocError> {
+    match content {
+        Content::Bytes(bytes) => {
+            let bytes = bytes.as_slice();
+            let (_, rest) = bytes.split_at((offset as usize).min(bytes.len()));
+            let (part, _) = rest.split_at((most as usize).min(rest.len()));
+            Ok(Answer::Part {
+                bytes: Bytes::copy_of(alloc, part)?,
+                size: bytes.len() as u64,
+            })
+        }
+        Content::Sized { size, digest } => Ok(Answer::Known {
+            size: *size,
+            digest: digest.clone()?,
+        }),
+    }
+}
+
 // What is seen, with its own target.
 fn looked_up(
     alloc: Global,
@@ -66,6 +85,7 @@ fn looked_up(
         },
         Lookup::List => Ok(Answer::Names(Sequence::from(stack.list(alloc, path)?))),
         Lookup::Read => Ok(read(alloc, stack.read(path)?)?),
+        Lookup::Part { offset, most } => Ok(part(alloc, stack.read(path)?, offset, most)?),
         Lookup::Resolve => Ok(Answer::Path(stack.resolve(alloc, path)?)),
     }
 }
