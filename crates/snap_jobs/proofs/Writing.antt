@@ -11,11 +11,10 @@ use Rattle.snap_lines.specs.Runs.{Breaks}
 use Rattle.snap_lines.specs.declared.stop.Stop.{Stop}
 use Rattle.snap_lines.specs.declared.stop.Stop.TheVariants.{Line, InputFailed, OutputFailed, OutOfMemory}
 use Rattle.snap_lines.specs.Transcripts.{Place, Stops, Tells, Transcript, cut, effect_at, effect_within, max_bytes, first_lines, goes_on, is_over_limit, place_after, start, transcript, transcript_from}
-use Rattle.snap_jobs.specs.Answer.{HasBroken, HasStopped, HasWritten, IsText}
+use Rattle.snap_jobs.specs.Answer.{HasBroken, HasLacked, HasStopped, HasWritten, HasWrittenPart, IsText}
 use Rattle.snap_jobs.specs.Lines.{ReadValue, jobs_effect, taken}
-use Rattle.snap_jobs.specs.Words.{is_of_jobs}
 use Rattle.snap_jobs.specs.declared.stop.JobsStop.{JobsStop}
-use Rattle.snap_jobs.specs.declared.stop.JobsStop.TheVariants.{Lines, NotClosed}
+use Rattle.snap_jobs.specs.declared.stop.JobsStop.TheVariants.{Lines, NotClosed, WantOfMemory}
 
 -- no text
 abbrev IsSilent : Result (Effect (Option ReadValue)) Fault → Type 0
@@ -63,19 +62,19 @@ appends_after (Some x) (Some y) None text p q = absurd q
 appends_after (Some x) (Some y) (Some z) text p q = q ∙ ap (λ l. l ++ text) (p ∙ append-nil x)
 
 -- where all lines were read, and then the text was written
-written_then : (remaining : Option (List ℕ)) (read : Option ReadValue) (before mid after : Option (List ℕ))
+written_then : (told : Bool) (remaining : Option (List ℕ)) (read : Option ReadValue) (before mid after : Option (List ℕ))
     → IfSome remaining (λ bytes. Tells (transcript (Some max_bytes) jobs_effect None bytes) None before mid) → IfSome remaining (λ bytes. (transcript (Some max_bytes) jobs_effect None bytes).value ≡ read)
-    → HasWritten read mid after → IfSome remaining (λ bytes. HasWritten (transcript (Some max_bytes) jobs_effect None bytes).value before after)
-written_then None read before mid after tells value wrote = tt
-written_then (Some bytes) read before mid after tells value (text, is, wrote) =
-    subst (λ (v : Option ReadValue). HasWritten v before after) (sym value)
+    → HasWritten told read 0 mid after → IfSome remaining (λ bytes. HasWritten told (transcript (Some max_bytes) jobs_effect None bytes).value 0 before after)
+written_then told None read before mid after tells value wrote = tt
+written_then told (Some bytes) read before mid after tells value (text, is, wrote) =
+    subst (λ (v : Option ReadValue). HasWritten told v 0 before after) (sym value)
     (text, is, appends_after before mid after text (subst (Appends before mid) (none_written None bytes) tells.1) wrote)
 
-pub written : {E : Type 0} (r : Result Unit E) (remaining : Option (List ℕ)) (read : Option ReadValue) (before mid after : Option (List ℕ))
+pub written : {E : Type 0} (told : Bool) (r : Result Unit E) (remaining : Option (List ℕ)) (read : Option ReadValue) (before mid after : Option (List ℕ))
     → IfSome remaining (λ bytes. Tells (transcript (Some max_bytes) jobs_effect None bytes) None before mid) → IfSome remaining (λ bytes. (transcript (Some max_bytes) jobs_effect None bytes).value ≡ read)
-    → OnOk r (HasWritten read mid after) → OnOk r (IfSome remaining (λ bytes. HasWritten (transcript (Some max_bytes) jobs_effect None bytes).value before after))
-written (Ok done) remaining read before mid after tells value wrote = written_then remaining read before mid after tells value wrote
-written (Err e) remaining read before mid after tells value wrote = tt
+    → OnOk r (HasWritten told read 0 mid after) → OnOk r (IfSome remaining (λ bytes. HasWritten told (transcript (Some max_bytes) jobs_effect None bytes).value 0 before after))
+written told (Ok done) remaining read before mid after tells value wrote = written_then told remaining read before mid after tells value wrote
+written told (Err e) remaining read before mid after tells value wrote = tt
 
 -- ---- an end otherwise
 
@@ -85,49 +84,42 @@ unfolding first_lines
 none_of_first read bytes n = no_text (start (Some max_bytes) read) (take n (lines_of bytes))
 
 -- where the lines end otherwise
-stopped_at : (bytes : List ℕ) (left : Option (List ℕ)) (stop : Stop) (before after : Option (List ℕ)) → Stops (Some max_bytes) jobs_effect None bytes left stop before after → HasStopped bytes (Lines stop) before after
-stopped_at bytes left (Line f) before after h = (h.0, subst (Appends before after) (none_written None bytes) h.1)
-stopped_at bytes left InputFailed before after (read, taken, tells) = subst (Appends before after) (none_of_first None bytes (feeds read)) tells.1
-stopped_at bytes left OutputFailed before after (part, rest, is, told) = inl (subst (Appends before after) (no_front part rest (sym is ∙ none_written None bytes)) told)
+stopped_at : (told : Bool) (bytes : List ℕ) (left : Option (List ℕ)) (stop : Stop) (before after : Option (List ℕ)) → Stops (Some max_bytes) jobs_effect None bytes left stop before after → HasStopped told bytes (Lines stop) before after
+stopped_at told bytes left (Line f) before after h = (h.0, subst (Appends before after) (none_written None bytes) h.1)
+stopped_at told bytes left InputFailed before after (read, taken, tells) = subst (Appends before after) (none_of_first None bytes (feeds read)) tells.1
+stopped_at told bytes left OutputFailed before after (part, rest, is, wrote) = inl (subst (Appends before after) (no_front part rest (sym is ∙ none_written None bytes)) wrote)
   where
     no_front : (xs ys : List ℕ) → xs ++ ys ≡ [] → xs ≡ []
     no_front [] ys e = refl
     no_front (x ∷ xs) ys e = absurd (cc)
-stopped_at bytes left (OutOfMemory want) before after (n, tells) = subst (Appends before after) (none_of_first None bytes n) tells.1
+stopped_at told bytes left (OutOfMemory want) before after (n, tells) = subst (Appends before after) (none_of_first None bytes n) tells.1
 
-pub lines_stopped : (remaining left : Option (List ℕ)) (stop : Stop) (before after : Option (List ℕ)) → IfSome remaining (λ bytes. Stops (Some max_bytes) jobs_effect None bytes left stop before after) → IfSome remaining (λ bytes. HasStopped bytes (Lines stop) before after)
-lines_stopped None left stop before after h = tt
-lines_stopped (Some bytes) left stop before after h = stopped_at bytes left stop before after h
+pub lines_stopped : (told : Bool) (remaining left : Option (List ℕ)) (stop : Stop) (before after : Option (List ℕ)) → IfSome remaining (λ bytes. Stops (Some max_bytes) jobs_effect None bytes left stop before after) → IfSome remaining (λ bytes. HasStopped told bytes (Lines stop) before after)
+lines_stopped told None left stop before after h = tt
+lines_stopped told (Some bytes) left stop before after h = stopped_at told bytes left stop before after h
 
 -- where what follows the lines ends otherwise
-broken_at : (bytes : List ℕ) (read : Option ReadValue) (stop : JobsStop) (before mid after : Option (List ℕ)) → (transcript (Some max_bytes) jobs_effect None bytes).value ≡ read → Appends before mid [] → HasBroken read stop mid after → HasStopped bytes stop before after
-broken_at bytes read (Lines (Line f)) before mid after value none broke = absurd (cc)
-broken_at bytes read (Lines InputFailed) before mid after value none broke = absurd (cc)
-broken_at bytes read (Lines OutputFailed) before mid after value none (text, n, is, wrote) = inr (text, n, subst (λ (v : Option ReadValue). IsText v text) (sym value) is, appends_after before mid after (take n text) none wrote)
-broken_at bytes read (Lines (OutOfMemory want)) before mid after value none broke = subst (λ (o : Option (List ℕ)). Appends before o []) (sym broke.1) none
-broken_at bytes read NotClosed before mid after value none broke = subst (λ (o : Option (List ℕ)). Appends before o []) (sym broke.1) none
+broken_at : (told : Bool) (bytes : List ℕ) (read : Option ReadValue) (stop : JobsStop) (before mid after : Option (List ℕ)) → (transcript (Some max_bytes) jobs_effect None bytes).value ≡ read → (transcript (Some max_bytes) jobs_effect None bytes).fault ≡ None → Appends before mid [] → HasBroken told read stop mid after → HasStopped told bytes stop before after
+broken_at told bytes read (Lines (Line f)) before mid after value fault none broke = absurd (cc)
+broken_at told bytes read (Lines InputFailed) before mid after value fault none broke = absurd (cc)
+broken_at told bytes read (Lines OutputFailed) before mid after value fault none (text, lacking, n, is, wrote) = inr (subst (λ (v : Option ReadValue). HasWrittenPart told v before after) (sym value) (text, lacking, n, is, appends_after before mid after (take n text) none wrote))
+broken_at told bytes read (Lines (OutOfMemory want)) before mid after value fault none broke = subst (λ (o : Option (List ℕ)). Appends before o []) (sym broke.1) none
+broken_at told bytes read NotClosed before mid after value fault none broke = subst (λ (o : Option (List ℕ)). Appends before o []) (sym broke.1) none
+broken_at told bytes read (WantOfMemory jobs all) before mid after value fault none (some, count, (text, is, wrote)) = (fault, subst (λ (v : Option ReadValue). HasLacked told v jobs all before after) (sym value) (some, count, (text, is, appends_after before mid after text none wrote)))
 
-pub broken : (r : Result Unit JobsStop) (remaining : Option (List ℕ)) (read : Option ReadValue) (before mid after : Option (List ℕ))
+pub broken : (told : Bool) (r : Result Unit JobsStop) (remaining : Option (List ℕ)) (read : Option ReadValue) (before mid after : Option (List ℕ))
     → IfSome remaining (λ bytes. Tells (transcript (Some max_bytes) jobs_effect None bytes) None before mid) → IfSome remaining (λ bytes. (transcript (Some max_bytes) jobs_effect None bytes).value ≡ read)
-    → IfErr r (λ stop. HasBroken read stop mid after) → IfErr r (λ stop. IfSome remaining (λ bytes. HasStopped bytes stop before after))
-broken (Ok done) remaining read before mid after tells value broke = tt
-broken (Err stop) None read before mid after tells value broke = tt
-broken (Err stop) (Some bytes) read before mid after tells value broke = broken_at bytes read stop before mid after value (subst (Appends before mid) (none_written None bytes) tells.1) broke
+    → IfErr r (λ stop. HasBroken told read stop mid after) → IfErr r (λ stop. IfSome remaining (λ bytes. HasStopped told bytes stop before after))
+broken told (Ok done) remaining read before mid after tells value broke = tt
+broken told (Err stop) None read before mid after tells value broke = tt
+broken told (Err stop) (Some bytes) read before mid after tells value broke = broken_at told bytes read stop before mid after value tells.0 (subst (Appends before mid) (none_written None bytes) tells.1) broke
 
--- where the text of the line is not written whole
-pub line_broken : (read : Option ReadValue) (text : List ℕ) (stop : Stop) (before after : Option (List ℕ)) → IsText read text → Breaks text stop before after → HasBroken read (Lines stop) before after
-line_broken read text (Line f) before after is broke = absurd broke
-line_broken read text InputFailed before after is broke = absurd broke
-line_broken read text OutputFailed before after is (n, wrote) = (text, n, is, wrote)
-line_broken read text (OutOfMemory want) before after is broke = absurd broke
-
--- where the jobs' run ends otherwise
-pub jobs_broken : (read : Option ReadValue) (stop : JobsStop) (at : Option (List ℕ)) → is_of_jobs stop ≡ true → HasBroken read stop at at
-jobs_broken read (Lines (Line f)) at of = absurd (cc)
-jobs_broken read (Lines InputFailed) at of = absurd (cc)
-jobs_broken read (Lines OutputFailed) at of = absurd (cc)
-jobs_broken read (Lines (OutOfMemory want)) at of = (refl, refl)
-jobs_broken read NotClosed at of = (refl, refl)
+-- where the text is not written whole
+pub text_broken : (told : Bool) (read : Option ReadValue) (lacking : ℕ) (text : List ℕ) (stop : Stop) (before after : Option (List ℕ)) → IsText told read lacking text → Breaks text stop before after → HasBroken told read (Lines stop) before after
+text_broken told read lacking text (Line f) before after is broke = absurd broke
+text_broken told read lacking text InputFailed before after is broke = absurd broke
+text_broken told read lacking text OutputFailed before after is (n, wrote) = (text, lacking, n, is, wrote)
+text_broken told read lacking text (OutOfMemory want) before after is broke = absurd broke
 
 -- the whole text is its first part of its length
 pub whole : (text : List ℕ) (before mid after : Option (List ℕ)) → Appends before mid text → Keeps mid after → (n : ℕ) × Appends before after (take n text)

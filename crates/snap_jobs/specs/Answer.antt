@@ -1,6 +1,6 @@
 -- What a run of jobs is answered.
 -- Cited by `write_jobs_within`, `write_jobs`.
-use Rattle.std.specs.Prelude.{◌≡◌, ◌⊎◌, ℕ, Bool, true, false, ◌&&◌, not, List, [], map, take, Option, Some, None, unwrap_or}
+use Rattle.std.specs.Prelude.{◌≡◌, ◌⊎◌, ◌<◌, ℕ, Bool, true, false, ◌&&◌, not, List, [], ◌++◌, length, map, take, Option, Some, None, unwrap_or}
 use Rattle.std.specs.Io.KnownBytes.{Appends}
 use Rattle.std.specs.List.{count_by}
 use Rattle.std.specs.Option.{option_map}
@@ -20,13 +20,14 @@ use Rattle.snap_writers.specs.declared.job.Job.{Job}
 use Rattle.snap_writers.specs.Jobs.{IsReport}
 use Rattle.snap_lines.specs.declared.stop.Stop.TheVariants.{Line, OutputFailed}
 use Rattle.snap_jobs.specs.declared.stop.JobsStop.{JobsStop}
-use Rattle.snap_jobs.specs.declared.stop.JobsStop.TheVariants.{Lines}
+use Rattle.snap_jobs.specs.declared.stop.JobsStop.TheVariants.{Lines, WantOfMemory}
+use Rattle.snap_jobs.specs.Ends.{end_lines, wants_memory}
 use Rattle.snap_jobs.specs.Lines.{ReadValue, jobs_transcript}
 use Rattle.snap_jobs.specs.Words.{is_of_jobs}
 
 -- a job that was committed
 abbrev pub is_committed : Ended → Bool
-is_committed (Committed usage) = true
+is_committed (Committed id usage) = true
 is_committed end = false
 
 -- a job that was to be discarded, and was
@@ -50,29 +51,50 @@ totals_of book names = map (λ name. (name, total_of book name)) names
 abbrev pub answer_of : List Ended → BookValue → List Bytes → Answer
 answer_of ends book names = Jobs (count_by is_committed ends) (count_by is_discarded ends) (count_by is_refused ends) (totals_of book names)
 
--- the text is the line of the answer to some report of the jobs on a store of this round
-pub record IsLineOf (r : Round) (jobs : List Job) (names : List Bytes) (text : List ℕ) : Type 0 where
+-- the lines of the jobs' ends, where they are told
+abbrev pub ends_text : Bool → List Ended → List ℕ
+ends_text true ends = end_lines 1 ends
+ends_text false ends = []
+
+-- the text is that of some report of the jobs on a store of this round: the jobs' ends, where they are told, and last the line of the answer. So many jobs lacked memory
+pub record IsTextOf (told : Bool) (r : Round) (jobs : List Job) (names : List Bytes) (lacking : ℕ) (text : List ℕ) : Type 0 where
   pub ends : List Ended
   pub closed : BookValue
   pub report : IsReport r jobs ends closed
-  pub line : text ≡ answer_line (answer_of ends closed names)
+  pub count : lacking ≡ count_by wants_memory ends
+  pub lines : text ≡ ends_text told ends ++ answer_line (answer_of ends closed names)
 
--- what is written, by what was read: nothing where no line has opened a store, and else the line of a report of the jobs
-abbrev pub IsText : Option ReadValue → List ℕ → Type 0
-IsText None text = text ≡ []
-IsText (Some read) text = IsLineOf read.round read.jobs read.names text
+-- what is written, by what was read: nothing where no line has opened a store, and else the text of a report of the jobs, of which so many lacked memory
+abbrev pub IsText : Bool → Option ReadValue → ℕ → List ℕ → Type 0
+IsText told None lacking text = (lacking ≡ 0) × (text ≡ [])
+IsText told (Some read) lacking text = IsTextOf told read.round read.jobs read.names lacking text
 
 -- the text is written
-abbrev pub HasWritten : Option ReadValue → Option (List ℕ) → Option (List ℕ) → Type 0
-HasWritten read before after = (text : List ℕ) × IsText read text × Appends before after text
+abbrev pub HasWritten : Bool → Option ReadValue → ℕ → Option (List ℕ) → Option (List ℕ) → Type 0
+HasWritten told read lacking before after = (text : List ℕ) × IsText told read lacking text × Appends before after text
 
--- where that ends otherwise: nothing is written, or a write failed and a first part of the text is
-abbrev pub HasBroken : Option ReadValue → JobsStop → Option (List ℕ) → Option (List ℕ) → Type 0
-HasBroken read (Lines OutputFailed) before after = (text : List ℕ) × (n : ℕ) × IsText read text × Appends before after (take n text)
-HasBroken read stop before after = (is_of_jobs stop ≡ true) × (after ≡ before)
+-- a write failed, and a first part of the text is written
+abbrev pub HasWrittenPart : Bool → Option ReadValue → Option (List ℕ) → Option (List ℕ) → Type 0
+HasWrittenPart told read before after = (text : List ℕ) × (lacking n : ℕ) × IsText told read lacking text × Appends before after (take n text)
 
--- where it ends otherwise over these bytes: a line's fault is the one that the lines have; nothing is written, but where a write failed a first part of the text may be
-abbrev pub HasStopped : List ℕ → JobsStop → Option (List ℕ) → Option (List ℕ) → Type 0
-HasStopped bytes (Lines (Line f)) before after = ((jobs_transcript bytes).fault ≡ Some f) × Appends before after []
-HasStopped bytes (Lines OutputFailed) before after = Appends before after [] ⊎ ((text : List ℕ) × (n : ℕ) × IsText (jobs_transcript bytes).value text × Appends before after (take n text))
-HasStopped bytes stop before after = Appends before after []
+-- how many jobs were read
+abbrev pub job_count : Option ReadValue → ℕ
+job_count None = 0
+job_count (Some read) = length read.jobs
+
+-- the text is written, and so many of all jobs lacked memory, at least one
+abbrev pub HasLacked : Bool → Option ReadValue → ℕ → ℕ → Option (List ℕ) → Option (List ℕ) → Type 0
+HasLacked told read lacking all before after = (0 < lacking) × (all ≡ job_count read) × HasWritten told read lacking before after
+
+-- where that ends otherwise: jobs lacked memory; or nothing is written, or a write failed and a first part of the text is
+abbrev pub HasBroken : Bool → Option ReadValue → JobsStop → Option (List ℕ) → Option (List ℕ) → Type 0
+HasBroken told read (WantOfMemory jobs all) before after = HasLacked told read jobs all before after
+HasBroken told read (Lines OutputFailed) before after = HasWrittenPart told read before after
+HasBroken told read stop before after = (is_of_jobs stop ≡ true) × (after ≡ before)
+
+-- where it ends otherwise over these bytes: a line's fault is the one that the lines have; where jobs lacked memory, no line has a fault, and the text is written; else nothing is, but where a write failed a first part of the text may be
+abbrev pub HasStopped : Bool → List ℕ → JobsStop → Option (List ℕ) → Option (List ℕ) → Type 0
+HasStopped told bytes (WantOfMemory jobs all) before after = ((jobs_transcript bytes).fault ≡ None) × HasLacked told (jobs_transcript bytes).value jobs all before after
+HasStopped told bytes (Lines (Line f)) before after = ((jobs_transcript bytes).fault ≡ Some f) × Appends before after []
+HasStopped told bytes (Lines OutputFailed) before after = Appends before after [] ⊎ HasWrittenPart told (jobs_transcript bytes).value before after
+HasStopped told bytes stop before after = Appends before after []

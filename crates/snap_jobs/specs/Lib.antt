@@ -1,4 +1,5 @@
 pub mod Jobs
 pub mod Lines
+pub mod Ends
 pub mod Answer
 pub mod Words

@@ -1,8 +1,10 @@
-// How the jobs ended, and what the namespaces are charged.
-ghost use Rattle.std.specs.Prelude.{◌≡◌, IfOk};
+// How many jobs ended in each way, what the namespaces are charged, and the text of a run.
+ghost use Rattle.std.specs.Prelude.{◌≡◌, ◌++◌, IfOk, string_bytes};
 ghost use Rattle.std.specs.List.{count_by};
-ghost use Rattle.snap_jobs.specs.Answer.{is_committed, is_discarded, is_refused, total_of, totals_of, answer_of};
+ghost use Rattle.snap_script.specs.Answers.{answer_line};
+ghost use Rattle.snap_jobs.specs.Answer.{is_committed, is_discarded, is_refused, total_of, totals_of, answer_of, ends_text};
 
+use crate::ends::end_lines;
 use snap_record::{Sequence, Text};
 use snap_script::Answer;
 use snap_store::{Closed, RoundName};
@@ -14,7 +16,7 @@ fn is_committed(end: Ended) -> bool
     ensures { result ≡ is_committed end }
 {
     match end {
-        Ended::Committed(_) => true,
+        Ended::Committed { .. } => true,
         _ => false,
     }
 }
@@ -78,7 +80,7 @@ fn totals_of<N: RoundName>(
 }
 
 // What a run of jobs came to, with the totals of the namespaces of these names.
-pub(crate) fn answer_of<N: RoundName>(
+fn answer_of<N: RoundName>(
     alloc: Global,
     report: &Report<N>,
     names: &[Text],
@@ -92,4 +94,31 @@ pub(crate) fn answer_of<N: RoundName>(
         refused: refused(ends) as u64,
         totals: totals_of(alloc, &report.closed, names)?,
     })
+}
+
+// The lines of the jobs' ends, where they are told.
+fn ends_text(alloc: Global, told: bool, ends: &[Ended]) -> Result<String, AllocError>
+    ensures { IfOk result (λ text. string_bytes text ≡ ends_text told ends.now) }
+{
+    if told {
+        end_lines(alloc, ends)
+    } else {
+        Ok(String::new(alloc))
+    }
+}
+
+// The text of a run of jobs: their ends, where they are told, and last the line of the answer.
+pub(crate) fn text_of<N: RoundName>(
+    alloc: Global,
+    told: bool,
+    report: &Report<N>,
+    names: &[Text],
+) -> Result<String, AllocError>
+    ensures { IfOk result (λ text. string_bytes text ≡ ends_text told report.now.ends
+        ++ answer_line (answer_of report.now.ends report.now.closed names.now)) }
+{
+    let mut text = ends_text(alloc, told, report.ends.as_slice())?;
+    let line = answer_of(alloc, report, names)?.line(alloc)?;
+    text.push_str(line.as_str())?;
+    Ok(text)
 }

@@ -1,12 +1,14 @@
-ghost use Rattle.std.specs.Prelude.{◌≡◌, ◌≤◌, None, OnOk, IfOk, IfErr, IfSome, true, string_bytes};
+ghost use Rattle.std.specs.Prelude.{◌≡◌, ◌≤◌, ◌<◌, length, None, OnOk, IfOk, IfErr, IfSome, true, string_bytes};
 ghost use Rattle.std.specs.Io.KnownBytes.{Appends};
 ghost use Rattle.snap_lines.specs.Runs.{Breaks};
 ghost use Rattle.snap_writers.specs.Jobs.{IsReport};
-ghost use Rattle.snap_jobs.specs.Answer.{HasBroken, HasStopped, HasWritten, IsLineOf};
+ghost use Rattle.snap_jobs.specs.Answer.{HasBroken, HasStopped, HasWritten, IsTextOf};
 ghost use Rattle.snap_jobs.specs.Lines.{jobs_transcript};
 ghost use Rattle.snap_jobs.specs.Words.{is_of_jobs};
+ghost use Rattle.snap_jobs.specs.declared.stop.JobsStop.TheVariants.{WantOfMemory};
 
-use crate::answer::answer_of;
+use crate::answer::text_of;
+use crate::ends::lacking;
 use crate::reading::{JobLines, Read};
 use crate::stop::JobsStop;
 use snap_lines::{MAX_BYTES, Stop, read_lines, write_bytes};
@@ -68,53 +70,84 @@ fn report_of<N: RoundName + Send + Sync, T: Threads + Wait + Sync>(
     }
 }
 
-// Runs the jobs, and gives the line of their answer.
-fn line_of<N: RoundName + Send + Sync, T: Threads + Wait + Sync>(
+// What a run of jobs came to: its text, and how many of all jobs lacked memory.
+#[derive(Drop)]
+struct Told {
+    text: String,
+    lacking: u64,
+    all: u64,
+}
+
+impl Told {
+    // How the run ends, once its text is written.
+    fn ended(&self) -> Result<(), JobsStop>
+        ensures ok { OnOk result (self.now.lacking ≡ 0) }
+        ensures err { IfErr result (λ stop. (0 < self.now.lacking) × (stop ≡ WantOfMemory self.now.lacking self.now.all)) }
+    {
+        if self.lacking > 0 {
+            return Err(JobsStop::WantOfMemory {
+                jobs: self.lacking,
+                all: self.all,
+            });
+        }
+        Ok(())
+    }
+}
+
+// Runs the jobs, and gives what they came to, with their ends where these are told.
+fn told_of<N: RoundName + Send + Sync, T: Threads + Wait + Sync>(
     rt: &T,
     alloc: Global,
     read: Read<N>,
     workers: u32,
-) -> Result<String, JobsStop>
+    ends: bool,
+) -> Result<Told, JobsStop>
     requires { (1 ≤ workers) × (workers ≤ 16) }
-    ensures line { IfOk result (λ line. IsLineOf read.round read.jobs read.names (string_bytes line)) }
+    ensures text { IfOk result (λ told. IsTextOf ends read.round read.jobs read.names told.lacking (string_bytes told.text)) }
+    ensures all { IfOk result (λ told. told.all ≡ length read.jobs) }
     ensures stop { IfErr result (λ stop. is_of_jobs stop ≡ true) }
 {
     let Read { store, names, jobs } = read;
     let report = report_of(rt, alloc, store, jobs.as_slice(), workers)?;
-    let answer = answer_of(alloc, &report, names.as_slice())?;
-    Ok(answer.line(alloc)?)
+    let text = text_of(alloc, ends, &report, names.as_slice())?;
+    Ok(Told {
+        text,
+        lacking: lacking(report.ends.as_slice()) as u64,
+        all: jobs.len() as u64,
+    })
 }
 
-// Writes the line, or a first part of it where a write fails.
-fn write_line<W: Write>(output: &mut W, line: &str) -> Result<(), Stop>
-    ensures written { OnOk result (Appends (W.contents output.old) (W.contents output.new) line.now) }
-    ensures part { IfErr result (λ stop. Breaks line.now stop (W.contents output.old) (W.contents output.new)) }
+// Writes the text, or a first part of it where a write fails.
+fn write_text<W: Write>(output: &mut W, text: &str) -> Result<(), Stop>
+    ensures written { OnOk result (Appends (W.contents output.old) (W.contents output.new) text.now) }
+    ensures part { IfErr result (λ stop. Breaks text.now stop (W.contents output.old) (W.contents output.new)) }
 {
-    write_bytes(output, line.as_bytes())?;
+    write_bytes(output, text.as_bytes())?;
     match output.flush() {
         Ok(()) => Ok(()),
         Err(_) => Err(Stop::OutputFailed),
     }
 }
 
-// Runs the jobs that were read, and writes the line of their answer; nothing where no line has opened a store.
+// Runs the jobs that were read, and writes their text; nothing where no line has opened a store.
 fn run_read<N: RoundName + Send + Sync, T: Threads + Wait + Sync, W: Write>(
     rt: &T,
     alloc: Global,
     read: Option<Read<N>>,
     output: &mut W,
     workers: u32,
+    ends: bool,
 ) -> Result<(), JobsStop>
     requires { (1 ≤ workers) × (workers ≤ 16) }
-    ensures written { OnOk result (HasWritten read (W.contents output.old) (W.contents output.new)) }
-    ensures stopped { IfErr result (λ stop. HasBroken read stop (W.contents output.old) (W.contents output.new)) }
+    ensures written { OnOk result (HasWritten ends read 0 (W.contents output.old) (W.contents output.new)) }
+    ensures stopped { IfErr result (λ stop. HasBroken ends read stop (W.contents output.old) (W.contents output.new)) }
 {
     let Some(read) = read else {
         return Ok(());
     };
-    match line_of(rt, alloc, read, workers) {
-        Ok(line) => match write_line(output, line.as_str()) {
-            Ok(()) => Ok(()),
+    match told_of(rt, alloc, read, workers, ends) {
+        Ok(told) => match write_text(output, told.text.as_str()) {
+            Ok(()) => told.ended(),
             Err(stop) => Err(JobsStop::Lines(stop)),
         },
         Err(stop) => Err(stop),
@@ -128,14 +161,15 @@ fn run<N: RoundName + Send + Sync, T: Threads + Wait + Sync, R: Input, W: Write>
     input: &mut R,
     output: &mut W,
     workers: u32,
+    ends: bool,
     reads: u32,
 ) -> Result<(), JobsStop>
     requires names { new ≡ (N.table, N.rounds) }
     requires workers { (1 ≤ workers) × (workers ≤ 16) }
     ensures done { OnOk result (IfSome (R.remaining input.old) (λ bytes. (jobs_transcript bytes).fault ≡ None)) }
-    ensures written { OnOk result (IfSome (R.remaining input.old) (λ bytes. HasWritten (jobs_transcript bytes).value
+    ensures written { OnOk result (IfSome (R.remaining input.old) (λ bytes. HasWritten ends (jobs_transcript bytes).value 0
         (W.contents output.old) (W.contents output.new))) }
-    ensures stopped { IfErr result (λ stop. IfSome (R.remaining input.old) (λ bytes. HasStopped bytes stop
+    ensures stopped { IfErr result (λ stop. IfSome (R.remaining input.old) (λ bytes. HasStopped ends bytes stop
         (W.contents output.old) (W.contents output.new))) }
 {
     let mut lines: JobLines<N> = JobLines::new(new);
@@ -147,28 +181,29 @@ fn run<N: RoundName + Send + Sync, T: Threads + Wait + Sync, R: Input, W: Write>
         Some(MAX_BYTES),
         u64::from(reads),
     ) {
-        Ok(()) => run_read(rt, alloc, lines.into_read(), output, workers),
+        Ok(()) => run_read(rt, alloc, lines.into_read(), output, workers, ends),
         Err(stop) => Err(JobsStop::Lines(stop)),
     }
 }
 
 /// Reads a store and jobs from the input, a JSON object a line, runs the jobs by so many workers, each on a
 /// thread of its own, closes the store, and writes one line: how many jobs were committed, how many were
-/// discarded as they asked, how many ended otherwise, and what each namespace is charged. Nothing is written
-/// before all jobs have ended, and nothing at all where the input has no line but empty ones.
+/// discarded as they asked, how many ended otherwise, and what each namespace is charged. With `ends` a line for
+/// each job comes before it, in the order of the jobs, which tells how the job ended. Nothing is written before
+/// all jobs have ended, and nothing at all where the input has no line but empty ones.
 ///
-/// Where it ends well, and the input and the output tell their bytes, no line has a fault, and what was written is
-/// the line of a report of the jobs that were read, with the names of their store. Where it ends at a line, that
-/// is the first with a fault. Where it doesn't end well nothing was written, but for a first part of that one
-/// line where a write failed.
+/// Where it ends well, and the input and the output tell their bytes, no line has a fault, no job lacked memory,
+/// and what was written is the text of a report of the jobs that were read, with the names of their store. Where it
+/// ends at a line, that is the first with a fault. Where it ends for want of jobs' memory, the text was written.
+/// Else nothing was written, but for a first part of the text where a write failed.
 ///
 /// `Lines` with the stop of [`read_lines`], and with `OutOfMemory` where memory was refused before a worker was
-/// started, at the close, or for the answer, and with `OutputFailed` where the line was not written; a job
-/// whose worker was refused memory counts as one that ended otherwise. `NotClosed` where the store was not
-/// closed, which no script leads to.
+/// started, at the close, or for the text, and with `OutputFailed` where the text was not written. `NotClosed`
+/// where the store was not closed, which no script leads to. `WantOfMemory` where the text was written, and jobs
+/// were refused since memory was, or a thread.
 ///
 /// The store's name is made here, so a call has a store of its own. It waits for the workers. Takes memory
-/// for a read, for one line, for all jobs, and for the store. The cost is that of the lines and of
+/// for a read, for one line, for all jobs, for the store, and for the text. The cost is that of the lines and of
 /// [`run_jobs`](snap_writers::run_jobs).
 pub fn write_jobs_within<T: Threads + Wait + Sync, R: Input, W: Write>(
     rt: &T,
@@ -176,17 +211,18 @@ pub fn write_jobs_within<T: Threads + Wait + Sync, R: Input, W: Write>(
     input: &mut R,
     output: &mut W,
     workers: u32,
+    ends: bool,
     reads: u32,
 ) -> Result<(), JobsStop>
     requires { (1 ≤ workers) × (workers ≤ 16) }
     ensures done { OnOk result (IfSome (R.remaining input.old) (λ bytes. (jobs_transcript bytes).fault ≡ None)) }
-    ensures written { OnOk result (IfSome (R.remaining input.old) (λ bytes. HasWritten (jobs_transcript bytes).value
+    ensures written { OnOk result (IfSome (R.remaining input.old) (λ bytes. HasWritten ends (jobs_transcript bytes).value 0
         (W.contents output.old) (W.contents output.new))) }
-    ensures stopped { IfErr result (λ stop. IfSome (R.remaining input.old) (λ bytes. HasStopped bytes stop
+    ensures stopped { IfErr result (λ stop. IfSome (R.remaining input.old) (λ bytes. HasStopped ends bytes stop
         (W.contents output.old) (W.contents output.new))) }
 {
     let new = NewStore::new(alloc)?;
-    run::<Brand, T, R, W>(rt, alloc, new, input, output, workers, reads)
+    run::<Brand, T, R, W>(rt, alloc, new, input, output, workers, ends, reads)
 }
 
 /// [`write_jobs_within`] with at most 4,294,967,295 reads.
@@ -196,13 +232,14 @@ pub fn write_jobs<T: Threads + Wait + Sync, R: Input, W: Write>(
     input: &mut R,
     output: &mut W,
     workers: u32,
+    ends: bool,
 ) -> Result<(), JobsStop>
     requires { (1 ≤ workers) × (workers ≤ 16) }
     ensures done { OnOk result (IfSome (R.remaining input.old) (λ bytes. (jobs_transcript bytes).fault ≡ None)) }
-    ensures written { OnOk result (IfSome (R.remaining input.old) (λ bytes. HasWritten (jobs_transcript bytes).value
+    ensures written { OnOk result (IfSome (R.remaining input.old) (λ bytes. HasWritten ends (jobs_transcript bytes).value 0
         (W.contents output.old) (W.contents output.new))) }
-    ensures stopped { IfErr result (λ stop. IfSome (R.remaining input.old) (λ bytes. HasStopped bytes stop
+    ensures stopped { IfErr result (λ stop. IfSome (R.remaining input.old) (λ bytes. HasStopped ends bytes stop
         (W.contents output.old) (W.contents output.new))) }
 {
-    write_jobs_within(rt, alloc, input, output, workers, READS)
+    write_jobs_within(rt, alloc, input, output, workers, ends, READS)
 }

@@ -6,23 +6,26 @@ use snap_lines::Stop;
 use std::alloc::AllocError;
 use std::fmt;
 
-/// Why jobs were not run and answered.
+/// Why jobs were not run and answered, or that some lacked memory.
 #[derive(Debug, PartialEq, Eq, Drop)]
 pub enum JobsStop {
     /// A line is no job, a read or a write failed, or memory was refused.
     Lines(Stop),
     /// The jobs were run, and the store could not be closed.
     NotClosed,
+    /// The jobs were run and answered, and so many of all were refused since memory was, or a thread.
+    WantOfMemory { jobs: u64, all: u64 },
 }
 
 impl JobsStop {
-    /// The status of a program that ends with it: that of the stop, or 5.
+    /// The status of a program that ends with it: that of the stop, 5 where the store was not closed, or 4.
     pub fn status(&self) -> u8
         ensures { result ≡ status_of self.now }
     {
         match self {
             JobsStop::Lines(stop) => stop.status(),
             JobsStop::NotClosed => 5,
+            JobsStop::WantOfMemory { .. } => 4,
         }
     }
 }
@@ -62,6 +65,10 @@ impl fmt::Display for JobsStop {
         match self {
             JobsStop::Lines(stop) => write!(f, "{}", stop),
             JobsStop::NotClosed => f.write_str("not closed"),
+            JobsStop::WantOfMemory { jobs, all } => {
+                let (jobs, all) = (*jobs, *all);
+                write!(f, "want of memory: {jobs} of {all} jobs")
+            }
         }
     }
 }

@@ -82,6 +82,7 @@ fn lines_served<T: Input + Print + AllocGlobal>(rt: &T) -> Result<(), JobsStop> 
 fn jobs_written<T: Threads + Wait + Sync + Input + Print + AllocGlobal>(
     rt: &T,
     workers: u32,
+    ends: bool,
 ) -> Result<(), JobsStop>
     requires { (1 ≤ workers) × (workers ≤ 16) }
 {
@@ -90,7 +91,7 @@ fn jobs_written<T: Threads + Wait + Sync + Input + Print + AllocGlobal>(
     let Ok(mut output) = BufWriter::new(alloc, io::writer(rt)) else {
         return Err(WANT_OF_MEMORY);
     };
-    write_jobs(rt, alloc, &mut input, &mut output, workers)
+    write_jobs(rt, alloc, &mut input, &mut output, workers, ends)
 }
 
 // The status of a run that ended so; the words for it go to standard error.
@@ -131,12 +132,15 @@ enum Task {
     Run { options: RunOptions },
     // Answer each line on standard input.
     Serve,
-    // Run the jobs on standard input by so many workers, 1 to 16.
-    Writers { workers: u32 },
+    // Run the jobs on standard input by so many workers, 1 to 16, and tell how each ended or not.
+    Writers { workers: u32, ends: bool },
 }
 
 // The option that says how many workers there are.
 const WORKERS: &str = "workers";
+
+// The option of `writers` by which the end of each job is told.
+const ENDS: &str = "ends";
 
 // The option of `run` by which unknown fields are faults, and the one by which it ends at the first refusal.
 const STRICT: &str = "strict";
@@ -163,8 +167,10 @@ Example:
 // The same for `writers`.
 const WRITERS_HELP: &str =
     r#"In: a JSON object a line. The first opens a store, each other one is a job: a snapshot's whole life.
-Out: one line: how many jobs were committed, discarded and refused, and what is charged then.
-Status: as of run, and 5 where the store could not be closed.
+Out: one line: how many jobs were committed, discarded and refused, and what is charged then; before it,
+with --ends, a line for each job.
+Status: as of run; 4 also after the answer where jobs were refused for want of memory or of a thread; 5 where
+the store could not be closed.
 Example:
   printf '%s\n' '{"do":"open","root":"/r","namespaces":[["a",9,9]]}' '{"ns":"a","key":"k","parent":"","ops":[],"end":"discard"}' | snap_replay writers --workers 2"#;
 
@@ -186,12 +192,8 @@ fn run_command<'a>(alloc: Global) -> Result<Command<'a>, Error> {
     Ok(run)
 }
 
-fn command<'a>(alloc: Global) -> Result<Command<'a>, Error> {
-    let serve = Command::new(alloc, "serve")
-        .about(
-            "Serves a client: reads a command a line, answers every line and goes on after faults",
-        )
-        .after_help(SERVE_HELP);
+// The command `writers`.
+fn writers_command<'a>(alloc: Global) -> Result<Command<'a>, Error> {
     let workers = Arg::new(alloc, WORKERS)
         .long(WORKERS)
         .value_name("N")
@@ -199,17 +201,31 @@ fn command<'a>(alloc: Global) -> Result<Command<'a>, Error> {
         .required(true)
         .action(ArgAction::Set)
         .value_parser(value_parser!(u32).range(1..=MAX_WORKERS as i64));
+    let ends = Arg::new(alloc, ENDS)
+        .long(ENDS)
+        .help("Writes a line for each job: how it ended")
+        .action(ArgAction::SetTrue);
     let writers = Command::new(alloc, "writers")
         .about("Runs jobs on threads: reads a store and jobs, writes one line at the end")
         .after_help(WRITERS_HELP)
-        .arg(workers)?;
+        .arg(workers)?
+        .arg(ends)?;
+    Ok(writers)
+}
+
+fn command<'a>(alloc: Global) -> Result<Command<'a>, Error> {
+    let serve = Command::new(alloc, "serve")
+        .about(
+            "Serves a client: reads a command a line, answers every line and goes on after faults",
+        )
+        .after_help(SERVE_HELP);
     let program = Command::new(alloc, "snap_replay")
         .about("A container snapshotter with an exact usage ledger")
         .version(VERSION)
         .subcommand_required(true)
         .subcommand(run_command(alloc)?)?
         .subcommand(serve)?
-        .subcommand(writers)?;
+        .subcommand(writers_command(alloc)?)?;
     Ok(program)
 }
 
@@ -248,7 +264,10 @@ fn chosen(matches: &ArgMatches<'_>) -> Option<Task>
             if workers < 1 || workers > MAX_WORKERS {
                 return None;
             }
-            Some(Task::Writers { workers })
+            Some(Task::Writers {
+                workers,
+                ends: own.get_flag(ENDS),
+            })
         }
         _ => None,
     }
@@ -262,7 +281,7 @@ fn run<T: Threads + Wait + Sync + Input + Print + Eprint + AllocGlobal>(
     match task_of(rt.alloc(), words) {
         Ok(Some(Task::Run { options })) => status(rt, replayed(rt, options)),
         Ok(Some(Task::Serve)) => status(rt, lines_served(rt)),
-        Ok(Some(Task::Writers { workers })) => status(rt, jobs_written(rt, workers)),
+        Ok(Some(Task::Writers { workers, ends })) => status(rt, jobs_written(rt, workers, ends)),
         Ok(None) => {
             let _ = rt.eprintln("error: no command");
             BAD_WORDS

@@ -1,9 +1,10 @@
 -- What calls leave on a worker's tape, one after another.
-use Rattle.std.specs.Prelude.{Any, IfOk, IfErr, get_or, take}
+use Rattle.std.specs.Prelude.{◌-◌, Any, IfOk, IfErr, get_or, slice_get, take}
 use Rattle.std.specs.List.{AllByRecursion, AllZip}
 use Rattle.std.proofs.Common.{◌≡◌, ℕ, ◌+◌, ◌<◌, List, [], ◌∷◌, ◌++◌, length, Option, None, Some, Result, Ok, Err, refl, sym, ap, ◌∙◌, subst, arith, add-one, append-nil, length-append}
 use Rattle.std.proofs.Math.Seq.{take-suc}
 use Rattle.std.proofs.lemmas.List.{append_assoc, get_or_append_left, get_or-append-add}
+use Rattle.std.proofs.lemmas.Option.{slice_get-get_or}
 use Rattle.snap_layer.specs.Tree.{Tree}
 use Rattle.snap_usage.specs.Counted.{count_of}
 use Rattle.snap_usage.specs.declared.usage.Usage.{Usage}
@@ -30,9 +31,12 @@ use Rattle.snap_writers.specs.declared.running.RunError.{RunError}
 use Rattle.snap_writers.specs.declared.running.RunError.TheVariants.{File, Book}
 use Rattle.snap_writers.specs.declared.job.End.TheVariants as ends
 use Rattle.snap_writers.specs.declared.job.Ended.{Ended}
+use Rattle.snap_writers.specs.declared.job.Ended.TheVariants as ended
 use Rattle.snap_writers.specs.declared.job.Job.{Job}
-use Rattle.snap_writers.specs.Jobs.{Done, Granted, IsCommitOf, IsPrepareOf, IsWorkFor, all_after, commit_by, commit_of, commits, then_after, with_end}
-use Rattle.snap_writers.specs.Going.{GoesOn, HasRunJob, IsFresh, IsReady, granted}
+use Rattle.snap_writers.specs.Jobs.{Done, Granted, IsCommitOf, IsEndOf, IsErrorOf, IsFailed, IsPrepareOf, IsUndone, IsWorkFor, all_after, commit_by, commit_of, commits, then_after, with_end}
+use Rattle.snap_writers.specs.declared.worker.Stop.{Stop}
+use Rattle.snap_writers.specs.declared.worker.Stop.TheVariants.{Failed}
+use Rattle.snap_writers.specs.Going.{GoesOn, HasRunJob, IsFresh, IsReady, IsStopOf, granted}
 
 -- ---- lists
 
@@ -85,7 +89,7 @@ commit_of_refused call given why = refl
 
 -- a granted Commit of a tape is one of the tape with more behind it
 pub more_tape : (tape more : List Entry) (d : Done) (g : Granted) → IsCommitOf tape d g → IsCommitOf (tape ++ more) d g
-more_tape tape more d g is = record { end = is.end; prepared = any_left _ tape more is.prepared; made = is.made; usage = is.usage; count = is.count }
+more_tape tape more d g is = record { end = is.end; id = is.id; prepared = any_left _ tape more is.prepared; made = is.made; usage = is.usage; count = is.count }
 
 -- ---- calls for a job
 
@@ -160,12 +164,31 @@ ready old new j before after fresh goes same done = record {
 }
 
 -- a job that has no commit
-pub ends_so : (old new : SessionValue) (j : Job) (end : Ended) → with_end j end [] ≡ [] → GoesOn j old new [] → HasRunJob old new j end
-ends_so old new j end none goes = record { granted = []; goes = goes; of = subst (λ (l : List Done). AllZip (IsCommitOf new.tape) l []) (sym none) tt }
+pub ends_so : (old new : SessionValue) (j : Job) (end : Ended) → with_end j end [] ≡ [] → IsEndOf j end → GoesOn j old new [] → HasRunJob old new j end
+ends_so old new j end none own goes = record { granted = []; goes = goes; of = subst (λ (l : List Done). AllZip (IsCommitOf new.tape) l []) (sym none) tt; own = own }
+
+-- a job that was committed
+pub committed_so : (old new : SessionValue) (j : Job) (a : ActiveValue) (name : Bytes) (lease : Option Bytes) (id : ℕ) (usage : Usage) → j.end ≡ ends.Commit name lease → IsReady old.tape j a → id ≡ a.share.id → usage ≡ count_of a.layer → GoesOn j old new (granted a name lease ∷ []) → HasRunJob old new j (ended.Committed id usage)
+committed_so old new j a name lease id usage end ready same counted goes = record {
+  granted = granted a name lease ∷ [];
+  goes = goes;
+  of = (
+    record {
+      end = end;
+      id = sym same;
+      prepared = subst (λ (l : List Entry). Any (IsPrepareOf j a.share.id) l) (sym goes.tape) (any_left (IsPrepareOf j a.share.id) old.tape goes.more ready.prepared);
+      made = ready.made;
+      usage = sym counted;
+      count = counted;
+    },
+    tt,
+  );
+  own = tt;
+}
 
 -- the tape went on before
 pub then_ended : (old mid new : SessionValue) (j : Job) (end : Ended) → GoesOn j old mid [] → HasRunJob mid new j end → HasRunJob old new j end
-then_ended old mid new j end before job = record { granted = job.granted; goes = then_on j old mid new job.granted before job.goes; of = job.of }
+then_ended old mid new j end before job = record { granted = job.granted; goes = then_on j old mid new job.granted before job.goes; of = job.of; own = job.own }
 
 -- ---- several operations
 
@@ -194,3 +217,26 @@ all_after-more ops i op d layer mid next lowers now low is same before then =
 
 pub same_snapshot : (a b c : ActiveValue) → IsSameSnapshot a b → IsSameSnapshot b c → IsSameSnapshot a c
 same_snapshot a b c p q = record { namespace = q.namespace ∙ p.namespace; key = q.key ∙ p.key; lowers = q.lowers ∙ p.lowers; slot = q.slot ∙ p.slot; id = q.id ∙ p.id }
+
+-- ---- an operation that is not done
+
+-- the one at this place, where those before it are done
+pub undone : (ops : List Op) (i place : ℕ) (op : Op) (error : RunError) (layer at : Tree) (lowers now : List Tree) → i < length ops → place ≡ i + 1 → op ≡ get_or ops i op → now ≡ lowers → all_after (take i ops) layer lowers ≡ Ok at → IsErrorOf error op at now → IsUndone ops place error layer lowers
+undone ops i place op error layer at lowers now low next is same before why =
+    let back : place - 1 ≡ i = omega (arith, next) in
+    record {
+      op = op;
+      at = at;
+      first = omega (arith, next);
+      is = ap (slice_get ops) back ∙ (slice_get-get_or ops i op low ∙ ap (λ (o : Op). Some o) (sym is));
+      made = ap (λ k. all_after (take k ops) layer lowers) back ∙ before;
+      why = subst (λ (l : List Tree). IsErrorOf error op at l) same why;
+    }
+
+-- so the job's, on its snapshot as it was prepared
+pub failed_so : (tape : List Entry) (j : Job) (a : ActiveValue) (stop : Stop) (place : ℕ) (error : RunError) → IsFresh tape j a → stop ≡ Failed place error → IsStopOf j.ops a.layer a.lowers stop → IsFailed j place error
+failed_so tape j a stop place error fresh is why = record {
+  lowers = a.lowers;
+  base = fresh.base;
+  undone = subst (λ (t : Tree). IsUndone j.ops place error t a.lowers) fresh.layer (subst (IsStopOf j.ops a.layer a.lowers) is why);
+}

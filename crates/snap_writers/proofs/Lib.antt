@@ -1,4 +1,5 @@
 pub mod Needing
+pub mod Erring
 pub mod Calling
 pub mod Every
 pub mod Walking

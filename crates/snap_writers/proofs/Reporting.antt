@@ -19,12 +19,12 @@ use Rattle.snap_writers.specs.declared.job.Job.{Job}
 use Rattle.snap_writers.specs.declared.job.Ended.{Ended}
 use Rattle.snap_writers.specs.declared.job.Ended.TheVariants as ended
 use Rattle.snap_writers.specs.declared.job.Worked.{Worked}
-use Rattle.snap_writers.specs.Jobs.{HaveWorked, IsStoredOf, IsWorked, commits, done, every, total}
+use Rattle.snap_writers.specs.Jobs.{HaveWorked, IsEndOf, IsStoredOf, IsWorked, commits, done, every, total}
 use Rattle.snap_writers.specs.Starting.{AreInOrder, AreWorked, Each, ends_at, sessions_of, with_session}
 use Rattle.snap_writers.proofs.Storing.{granted_total, stored_all, stored_of, tape_keeps}
 use Rattle.snap_writers.proofs.Sums.{over, over_once, sum_first}
-use Rattle.snap_writers.proofs.Walking.{done_unprepared}
-use Rattle.snap_writers.proofs.Weaving.{Woven, woven}
+use Rattle.snap_writers.proofs.Walking.{done_unprepared, unprepared_own}
+use Rattle.snap_writers.proofs.Weaving.{Woven, own_woven, woven}
 
 -- ---- of each session
 
@@ -117,15 +117,32 @@ stored_at origin journal jobs n m (suc k) (w ∷ ws) are own_are each low =
     let e : m + 1 + k ≡ m + suc k = omega arith in
     subst (λ i. AllZip IsStoredOf (done (every n i jobs) (ends_at ws k)) (lists_at origin ws k)) e (stored_at origin journal jobs n (m + 1) k ws are (rest_own journal w.session (sessions_of ws) own_are) each.1 (omega (arith, low)))
 
+-- ---- the ends, worker by worker
+
+own_here : (jobs : List Job) (es : List Ended) (o : Option SessionValue) → HaveWorked jobs es o → AllZip IsEndOf jobs es
+own_here jobs es None (inl is) = subst (AllZip IsEndOf jobs) (sym is) (unprepared_own ended.NoThread (λ j. tt) jobs)
+own_here jobs es None (inr (why, is)) = subst (AllZip IsEndOf jobs) (sym is) (unprepared_own (ended.NotPrepared why) (λ j. tt) jobs)
+own_here jobs es (Some s) worked = worked.each
+
+own_at : (jobs : List Job) (n m k : ℕ) (ws : List Worked) → Each (λ k w. IsWorked jobs (k + 1) n w) m ws → k < length ws → AllZip IsEndOf (every n (m + k) jobs) (ends_at ws k)
+own_at jobs n m k [] each low = absurd (omega (arith, low))
+own_at jobs n m zero (w ∷ ws) each low =
+    let e : m + 1 - 1 ≡ m + 0 = omega arith in
+    subst (λ i. AllZip IsEndOf (every n i jobs) w.ends) e (own_here (every n (m + 1 - 1) jobs) w.ends w.session each.0.session)
+own_at jobs n m (suc k) (w ∷ ws) each low =
+    let e : m + 1 + k ≡ m + suc k = omega arith in
+    subst (λ i. AllZip IsEndOf (every n i jobs) (ends_at ws k)) e (own_at jobs n (m + 1) k ws each.1 (omega (arith, low)))
+
 -- ---- all of it
 
 pub record Stores (jobs : List Job) (ends : List Ended) (b : BookValue) : Type 0 where
+  pub each : AllZip IsEndOf jobs ends
   pub stored : List Stored
   pub of : AllZip IsStoredOf (done jobs ends) stored
   pub committed : (h : Stored → ℕ) → worth h b.state ≡ worth h b.opening + total h stored
 
 pub stores : (jobs : List Job) (workers : ℕ) (ws : List Worked) (ends : List Ended) (r : Round) (b : BookValue) → 1 ≤ workers → AreWorked jobs workers ws → AreInOrder jobs workers ws ends → IsClosed r b (sessions_of ws) → Stores jobs ends b
-stores jobs workers ws ends r b some worked order closed = record { stored = all.stored; of = all.of; committed = law }
+stores jobs workers ws ends r b some worked order closed = record { each = each_own; stored = all.stored; of = all.of; committed = law }
   where
     own_are : AllByRecursion (IsOwn b.journal) (sessions_of ws)
     own_are = all_rec (IsOwn b.journal) (sessions_of ws) closed.sessions.tapes
@@ -150,6 +167,15 @@ stores jobs workers ws ends r b some worked order closed = record { stored = all
         let e : 0 + k ≡ k = omega arith in
         let here = stored_at origin b.journal jobs workers 0 k ws are own_are worked.each (omega (arith, low, worked.count)) in
         subst (λ l. AllZip IsStoredOf (done (every workers k jobs) l) (lists k)) (sym (order.each k low)) (subst (λ i. AllZip IsStoredOf (done (every workers i jobs) (ends_at ws k)) (lists k)) e here)
+
+    workers_own : (k : ℕ) → k < workers → AllZip IsEndOf (every workers k jobs) (every workers k ends)
+    workers_own k low =
+        let e : 0 + k ≡ k = omega arith in
+        let here = own_at jobs workers 0 k ws worked.each (omega (arith, low, worked.count)) in
+        subst (AllZip IsEndOf (every workers k jobs)) (sym (order.each k low)) (subst (λ i. AllZip IsEndOf (every workers i jobs) (ends_at ws k)) e here)
+
+    each_own : AllZip IsEndOf jobs ends
+    each_own = own_woven (workers - 1) jobs ends order.count (subst (λ n. (k : ℕ) → k < n → AllZip IsEndOf (every n k jobs) (every n k ends)) size workers_own)
 
     all : Woven workers jobs ends lists
     all = subst (λ n. Woven n jobs ends lists) (sym size) (woven (workers - 1) jobs ends lists order.count (subst (λ n. (k : ℕ) → k < n → AllZip IsStoredOf (done (every n k jobs) (every n k ends)) (lists k)) size each))

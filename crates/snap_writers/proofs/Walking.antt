@@ -16,7 +16,7 @@ use Rattle.snap_writers.specs.declared.job.Job.{Job}
 use Rattle.snap_writers.specs.declared.job.Ended.{Ended}
 use Rattle.snap_writers.specs.declared.job.Ended.TheVariants as ended
 use Rattle.snap_writers.specs.declared.job.Worked.{Worked}
-use Rattle.snap_writers.specs.Jobs.{Done, Granted, HasWorked, IsCommitOf, IsWork, IsWorkFor, IsWorked, commits, done, unprepared, with_end}
+use Rattle.snap_writers.specs.Jobs.{Done, Granted, HasWorked, IsCommitOf, IsEndOf, IsWork, IsWorkFor, IsWorked, commits, done, unprepared, with_end}
 use Rattle.snap_writers.specs.Going.{HasRunJob, IsGoing, none_run}
 use Rattle.snap_writers.proofs.Calling.{all_append, all_map, any_right, commits_append, more_tape, zip_append, zip_weaker}
 
@@ -39,8 +39,16 @@ unprepared-none end (x ∷ xs) = ap (λ (es : List Ended). end ∷ es) (unprepar
 pub length_none : (js : List Job) → length (none_run js) ≡ length js
 length_none js = length-map js (λ _. ended.NotRun)
 
+-- an end that owes nothing
+pub unprepared_own : (end : Ended) → ((j : Job) → IsEndOf j end) → (js : List Job) → AllZip IsEndOf js (unprepared end js)
+unprepared_own end own [] = tt
+unprepared_own end own (j ∷ js) = (own j, unprepared_own end own js)
+
+none_own : (js : List Job) → AllZip IsEndOf js (none_run js)
+none_own js = unprepared_own ended.NotRun (λ j. tt) js
+
 end_first : (j : Job) (e : Ended) (rest : List Done) → with_end j e rest ≡ with_end j e [] ++ rest
-end_first j (ended.Committed usage) rest = refl
+end_first j (ended.Committed id usage) rest = refl
 end_first j e rest = refl
 
 zip_none : (t : List Entry) (gs : List Granted) → AllZip (IsCommitOf t) [] gs → gs ≡ []
@@ -60,6 +68,7 @@ begins all s ends are tape = record {
   committed = [];
   done = λ es. refl;
   of = subst (λ (l : List Entry). AllZip (IsCommitOf s.tape) [] (commits l)) (sym tape) tt;
+  own = λ es own. own;
 }
 
 -- calls for the next job are for one of all
@@ -82,6 +91,7 @@ goes all left j s t ends place e was job = record {
       ap (done all) (append_assoc was.front (e ∷ []) es)
       ∙ (was.done (e ∷ es) ∙ (ap (λ (l : List Done). was.committed ++ l) (end_first j e (done left es)) ∙ sym (append_assoc was.committed (with_end j e []) (done left es))));
   of = subst (λ (l : List Granted). AllZip (IsCommitOf t.tape) (was.committed ++ with_end j e []) l) (sym grown) (zip_append (IsCommitOf t.tape) was.committed (with_end j e []) (commits s.tape) job.granted before job.of);
+  own = λ es own. subst (AllZip IsEndOf all) (sym (append_assoc was.front (e ∷ []) es)) (was.own (e ∷ es) (job.own, own));
 }
   where
     grown : commits t.tape ≡ commits s.tape ++ job.granted
@@ -99,6 +109,7 @@ stops all left j s t ends place was job = (
     tape = job.goes.tape ∙ (ap (λ (l : List Entry). l ++ job.goes.more) was.tape ∙ ap (λ n. entry n calls.Session Nothing replies.Opened ∷ (was.rest ++ job.goes.more)) (sym job.goes.number));
     calls = all_append (λ x. IsWork all x.call) was.rest job.goes.more was.calls (works all left j s ends place was job.goes.more job.goes.calls);
     commits = subst (λ (l : List Done). AllZip (IsCommitOf t.tape) l (commits t.tape)) (sym are) (subst (λ (l : List Granted). AllZip (IsCommitOf t.tape) was.committed l) (sym grown) before);
+    each = subst (AllZip IsEndOf all) (sym was.are) (was.own (none_run (j ∷ left)) (none_own (j ∷ left)));
   },
 )
   where
@@ -119,7 +130,7 @@ stops all left j s t ends place was job = (
 
 -- no job is left
 pub ends_all : (all left : List Job) (s : SessionValue) (ends : List Ended) (place : ℕ) → IsGoing all left s ends place → (length ends ≡ length all) × HasWorked all ends s
-ends_all all left s ends place was = (counts, record { rest = was.rest; tape = was.tape; calls = was.calls; commits = subst (λ (l : List Done). AllZip (IsCommitOf s.tape) l (commits s.tape)) (sym are) was.of })
+ends_all all left s ends place was = (counts, record { rest = was.rest; tape = was.tape; calls = was.calls; commits = subst (λ (l : List Done). AllZip (IsCommitOf s.tape) l (commits s.tape)) (sym are) was.of; each = subst (AllZip IsEndOf all) (sym was.are) (was.own (none_run left) (none_own left)) })
   where
     counts : length ends ≡ length all
     counts = ap length was.are ∙ (length-append was.front (none_run left) ∙ omega (arith, was.behind, length_none left, was.count))

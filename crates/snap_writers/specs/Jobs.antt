@@ -1,12 +1,14 @@
 -- Jobs, and what is owed by a worker and by a run of all workers.
 -- Cited by `run_worker`, `run_jobs`, `write_jobs_within` and others.
-use Rattle.std.specs.Prelude.{◌≡◌, ◌⊎◌, ℕ, zero, suc, ◌+◌, ◌-◌, List, [], ◌∷◌, length, map, Any, Option, None, Some, Ok, Err}
+use Rattle.std.specs.Prelude.{◌≡◌, ◌⊎◌, ◌≤◌, ℕ, zero, suc, ◌+◌, ◌-◌, List, [], ◌∷◌, length, map, take, slice_get, Any, Option, None, Some, Ok, Err}
 use Rattle.std.specs.List.{AllByRecursion, AllZip}
+use Rattle.snap_path.specs.Memory.{no_memory}
 use Rattle.snap_layer.specs.Edits.{root_only}
 use Rattle.snap_layer.specs.Tree.{Tree}
 use Rattle.snap_usage.specs.Counted.{count_of}
 use Rattle.snap_usage.specs.declared.usage.Usage.{Usage}
 use Rattle.snap_record.specs.Labels.{Bytes}
+use Rattle.snap_merge.specs.declared.error.FsError.TheVariants as errors
 use Rattle.snap_upper.specs.declared.op.Op.{Op}
 use Rattle.snap_upper.specs.After.{Outcome, after}
 use Rattle.snap_call.specs.declared.call.Call.{Call}
@@ -15,6 +17,7 @@ use Rattle.snap_call.specs.declared.call.Given.{Given}
 use Rattle.snap_call.specs.declared.call.Given.TheVariants.{Nothing, Layer}
 use Rattle.snap_call.specs.declared.entry.Entry.{Entry}
 use Rattle.snap_call.specs.declared.refusal.Refusal.{Refusal}
+use Rattle.snap_call.specs.declared.refusal.Refusal.TheVariants as refusals
 use Rattle.snap_call.specs.declared.reply.Reply.{Reply}
 use Rattle.snap_call.specs.declared.reply.Reply.TheVariants as replies
 use Rattle.snap_call.specs.Journal.{entry}
@@ -31,6 +34,8 @@ use Rattle.snap_writers.specs.declared.job.End.TheVariants as ends
 use Rattle.snap_writers.specs.declared.job.Ended.{Ended}
 use Rattle.snap_writers.specs.declared.job.Ended.TheVariants as ended
 use Rattle.snap_writers.specs.declared.job.Worked.{Worked}
+use Rattle.snap_writers.specs.declared.running.RunError.{RunError}
+use Rattle.snap_writers.specs.declared.running.RunError.TheVariants.{File, Book}
 
 -- ---- which jobs are a worker's
 
@@ -46,13 +51,14 @@ jobs_of jobs worker workers = every workers (worker - 1) jobs
 
 -- ---- which of them were committed
 
--- a job that ended Committed, and the usage that its end tells
+-- a job that ended Committed, and the id and the usage that its end tells
 pub record Done : Type 0 where
   pub job : Job
+  pub id : ℕ
   pub usage : Usage
 
 abbrev pub with_end : Job → Ended → List Done → List Done
-with_end j (ended.Committed usage) rest = record { job = j; usage = usage } ∷ rest
+with_end j (ended.Committed id usage) rest = record { job = j; id = id; usage = usage } ∷ rest
 with_end j end rest = rest
 
 -- the jobs that ended Committed, in order
@@ -120,22 +126,51 @@ pub record IsMadeBy (j : Job) (layer : Tree) : Type 0 where
   pub base : j.parent ≡ [] → lowers ≡ []
   pub made : all_after j.ops (root_only (root_mode lowers) 1) lowers ≡ Ok layer
 
+-- ---- where a job's operations end
+
+-- why an operation is not done on the layer: the error is its own there; or a charge was refused that it needs, and it has a next layer; or memory was refused
+abbrev pub IsErrorOf : RunError → Op → Tree → List Tree → Type 0
+IsErrorOf (File e) op layer lowers = (e ≡ errors.OutOfMemory no_memory) ⊎ (after op layer lowers ≡ Err e)
+IsErrorOf (Book why) op layer lowers = (why ≡ refusals.OutOfMemory no_memory) ⊎ ((next : Tree) × (after op layer lowers ≡ Ok next))
+
+-- of these operations the one at this place, from 1, is not done: those before it make of the layer another one, on which it has the error
+pub record IsUndone (ops : List Op) (place : ℕ) (error : RunError) (layer : Tree) (lowers : List Tree) : Type 0 where
+  pub op : Op
+  pub at : Tree
+  pub first : 1 ≤ place
+  pub is : slice_get ops (place - 1) ≡ Some op
+  pub made : all_after (take (place - 1) ops) layer lowers ≡ Ok at
+  pub why : IsErrorOf error op at lowers
+
+-- so it is of the job's operations on a root alone, over some lower layers, and over none without a parent
+pub record IsFailed (j : Job) (place : ℕ) (error : RunError) : Type 0 where
+  pub lowers : List Tree
+  pub base : j.parent ≡ [] → lowers ≡ []
+  pub undone : IsUndone j.ops place error (root_only (root_mode lowers) 1) lowers
+
+-- what is owed for an end by itself: where an operation was not done, its place and its error are those that are told
+abbrev pub IsEndOf : Job → Ended → Type 0
+IsEndOf j (ended.Failed place error) = IsFailed j place error
+IsEndOf j end = Unit {0}
+
 -- ---- what a worker owes
 
--- the granted Commit is the job's: under its name and in its lease; of an id that a Prepare of the tape was granted for the job; with the layer that the job's operations make; and the usage, which the job's end tells too, is the count over it
+-- the granted Commit is the job's: under its name and in its lease; of an id that a Prepare of the tape was granted for the job, and that the job's end tells; with the layer that the job's operations make; and the usage, which the job's end tells too, is the count over it
 pub record IsCommitOf (tape : List Entry) (d : Done) (g : Granted) : Type 0 where
   pub end : d.job.end ≡ ends.Commit g.name g.lease
+  pub id : g.id ≡ d.id
   pub prepared : Any (IsPrepareOf d.job g.id) tape
   pub made : IsMadeBy d.job g.layer
   pub usage : g.usage ≡ d.usage
   pub count : d.usage ≡ count_of g.layer
 
--- a worker's session: its tape begins with its own opening, and has calls for its jobs alone after it; its granted Commits are, in order, those of the jobs that ended Committed
+-- a worker's session: its tape begins with its own opening, and has calls for its jobs alone after it; its granted Commits are, in order, those of the jobs that ended Committed; and each end is its job's
 pub record HasWorked (jobs : List Job) (es : List Ended) (s : SessionValue) : Type 0 where
   pub rest : List Entry
   pub tape : s.tape ≡ entry s.number calls.Session Nothing replies.Opened ∷ rest
   pub calls : AllByRecursion (λ e. IsWork jobs e.call) rest
   pub commits : AllZip (IsCommitOf s.tape) (done jobs es) (commits s.tape)
+  pub each : AllZip IsEndOf jobs es
 
 -- no job was prepared, and each has this end
 abbrev pub unprepared : {X : Type 0} → Ended → List X → List Ended
@@ -158,11 +193,12 @@ abbrev pub name_of : End → Option Bytes
 name_of (ends.Commit name lease) = Some name
 name_of ends.Discard = None
 
--- the committed snapshot is the job's: of its namespace, under its name and over its parent, with the layer that the job's operations make; and the usage that its end tells is the count over it
+-- the committed snapshot is the job's: of its namespace, under its name and over its parent, of the id that its end tells, with the layer that the job's operations make; and the usage that its end tells is the count over it
 pub record IsStoredOf (d : Done) (s : Stored) : Type 0 where
   pub namespace : s.namespace ≡ d.job.namespace
   pub name : name_of d.job.end ≡ Some s.name
   pub parent : s.parent ≡ d.job.parent
+  pub id : s.id ≡ d.id
   pub made : IsMadeBy d.job s.layer
   pub count : d.usage ≡ count_of s.layer
 
@@ -171,9 +207,10 @@ abbrev pub total : (Stored → ℕ) → List Stored → ℕ
 total h [] = 0
 total h (s ∷ ss) = h s + total h ss
 
--- of a store of this round: one end for each job, in order; all of it once it is closed; and, however snapshots are weighed, its committed ones are those that the round began with and one for each job that ended Committed
+-- of a store of this round: one end for each job, in order, that is the job's; all of it once it is closed; and, however snapshots are weighed, its committed ones are those that the round began with and one for each job that ended Committed
 pub record IsReport (r : Round) (jobs : List Job) (es : List Ended) (b : BookValue) : Type 0 where
   pub count : length es ≡ length jobs
+  pub each : AllZip IsEndOf jobs es
   pub sessions : List SessionValue
   pub closed : IsClosed r b sessions
   pub stored : List Stored

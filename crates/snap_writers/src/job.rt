@@ -38,16 +38,16 @@ pub struct Job {
 /// How a job ended.
 #[derive(Clone, Copy, Debug, PartialEq, Eq)]
 pub enum Ended {
-    /// It was committed, and its layer takes so many blocks of 4096 bytes and inodes.
-    Committed(Usage),
+    /// It was committed under this id, and its layer takes so many blocks of 4096 bytes and inodes.
+    Committed { id: u32, usage: Usage },
     /// Its end was to discard, and it was discarded.
     Discarded,
     /// It was not prepared; or its worker had no session.
     NotPrepared(Refusal),
     /// Its worker had no thread.
     NoThread,
-    /// An operation was not done. It was discarded.
-    Failed(RunError),
+    /// The operation at this place, counted from 1, was not done. It was discarded.
+    Failed { op: u64, error: RunError },
     /// It was not committed. It was discarded.
     NotCommitted(Refusal),
     /// The gate stopped its worker before its end. Where it was prepared by then, it was discarded.

@@ -10,8 +10,8 @@ ghost use Rattle.snap_call.specs.declared.reply.Reply.TheVariants as replies;
 ghost use Rattle.snap_writers.specs.declared.job.Job.{Job as JobValue};
 ghost use Rattle.snap_writers.specs.declared.job.End.TheVariants.{Commit};
 ghost use Rattle.snap_writers.specs.declared.job.Ended.TheVariants as ended;
-ghost use Rattle.snap_writers.specs.Jobs.{IsWorked, all_after, jobs_of, unprepared};
-ghost use Rattle.snap_writers.specs.Going.{GoesOn, HasRunJob, IsFresh, IsReady, end_or, granted, none_run};
+ghost use Rattle.snap_writers.specs.Jobs.{IsErrorOf, IsWorked, all_after, jobs_of, unprepared};
+ghost use Rattle.snap_writers.specs.Going.{GoesOn, HasRunJob, IsFresh, IsReady, IsStopOf, end_or, granted, none_run};
 
 use crate::job::{End, Ended, Ends, Gate, Job, Worked};
 use crate::running::{RunError, run};
@@ -37,18 +37,10 @@ pub(crate) struct Worker<'a, N: RoundName, R: Wait, G: Gate> {
     pub(crate) session: Session,
 }
 
-// Why the operations of a job are not all done.
+// Why the operations of a job are not all done: the gate, or the operation at a place, counted from 1.
 enum Stop {
     Gate,
-    Failed(RunError),
-}
-
-impl From<RunError> for Stop {
-    ghost from_gives = { λ _ _. Unit {0} };
-
-    fn from(error: RunError) -> Stop {
-        Stop::Failed(error)
-    }
+    Failed { op: u64, error: RunError },
 }
 
 impl<'a, N: RoundName, R: Wait, G: Gate> Worker<'a, N, R, G> {
@@ -86,6 +78,7 @@ impl<'a, N: RoundName, R: Wait, G: Gate> Worker<'a, N, R, G> {
         requires room { 0 < self.old.session.spare }
         requires may { self.old.may_step ≡ true }
         ensures done { OnOk result (after op.now active.old.layer active.old.lowers ≡ Ok active.new.layer) }
+        ensures failed { IfErr result (λ error. IsErrorOf error op.now active.old.layer active.old.lowers) }
         ensures same { IsSameSnapshot active.old active.new }
         ensures goes { GoesOn job.now self.old.session self.new.session [] }
         ensures room { 0 < self.new.session.spare }
@@ -108,15 +101,21 @@ impl<'a, N: RoundName, R: Wait, G: Gate> Worker<'a, N, R, G> {
     fn operate_all(&mut self, active: &mut Active<N>, job: &Job) -> Result<(), Stop>
         requires { 0 < self.old.session.spare }
         ensures done { OnOk result (all_after job.now.ops active.old.layer active.old.lowers ≡ Ok active.new.layer) }
+        ensures failed { IfErr result (λ stop. IsStopOf job.now.ops active.old.layer active.old.lowers stop) }
         ensures same { IsSameSnapshot active.old active.new }
         ensures goes { GoesOn job.now self.old.session self.new.session [] }
         ensures room { 0 < self.new.session.spare }
     {
+        let mut place = 0;
         for op in job.ops.as_slice() {
+            place += 1;
             if !self.passes() {
                 return Err(Stop::Gate);
             }
-            self.operate(active, op, job)?;
+            match self.operate(active, op, job) {
+                Ok(()) => {}
+                Err(error) => return Err(Stop::Failed { op: place, error }),
+            }
         }
         Ok(())
     }
@@ -175,10 +174,13 @@ impl<'a, N: RoundName, R: Wait, G: Gate> Worker<'a, N, R, G> {
     {
         self.may_step = false;
         match &job.end {
-            End::Commit { name, lease } => match self.commit(active, job, name, lease) {
-                Ok(usage) => Ended::Committed(usage),
-                Err(why) => Ended::NotCommitted(why),
-            },
+            End::Commit { name, lease } => {
+                let id = active.id();
+                match self.commit(active, job, name, lease) {
+                    Ok(usage) => Ended::Committed { id, usage },
+                    Err(why) => Ended::NotCommitted(why),
+                }
+            }
             End::Discard => {
                 self.discard(Held::Active(active));
                 Ended::Discarded
@@ -205,7 +207,7 @@ impl<'a, N: RoundName, R: Wait, G: Gate> Worker<'a, N, R, G> {
                 self.discard(Held::Active(active));
                 match stop {
                     Stop::Gate => None,
-                    Stop::Failed(error) => Some(Ended::Failed(error)),
+                    Stop::Failed { op, error } => Some(Ended::Failed { op, error }),
                 }
             }
         }

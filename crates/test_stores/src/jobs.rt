@@ -85,18 +85,27 @@ fn failing<R: Abort>(rt: &R, alloc: Global) -> [Job; 4] {
 
 const FAILED: [Ended; 4] = [
     Ended::NotPrepared(Refusal::NotFound),
-    Ended::Failed(RunError::File(FsError::NotFound)),
-    Ended::Committed(Usage {
-        blocks: 1,
-        inodes: 1,
-    }),
+    Ended::Failed {
+        op: 1,
+        error: RunError::File(FsError::NotFound),
+    },
+    Ended::Committed {
+        id: 0,
+        usage: Usage {
+            blocks: 1,
+            inodes: 1,
+        },
+    },
     Ended::NotCommitted(Refusal::AlreadyExists),
 ];
 
-const COMMITTED: Ended = Ended::Committed(Usage {
-    blocks: 2,
-    inodes: 2,
-});
+const COMMITTED: Ended = Ended::Committed {
+    id: 0,
+    usage: Usage {
+        blocks: 2,
+        inodes: 2,
+    },
+};
 
 macro_rules! eight_times {
     ($a:expr, $b:expr) => {
@@ -112,8 +121,21 @@ const OF_THE_FIRST: [Ended; 16] = eight_times!(COMMITTED, Ended::NotRun);
 
 const NOT_RUN: [Ended; 16] = [Ended::NotRun; 16];
 
+// The ends with 0 in place of each id, since ids follow the order in which the workers get on.
+fn without_ids<R: Abort>(rt: &R, alloc: Global, ends: &[Ended]) -> Vec<Ended> {
+    let mut all = Vec::new(alloc);
+    for end in ends {
+        let end = match *end {
+            Ended::Committed { id: _, usage } => Ended::Committed { id: 0, usage },
+            other => other,
+        };
+        all.push(end).expect(rt, "memory for an end");
+    }
+    all
+}
+
 // Runs the jobs by so many workers through the gate. Found are the first worker that it stopped, the end of
-// each job, and what the namespace a is charged.
+// each job without its id, and what the namespace a is charged.
 fn end_so<N: RoundName + Send + Sync, R: Threads + Wait + Abort + Sync, G: Gate>(
     rt: &R,
     alloc: Global,
@@ -130,7 +152,8 @@ fn end_so<N: RoundName + Send + Sync, R: Threads + Wait + Abort + Sync, G: Gate>
         Err(RunFault::GateClosed { worker, report }) => (Some(worker), report),
         _ => panic!(rt; "no report"),
     };
-    let found = (stopped, report.ends.as_slice(), report.closed.totals("a"));
+    let ends = without_ids(rt, alloc, report.ends.as_slice());
+    let found = (stopped, ends.as_slice(), report.closed.totals("a"));
     equal(rt, shown, found, wanted);
 }
 

@@ -98,12 +98,14 @@ fn streams_that_fail(rt: HostRuntime) {
     }
 }
 
-// The statuses of want of memory and of a store that isn't closed, and a field's name, follow from the contracts.
+// The statuses of want of memory, also of jobs', and of a store that isn't closed, and a field's name, follow from the
+// contracts.
 #[test]
 fn streams_without_end(rt: HostRuntime) {
     let memory = Stop::OutOfMemory(Shortage::Library).status();
     let open = JobsStop::NotClosed.status();
-    prove!(memory == 4 && open == 5);
+    let lacking = JobsStop::WantOfMemory { jobs: 1, all: 2 }.status();
+    prove!(memory == 4 && open == 5 && lacking == 4);
     let name = Field::Namespace.name();
     prove!(name == "ns");
 
@@ -117,7 +119,7 @@ fn streams_without_end(rt: HostRuntime) {
     let wanted = (Err(Stop::InputFailed), 0);
     equal(&rt, "a script", (ended, output.len()), wanted);
 
-    let ended = write_jobs_within(&rt, alloc, &mut spaces, &mut output, 4, 100);
+    let ended = write_jobs_within(&rt, alloc, &mut spaces, &mut output, 4, true, 100);
     let wanted = (Err(JobsStop::Lines(Stop::InputFailed)), 0);
     equal(&rt, "a script of jobs", (ended, output.len()), wanted);
 

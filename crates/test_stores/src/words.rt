@@ -47,4 +47,6 @@ fn errors_are_printed(rt: HostRuntime) {
         "want of memory",
     );
     says(&rt, alloc, &JobsStop::NotClosed, "not closed");
+    let lacking = JobsStop::WantOfMemory { jobs: 3, all: 10 };
+    says(&rt, alloc, &lacking, "want of memory: 3 of 10 jobs");
 }

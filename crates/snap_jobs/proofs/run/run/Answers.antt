@@ -11,7 +11,7 @@ returns-in-Ok-clause-written g c =
     let before = g.W.Write.contents c.args.output.now in
     let mid = g.W.Write.contents c.read_lines.new.output in
     let read = c.into_read.result in
-    written c.run_read.result remaining read before mid (g.W.Write.contents c.run_read.new.output)
+    written c.args.ends c.run_read.result remaining read before mid (g.W.Write.contents c.run_read.new.output)
     (subst (λ (v : Option ReadValue). IfSome remaining (λ bytes. Tells (transcript (Some max_bytes) jobs_effect v bytes) None before mid)) c.new-lines.ensures c.in-Ok.ensures.done)
     (subst (λ (v : Option ReadValue). IfSome remaining (λ bytes. (transcript (Some max_bytes) jobs_effect v bytes).value ≡ read)) c.new-lines.ensures (rw c.into_read.ensures c.in-Ok.ensures.value))
     c.run_read.ensures.written
@@ -22,7 +22,7 @@ returns-in-Ok-clause-stopped g c =
     let before = g.W.Write.contents c.args.output.now in
     let mid = g.W.Write.contents c.read_lines.new.output in
     let read = c.into_read.result in
-    broken c.run_read.result remaining read before mid (g.W.Write.contents c.run_read.new.output)
+    broken c.args.ends c.run_read.result remaining read before mid (g.W.Write.contents c.run_read.new.output)
     (subst (λ (v : Option ReadValue). IfSome remaining (λ bytes. Tells (transcript (Some max_bytes) jobs_effect v bytes) None before mid)) c.new-lines.ensures c.in-Ok.ensures.done)
     (subst (λ (v : Option ReadValue). IfSome remaining (λ bytes. (transcript (Some max_bytes) jobs_effect v bytes).value ≡ read)) c.new-lines.ensures (rw c.into_read.ensures c.in-Ok.ensures.value))
     c.run_read.ensures.stopped
@@ -33,5 +33,5 @@ returns-in-Err-clause-stopped g c =
     let left = g.R.Read.remaining c.read_lines.new.input in
     let before = g.W.Write.contents c.args.output.now in
     let after = g.W.Write.contents c.read_lines.new.output in
-    lines_stopped remaining left c.in-Err.stop before after
+    lines_stopped c.args.ends remaining left c.in-Err.stop before after
     (subst (λ (v : Option ReadValue). IfSome remaining (λ bytes. Stops (Some max_bytes) jobs_effect v bytes left c.in-Err.stop before after)) c.new-lines.ensures c.in-Err.ensures.stopped)

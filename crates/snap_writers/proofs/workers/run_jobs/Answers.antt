@@ -17,7 +17,7 @@ returns-in-None-clause-report g c =
     let found : IsClosed c.args.store c.in-Ok-close.closed c.sessions_of.result.items = record { round = c.in-Ok-close.ensures.round; sessions = c.in-Ok-close.ensures.sessions; settled = c.in-Ok-close.ensures.totals; kept = c.in-Ok-close.ensures.kept } in
     let closed = subst (λ (l : List SessionValue). IsClosed c.args.store c.in-Ok-close.closed l) c.sessions_of.ensures found in
     let all = stores jobs c.args.workers c.in-Ok-all_worked.all.items ends c.args.store c.in-Ok-close.closed (omega (arith, c.if-workers-eq0.false)) c.in-Ok-all_worked.ensures order closed in
-    record { count = c.in_order-ends.ensures.count; sessions = c.sessions_of.result.items; closed = found; stored = all.stored; of = all.of; committed = all.committed }
+    record { count = c.in_order-ends.ensures.count; each = all.each; sessions = c.sessions_of.result.items; closed = found; stored = all.stored; of = all.of; committed = all.committed }
 
 pub returns-in-Some-clause-fault : goal.returns-in-Some-clause-fault
 returns-in-Some-clause-fault g c =
@@ -29,7 +29,7 @@ returns-in-Some-clause-fault g c =
     let all = stores jobs c.args.workers c.in-Ok-all_worked.all.items ends c.args.store c.in-Ok-close.closed (omega (arith, c.if-workers-eq0.false)) c.in-Ok-all_worked.ensures order closed in
     let counted : IsCount c.args.workers = (omega (arith, c.if-workers-eq0.false), omega (arith, c.if-workers-gt-MAX_WORKERS.false)) in (
       counted,
-      record { count = c.in_order-ends.ensures.count; sessions = c.sessions_of.result.items; closed = found; stored = all.stored; of = all.of; committed = all.committed },
+      record { count = c.in_order-ends.ensures.count; each = all.each; sessions = c.sessions_of.result.items; closed = found; stored = all.stored; of = all.of; committed = all.committed },
       c.in-Some.ensures.0,
       omega (arith, c.in-Some.ensures.1, ap length c.as_slice-2.ensures.value, c.in-Ok-all_worked.ensures.count),
     )

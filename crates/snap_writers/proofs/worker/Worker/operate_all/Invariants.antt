@@ -9,6 +9,7 @@ abbrev pub invariant-loop-op : goal.invariant-loop-op
 invariant-loop-op g l = record {
   done : all_after (take l.op-index l.job.ops) l.initial.active.layer l.initial.active.lowers ≡ Ok l.active.layer;
   same : IsSameSnapshot l.initial.active l.active;
+  place : l.place ≡ l.op-index;
   goes : GoesOn l.job l.initial.self.session l.self.session [];
   room : 0 < l.self.session.spare;
 }

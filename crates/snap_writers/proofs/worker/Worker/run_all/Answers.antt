@@ -4,7 +4,7 @@ use Rattle.snap_writers.specs.declared.job.Job.{Job}
 use Rattle.snap_writers.specs.Jobs.{every, jobs_of}
 use Rattle.snap_writers.specs.Going.{IsGoing}
 use Rattle.snap_writers.proofs.Every.{taken_up}
-use Rattle.snap_writers.proofs.Walking.{goes, stops}
+use Rattle.snap_writers.proofs.Walking.{begins, goes, stops}
 use Rattle.snap_writers.proofs.worker.Worker.run_all.Goals as goal
 
 pub returns-in-None : goal.returns-in-None
@@ -21,6 +21,12 @@ returns-in-None g c =
       ends = ap length c.give_back.ensures.ends ∙ end.0;
       session = rw (c.give_back.ensures.session, c.give_back.ensures.ends) end.1;
     }
+
+pub loop-job-init : goal.loop-job-init
+loop-job-init g c = record {
+  skip = omega (arith, c.requires.worker.0, c.requires.worker.1);
+  going = begins (jobs_of c.args.jobs.now c.args.worker c.args.workers) c.args.self.session c.args.ends c.requires.ends c.requires.session;
+}
 
 pub loop-job-preserved : goal.loop-job-preserved
 loop-job-preserved g c =

@@ -1,6 +1,6 @@
 use Rattle.std.proofs.Common.{refl, []}
 use Rattle.snap_writers.specs.declared.job.Ended.TheVariants.{Failed, NotRun}
-use Rattle.snap_writers.proofs.Calling.{ends_so, stays, then_ended, then_on}
+use Rattle.snap_writers.proofs.Calling.{ends_so, failed_so, stays, then_ended, then_on}
 use Rattle.snap_writers.proofs.worker.Worker.work.Goals as goal
 
 pub returns-then-passes : goal.returns-then-passes
@@ -17,18 +17,19 @@ returns-else-passes g c =
     let mid = c.operate_all.new.self.session in
     let asked = c.passes.new.self.session in
     let new = c.discard.new.self.session in
-    ends_so old new c.args.job.now NotRun refl (then_on c.args.job.now old mid new [] c.in-Ok.ensures.goes (then_on c.args.job.now mid asked new [] (stays c.args.job.now mid asked c.passes.ensures.same) (c.discard.ensures c.args.job.now)))
+    ends_so old new c.args.job.now NotRun refl tt (then_on c.args.job.now old mid new [] c.in-Ok.ensures.goes (then_on c.args.job.now mid asked new [] (stays c.args.job.now mid asked c.passes.ensures.same) (c.discard.ensures c.args.job.now)))
 
 pub returns-in-Gate : goal.returns-in-Gate
 returns-in-Gate g c =
     let old = c.args.self.now.session in
     let mid = c.operate_all.new.self.session in
     let new = c.discard-in-Err.new.self.session in
-    ends_so old new c.args.job.now NotRun refl (then_on c.args.job.now old mid new [] c.in-Err.ensures.goes (c.discard-in-Err.ensures c.args.job.now))
+    ends_so old new c.args.job.now NotRun refl tt (then_on c.args.job.now old mid new [] c.in-Err.ensures.goes (c.discard-in-Err.ensures c.args.job.now))
 
 pub returns-in-Failed : goal.returns-in-Failed
 returns-in-Failed g c =
     let old = c.args.self.now.session in
     let mid = c.operate_all.new.self.session in
     let new = c.discard-in-Err.new.self.session in
-    ends_so old new c.args.job.now (Failed c.in-Failed.error) refl (then_on c.args.job.now old mid new [] c.in-Err.ensures.goes (c.discard-in-Err.ensures c.args.job.now))
+    let own = failed_so old.tape c.args.job.now c.args.active c.in-Err.stop c.in-Failed.op c.in-Failed.error c.requires.fresh c.in-Failed.is c.in-Err.ensures.failed in
+    ends_so old new c.args.job.now (Failed c.in-Failed.op c.in-Failed.error) refl own (then_on c.args.job.now old mid new [] c.in-Err.ensures.goes (c.discard-in-Err.ensures c.args.job.now))
