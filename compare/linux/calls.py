@@ -14,6 +14,9 @@ Answer = dict[str, Any]
 DEFAULT_DIRECTORY_MODE = 0o755
 DEFAULT_FILE_MODE = 0o644
 HEAD_BYTES = 16
+LARGEST_FILE = 1_048_576
+# Far behind the end of any file, and still an offset to the kernel.
+GREATEST_OFFSET = 1 << 62
 
 # What marks a file that was made of a size alone. Overlayfs copies it up with the file.
 SIZED = "trusted.sized"
@@ -109,7 +112,7 @@ def look_up(command: Command) -> Answer:
         case "list":
             return {"names": _list(path)}
         case "read":
-            return _read(path)
+            return _read(path, command)
         case _:
             return {"path": _resolve(path)}
 
@@ -195,12 +198,15 @@ def _list(path: bytes) -> list[str]:
     return [name.decode() for name in names]
 
 
-def _read(path: bytes) -> Answer:
+def _read(path: bytes, command: Command) -> Answer:
     descriptor = os.open(path, os.O_RDONLY | os.O_NOFOLLOW)
     try:
         size = os.fstat(descriptor).st_size
         if SIZED in os.listxattr(descriptor):
             return {"size": size}
+        if "offset" in command or "max" in command:
+            most = min(command.get("max", LARGEST_FILE), LARGEST_FILE)
+            return {"bytes": os.pread(descriptor, most, min(command.get("offset", 0), GREATEST_OFFSET)).hex(), "size": size}
         return {"head": os.read(descriptor, HEAD_BYTES).hex(), "size": size}
     finally:
         os.close(descriptor)

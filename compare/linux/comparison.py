@@ -190,10 +190,11 @@ def _without_digest(answer: Answer) -> Answer:
 
 
 def _lookups_around(command: Command) -> Iterator[Command]:
-    """All lookups at the paths of a command, and a list of the directories that these are in."""
+    """All lookups at the paths of a command, also a part of a file, and a list of the directories that these are in."""
     for path in filter(is_path, paths_of(command)):
         for do in sorted(LOOKUPS):
             yield {"do": do, "path": path}
+        yield {"do": "read", "path": path, "offset": 3, "max": 20}
         yield {"do": "list", "path": os.path.dirname(path)}
 
 

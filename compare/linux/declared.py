@@ -9,13 +9,12 @@ import stat
 from collections.abc import Callable
 from dataclasses import dataclass
 
-from linux.calls import Answer, Command, bytes_of, is_sized, paths_of
+from linux.calls import LARGEST_FILE, Answer, Command, bytes_of, is_sized, paths_of
 from linux.layers import entries
 
 LONGEST_NAME = 255
 LONGEST_PATH = 4095
 GREATEST_MODE = 0o7777
-LARGEST_FILE = 1_048_576
 LARGEST_SIZED = 1 << 40
 LONGEST_DIGEST = 1024
 
