@@ -137,6 +137,7 @@ without_bare t p sorted bare =
     (λ q. at-without t p q ∙ by q (begins p q) refl)
     (ap (λ o. bodies_without (option_and_then number_of o) (outside p t.entries) t.bodies) (ap (at t) (sym (append-nil p)) ∙ bare []))
     refl
+    refl
   where
     by : (q : Names) (b : Bool) → begins p q ≡ b → (if b then None else at t q) ≡ at t q
     by q true e = sym (ap (at t) (begins_rest p q e) ∙ bare (drop (length p) q))
@@ -161,7 +162,7 @@ module _ (u t : Tree) (ls : List Tree) (p : Names) (ok : IsLayer u) (none : at u
 
   pub new_inodes : (n : Node) (b : Body) → inodes_of (Some n) ≡ 0 → inode_count (with_new t p n b) ≡ inode_count t + 1
   new_inodes n b is =
-      ap (λ (w : Tree). inode_count (record { entries = insert_entry path_cmp w.entries p n; bodies = insert_entry nat_cmp w.bodies t.next b; next = t.next + 1 })) untaken
+      ap (λ (w : Tree). inode_count (record w { entries = insert_entry path_cmp w.entries p n; bodies = insert_entry nat_cmp w.bodies t.next b; next = t.next + 1 })) untaken
       ∙ omega (arith, one_more t p n 0 sorted empty is, more_bodies b)
 
   pub last_inodes : (last : Last) → inode_count t ≤ inode_count (with_last last t p)

@@ -21,6 +21,7 @@ use Rattle.snap_copyup.specs.declared.parents.Last.{Last}
 use Rattle.snap_copyup.specs.declared.parents.Last.TheVariants.{Nothing, Dir, File, Symlink, Whiteout}
 use Rattle.snap_copyup.specs.Copying.{below, copied, with_object, with_parents_from, with_parents, copied_up}
 use Rattle.snap_copyup.specs.Places.{with_last, CanStand, ParentStands, last_of}
+use Rattle.snap_copyup.proofs.Most.{most_parents_from, most_last}
 use Rattle.snap_copyup.proofs.Alone.{walk_passes, below_seen, copied_there, copied_missing, some_dir}
 use Rattle.snap_copyup.proofs.ParentDirs.{AddsParents, adds_parents, dir_copied, copied_stands, parents_stand}
 use Rattle.snap_copyup.proofs.Growing.{grows_once, grows_from, last_inodes}
@@ -31,10 +32,10 @@ use Rattle.snap_copyup.proofs.Copies.{last_copied, copy_fits}
 -- ---- directories
 
 -- the layer with one directory more
-step_layer : (u : Tree) (ls : List Tree) (front : Names) → IsLayer u → AreLayers ls → is_shown_dir (seen (u ∷ ls) front) ≡ true → IsPath front → ParentStands u front → inode_count (copied u ls front) ≤ 65536 → IsLayer (copied u ls front)
+step_layer : (u : Tree) (ls : List Tree) (front : Names) → IsLayer u → AreLayers ls → is_shown_dir (seen (u ∷ ls) front) ≡ true → IsPath front → ParentStands u front → inode_count (copied u ls front) ≤ (copied u ls front).most → IsLayer (copied u ls front)
 step_layer u ls front ok layers is path parent few = by (at u front) refl
   where
-    put : (o : Option Object) → at u front ≡ None → is_shown_dir o ≡ true → IsWholeObject o → inode_count (with_object u front o) ≤ 65536 → IsLayer (with_object u front o)
+    put : (o : Option Object) → at u front ≡ None → is_shown_dir o ≡ true → IsWholeObject o → inode_count (with_object u front o) ≤ (with_object u front o).most → IsLayer (with_object u front o)
     put None none is whole few = ok
     put (Some (dir mode)) none is whole few = IsLayer-with_entry u front (node.Dir mode false) ok (record {
       no_number = ap (option_and_then number_of) none;
@@ -52,9 +53,9 @@ step_layer u ls front ok layers is path parent few = by (at u front) refl
     by (Some n) e = subst IsLayer (sym (copied_there u ls front (ap is_some e))) ok
     by None e =
         let same = copied_missing u ls front e in
-        subst IsLayer (sym same) (put (below u ls front) e (sym (ap is_shown_dir (below_seen u ls front e)) ∙ is) (whole_below u ls layers front) (subst (λ (v : Tree). inode_count v ≤ 65536) same few))
+        subst IsLayer (sym same) (put (below u ls front) e (sym (ap is_shown_dir (below_seen u ls front e)) ∙ is) (whole_below u ls layers front) (subst (λ (v : Tree). inode_count v ≤ v.most) same few))
 
-layer_from : (u : Tree) (ls : List Tree) (front rest : Names) → IsLayer u → AreLayers ls → walk_from (u ∷ ls) front rest ≡ None → IsPath (front ++ rest) → ParentStands u front → inode_count (with_parents_from u ls front rest) ≤ 65536 → IsLayer (with_parents_from u ls front rest)
+layer_from : (u : Tree) (ls : List Tree) (front rest : Names) → IsLayer u → AreLayers ls → walk_from (u ∷ ls) front rest ≡ None → IsPath (front ++ rest) → ParentStands u front → inode_count (with_parents_from u ls front rest) ≤ (with_parents_from u ls front rest).most → IsLayer (with_parents_from u ls front rest)
 layer_from u ls front [] ok layers way path parent few = ok
 layer_from u ls front (n ∷ rest) ok layers way path parent few =
     let v = copied u ls front in
@@ -64,14 +65,14 @@ layer_from u ls front (n ∷ rest) ok layers way path parent few =
     let later = grows_from v ls (front ++ n ∷ []) rest (grows_once u ls front ok.sorted_paths passes.0).sorted way_on in
     let stands = copied_stands u ls front passes.0 in
     layer_from v ls (front ++ n ∷ []) rest
-    (step_layer u ls front ok layers passes.0 (IsPath-front (front ++ n ∷ rest) front (n ∷ rest) path refl) parent (omega (arith, later.inodes, few)))
+    (step_layer u ls front ok layers passes.0 (IsPath-front (front ++ n ∷ rest) front (n ∷ rest) path refl) parent (omega (arith, later.inodes, few, most_parents_from v ls (front ++ n ∷ []) rest)))
     layers way_on
     (subst IsPath (sym (append_assoc front (n ∷ []) rest)) path)
     (λ q m e. subst (λ (r : Names). IsDirAt (at (copied u ls front) r)) (snoc_same front q n m e) stands)
     few
 
 -- the layer with the directories above a path is one, where its inodes are few enough
-pub IsLayer-with_parents : (u : Tree) (ls : List Tree) (p : Names) → IsLayer u → AreLayers ls → walk (u ∷ ls) p ≡ None → IsPath p → inode_count (with_parents u ls p) ≤ 65536 → IsLayer (with_parents u ls p)
+pub IsLayer-with_parents : (u : Tree) (ls : List Tree) (p : Names) → IsLayer u → AreLayers ls → walk (u ∷ ls) p ≡ None → IsPath p → inode_count (with_parents u ls p) ≤ (with_parents u ls p).most → IsLayer (with_parents u ls p)
 IsLayer-with_parents u ls p ok layers way path few = layer_from u ls [] p ok layers way path (λ q n e. absurd (no_root q n e)) few
   where
     no_root : (q : Names) (n : List ℕ) → [] ≡ q ++ n ∷ [] → ⊥
@@ -90,11 +91,11 @@ no_missing u ls p ok some = no_missing_from u ls [] p ok some
 
 -- ---- what is put last
 
-few_from : (t : Tree) → is_within t ≡ true → inode_count t ≤ 65536
+few_from : (t : Tree) → is_within t ≡ true → inode_count t ≤ t.most
 few_from t within = grind (arith, nat_tests)
 
 last_from : (t : Tree) → is_within t ≡ true → t.next ≤ 4294967295
-last_from t within = by (nat_le (inode_count t) 65536) within
+last_from t within = by (nat_le (inode_count t) t.most) within
   where
     by : (b : Bool) → (b && nat_le t.next 4294967295) ≡ true → t.next ≤ 4294967295
     by true e = grind (arith, nat_tests)
@@ -134,7 +135,7 @@ IsLayer-put u ls p last ok layers way path fit within =
     by (Some n) e = subst IsLayer (sym (no_missing u ls p ok (ap is_some e))) ok
     by None e =
         let grows = grows_from u ls [] p ok.sorted_paths way in
-        IsLayer-with_parents u ls p ok layers way path (omega (arith, last_inodes u t ls p ok e adds grows.sorted last, few_from (with_last last t p) within))
+        IsLayer-with_parents u ls p ok layers way path (omega (arith, last_inodes u t ls p ok e adds grows.sorted last, few_from (with_last last t p) within, most_last last t p))
 
 -- the layer with what is copied up
 pub IsLayer-copied_up : (u : Tree) (ls : List Tree) (p : Names) → IsLayer u → AreLayers ls → walk (u ∷ ls) p ≡ None → IsPath p → is_within (copied_up u ls p) ≡ true → IsLayer (copied_up u ls p)

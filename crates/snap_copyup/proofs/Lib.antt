@@ -1,4 +1,5 @@
 pub mod Missing
+pub mod Most
 pub mod Alone
 pub mod Elsewhere
 pub mod ParentDirs

@@ -20,6 +20,7 @@ use Rattle.snap_copyup.specs.declared.parents.Last.{Last}
 use Rattle.snap_copyup.specs.declared.parents.Last.TheVariants.{Nothing, Dir, File, Symlink, Whiteout}
 use Rattle.snap_copyup.specs.Copying.{below, copied, with_object, with_parents_from}
 use Rattle.snap_copyup.specs.Places.{with_last, IsFreePlace, CanStand, ParentStands}
+use Rattle.snap_copyup.proofs.Most.{most_copied, most_parents_from, most_last}
 use Rattle.snap_copyup.proofs.Alone.{walk_passes, below_seen, copied_there, copied_missing, dir_there_over, some_dir}
 use Rattle.snap_copyup.proofs.ParentDirs.{AddsParents, adds_from, dir_copied, copied_stands}
 use Rattle.snap_copyup.proofs.Growing.{grows_once, grows_from, last_inodes}
@@ -87,7 +88,7 @@ pub record Missing (u v : Tree) (ls : List Tree) (p : Names) (k : ℕ) (front : 
   pub more : with_parents_from u ls (take k p) (drop k p) ≡ with_parents_from v ls (take (k + 1) p) (drop (k + 1) p)
   pub full : is_within v ≡ false → is_within (with_last last (with_parents_from u ls (take k p) (drop k p)) p) ≡ false
 
-pub many_from : (t : Tree) → t.next ≤ 4294967295 → is_within t ≡ false → 65536 < inode_count t
+pub many_from : (t : Tree) → t.next ≤ 4294967295 → is_within t ≡ false → t.most < inode_count t
 many_from t next full = grind (arith, nat_tests)
 
 pub none_from : {A : Type 0} (o : Option A) → is_some o ≡ false → o ≡ None
@@ -148,6 +149,9 @@ module _ (u : Tree) (ls : List Tree) (p : Names) (k : ℕ) (lt : k < length p) (
         later.inodes,
         ap inode_count (parents_more u ls p k lt),
         last_inodes u t ls p ok empty parents whole.sorted last,
+        most_last last t p,
+        most_parents_from u ls front (drop k p),
+        most_copied u ls front,
       ))
 
   pub missing_here : (last : Last) → Missing u (copied u ls (take k p)) ls p k (take k p) last

@@ -23,6 +23,7 @@ use Rattle.snap_merge.specs.Walk.{walk, walk_from, walk_on}
 use Rattle.snap_merge.proofs.Views.{walk_same}
 use Rattle.snap_copyup.specs.Copying.{below, copied, with_object, with_parents, with_parents_from}
 use Rattle.snap_copyup.specs.Undoing.{Undoes}
+use Rattle.snap_copyup.proofs.Most.{most_parents}
 use Rattle.snap_copyup.proofs.Alone.{walk_passes, below_seen, copied_there, copied_missing, some_dir}
 use Rattle.snap_copyup.proofs.ParentDirs.{AddsParents, adds_parents}
 use Rattle.snap_copyup.proofs.Growing.{grows_from}
@@ -69,6 +70,7 @@ taken_entry t p n sorted vacant unnumbered =
     sorted
     (λ q. at-without u p q ∙ by q (begins p q) refl)
     (ap (λ o. bodies_without o (outside p u.entries) t.bodies) bare)
+    refl
     refl
   where
     by : (q : Names) (b : Bool) → begins p q ≡ b → cond b None (at (with_entry t p n) q) ≡ at t q
@@ -174,4 +176,4 @@ module _ (u : Tree) (ls : List Tree) (p q : Names) (one : walk (u ∷ ls) p ≡ 
   both_full ok full =
       let v = with_parents u ls p in
       let more = grows_from v ls [] q (grows_from u ls [] p ok.sorted_paths one).sorted second_way in
-      is_within_many (with_parents v ls q) (omega (arith, many_from v (omega (arith, (adds_parents u ls p one).next, ok.next.1)) full, more.inodes))
+      is_within_many (with_parents v ls q) (omega (arith, many_from v (omega (arith, (adds_parents u ls p one).next, ok.next.1)) full, more.inodes, most_parents v ls q))

@@ -62,7 +62,7 @@ pub fn is_pure_over(node: Option<Node>, under: Option<Seen<'_>>) -> bool
 /// stay names of the lower file: a hard link is broken (overlayfs.rst, "Non-standard behavior").
 ///
 /// The condition is that of `ensure_dirs`. Where nothing is seen at the path, only the directories are
-/// added. `LayerFull` where the layer would have more than 65,536 inodes, or where a number is needed and
+/// added. `LayerFull` where the layer would have more inodes than it may, or where a number is needed and
 /// the file numbers are used up. `OutOfMemory` where memory for the content, a path or an entry is refused.
 /// After either the layer is as it was. Cost: that of `ensure_dirs` and of `below`, and the file's content.
 pub fn copy_up(layer: &mut Layer, lowers: &[Shared], path: &Path) -> Result<(), FsError>

@@ -31,8 +31,8 @@ pub enum Last {
 /// and none of them opaque (overlayfs.rst, "Non-directories").
 ///
 /// The condition is that each directory above the path is seen as one over the lower layers, the nearest
-/// first, so that `Stack::walk` finds no error. `LayerFull` where the layer would have more than 65,536
-/// inodes. `OutOfMemory` where memory for a path or an entry is refused. After either the layer is as it
+/// first, so that `Stack::walk` finds no error. `LayerFull` where the layer would have more inodes than it
+/// may. `OutOfMemory` where memory for a path or an entry is refused. After either the layer is as it
 /// was: what had been added is taken back, which takes no memory. Cost: a walk to the path in the layer, as far as
 /// it has a node. For each directory that is missing also a walk to it, that of `below`, and the text of its path;
 /// the calls then nest as deep as directories are missing.
@@ -53,7 +53,7 @@ pub fn ensure_dirs(layer: &mut Layer, lowers: &[Shared], path: &Path) -> Result<
 /// The conditions: each directory above the path is seen as one, as in `ensure_dirs`; and what is put is
 /// nothing, or nothing but a whiteout stands at the path, which isn't the root, and the mode, the content or
 /// the target is one that `add_dir`, `add_file` or `add_symlink` takes. `LayerFull` where the layer would
-/// have more than 65,536 inodes, or where the file numbers are used up. `OutOfMemory` where memory is
+/// have more inodes than it may, or where the file numbers are used up. `OutOfMemory` where memory is
 /// refused. After either the layer is as it was, and the content is gone. Cost: as `ensure_dirs`.
 pub fn put(layer: &mut Layer, lowers: &[Shared], path: &Path, last: Last) -> Result<(), FsError>
     requires way { walk (layer.old ∷ lowers.now) path.now ≡ None }

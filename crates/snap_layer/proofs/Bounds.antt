@@ -17,7 +17,7 @@ use Rattle.snap_layer.specs.declared.node.Node.TheVariants.{Dir, File, Symlink, 
 use Rattle.snap_layer.specs.declared.node.Body.{Body}
 use Rattle.snap_layer.specs.declared.node.Body.TheVariants as body_kinds
 use Rattle.snap_layer.specs.Tree.{Tree, Bodies, at, body, number_of}
-use Rattle.snap_layer.specs.Counts.{blocks_of, body_blocks}
+use Rattle.snap_layer.specs.Counts.{blocks_of, body_blocks, most_inodes}
 use Rattle.snap_layer.specs.Contents.{size_of, IsContent}
 use Rattle.snap_layer.specs.Layers.{IsLayer, IsFile, IsSymlink, IsWhole, IsBody}
 use Rattle.snap_layer.proofs.Lists.{lookup_below, at_itself}
@@ -71,5 +71,5 @@ bounded (e ∷ bs) sorted each =
     ]
 
 -- the blocks of all files
-pub blocks_of_bodies : (t : Tree) → IsLayer t → sum_by body_blocks (values_of t.bodies) ≤ 65536 * 268435456
-blocks_of_bodies t ok = omega (arith, bounded t.bodies ok.sorted_numbers (blocks_of_body t ok), ok.few)
+pub blocks_of_bodies : (t : Tree) → IsLayer t → sum_by body_blocks (values_of t.bodies) ≤ most_inodes * 268435456
+blocks_of_bodies t ok = omega (arith, bounded t.bodies ok.sorted_numbers (blocks_of_body t ok), ok.few, ok.most.1)

@@ -207,7 +207,7 @@ covered_new : (u : Tree) → IsLayer u → (p : Names) (v : Node) (b : Body) →
 covered_new u layer p v b fits =
     let c = clears_place u p layer fits in
     let same : without (with_node u p node.Whiteout) p ≡ without u p = without-with_entry (without u p) c.layer p node.Whiteout c.empty refl in
-    λ i. record { entries = (with_entry (same i) p v).entries; bodies = insert_entry nat_cmp (with_entry (same i) p v).bodies u.next b; next = u.next + 1 }
+    λ i. record (with_entry (same i) p v) { bodies = insert_entry nat_cmp (with_entry (same i) p v).bodies u.next b; next = u.next + 1 }
 
 pub entered_made : (s t : View) (root : ℕ) (ps qs : Places) (next : ℕ) (u : Tree) (path q : Names) (n : List ℕ) (d : ℕ) → Spot s root ps next u path q n d → HasPlace u path → IsPath path → ((c : ℕ) → s.nodes c ≡ Some node.Whiteout → ⊥)
     → (b : Body) → IsLayer (with_new u path (leaf_node u.next b) b)
@@ -250,7 +250,7 @@ entered_made s t root ps qs next u path q n d spot fits is_path plain b whole en
         let there : IsSome (at u path) = stands x is in
         let w = with_node u path node.Whiteout in
         let m = covered s e.cleared root ps e.left next u path q n d spot fits there plain covers in
-        let layer : IsLayer w = IsLayer-with_node u path node.Whiteout spot.layer fits is_path tt (subst (λ (z : ℕ). z ≤ 65536) (sym count) whole.few) in
+        let layer : IsLayer w = IsLayer-with_node u path node.Whiteout spot.layer fits is_path tt (subst (λ (z : ℕ). z ≤ u.most) (sym count) whole.few) in
         let here : at w pn ≡ Some node.Whiteout = ap (at w) (sym spot.splits) ∙ (Sets-with_entry (without u path) path node.Whiteout).here in
         let made = over w m.makes layer refl (subst IsFree (sym here) refl) m.leads m.dir in
         subst (λ (z : Tree). Makes t root qs (next + 1) z) (ap (λ (p : Names). with_new w p v b) (sym spot.splits) ∙ covered_new u spot.layer path v b fits) made

@@ -126,8 +126,8 @@ module _ (s : View) (root : ℕ) (ps : Places) (next : ℕ) (u : Tree) (m : Make
       sets = SetsBody-with_new u p v b
 
       -- the entries are those of the node put
-      same_entries : ◌≡◌ {A = Tree} (record { entries = w.entries; bodies = []; next = 0 }) (record { entries = (with_entry u p v).entries; bodies = []; next = 0 })
-      same_entries = ap (λ (x : Tree). record { entries = x.entries; bodies = []; next = 0 }) (with_node-free u layer p v free)
+      same_entries : ◌≡◌ {A = Tree} (record { entries = w.entries; bodies = []; next = 0; most = 0 }) (record { entries = (with_entry u p v).entries; bodies = []; next = 0; most = 0 })
+      same_entries = ap (λ (x : Tree). record { entries = x.entries; bodies = []; next = 0; most = 0 }) (with_node-free u layer p v free)
 
       names : (j : ℕ) → name_count j w.entries ≡ name_count j u.entries + one_if (has_number j v)
       names j = ap (λ (x : Tree). name_count j x.entries) same_entries ∙ entry_names u layer p v free j

@@ -62,11 +62,11 @@ ok_said a u within = (λ e. absurd (cc), λ f. absurd (no_bool (sym within ∙ f
 -- the layer u has i inodes; it is one, where these are few enough
 pub record Becomes (u : Tree) (i : ℕ) : Type 0 where
   pub count : i ≡ inode_count u
-  pub layer : i ≤ 65536 → IsLayer u
-  pub full : 65536 < i → is_within u ≡ false
-  pub fits : i ≤ 65536 → is_within u ≡ true
+  pub layer : i ≤ u.most → IsLayer u
+  pub full : u.most < i → is_within u ≡ false
+  pub fits : i ≤ u.most → is_within u ≡ true
 
-pub becomes : (u : Tree) (i : ℕ) → i ≡ inode_count u → (inode_count u ≤ 65536 → IsLayer u) → u.next ≤ 4294967295 → Becomes u i
+pub becomes : (u : Tree) (i : ℕ) → i ≡ inode_count u → (inode_count u ≤ u.most → IsLayer u) → u.next ≤ 4294967295 → Becomes u i
 becomes u i count layer next = record {
   count = count;
   layer = λ few. layer (omega arith);

@@ -40,9 +40,9 @@ differ t u failed holds = same_test {P = ⊥} false (tree_eq t u) ((λ e. absurd
     clash : false ≡ true → ⊥
     clash e = cc
 
--- where the entries and the bodies are the same, the next numbers decide
-pub by_next : (t u : Tree) → t.entries ≡ u.entries → t.bodies ≡ u.bodies → nat_eq t.next u.next ≡ tree_eq t u
-by_next t u entries bodies = same_test (nat_eq t.next u.next) (tree_eq t u) (unsigned_Decides t.next u.next) (tree_eq-Decides t u) (λ e i. record { entries = entries i; bodies = bodies i; next = e i }) (λ e. ap (λ (x : Tree). x.next) e)
+-- where all else is the same, the most inodes decide
+pub by_most : (t u : Tree) → t.entries ≡ u.entries → t.bodies ≡ u.bodies → t.next ≡ u.next → nat_eq t.most u.most ≡ tree_eq t u
+by_most t u entries bodies next = same_test (nat_eq t.most u.most) (tree_eq t u) (unsigned_Decides t.most u.most) (tree_eq-Decides t u) (λ e i. record { entries = entries i; bodies = bodies i; next = next i; most = e i }) (λ e. ap (λ (x : Tree). x.most) e)
 
 -- ---- two lists of bodies side by side
 

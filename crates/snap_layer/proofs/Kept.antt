@@ -9,9 +9,9 @@ use Rattle.snap_layer.specs.declared.node.Node.TheVariants.{Dir, File, Symlink, 
 use Rattle.snap_layer.specs.declared.node.Body.{Body}
 use Rattle.snap_layer.specs.declared.node.Body.TheVariants as body_kinds
 use Rattle.snap_layer.specs.Tree.{Tree, path_cmp, at, body, number_of, number_at, is_dir, IsDirAt}
-use Rattle.snap_layer.specs.Counts.{inode_count}
+use Rattle.snap_layer.specs.Counts.{inode_count, most_inodes}
 use Rattle.snap_layer.specs.Layers.{IsLayer, IsFile, IsSymlink, IsWhole}
-use Rattle.snap_layer.specs.Edits.{root_only, with_entry, with_body, without, IsFree, HasParent}
+use Rattle.snap_layer.specs.Edits.{root_within, with_entry, with_body, without, IsFree, HasParent}
 use Rattle.snap_layer.proofs.Lists.{sorted-insert_entry, sorted-filter}
 use Rattle.snap_layer.proofs.Paths.{path_cmp_total, begins-trans, begins-append, split_front}
 use Rattle.snap_layer.proofs.Looks.{split_path, split_number, Sets, Sets-with_entry, SetsBody, SetsBody-with_body, SetsBody-insert_entry, at-without_outside, at-without_inside, is_dropped, body-bodies_without, sorted-bodies_without, kept_by_name, names_left, name_found}
@@ -116,9 +116,9 @@ nothing_below t ok p no_dir n r = by (at t (p ++ n ∷ r)) refl
 
 -- ---- the root alone
 
-pub IsLayer-root_only : (mode first : ℕ) → mode ≤ 4095 → 1 ≤ first → first ≤ 4294967295 → IsPath [] → IsLayer (root_only mode first)
+pub IsLayer-root_within : (most mode first : ℕ) → (1 ≤ most) × (most ≤ most_inodes) → mode ≤ 4095 → 1 ≤ first → first ≤ 4294967295 → IsPath [] → IsLayer (root_within most mode first)
 unfolding IsStrictlySortedBy
-IsLayer-root_only mode first low one last path = record {
+IsLayer-root_within most mode first bounds low one last path = record {
   root = refl;
   parents = λ q n some. absurd (no_child q n some);
   paths = standing;
@@ -126,21 +126,22 @@ IsLayer-root_only mode first low one last path = record {
   named = λ k some. absurd (no_body some);
   numbers = λ k some. absurd (no_body some);
   next = (one, last);
-  few = lit≤ tt;
+  few = bounds.0;
+  most = bounds;
   sorted_paths = (tt, tt);
   sorted_numbers = tt;
 }
   where
-    no_child : (q : Names) (n : List ℕ) → IsSome (at (root_only mode first) (q ++ n ∷ [])) → ⊥
+    no_child : (q : Names) (n : List ℕ) → IsSome (at (root_within most mode first) (q ++ n ∷ [])) → ⊥
     no_child [] n e = cc
     no_child (x ∷ q) n e = cc
 
-    standing : (p : Names) → IsSome (at (root_only mode first) p) → IsPath p
+    standing : (p : Names) → IsSome (at (root_within most mode first) p) → IsPath p
     standing [] some = path
     standing (x ∷ p) some = absurd (cc)
 
-    whole : (p : Names) (n : Node) → at (root_only mode first) p ≡ Some n → IsWhole (root_only mode first) n
-    whole [] n e = let same : Dir mode false ≡ n = cc in subst (IsWhole (root_only mode first)) same low
+    whole : (p : Names) (n : Node) → at (root_within most mode first) p ≡ Some n → IsWhole (root_within most mode first) n
+    whole [] n e = let same : Dir mode false ≡ n = cc in subst (IsWhole (root_within most mode first)) same low
     whole (x ∷ p) n e = absurd (cc)
 
 -- ---- a node put at a path
@@ -153,7 +154,7 @@ pub record Puts (t : Tree) (p : Names) (n : Node) : Type 0 where
   pub root : p ≡ [] → is_dir n ≡ true
   pub path : IsPath p
   pub whole : IsWhole t n
-  pub few : inode_count (with_entry t p n) ≤ 65536
+  pub few : inode_count (with_entry t p n) ≤ t.most
 
 pub IsLayer-with_entry : (t : Tree) (p : Names) (n : Node) → IsLayer t → Puts t p n → IsLayer (with_entry t p n)
 IsLayer-with_entry t p n ok puts = record {
@@ -179,6 +180,7 @@ IsLayer-with_entry t p n ok puts = record {
   numbers = ok.numbers;
   next = ok.next;
   few = puts.few;
+  most = ok.most;
   sorted_paths = sorted-insert_entry path_cmp_total t.entries p n ok.sorted_paths;
   sorted_numbers = ok.sorted_numbers;
 }
@@ -270,6 +272,7 @@ module _ (t : Tree) (p : Names) (ok : IsLayer t) where
       numbers = λ k some. ok.numbers k (had_body k some);
       next = ok.next;
       few = omega (arith, inode_count-taken, ok.few);
+      most = ok.most;
       sorted_paths = sorted-filter path_cmp (λ x. not (begins p x.0)) t.entries ok.sorted_paths;
       sorted_numbers = sorted-bodies_without (number_at t p) taken.entries t.bodies ok.sorted_numbers;
     }
@@ -294,11 +297,11 @@ pub record PutsNew (t : Tree) (p : Names) (n : Node) (b : Body) (u : Tree) : Typ
   pub number : number_of n ≡ Some t.next
   pub whole : IsWhole u n
   pub last : t.next + 1 ≤ 4294967295
-  pub few : inode_count u ≤ 65536
+  pub few : inode_count u ≤ u.most
 
 -- the layer with the new file
 abbrev pub with_file : Tree → Names → Node → Body → Tree
-with_file t p n b = let v = with_body (with_entry t p n) t.next b in record { entries = v.entries; bodies = v.bodies; next = t.next + 1 }
+with_file t p n b = record (with_body (with_entry t p n) t.next b) { next = t.next + 1 }
 
 -- the next number has no body
 pub next_is_fresh : (t : Tree) → IsLayer t → body t t.next ≡ None
@@ -333,6 +336,7 @@ IsLayer-with_file t p n b ok puts = record {
   ];
   next = (omega arith, puts.last);
   few = puts.few;
+  most = ok.most;
   sorted_paths = sorted-insert_entry path_cmp_total t.entries p n ok.sorted_paths;
   sorted_numbers = sorted-insert_entry nat_cmp_total t.bodies t.next b ok.sorted_numbers;
 }
@@ -368,6 +372,7 @@ IsLayer-with_body t k b ok was is = record {
   numbers = λ j some. ok.numbers j (had j some);
   next = ok.next;
   few = omega (arith, inode_count-with_body t k b ok.sorted_numbers (file_has_body (body t k) was), ok.few);
+  most = ok.most;
   sorted_paths = ok.sorted_paths;
   sorted_numbers = sorted-insert_entry nat_cmp_total t.bodies k b ok.sorted_numbers;
 }

@@ -183,6 +183,7 @@ without-with_entry t ok p n none unnumbered =
     (λ q. at-without u p q ∙ by q (begins p q) refl)
     (ap (λ o. bodies_without o (outside p u.entries) t.bodies) bare)
     refl
+    refl
   where
     u : Tree
     u = with_entry t p n

@@ -27,6 +27,7 @@ use Rattle.snap_layer.proofs.Replacing.{inode_count-with_new, name_has_no_inode,
 use Rattle.snap_layer.proofs.Filling.{Becomes, becomes, file_becomes, symlink_becomes, whiteout_becomes}
 use Rattle.snap_layer.proofs.Files.{leaf_number, free_names}
 use Rattle.snap_layer.proofs.Totaling.{name_becomes, name_no_dir, fewer_inodes}
+use Rattle.snap_layer.proofs.Makes.{most_same}
 use Rattle.snap_layer.proofs.Numbers.{given_back, last_gone}
 
 no_bool : true ≡ false → ⊥
@@ -63,6 +64,7 @@ without_bare t p sorted bare =
     sorted
     (λ q. at-without t p q ∙ by q (begins p q) refl)
     (ap (λ o. bodies_without (option_and_then number_of o) (outside p t.entries) t.bodies) (ap (at t) (sym (append-nil p)) ∙ bare []))
+    refl
     refl
   where
     by : (q : Names) (b : Bool) → begins p q ≡ b → cond b None (at t q) ≡ at t q
@@ -149,7 +151,7 @@ module _ (t : Tree) (ok : IsLayer t) (path link : Names) (rooms : HasRooms t pat
 
   -- in either order the layer is one
   pub swapped : with_node (with_new t link (leaf_node t.next b) b) path (leaf_node t.next b) ≡ with_linked t path link b
-  swapped = same_tree (with_node w path n) (with_node x link n) (sorted-with_node w path n w_sorted) (sorted-with_node x link n (sorted-with_node t path n ok.sorted_paths)) alike same_bodies refl
+  swapped = same_tree (with_node w path n) (with_node x link n) (sorted-with_node w path n w_sorted) (sorted-with_node x link n (sorted-with_node t path n ok.sorted_paths)) alike same_bodies refl refl
 
   -- the other name is an entry more
   linked_is : with_linked t path link b ≡ with_entry (with_new t link (leaf_node t.next b) b) path (leaf_node t.next b)
@@ -265,6 +267,7 @@ pub record IsLeft (covers : Bool) (p : Names) (v t : Tree) : Type 0 where
   pub others : (q : Names) → begins p q ≡ false → at t q ≡ at v q
   pub bodies : t.bodies ≡ (without v p).bodies
   pub next : t.next ≡ v.next
+  pub most : t.most ≡ v.most
 
 pub taken_left : (covers : Bool) (p : Names) (v t : Tree) → covers ≡ false → t ≡ without v p → IsLeft covers p v t
 taken_left covers p v t alone is =
@@ -274,6 +277,7 @@ taken_left covers p v t alone is =
       others = (Takes-without v p).others;
       bodies = refl;
       next = refl;
+      most = refl;
     })
 
 pub covered_left : (covers : Bool) (p : Names) (v t : Tree) → covers ≡ true → t ≡ with_node v p node.Whiteout → IsLeft covers p v t
@@ -284,6 +288,7 @@ covered_left covers p v t white is =
       others = (Replaces-with_node v p node.Whiteout).others;
       bodies = refl;
       next = refl;
+      most = refl;
     })
 
 module _ (covers : Bool) (p : Names) (v u : Tree) (okv : IsLayer v) (new : IsNew covers p v u) where
@@ -327,7 +332,7 @@ module _ (covers : Bool) (p : Names) (v u : Tree) (okv : IsLayer v) (new : IsNew
 
   -- without the new one and without the whiteout the layers have as many inodes
   same_rest : inode_count (without v p) ≡ inode_count (without u p)
-  same_rest = ap inode_count (given_back (without v p) (without u p) taken_layer (IsLayer-without u p ok (λ m. subst IsFree (sym (nothing_above m [])) tt) new_below) alike_rest rest_bodies)
+  same_rest = ap inode_count (given_back (without v p) (without u p) taken_layer (IsLayer-without u p ok (λ m. subst IsFree (sym (nothing_above m [])) tt) new_below) alike_rest rest_bodies (most_same new.made))
     where
       alike_rest : (q : Names) → at (without v p) q ≡ at (without u p) q
       alike_rest q = at-without v p q ∙ by (begins p q) refl ∙ sym (at-without u p q)
@@ -375,4 +380,4 @@ module _ (covers : Bool) (p : Names) (v u : Tree) (okv : IsLayer v) (new : IsNew
     left_gone = ap (body t) last_number ∙ last_gone t u okt ok alike_left left_bodies
 
     pub left_back : with_next t (t.next - 1) ≡ u
-    left_back = ap (with_next t) last_number ∙ given_back t u okt ok alike_left left_bodies
+    left_back = ap (with_next t) last_number ∙ given_back t u okt ok alike_left left_bodies (left.most ∙ most_same new.made)

@@ -20,6 +20,7 @@ use Rattle.snap_layer.specs.declared.node.Node.{Node}
 use Rattle.snap_layer.specs.declared.node.Body.{Body}
 use Rattle.snap_layer.specs.declared.node.Body.TheVariants as body_kinds
 use Rattle.snap_layer.specs.Tree.{Tree, Entries, path_cmp, at, name_below, names_below, is_dir, is_whiteout, leaf_node}
+use Rattle.snap_layer.specs.Counts.{most_inodes}
 use Rattle.snap_layer.specs.Edits.{IsFree, inside}
 use Rattle.snap_layer.specs.Layers.{IsLayer}
 use Rattle.snap_layer.proofs.Lists.{same_lists, sum_by-filter}
@@ -160,8 +161,8 @@ module _ (s : Slots Inode) (root : ℕ) (there : (q : Names) (c : ℕ) → walk 
 
 -- ---- counts
 
-pub inside_few : (u : Tree) → IsLayer u → (p : Names) → count_by is_dir (values_of (inside p u.entries)) + count_by is_whiteout (values_of (inside p u.entries)) ≤ 65536
-inside_few u ok p = omega (arith, ok.few, sum_by-filter (λ n. cond (is_dir n) 1 0) (λ e. begins p e.0) u.entries, sum_by-filter (λ n. cond (is_whiteout n) 1 0) (λ e. begins p e.0) u.entries)
+pub inside_few : (u : Tree) → IsLayer u → (p : Names) → count_by is_dir (values_of (inside p u.entries)) + count_by is_whiteout (values_of (inside p u.entries)) ≤ most_inodes
+inside_few u ok p = omega (arith, ok.few, ok.most.1, sum_by-filter (λ n. cond (is_dir n) 1 0) (λ e. begins p e.0) u.entries, sum_by-filter (λ n. cond (is_whiteout n) 1 0) (λ e. begins p e.0) u.entries)
 
 -- a bool as a number
 pub one_at_most : (b : Bool) → bool_byte b ≤ 1

@@ -174,7 +174,7 @@ names_left k es e none =
 
 -- ---- layers in order in which the same is found are equal
 
-pub same_tree : (t u : Tree) → IsStrictlySortedBy path_cmp (keys_of t.entries) → IsStrictlySortedBy path_cmp (keys_of u.entries) → ((q : Names) → at t q ≡ at u q) → t.bodies ≡ u.bodies → t.next ≡ u.next → t ≡ u
-same_tree t u s r same bodies next =
+pub same_tree : (t u : Tree) → IsStrictlySortedBy path_cmp (keys_of t.entries) → IsStrictlySortedBy path_cmp (keys_of u.entries) → ((q : Names) → at t q ≡ at u q) → t.bodies ≡ u.bodies → t.next ≡ u.next → t.most ≡ u.most → t ≡ u
+same_tree t u s r same bodies next most =
     let entries = same_lists path_cmp_total path_cmp-IsAntisymmetric t.entries u.entries s r same in
-    λ i. record { entries = entries i; bodies = bodies i; next = next i }
+    λ i. record { entries = entries i; bodies = bodies i; next = next i; most = most i }

@@ -104,11 +104,11 @@ pub record Makes (s : View) (root : ℕ) (places : Places) (next : ℕ) (u : Tre
 
 module _ (s : Slots Inode) (root : ℕ) (places : Places) (next : ℕ) (u : Tree) where
   -- what the fields are
-  pub opens : (h : Holds s root) → IsKept (view_of s) root places (tree_of h.0 s places next) → tree_of h.0 s places next ≡ u → Makes (view_of s) root places next u
-  opens h kept view = record {
+  pub opens : {most : ℕ} (h : Holds s root) → IsKept (view_of s) root places (tree_of h.0 s places next most) → tree_of h.0 s places next most ≡ u → Makes (view_of s) root places next u
+  opens {most} h kept view = record {
     table = kept.table;
     filed = subst (IsFiled (view_of s) root places) view kept.filed;
-    shows = λ q. sym (at_stands s root h places next q) ∙ ap (λ x. at x q) view;
+    shows = λ q. sym (at_stands s root h places next most q) ∙ ap (λ x. at x q) view;
     bodies = λ j. sym (lookup_bodies (body_at s) places j kept.filed.sorted) ∙ ap (λ x. body x j) view;
     last = ap (λ (x : Tree). x.next) view;
   }
@@ -117,15 +117,19 @@ module _ (s : Slots Inode) (root : ℕ) (places : Places) (next : ℕ) (u : Tree
     unfoldable pub makes_holds : Holds s root
     makes_holds = (map.from_sorted u.entries, λ q. map.get-from_sorted path_cmp u.entries q (rises u.entries ok.sorted_paths) ∙ sym (lookup_find path_cmp q u.entries) ∙ sym (m.shows q))
 
-    pub makes_view : Coded Node → (g : Holds s root) → tree_of g.0 s places next ≡ u
+    pub makes_view : {most : ℕ} → most ≡ u.most → Coded Node → (g : Holds s root) → tree_of g.0 s places next most ≡ u
     unfolding makes_holds
-    makes_view code g =
+    makes_view same code g =
         let entries : map.entries g.0 ≡ u.entries = ap (λ (x : Holds s root). map.entries x.0) (Holds-prop code s root g makes_holds) ∙ map.entries-from_sorted path_cmp u.entries (rises u.entries ok.sorted_paths) in
         let bodies : bodies_of (body_at s) places ≡ u.bodies = same_lists nat_cmp_total nat_cmp-IsAntisymmetric _ _ (sorted_bodies (body_at s) places m.filed.sorted) ok.sorted_numbers (λ j. lookup_bodies (body_at s) places j m.filed.sorted ∙ m.bodies j) in
-        λ i. record { entries = entries i; bodies = bodies i; next = m.last i }
+        λ i. record { entries = entries i; bodies = bodies i; next = m.last i; most = same i }
 
-    pub makes_kept : Coded Node → (g : Holds s root) → IsKept (view_of s) root places (tree_of g.0 s places next)
-    makes_kept code g = subst (IsKept (view_of s) root places) (sym (makes_view code g)) (record { table = m.table; filed = m.filed; layer = ok })
+    pub makes_kept : {most : ℕ} → most ≡ u.most → Coded Node → (g : Holds s root) → IsKept (view_of s) root places (tree_of g.0 s places next most)
+    makes_kept same code g = subst (IsKept (view_of s) root places) (sym (makes_view same code g)) (record { table = m.table; filed = m.filed; layer = ok })
+
+-- the most inodes of equal layers are the same
+pub most_same : {t u : Tree} → t ≡ u → t.most ≡ u.most
+most_same e = ap (λ (x : Tree). x.most) e
 
 -- whichever way a call ended
 pub either : {A E X Y Z : Type 0} (r : Result A E) → OnOk r X → OnErr r Y → (X → Z) → (Y → Z) → Z
@@ -156,6 +160,6 @@ keys_bodies f (p ∷ ps) s each = by (f p.1) (each p.0 p.1 (cond-true _ _ _ (at_
       | inr apart ↦ cond-false _ _ _ apart.1 ∙ is
     ]
 
-pub keys_kept : (s : Slots Inode) (root : ℕ) (places : Places) (next : ℕ) (u : Tree) (h : Holds s root) → IsKept (view_of s) root places (tree_of h.0 s places next) → tree_of h.0 s places next ≡ u → keys_of places ≡ keys_of u.bodies
+pub keys_kept : (s : Slots Inode) (root : ℕ) (places : Places) (next : ℕ) (u : Tree) {most : ℕ} (h : Holds s root) → IsKept (view_of s) root places (tree_of h.0 s places next most) → tree_of h.0 s places next most ≡ u → keys_of places ≡ keys_of u.bodies
 keys_kept s root places next u h kept view =
     sym (keys_bodies (body_at s) places kept.filed.sorted (λ k c is. ap is_some (kept.filed.housed k c is).1)) ∙ ap (λ (x : Tree). keys_of x.bodies) view

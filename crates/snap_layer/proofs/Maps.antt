@@ -19,5 +19,5 @@ module _ {K X : Type 0} (R : K → K → Ordering) where
   lookup_find q (e ∷ es) = ap (λ o. cond (is_eq (R q e.0)) (Some e.1) o) (lookup_find q es)
 
 -- what the model has at a path is what stands there
-pub at_stands : (s : Slots Inode) (root : ℕ) (h : Holds s root) (places : Places) (next : ℕ) (p : Names) → at (tree_of h.0 s places next) p ≡ stands (view_of s) root p
-at_stands s root h places next p = lookup_find path_cmp p (map.entries h.0) ∙ sym (map.get-entries h.0 p) ∙ h.1 p
+pub at_stands : (s : Slots Inode) (root : ℕ) (h : Holds s root) (places : Places) (next most : ℕ) (p : Names) → at (tree_of h.0 s places next most) p ≡ stands (view_of s) root p
+at_stands s root h places next most p = lookup_find path_cmp p (map.entries h.0) ∙ sym (map.get-entries h.0 p) ∙ h.1 p

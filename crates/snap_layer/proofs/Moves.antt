@@ -413,6 +413,7 @@ IsLayer-moved t from to layer place vacant not_inside fits = record {
   numbers = layer.numbers;
   next = layer.next;
   few = omega (arith, layer.few, inode_count-moved t from to layer.sorted_paths vacant);
+  most = layer.most;
   sorted_paths = sorted-moved t from to layer.sorted_paths;
   sorted_numbers = layer.sorted_numbers;
 }
@@ -428,3 +429,8 @@ HasParent-without t p place = record {
 pub IsLayer-replaced : (t : Tree) (from to : Names) → IsLayer (without t to) → HasParent t to → begins from to ≡ false → begins to from ≡ false → ((r : Names) → IsSome (at t (from ++ r)) → IsPath (to ++ r)) → IsLayer (moved (without t to) from to)
 IsLayer-replaced t from to layer place not_inside not_around fits =
     IsLayer-moved (without t to) from to layer (HasParent-without t to place) (IsVacant-without t to) not_inside (λ r some. fits r (subst IsSome (at-without_outside t to (from ++ r) (apart_below to from r not_around not_inside)) some))
+
+-- a move keeps the most inodes
+pub most_moved : (t : Tree) (from to : Names) (leaves : Bool) → (with_moved t from to leaves).most ≡ t.most
+most_moved t from to true = refl
+most_moved t from to false = refl

@@ -33,6 +33,7 @@ IsLayer-with_next t ok given gone = record {
       (was.0, below k t.next was.1 apart);
   next = (omega (arith, given), omega (arith, ok.next.1));
   few = ok.few;
+  most = ok.most;
   sorted_paths = ok.sorted_paths;
   sorted_numbers = ok.sorted_numbers;
 }
@@ -66,11 +67,12 @@ module _ (t w : Tree) (okt : IsLayer t) (okw : IsLayer w) (same : (q : Names) �
           number_same : (q : Names) → number_at w q ≡ number_at t q
           number_same q = ap (option_and_then number_of) (sym (same q))
 
-  pub given_back : with_next t w.next ≡ w
-  given_back =
+  pub given_back : t.most ≡ w.most → with_next t w.next ≡ w
+  given_back most =
       same_tree (with_next t w.next) w okt.sorted_paths okw.sorted_paths same
       (same_lists nat_cmp_total nat_cmp-IsAntisymmetric t.bodies w.bodies okt.sorted_numbers okw.sorted_numbers (λ k. elim (split_number k w.next) [
         | inl one ↦ ap (body t) one.0 ∙ last_gone ∙ sym (next_is_fresh w okw) ∙ ap (body w) (sym one.0)
         | inr two ↦ bodies k (λ e. two.0 (sym e))
       ]))
       refl
+      most

@@ -58,6 +58,7 @@ with_node-free t ok p n free =
     (λ q. at-with_entry (without t p) p n q ∙ by q ∙ sym (at-with_entry t p n q))
     (ap (λ o. bodies_without o (outside p t.entries) t.bodies) (free_has_no_number (at t p) free))
     refl
+    refl
   where
     by : (q : Names) → cond (is_at (path_cmp q) p) (Some n) (at (without t p) q) ≡ cond (is_at (path_cmp q) p) (Some n) (at t q)
     by q = elim (split_path q p) [
@@ -76,6 +77,7 @@ without_nothing t ok p none =
     ])
     (ap (λ o. bodies_without o (outside p t.entries) t.bodies) (ap (option_and_then number_of) none))
     refl
+    refl
 
 -- ---- the inodes afterwards
 
@@ -88,14 +90,14 @@ inode_count-with_node t p n ok =
     omega (arith, inode_count-with_entry (without t p) p n (sorted-filter path_cmp (λ e. not (begins p e.0)) t.entries ok.sorted_paths), ap inodes_of (at_taken t p))
 
 -- the layer is within the limits, or its inodes or its next number pass them
-pub is_within_yes : (t : Tree) → inode_count t ≤ 65536 → t.next ≤ 4294967295 → is_within t ≡ true
+pub is_within_yes : (t : Tree) → inode_count t ≤ t.most → t.next ≤ 4294967295 → is_within t ≡ true
 is_within_yes t few next = grind (arith, nat_tests)
 
-pub is_within_many : (t : Tree) → 65536 < inode_count t → is_within t ≡ false
+pub is_within_many : (t : Tree) → t.most < inode_count t → is_within t ≡ false
 is_within_many t many = grind (arith, nat_tests)
 
 pub is_within_last : (t : Tree) → 4294967295 < t.next → is_within t ≡ false
-is_within_last t last = by (nat_le (inode_count t) 65536) (nat_le t.next 4294967295) (grind (arith, nat_tests))
+is_within_last t last = by (nat_le (inode_count t) t.most) (nat_le t.next 4294967295) (grind (arith, nat_tests))
   where
     by : (a b : Bool) → b ≡ false → (a && b) ≡ false
     by true b e = e
@@ -129,7 +131,7 @@ HasPlace-from_room t p ok room = record {
 }
 
 -- a node in place of what stands there, whose body is left
-pub IsLayer-with_node : (t : Tree) (p : Names) (n : Node) → IsLayer t → HasPlace t p → IsPath p → IsWhole (without t p) n → inode_count (with_node t p n) ≤ 65536 → IsLayer (with_node t p n)
+pub IsLayer-with_node : (t : Tree) (p : Names) (n : Node) → IsLayer t → HasPlace t p → IsPath p → IsWhole (without t p) n → inode_count (with_node t p n) ≤ t.most → IsLayer (with_node t p n)
 IsLayer-with_node t p n ok place path whole few =
     let clears = clears_place t p ok place in
     IsLayer-with_entry (without t p) p n clears.layer (record {
@@ -143,7 +145,7 @@ IsLayer-with_node t p n ok place path whole few =
     })
 
 -- a new file or symlink in place of what stands there
-pub IsLayer-with_new : (t : Tree) (p : Names) (n : Node) (b : Body) → IsLayer t → HasPlace t p → IsPath p → number_of n ≡ Some t.next → IsWhole (with_new t p n b) n → t.next < 4294967295 → inode_count (with_new t p n b) ≤ 65536 → IsLayer (with_new t p n b)
+pub IsLayer-with_new : (t : Tree) (p : Names) (n : Node) (b : Body) → IsLayer t → HasPlace t p → IsPath p → number_of n ≡ Some t.next → IsWhole (with_new t p n b) n → t.next < 4294967295 → inode_count (with_new t p n b) ≤ t.most → IsLayer (with_new t p n b)
 IsLayer-with_new t p n b ok place path number whole last few =
     let clears = clears_place t p ok place in
     IsLayer-with_file (without t p) p n b clears.layer (record {

@@ -20,7 +20,7 @@ use Rattle.snap_layer.proofs.Filling.{one_if, SaysFull, memory_said, ok_said, di
 use Rattle.snap_layer.proofs.Files.{leaf_number}
 use Rattle.snap_layer.proofs.Laws.{block_count-with_node, block_count-with_new, sorted-with_node}
 use Rattle.snap_layer.proofs.Linked.{linked_becomes, linked_blocks, linked_inodes, swapped}
-use Rattle.snap_layer.proofs.Moves.{block_count-with_moved}
+use Rattle.snap_layer.proofs.Moves.{block_count-with_moved, most_moved}
 use Rattle.snap_layer.proofs.Moving.{moved_becomes}
 use Rattle.snap_layer.proofs.Replacing.{inode_count-with_new, with_node-free}
 use Rattle.snap_layer.proofs.Totaling.{if_none, path_put, path_count-with_node, path_count-with_moved, path_count-without}
@@ -28,23 +28,24 @@ use Rattle.snap_layer.proofs.Totaling.{if_none, path_put, path_count-with_node, 
 -- u is the layer t with what takes so many numbers, inodes and blocks in place of what stands at the path
 pub record Costs (t u : Tree) (p : Names) (k i b : ℕ) : Type 0 where
   pub next : u.next ≡ t.next + k
+  pub most : u.most ≡ t.most
   pub inodes : inode_count u ≡ inode_count (without t p) + i
   pub blocks : block_count u ≡ block_count (without t p) + b
-  pub layer : inode_count u ≤ 65536 → u.next ≤ 4294967295 → IsLayer u
+  pub layer : inode_count u ≤ u.most → u.next ≤ 4294967295 → IsLayer u
 
 -- the test of the limits answers `LayerFull` exactly where they are passed
 abbrev pub IsFullBy : Result Totals LayerError → Bool → Type 0
 IsFullBy r b = (IsErrOf r LayerFull → b ≡ false) × (b ≡ false → IsErrOf r LayerFull)
 
-both : (a b : ℕ) → (nat_le a 65536 && nat_le b 4294967295) ≡ true → (a ≤ 65536) × (b ≤ 4294967295)
-both a b fit = (grind (arith, nat_tests), grind (arith, nat_tests))
+both : (a b m : ℕ) → (nat_le a m && nat_le b 4294967295) ≡ true → (a ≤ m) × (b ≤ 4294967295)
+both a b m fit = (grind (arith, nat_tests), grind (arith, nat_tests))
 
 pub fits_next : (t : Tree) (p : Names) (k i : ℕ) → fits t p k i ≡ true → t.next + k ≤ 4294967295
-fits_next t p k i fit = (both (inode_count (without t p) + i) (t.next + k) fit).1
+fits_next t p k i fit = (both (inode_count (without t p) + i) (t.next + k) t.most fit).1
 
 module _ (t u : Tree) (p : Names) (k i b : ℕ) (c : Costs t u p k i b) where
   costs_within : is_within u ≡ fits t p k i
-  costs_within = λ j. nat_le (c.inodes j) 65536 && nat_le (c.next j) 4294967295
+  costs_within = λ j. nat_le (c.inodes j) (c.most j) && nat_le (c.next j) 4294967295
 
   pub costs_full : {B : Type 0} (r : Result B LayerError) (x : LayerError) → IsErrAnd r (λ e. e ≡ x) → IsFullBy (Err x) (fits t p k i) → SaysFull r u
   costs_full (Ok a) x is said = absurd is
@@ -58,7 +59,7 @@ module _ (t u : Tree) (p : Names) (k i b : ℕ) (c : Costs t u p k i b) where
 
   module _ (fit : fits t p k i ≡ true) where
     pub costs_layer : IsLayer u
-    costs_layer = let few = both (inode_count u) u.next (costs_within ∙ fit) in c.layer few.0 few.1
+    costs_layer = let few = both (inode_count u) u.next u.most (costs_within ∙ fit) in c.layer few.0 few.1
 
     pub costs_counted : (v w : Totals) → IsRoom v t p i b → w.inodes ≡ v.inodes → w.blocks ≡ v.blocks → path_count u < w.paths → IsCounted w u
     costs_counted v w room inodes blocks paths = (record { inodes = omega (arith, inodes, room.inodes, c.inodes); blocks = omega (arith, blocks, room.blocks, c.blocks); paths = paths }, costs_layer)
@@ -79,16 +80,17 @@ module _ (t : Tree) (ok : IsLayer t) (p : Names) (path : IsPath p) where
   dir_costs mode opaque room low =
       let b = dir_becomes t ok p path (inode_count (without t p)) refl mode opaque room low in
       subst (λ (u : Tree). Costs t u p 0 1 1) (with_node-free t ok p (Dir mode opaque) room.free)
-      (record { next = omega arith; inodes = sym b.count; blocks = block_count-with_node t p (Dir mode opaque) ok; layer = λ few next. b.layer (omega (arith, few, b.count)) })
+      (record { next = omega arith; most = refl; inodes = sym b.count; blocks = block_count-with_node t p (Dir mode opaque) ok; layer = λ few next. b.layer (omega (arith, few, b.count)) })
 
   pub whiteout_costs : HasPlace t p → Costs t (with_node t p Whiteout) p 0 1 0
   whiteout_costs place =
       let b = whiteout_becomes t ok p path (inode_count (without t p)) refl place in
-      record { next = omega arith; inodes = sym b.count; blocks = block_count-with_node t p Whiteout ok; layer = λ few next. b.layer (omega (arith, few, b.count)) }
+      record { next = omega arith; most = refl; inodes = sym b.count; blocks = block_count-with_node t p Whiteout ok; layer = λ few next. b.layer (omega (arith, few, b.count)) }
 
   pub new_costs : (b : Body) (n : ℕ) → HasPlace t p → IsBody b → n ≡ body_blocks b → Costs t (with_new t p (leaf_node t.next b) b) p 1 1 n
   new_costs b n place fit size = record {
     next = refl;
+    most = refl;
     inodes = inode_count-with_new t p (leaf_node t.next b) b ok (leaf_number t.next b);
     blocks = omega (arith, size, block_count-with_new t p (leaf_node t.next b) b ok (leaf_number t.next b));
     layer = λ few next. let c = body_becomes t ok p path (inode_count (without t p)) refl place (omega (arith, next)) b fit in c.layer (omega (arith, few, c.count));
@@ -100,7 +102,7 @@ path_moved t ok from to leaves = omega (arith, path_count-with_moved t from to l
 pub moved_costs : (t : Tree) → IsLayer t → (from to : Names) (leaves : Bool) (i : ℕ) → IsMovable t from to → i ≡ one_if leaves → Costs t (with_moved t from to leaves) to 0 i 0
 moved_costs t ok from to leaves i movable one =
     let b = moved_becomes t from to leaves (inode_count (without t to)) (inode_count (without t to) + i) ok movable refl (ap (λ n. inode_count (without t to) + n) one) in
-    record { next = next leaves; inodes = sym b.count; blocks = omega (arith, block_count-with_moved t from to ok.sorted_paths movable.not_around leaves); layer = λ few next. b.layer (omega (arith, few, b.count)) }
+    record { next = next leaves; most = most_moved t from to leaves; inodes = sym b.count; blocks = omega (arith, block_count-with_moved t from to ok.sorted_paths movable.not_around leaves); layer = λ few next. b.layer (omega (arith, few, b.count)) }
   where
     next : (c : Bool) → (with_moved t from to c).next ≡ t.next + 0
     next true = omega arith
@@ -116,6 +118,7 @@ module _ (t : Tree) (ok : IsLayer t) (path link : Names) (rooms : HasRooms t pat
   pub linked_costs : (n : ℕ) → IsBody b → IsPath path → IsPath link → n ≡ body_blocks b → Costs t (with_linked t path link b) link 1 1 n
   linked_costs n fit path_is link_is size = record {
     next = refl;
+    most = refl;
     inodes = omega (arith, linked_inodes t ok path link rooms b, inode_count-with_new t link (leaf_node t.next b) b ok (leaf_number t.next b));
     blocks = omega (arith, size, linked_blocks t ok path link rooms b);
     layer = λ few next. let c = linked_becomes t ok path link rooms b fit path_is link_is (omega (arith, next)) (inode_count (without t link)) refl in c.layer (omega (arith, few, c.count));

@@ -9,7 +9,7 @@ use Rattle.std.specs.BTreeMap.{BTreeMap, is_at}
 use Rattle.slab.specs.Slab.{Slab as Slots, get}
 use Rattle.snap_path.specs.Text.{Names}
 use Rattle.snap_layer.specs.Tree.{at, number_of, IsDirAt}
-use Rattle.snap_layer.specs.Edits.{root_only}
+use Rattle.snap_layer.specs.Edits.{root_within}
 use Rattle.snap_layer.specs.declared.inode.Inode.{Inode}
 use Rattle.snap_layer.specs.declared.inode.Inode.TheVariants as inode
 use Rattle.snap_layer.specs.declared.inode.Target.{Target}
@@ -21,7 +21,7 @@ use Rattle.snap_layer.proofs.Makes.{Makes}
 no_some : {A : Type 0} (x : A) → None ≡ Some x → ⊥
 no_some x e = cc
 
-module _ (s : Slots Inode) (root m first : ℕ) (es : BTreeMap (List ℕ) Target) (is : get s root ≡ Some (inode.Dir m false es)) (empty : es.entries ≡ []) where
+module _ (s : Slots Inode) (root most m first : ℕ) (es : BTreeMap (List ℕ) Target) (is : get s root ≡ Some (inode.Dir m false es)) (empty : es.entries ≡ []) where
   no_entry : (n : List ℕ) → entry_at s root n ≡ None
   no_entry n = ap (λ o. entry_of o n) is ∙ ap (lookup (is_at (slice_cmp nat_cmp n))) empty
 
@@ -32,7 +32,7 @@ module _ (s : Slots Inode) (root m first : ℕ) (es : BTreeMap (List ℕ) Target
   only [] c to = (refl, cc)
   only (n ∷ ns) c to = absurd (no_some (target.Inode c) (sym (walk_none n ns) ∙ to))
 
-  shows : (q : Names) → stands (view_of s) root q ≡ at (root_only m first) q
+  shows : (q : Names) → stands (view_of s) root q ≡ at (root_within most m first) q
   shows [] = ap node_of is
   shows (n ∷ ns) = ap (seen (node_at s)) (walk_none n ns)
 
@@ -40,8 +40,8 @@ module _ (s : Slots Inode) (root m first : ℕ) (es : BTreeMap (List ℕ) Target
   unfolding IsStrictlySortedBy
   sorted_none = tt
 
-  pub root_makes : (ps : Places) → ps ≡ [] → Makes (view_of s) root ps first (root_only m first)
-  root_makes ps none = subst (λ (x : Places). Makes (view_of s) root x first (root_only m first)) (sym none) (record {
+  pub root_makes : (ps : Places) → ps ≡ [] → Makes (view_of s) root ps first (root_within most m first)
+  root_makes ps none = subst (λ (x : Places). Makes (view_of s) root x first (root_within most m first)) (sym none) (record {
     table = record {
       root_dir = subst IsDirAt (sym (ap node_of is)) refl;
       there = λ p c to. subst (λ (x : ℕ). IsSome (node_at s x)) (only p c to).1 (ap is_some (ap node_of is));

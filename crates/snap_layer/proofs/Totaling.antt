@@ -16,7 +16,7 @@ use Rattle.snap_layer.specs.declared.node.Body.{Body}
 use Rattle.snap_layer.specs.declared.node.Body.TheVariants as body_kinds
 use Rattle.snap_layer.specs.declared.totals.Totals.{Totals}
 use Rattle.snap_layer.specs.Tree.{Tree, Entries, path_cmp, at, body, number_at, has_number, is_dir, is_whiteout, IsDirAt, leaf_node}
-use Rattle.snap_layer.specs.Counts.{dir_count, whiteout_count, inode_count, block_count, name_count, body_blocks}
+use Rattle.snap_layer.specs.Counts.{dir_count, whiteout_count, inode_count, block_count, name_count, body_blocks, most_inodes}
 use Rattle.snap_layer.specs.Layers.{IsLayer}
 use Rattle.snap_layer.specs.Edits.{with_entry, with_body, with_node, with_moved, without, outside, inside, HasPlace}
 use Rattle.snap_layer.specs.Totals.{path_count, Counts}
@@ -104,8 +104,8 @@ counts_body t ok k old new v w is had inodes paths blocks = record {
 
 -- ---- bounds
 
-pub few_blocks : (t : Tree) → IsLayer t → block_count t ≤ 65536 + 65536 * 268435456
-few_blocks t ok = omega (arith, ok.few, blocks_of_bodies t ok)
+pub few_blocks : (t : Tree) → IsLayer t → block_count t ≤ most_inodes + most_inodes * 268435456
+few_blocks t ok = omega (arith, ok.few, ok.most.1, blocks_of_bodies t ok)
 
 pub fewer_blocks : (t : Tree) (p : Names) → block_count (without t p) ≤ block_count t
 fewer_blocks t p = omega (arith, block_count-without t p)
@@ -186,7 +186,7 @@ left_is t v same p q path totals had many whites files freed dirs_are whites_are
       blocks_are = omega (arith, counts.blocks, facts.0, d, freed_are);
     }
 
-pub fewer_inodes : (t : Tree) → IsLayer t → (p : Names) → inode_count (without t p) ≤ 65536
+pub fewer_inodes : (t : Tree) → IsLayer t → (p : Names) → inode_count (without t p) ≤ t.most
 fewer_inodes t ok p = omega (arith, ok.few, inode_count-without t p (has_body t ok p))
 
 -- ---- one more name

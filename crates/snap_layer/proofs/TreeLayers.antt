@@ -95,6 +95,7 @@ module _ (t : Tree) (ok : IsLayer t) (p : Names) (inner : IsInnerDir t p) where
     numbers = λ k some. ok.numbers k (kept k some).0;
     next = ok.next;
     few = omega (arith, fewer, ok.few);
+    most = ok.most;
     sorted_paths = sorted-filter path_cmp (λ x. not (begins p x.0)) t.entries ok.sorted_paths;
     sorted_numbers = sorted-filter nat_cmp (λ (b : ℕ × Body). not (name_count b.0 (outside p t.entries) == 0)) t.bodies ok.sorted_numbers;
   }
@@ -158,7 +159,7 @@ pub covered_done : (t : Tree) → IsLayer t → (p : Names) → IsDirAt (at t p)
     → (IsErrOf r LayerFull ↔ (is_within (with_node t p Whiteout) ≡ false)) → (IsErrOf r (OutOfMemory no_memory) → at t p ≡ None) → v ≡ with_node t p Whiteout
 covered_done t ok p dir v (Ok x) done full sure = done
 covered_done t ok p dir v (Err LayerFull) done full sure =
-    let few : inode_count (with_node t p Whiteout) ≤ 65536 = omega (arith, inode_count-with_node t p Whiteout ok, inode_count-without t p (has_body t ok p), dir_inside t p dir, ok.few) in
+    let few : inode_count (with_node t p Whiteout) ≤ t.most = omega (arith, inode_count-with_node t p Whiteout ok, inode_count-without t p (has_body t ok p), dir_inside t p dir, ok.few) in
     absurd (no_bool (sym (is_within_yes (with_node t p Whiteout) few ok.next.1) ∙ full.0 refl))
 covered_done t ok p dir v (Err (OutOfMemory m)) done full sure =
     absurd (by (at t p) dir (sure (ap (λ (n : NoMemory). Err (OutOfMemory n)) (same_refusal m))))

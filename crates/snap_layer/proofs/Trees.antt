@@ -226,7 +226,7 @@ module _ (t : Tree) (ok : IsLayer t) (p q : Names) (k : Names) (ks : List Names)
       let bodies : bodies_named (outside p (outside q t.entries)) (bodies_without (number_at t q) (outside q t.entries) t.bodies) ≡ bodies_named (outside p t.entries) t.bodies =
       named_removed (number_at t q) (outside q t.entries) (outside p (outside q t.entries)) t.bodies fewer
       ∙ ap (λ (es : Entries). bodies_named es t.bodies) entries in
-      λ i. record { entries = entries i; bodies = bodies i; next = t.next }
+      λ i. record t { entries = entries i; bodies = bodies i }
 
 -- what is so once the last of several paths is taken
 pub record Step (t : Tree) (p q : Names) (ks : List Names) : Type 0 where
@@ -313,7 +313,7 @@ module _ (t : Tree) (p : Names) (sorted : IsStrictlySortedBy nat_cmp (keys_of t.
       (sorted-bodies_without (number_at t p) (outside p t.entries) t.bodies sorted)
       (sorted-filter nat_cmp (λ (b : ℕ × Body). not (name_count b.0 (outside p t.entries) == 0)) t.bodies sorted)
       found in
-      λ i. record { entries = outside p t.entries; bodies = bodies i; next = t.next }
+      λ i. record t { entries = outside p t.entries; bodies = bodies i }
 
 -- ---- the directory alone
 

@@ -37,6 +37,14 @@ body_blocks (Symlink target) = 0
 abbrev pub block_count : Tree → ℕ
 block_count t = dir_count t + sum_by body_blocks (values_of t.bodies)
 
--- at most 65,536 inodes, and the last file number not passed
+-- the most inodes of a layer where nothing else is asked
+abbrev pub default_inodes : ℕ
+default_inodes = 65536
+
+-- the most that may be asked
+abbrev pub most_inodes : ℕ
+most_inodes = 16777216
+
+-- at most the layer's most inodes, and the last file number not passed
 abbrev pub is_within : Tree → Bool
-is_within t = nat_le (inode_count t) 65536 && nat_le t.next 4294967295
+is_within t = nat_le (inode_count t) t.most && nat_le t.next 4294967295

@@ -12,19 +12,23 @@ use Rattle.snap_layer.specs.declared.node.Node.TheVariants.{Dir, File, Whiteout}
 use Rattle.snap_layer.specs.declared.node.Body.{Body}
 use Rattle.snap_layer.specs.declared.node.Body.TheVariants as body_kinds
 use Rattle.snap_layer.specs.Tree.{Tree, Entries, Bodies, path_cmp, at, body, number_at, leaf_node, is_whiteout, IsDirAt}
-use Rattle.snap_layer.specs.Counts.{name_count}
+use Rattle.snap_layer.specs.Counts.{name_count, default_inodes}
 
--- the layer of the root alone, whose first file gets the number
+-- the layer of the root alone, which may have so many inodes, and whose first file gets the number
+abbrev pub root_within : ℕ → ℕ → ℕ → Tree
+root_within most mode first = record { entries = ([], Dir mode false) ∷ []; bodies = []; next = first; most = most }
+
+-- the same where no most inodes are asked
 abbrev pub root_only : ℕ → ℕ → Tree
-root_only mode first = record { entries = ([], Dir mode false) ∷ []; bodies = []; next = first }
+root_only mode first = root_within default_inodes mode first
 
 -- the layer with the node at the path
 abbrev pub with_entry : Tree → Names → Node → Tree
-with_entry t p n = record { entries = insert_entry path_cmp t.entries p n; bodies = t.bodies; next = t.next }
+with_entry t p n = record t { entries = insert_entry path_cmp t.entries p n }
 
 -- the layer with the body under the number
 abbrev pub with_body : Tree → ℕ → Body → Tree
-with_body t k b = record { entries = t.entries; bodies = insert_entry nat_cmp t.bodies k b; next = t.next }
+with_body t k b = record t { bodies = insert_entry nat_cmp t.bodies k b }
 
 -- the entries but that at the path and those below it
 abbrev pub outside : Names → Entries → Entries
@@ -38,7 +42,7 @@ bodies_without o es bs = option_map_or (λ k. if name_count k es == 0 then remov
 abbrev pub without : Tree → Names → Tree
 without t p =
     let es = outside p t.entries in
-    record { entries = es; bodies = bodies_without (number_at t p) es t.bodies; next = t.next }
+    record t { entries = es; bodies = bodies_without (number_at t p) es t.bodies }
 
 -- the bodies that no entry names, and those that an entry names
 abbrev pub bodies_unnamed : Entries → Bodies → Bodies
@@ -51,7 +55,7 @@ bodies_named es bs = filter (λ b. not (name_count b.0 es == 0)) bs
 abbrev pub without_tree : Tree → Names → Tree
 without_tree t p =
     let es = outside p t.entries in
-    record { entries = es; bodies = bodies_named es t.bodies; next = t.next }
+    record t { entries = es; bodies = bodies_named es t.bodies }
 
 -- the same with a whiteout at the path where one is to be left
 abbrev pub with_tree_taken : Tree → Names → Bool → Tree
@@ -65,7 +69,7 @@ with_node t p n = with_entry (without t p) p n
 abbrev pub with_new : Tree → Names → Node → Body → Tree
 with_new t p n b =
     let u = with_node t p n in
-    record { entries = u.entries; bodies = insert_entry nat_cmp u.bodies t.next b; next = t.next + 1 }
+    record u { bodies = insert_entry nat_cmp u.bodies t.next b; next = t.next + 1 }
 
 -- the node that names a file number, if it has a body
 abbrev pub name_of : ℕ → Option Body → Option Node
@@ -126,7 +130,7 @@ put_all (e ∷ new) es = insert_entry path_cmp (put_all new es) e.0 e.1
 
 -- the layer with what stands at `from` and all below it at `to`
 abbrev pub moved : Tree → Names → Names → Tree
-moved t from to = record { entries = put_all (map (relocate from to) (inside from t.entries)) (outside from t.entries); bodies = t.bodies; next = t.next }
+moved t from to = record t { entries = put_all (map (relocate from to) (inside from t.entries)) (outside from t.entries) }
 
 -- the same in place of what stands at `to`, with a whiteout at `from` where one is to be left
 abbrev pub with_moved : Tree → Names → Names → Bool → Tree

@@ -36,9 +36,9 @@ body_eq (body_kinds.File mode content) (body_kinds.File other others) = mode == 
 body_eq (body_kinds.Symlink target) (body_kinds.Symlink other) = pointwise nat_eq target other
 body_eq body other = false
 
--- the same entries, the same bodies, and the same next number
+-- the same entries, the same bodies, the same next number, and the same most inodes
 abbrev pub tree_eq : Tree → Tree → Bool
-tree_eq t u = pointwise (λ p q. pointwise (pointwise nat_eq) p.0 q.0 && node_eq p.1 q.1) t.entries u.entries && pointwise (λ p q. nat_eq p.0 q.0 && body_eq p.1 q.1) t.bodies u.bodies && t.next == u.next
+tree_eq t u = pointwise (λ p q. pointwise (pointwise nat_eq) p.0 q.0 && node_eq p.1 q.1) t.entries u.entries && pointwise (λ p q. nat_eq p.0 q.0 && body_eq p.1 q.1) t.bodies u.bodies && t.next == u.next && t.most == u.most
 
 no : false ≡ true → ⊥
 no e = true≢false (sym e)
@@ -132,8 +132,16 @@ pub tree_eq-Decides : (t u : Tree) → Decides (tree_eq t u) (t ≡ u)
 tree_eq-Decides t u =
     let E = pointwise (λ p q. pointwise (pointwise nat_eq) p.0 q.0 && node_eq p.1 q.1) t.entries u.entries in
     let B = pointwise (λ p q. nat_eq p.0 q.0 && body_eq p.1 q.1) t.bodies u.bodies in (
-      (λ e i. record { entries = (entries_Decides t u).0 (first_so E B (first_so (E && B) (t.next == u.next) e)) i; bodies = (bodies_Decides t u).0 (second_so E B (first_so (E && B) (t.next == u.next) e)) i; next = (unsigned_Decides t.next u.next).0 (second_so (E && B) (t.next == u.next) e) i }),
-      λ e i. (entries_Decides t u).1 (ap (λ (v : Tree). v.entries) e) i && (bodies_Decides t u).1 (ap (λ (v : Tree). v.bodies) e) i && (unsigned_Decides t.next u.next).1 (ap (λ (v : Tree). v.next) e) i,
+      (λ e.
+          let numbered = first_so (E && B && t.next == u.next) (t.most == u.most) e in
+          let both = first_so (E && B) (t.next == u.next) numbered in
+          λ i. record {
+            entries = (entries_Decides t u).0 (first_so E B both) i;
+            bodies = (bodies_Decides t u).0 (second_so E B both) i;
+            next = (unsigned_Decides t.next u.next).0 (second_so (E && B) (t.next == u.next) numbered) i;
+            most = (unsigned_Decides t.most u.most).0 (second_so (E && B && t.next == u.next) (t.most == u.most) e) i;
+          }),
+      λ e i. (entries_Decides t u).1 (ap (λ (v : Tree). v.entries) e) i && (bodies_Decides t u).1 (ap (λ (v : Tree). v.bodies) e) i && (unsigned_Decides t.next u.next).1 (ap (λ (v : Tree). v.next) e) i && (unsigned_Decides t.most u.most).1 (ap (λ (v : Tree). v.most) e) i,
     )
 
 pub node_eq_equiv : IsEquivalence node_eq

@@ -48,8 +48,8 @@ abbrev pub bodies_of : (ℕ → Option Body) → Places → Bodies
 bodies_of at_key ps = filter_map (λ (p : ℕ × ℕ). option_map (λ (b : Body). (p.0, b)) (at_key p.1)) ps
 
 -- the layer that a table is
-abbrev pub tree_of : map.FinMap path_cmp Node → Slots Inode → Places → ℕ → Tree
-tree_of t s places next = record { entries = map.entries t; bodies = bodies_of (body_at s) places; next = next }
+abbrev pub tree_of : map.FinMap path_cmp Node → Slots Inode → Places → ℕ → ℕ → Tree
+tree_of t s places next most = record { entries = map.entries t; bodies = bodies_of (body_at s) places; next = next; most = most }
 
 -- a file or symlink with the number has the key
 abbrev pub IsLeafOf : View → ℕ → ℕ → Type 0

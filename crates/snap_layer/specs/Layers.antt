@@ -11,7 +11,7 @@ use Rattle.snap_layer.specs.declared.node.Node.TheVariants.{Dir, File, Symlink, 
 use Rattle.snap_layer.specs.declared.node.Body.{Body}
 use Rattle.snap_layer.specs.declared.node.Body.TheVariants as body_kinds
 use Rattle.snap_layer.specs.Tree.{Tree, path_cmp, at, body, number_at, IsDirAt}
-use Rattle.snap_layer.specs.Counts.{inode_count}
+use Rattle.snap_layer.specs.Counts.{inode_count, most_inodes}
 use Rattle.snap_layer.specs.Contents.{IsContent}
 
 -- a symlink's target: 1 to 4095 bytes without NUL (symlink(2), PATH_MAX)
@@ -51,10 +51,11 @@ pub record IsLayer (t : Tree) : Type 0 where
   pub paths : (p : Names) → IsSome (at t p) → IsPath p
   pub nodes : (p : Names) (n : Node) → at t p ≡ Some n → IsWhole t n
   pub named : (k : ℕ) → IsSome (body t k) → (p : Names) × (number_at t p ≡ Some k)
-  -- file numbers are 1 to 4,294,967,294 and below the next one; there are at most 65,536 inodes
+  -- file numbers are 1 to 4,294,967,294 and below the next one; there are no more inodes than the layer may have
   pub numbers : (k : ℕ) → IsSome (body t k) → (1 ≤ k) × (k < t.next)
   pub next : (1 ≤ t.next) × (t.next ≤ 4294967295)
-  pub few : inode_count t ≤ 65536
+  pub few : inode_count t ≤ t.most
+  pub most : (1 ≤ t.most) × (t.most ≤ most_inodes)
   -- both lists rise, so each path and each number stands once
   pub sorted_paths : IsStrictlySortedBy path_cmp (keys_of t.entries)
   pub sorted_numbers : IsStrictlySortedBy nat_cmp (keys_of t.bodies)

@@ -27,7 +27,7 @@ IsCounted v t = Counts v t × IsLayer t
 
 -- so many numbers and inodes fit in place of what stands at the path
 abbrev pub fits : Tree → Names → ℕ → ℕ → Bool
-fits t p numbers inodes = nat_le (inode_count (without t p) + inodes) 65536 && nat_le (t.next + numbers) 4294967295
+fits t p numbers inodes = nat_le (inode_count (without t p) + inodes) t.most && nat_le (t.next + numbers) 4294967295
 
 -- what a layer takes with so many inodes and blocks in place of what stands at the path
 pub record IsRoom (v : Totals) (t : Tree) (p : Names) (i b : ℕ) : Type 0 where

@@ -1,4 +1,4 @@
--- What a layer holds: its paths, the bodies of its files, and the number of its next file.
+-- What a layer holds: its paths, the bodies of its files, the number of its next file, and the most inodes that it may have.
 -- Cited by `Dir::node`, `Dir::entry`, `Dir::body` and others.
 use Rattle.std.specs.Prelude.{◌≡◌, ℕ, Bool, true, false, ◌==◌, ◌||◌, if◌then◌else◌, List, [], ◌∷◌, ◌++◌, Option, Some, None, option_and_then}
 use Rattle.std.specs.declared.cmp.Ordering.{Ordering}
@@ -26,11 +26,12 @@ Entries = List (Names × Node)
 abbrev pub Bodies : Type 0
 Bodies = List (ℕ × Body)
 
--- a layer: its entries in order of paths, its bodies in order of numbers, and the number of its next file
+-- a layer: its entries in order of paths, its bodies in order of numbers, the number of its next file, and its most inodes
 pub record Tree : Type 0 where
   pub entries : Entries
   pub bodies : Bodies
   pub next : ℕ
+  pub most : ℕ
 
 -- the node at a path, or nothing
 abbrev pub at : Tree → Names → Option Node

@@ -11,7 +11,7 @@ use Rattle.snap_layer.specs.Edits.{with_new}
 
 -- the layer with another next number
 abbrev pub with_next : Tree → ℕ → Tree
-with_next t k = record { entries = t.entries; bodies = t.bodies; next = k }
+with_next t k = record t { next = k }
 
 -- what stood there: a whiteout, or nothing
 abbrev pub stood_at : Bool → Option Node

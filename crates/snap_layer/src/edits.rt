@@ -18,14 +18,13 @@ use super::layer::Layer;
 use super::node::{Body, Bytes, Node};
 use super::totals::{Totals, one_path_more};
 use snap_path::Path;
-use snap_path::limits::MAX_INODES;
 use std::alloc::AllocError;
 
 impl Layer {
     /// Adds a directory, over nothing or in place of a whiteout.
     ///
     /// The conditions are those of `has_room`, and a mode of at most octal 7777. `LayerFull` where the
-    /// layer would have more than 65,536 inodes. `OutOfMemory` where memory is refused. After either the
+    /// layer would have more inodes than it may. `OutOfMemory` where memory is refused. After either the
     /// layer is as it was. Cost: as `at`.
     pub fn add_dir(&mut self, path: &Path, mode: u32, opaque: bool) -> Result<(), LayerError>
         requires room { HasRoom self.old path.now }
@@ -43,7 +42,7 @@ impl Layer {
     /// Adds a regular file with the next number, in place of what stands at the path, and gives the number.
     ///
     /// The conditions are those of `has_place`, a mode of at most octal 7777, and a content within its limits.
-    /// `LayerFull` where the layer would have more than 65,536 inodes, or where the file numbers are used
+    /// `LayerFull` where the layer would have more inodes than it may, or where the file numbers are used
     /// up. `OutOfMemory` where memory is refused. After either the layer is as it was, and the content is
     /// gone. Cost: as `at`, and where a directory stands there, its entries.
     pub fn add_file(&mut self, path: &Path, mode: u32, content: Content) -> Result<u32, LayerError>
@@ -137,8 +136,8 @@ impl Layer {
     /// Adds a whiteout, in place of what stands at the path: nothing, a name, a whiteout, or a directory
     /// with its whiteouts.
     ///
-    /// The conditions are those of `has_place`. `LayerFull` where the layer would have more than 65,536
-    /// inodes. `OutOfMemory` where memory is refused, which can't be where something stands there. After
+    /// The conditions are those of `has_place`. `LayerFull` where the layer would have more inodes
+    /// than it may. `OutOfMemory` where memory is refused, which can't be where something stands there. After
     /// either the layer is as it was. Cost: as `add_file`.
     pub fn add_whiteout(&mut self, path: &Path) -> Result<(), LayerError>
         requires { HasPlace self.old path.now }
@@ -215,7 +214,7 @@ impl Layer {
     ///
     /// The conditions: something stands at `from`; what stands at `to` may be replaced, as in `has_place`;
     /// neither path begins with the other; and each moved path has at most 4095 bytes. `LayerFull` where
-    /// the layer would have more than 65,536 inodes: what stands at `to` is taken before the whiteout is
+    /// the layer would have more inodes than it may: what stands at `to` is taken before the whiteout is
     /// counted. `OutOfMemory` where memory is refused. After either the layer is as it was. Cost: as
     /// `at` for both paths, and where a directory stands at `to`, its entries. What lies below `from` isn't
     /// touched.
@@ -322,7 +321,7 @@ impl Layer {
         ensures layer { IsLayer self.now }
     {
         let (left, kept) = self.left(path);
-        if inodes > MAX_INODES - left || numbers > u32::MAX - self.next_number() {
+        if inodes > self.most_inodes() - left || numbers > u32::MAX - self.next_number() {
             return Err(LayerError::LayerFull);
         }
         let paths = self.paths_at(path)?;

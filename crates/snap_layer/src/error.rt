@@ -8,7 +8,7 @@ use thiserror::Error;
 /// Why an edit was refused. The layer is then as it was.
 #[derive(Clone, Copy, Debug, PartialEq, Eq, Error)]
 pub enum LayerError {
-    /// The layer would have more than 65,536 inodes, or its file numbers are used up.
+    /// The layer would have more inodes than it may, or its file numbers are used up.
     #[error("the layer is full")]
     LayerFull,
     /// A growth was refused.

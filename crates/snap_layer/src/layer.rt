@@ -5,14 +5,15 @@ ghost use Rattle.std.specs.List.{sum_by};
 ghost use Rattle.std.specs.Map.{keys_of, values_of};
 ghost use Rattle.snap_path.specs.Text.{Names, IsPath, text_below};
 ghost use Rattle.snap_layer.specs.Tree.{at, body, names_below, number_of, IsDirAt};
-ghost use Rattle.snap_layer.specs.Counts.{dir_count, whiteout_count, name_count, inode_count, block_count, body_blocks};
+ghost use Rattle.snap_layer.specs.Counts.{dir_count, whiteout_count, name_count, inode_count, block_count, body_blocks, most_inodes};
 ghost use Rattle.snap_layer.specs.Layers.{IsLayer};
-ghost use Rattle.snap_layer.specs.Edits.{root_only, without, without_tree, HasParent, HasRoom, HasRooms, HasPlace, IsTakeable, IsMovable};
+ghost use Rattle.snap_layer.specs.Edits.{root_only, root_within, without, without_tree, HasParent, HasRoom, HasRooms, HasPlace, IsTakeable, IsMovable};
 
 use super::dir::Dir;
 use super::node::{Body, Node};
 use super::table::Table;
 use super::totals::Totals;
+use snap_path::limits::DEFAULT_LAYER_INODES;
 use snap_path::{Name, Path};
 use std::alloc::{AllocError, Global};
 use std::fmt;
@@ -21,8 +22,8 @@ use std::marker::Model;
 /// A layer of a file system in memory: a table of inodes, what they take, and a bound on the paths.
 ///
 /// Contracts see it as a `Tree`: the list of its entries in order of paths, the list of its bodies in
-/// order of numbers, and the next number. An edit is one change of these lists; after an error the layer
-/// is as it was. It keeps the allocator that it was made with.
+/// order of numbers, the next number, and the most inodes that it may have, which no edit changes. An edit is one
+/// change of these lists; after an error the layer is as it was. It keeps the allocator that it was made with.
 #[derive(Drop)]
 pub struct Layer {
     pub(crate) table: Table,
@@ -54,7 +55,7 @@ impl fmt::Debug for Layer {
 }
 
 impl Layer {
-    /// The layer of an empty root directory, whose first file gets number 1.
+    /// The layer of an empty root directory, which may have 65,536 inodes, and whose first file gets number 1.
     ///
     /// The condition is a mode of at most octal 7777. It fails only where memory is refused. The cost is
     /// constant.
@@ -65,7 +66,19 @@ impl Layer {
         Layer::empty_from(alloc, mode, 1)
     }
 
-    /// The same, with the number of the first file.
+    /// The same, of a layer that may have so many inodes, the root's one among them.
+    ///
+    /// The conditions are a mode of at most octal 7777, and 1 to 16,777,216 inodes. It fails only where memory is
+    /// refused, and takes the same for each number of inodes. The cost is constant.
+    pub fn within(alloc: Global, mode: u32, most: usize) -> Result<Layer, AllocError>
+        requires mode { mode ≤ 4095 }
+        requires most { (1 ≤ most) × (most ≤ most_inodes) }
+        ensures { IfOk result (λ l. l ≡ root_within most mode 1) }
+    {
+        Layer::root_alone(alloc, mode, 1, most)
+    }
+
+    /// As `empty`, with the number of the first file.
     ///
     /// The conditions are a mode of at most octal 7777, and a number from 1. File numbers are given in
     /// rising order, and none is ever given again; 4,294,967,294 is the last one.
@@ -74,8 +87,18 @@ impl Layer {
         requires first { 1 ≤ first }
         ensures { IfOk result (λ l. l ≡ root_only mode first) }
     {
+        Layer::root_alone(alloc, mode, first, DEFAULT_LAYER_INODES)
+    }
+
+    /// The layer of an empty root directory, which may have so many inodes, and whose first file gets the number.
+    fn root_alone(alloc: Global, mode: u32, first: u32, most: usize) -> Result<Layer, AllocError>
+        requires mode { mode ≤ 4095 }
+        requires first { 1 ≤ first }
+        requires most { (1 ≤ most) × (most ≤ most_inodes) }
+        ensures { IfOk result (λ l. l ≡ root_within most mode first) }
+    {
         Ok(Layer {
-            table: Table::new(alloc, mode, first)?,
+            table: Table::new(alloc, mode, first, most)?,
             totals: Totals {
                 inodes: 1,
                 blocks: 1,
@@ -157,13 +180,24 @@ impl Layer {
     }
 
     /// The inodes that the layer takes: one for each directory, the root included, one for each whiteout,
-    /// and one for each file or symlink however many names it has. At most 65,536.
+    /// and one for each file or symlink however many names it has. At most `most_inodes`.
     ///
     /// Takes no memory. The cost is constant.
     pub fn inodes(&self) -> usize
         ensures { result ≡ inode_count self.now }
     {
         self.totals.inodes
+    }
+
+    /// The most inodes that the layer may have: an edit that would make more answers `LayerFull`.
+    ///
+    /// Takes no memory. The cost is constant.
+    pub fn most_inodes(&self) -> usize
+        ensures most { result ≡ self.now.most }
+        ensures bounds { (1 ≤ result) × (result ≤ most_inodes) }
+        ensures layer { IsLayer self.now }
+    {
+        self.table.most_inodes()
     }
 
     /// The inodes that are left where what stands at the path and below it is taken. The inode of a file or
@@ -173,7 +207,8 @@ impl Layer {
     /// the logarithm of a directory's entries.
     pub fn inodes_without(&self, path: &Path) -> usize
         ensures count { result ≡ inode_count (without self.now path.now) }
-        ensures few { result ≤ 65536 }
+        ensures few { result ≤ self.now.most }
+        ensures most { self.now.most ≤ most_inodes }
         ensures path { IsPath path.now }
     {
         let (inodes, _) = self.left(path);
@@ -184,7 +219,7 @@ impl Layer {
     pub(crate) fn left(&self, path: &Path) -> (usize, u64)
         ensures inodes { result.0 ≡ inode_count (without self.now path.now) }
         ensures blocks { result.1 ≡ block_count (without self.now path.now) }
-        ensures few { result.0 ≤ 65536 }
+        ensures few { result.0 ≤ self.now.most }
         ensures path { IsPath path.now }
         ensures layer { IsLayer self.now }
     {
@@ -401,8 +436,8 @@ fn number_in(node: Option<Node>) -> Option<u32>
     }
 }
 
-/// Layers are equal where their entries, their bodies and their next numbers are. Takes no memory. Cost: the
-/// number of paths, times the logarithm of a directory's entries, and the bytes of the files.
+/// Layers are equal where their entries, their bodies, their next numbers and their most inodes are. Takes no
+/// memory. Cost: the number of paths, times the logarithm of a directory's entries, and the bytes of the files.
 impl PartialEq for Layer {
     ghost use Rattle.std.specs.Prelude.{◌≡◌, ◌↔◌, IsTrue};
     ghost use Rattle.std.specs.Cmp.{partial_equiv_from_equiv};

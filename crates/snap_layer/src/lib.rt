@@ -2,7 +2,8 @@
 //!
 //! A layer is what overlayfs keeps in one lower or upper directory (overlayfs.rst). Contracts see a
 //! [`Layer`] as a `Tree`: the list of its paths in order, the list of its files' bodies in order of
-//! their numbers, and the number of its next file. Each edit is one change of these lists.
+//! their numbers, the number of its next file, and the most inodes that it may have. Each edit is one change of these
+//! lists.
 //!
 //! It is kept as a table of inodes, whose directories have entries by name: `specs/Walk.antt` says what stands
 //! at a path of it, and `specs/Holds.antt` which `Tree` it is.

@@ -3,10 +3,10 @@ ghost use Rattle.std.specs.Prelude.{[], ◌≡◌, ◌<◌, ◌≤◌, ◌+◌, 
 ghost use Rattle.std.specs.Option.{option_copied};
 ghost use Rattle.std.specs.Map.{keys_of};
 ghost use Rattle.snap_layer.specs.Tree.{Tree, at, body, number_at, IsDirAt, leaf_node};
-ghost use Rattle.snap_layer.specs.Counts.{name_count, body_blocks};
+ghost use Rattle.snap_layer.specs.Counts.{name_count, body_blocks, most_inodes};
 ghost use Rattle.snap_layer.specs.Contents.{body_content, body_edited, Grows, IsShort};
 ghost use Rattle.snap_layer.specs.Layers.{IsLayer, IsFile};
-ghost use Rattle.snap_layer.specs.Edits.{root_only, with_body, with_entry, with_node, with_new, without, with_moved, with_file_mode, with_linked, HasPlace, HasRooms, IsTakeable, IsFree, HasParent, IsMovable};
+ghost use Rattle.snap_layer.specs.Edits.{root_within, with_body, with_entry, with_node, with_new, without, with_moved, with_file_mode, with_linked, HasPlace, HasRooms, IsTakeable, IsFree, HasParent, IsMovable};
 ghost use Rattle.snap_layer.specs.declared.node.Body.{Body as BodyValue};
 ghost use Rattle.snap_layer.specs.declared.node.Node.{Node as NodeValue};
 ghost use Rattle.snap_layer.specs.contracts.node.Node as node_contracts;
@@ -40,6 +40,8 @@ pub struct Table {
     pub(crate) root: usize,
     pub(crate) places: BTreeMap<u32, usize>,
     pub(crate) next: u32,
+    /// The most inodes that it may have.
+    pub(crate) most: usize,
     ghost tree: { Holds slots root } by { Holds-prop (node_contracts.the_row).coded slots root },
 }
 
@@ -51,17 +53,18 @@ impl Model for Table {
     ghost use Rattle.snap_layer.specs.Holds.{tree_of, IsKept};
     ghost use Rattle.snap_layer.specs.Walk.{view_of};
 
-    ghost view = { λ t. tree_of t.tree.0 t.slots t.places.entries t.next };
+    ghost view = { λ t. tree_of t.tree.0 t.slots t.places.entries t.next t.most };
 
-    ghost invariant = { λ t. IsKept (view_of t.slots) t.root t.places.entries (tree_of t.tree.0 t.slots t.places.entries t.next) };
+    ghost invariant = { λ t. IsKept (view_of t.slots) t.root t.places.entries (tree_of t.tree.0 t.slots t.places.entries t.next t.most) };
 }
 
 impl Table {
-    /// The layer of the root alone.
-    pub fn new(alloc: Global, mode: u32, first: u32) -> Result<Table, AllocError>
+    /// The layer of the root alone, which may have so many inodes.
+    pub fn new(alloc: Global, mode: u32, first: u32, most: usize) -> Result<Table, AllocError>
         requires mode { mode ≤ 4095 }
         requires first { 1 ≤ first }
-        ensures { IfOk result (λ t. t ≡ root_only mode first) }
+        requires most { (1 ≤ most) × (most ≤ most_inodes) }
+        ensures { IfOk result (λ t. t ≡ root_within most mode first) }
     {
         let mut slots = Slab::new(alloc);
         let root = slots.insert(Inode::Dir {
@@ -75,6 +78,7 @@ impl Table {
             root,
             places: BTreeMap::new(alloc),
             next: first,
+            most,
         })
     }
 
@@ -88,6 +92,7 @@ impl Table {
             root: self.root,
             places: copied(&self.places)?,
             next: self.next,
+            most: self.most,
         })
     }
 
@@ -139,6 +144,14 @@ impl Table {
         ensures layer { IsLayer self.now }
     {
         self.next
+    }
+
+    /// The most inodes that the layer may have.
+    pub fn most_inodes(&self) -> usize
+        ensures most { result ≡ self.now.most }
+        ensures layer { IsLayer self.now }
+    {
+        self.most
     }
 
     /// The least number above `after` that a file or symlink has, or nothing.

@@ -27,8 +27,11 @@ pub const MAX_SIZED_BYTES: u64 = 1_099_511_627_776;
 /// The most bytes of the digest of such a file: a limit of this project.
 pub const MAX_DIGEST_BYTES: usize = 1024;
 
-/// The most inodes of a layer: a limit of this project.
-pub const MAX_INODES: usize = 65_536;
+/// The most inodes of a layer where nothing else is asked: a choice of this project.
+pub const DEFAULT_LAYER_INODES: usize = 65_536;
+
+/// The most inodes that may be asked for a layer, 2^24: a limit of this project.
+pub const MAX_LAYER_INODES: usize = 16_777_216;
 
 /// The bytes of a block, in which files are counted: a choice of this project.
 pub const BLOCK_BYTES: u64 = 4096;

@@ -55,7 +55,7 @@ module _ (t : Tree) (p : Names) (bare : IsBare t p) where
   -- and a new file or symlink one, where the bodies and the next number are those of a layer
   pub file_inodes : (u : Tree) → IsLayer u → t.bodies ≡ u.bodies → t.next ≡ u.next → (n : Node) (b : Body) → inodes_of (Some n) ≡ 0 → inode_count (with_new t p n b) ≡ inode_count t + 1
   file_inodes u ok bodies next n b is =
-      ap (λ (v : Tree). inode_count (record { entries = insert_entry path_cmp v.entries p n; bodies = insert_entry nat_cmp v.bodies t.next b; next = t.next + 1 })) (without_bare t p bare.sorted bare.none)
+      ap (λ (v : Tree). inode_count (record v { entries = insert_entry path_cmp v.entries p n; bodies = insert_entry nat_cmp v.bodies t.next b; next = t.next + 1 })) (without_bare t p bare.sorted bare.none)
       ∙ omega (arith, inode_count-with_entry t p n bare.sorted, ap inodes_of (bare_here t p bare), is, more)
     where
       more : length (insert_entry nat_cmp t.bodies t.next b) ≡ length t.bodies + 1
@@ -103,6 +103,7 @@ module _ (v : Tree) (ls : List Tree) (from : Names) (bare : IsBare v from) (f : 
         (sorted-with_node y from n (entry_bare m).sorted)
         alike
         (ap (λ o. insert_entry nat_cmp (bodies_without o (outside from v.entries) v.bodies) v.next b) (bare_number v from bare) ∙ sym (ap (λ o. insert_entry nat_cmp (bodies_without o (outside from y.entries) v.bodies) v.next b) (bare_number y from (entry_bare m))))
+        refl
         refl
       where
         sets : Sets v (with_entry v f m) f (Some m)

@@ -4,6 +4,7 @@ use Rattle.snap_layer.specs.declared.node.Node.TheVariants.{Dir, File, Whiteout}
 use Rattle.snap_layer.specs.declared.content.Content.TheVariants.{Bytes}
 use Rattle.snap_layer.specs.declared.node.Body.TheVariants as body_kinds
 use Rattle.snap_layer.specs.Tree.{Tree}
+use Rattle.snap_layer.specs.Counts.{default_inodes}
 use Rattle.snap_layer.specs.Edits.{root_only}
 use Rattle.snap_merge.specs.declared.error.FsError.TheVariants.{Exists, IsDir, NotDir, NotFound, Invalid, CrossDevice, NotPermitted}
 use Rattle.snap_upper.specs.declared.op.Op.TheVariants as op
@@ -27,6 +28,7 @@ lower = record {
   entries = ([], Dir 493 false) ∷ (d ∷ [], Dir 448 false) ∷ (d ∷ f ∷ [], File 7) ∷ (d ∷ g ∷ [], File 7) ∷ [];
   bodies = (7, body_kinds.File 420 (Bytes (104 ∷ 105 ∷ []))) ∷ [];
   next = 8;
+  most = default_inodes;
 }
 
 abbrev empty : Tree
@@ -37,14 +39,16 @@ mkdir_below : after (op.Mkdir (d ∷ e ∷ []) 511) empty (lower ∷ []) ≡ Ok 
   entries = ([], Dir 493 false) ∷ (d ∷ [], Dir 448 false) ∷ (d ∷ e ∷ [], Dir 511 false) ∷ [];
   bodies = [];
   next = 1;
+  most = default_inodes;
 })
 mkdir_below = refl
 
 -- in place of a whiteout it is opaque
-mkdir_over_whiteout : after (op.Mkdir (d ∷ []) 511) (record { entries = ([], Dir 493 false) ∷ (d ∷ [], Whiteout) ∷ []; bodies = []; next = 1 }) (lower ∷ []) ≡ Ok (record {
+mkdir_over_whiteout : after (op.Mkdir (d ∷ []) 511) (record { entries = ([], Dir 493 false) ∷ (d ∷ [], Whiteout) ∷ []; bodies = []; next = 1; most = default_inodes }) (lower ∷ []) ≡ Ok (record {
   entries = ([], Dir 493 false) ∷ (d ∷ [], Dir 511 true) ∷ [];
   bodies = [];
   next = 1;
+  most = default_inodes;
 })
 mkdir_over_whiteout = refl
 
@@ -53,6 +57,7 @@ write_lower : after (op.Write (d ∷ f ∷ []) 3 (33 ∷ [])) empty (lower ∷ [
   entries = ([], Dir 493 false) ∷ (d ∷ [], Dir 448 false) ∷ (d ∷ f ∷ [], File 1) ∷ [];
   bodies = (1, body_kinds.File 420 (Bytes (104 ∷ 105 ∷ 0 ∷ 33 ∷ []))) ∷ [];
   next = 2;
+  most = default_inodes;
 })
 write_lower = refl
 
@@ -61,6 +66,7 @@ write_nothing : after (op.Write (d ∷ f ∷ []) 9 []) empty (lower ∷ []) ≡ 
   entries = ([], Dir 493 false) ∷ (d ∷ [], Dir 448 false) ∷ (d ∷ f ∷ [], File 1) ∷ [];
   bodies = (1, body_kinds.File 420 (Bytes (104 ∷ 105 ∷ []))) ∷ [];
   next = 2;
+  most = default_inodes;
 })
 write_nothing = refl
 
@@ -78,6 +84,7 @@ rename_lower : after (op.Rename (d ∷ f ∷ []) (d ∷ e ∷ [])) empty (lower 
   entries = ([], Dir 493 false) ∷ (d ∷ [], Dir 448 false) ∷ (d ∷ e ∷ [], File 1) ∷ (d ∷ f ∷ [], Whiteout) ∷ [];
   bodies = (1, body_kinds.File 420 (Bytes (104 ∷ 105 ∷ []))) ∷ [];
   next = 2;
+  most = default_inodes;
 })
 rename_lower = refl
 
@@ -86,14 +93,16 @@ rename_to_other_name : after (op.Rename (d ∷ f ∷ []) (d ∷ g ∷ [])) empty
   entries = ([], Dir 493 false) ∷ (d ∷ [], Dir 448 false) ∷ (d ∷ f ∷ [], Whiteout) ∷ (d ∷ g ∷ [], File 1) ∷ [];
   bodies = (1, body_kinds.File 420 (Bytes (104 ∷ 105 ∷ []))) ∷ [];
   next = 2;
+  most = default_inodes;
 })
 rename_to_other_name = refl
 
 -- a directory is opaque over a lower one
-rename_over_whiteout : after (op.Rename (e ∷ []) (d ∷ [])) (record { entries = ([], Dir 493 false) ∷ (d ∷ [], Whiteout) ∷ (e ∷ [], Dir 511 false) ∷ (e ∷ g ∷ [], File 1) ∷ []; bodies = (1, body_kinds.File 420 (Bytes [])) ∷ []; next = 2 }) (lower ∷ []) ≡ Ok (record {
+rename_over_whiteout : after (op.Rename (e ∷ []) (d ∷ [])) (record { entries = ([], Dir 493 false) ∷ (d ∷ [], Whiteout) ∷ (e ∷ [], Dir 511 false) ∷ (e ∷ g ∷ [], File 1) ∷ []; bodies = (1, body_kinds.File 420 (Bytes [])) ∷ []; next = 2; most = default_inodes }) (lower ∷ []) ≡ Ok (record {
   entries = ([], Dir 493 false) ∷ (d ∷ [], Dir 511 true) ∷ (d ∷ g ∷ [], File 1) ∷ [];
   bodies = (1, body_kinds.File 420 (Bytes [])) ∷ [];
   next = 2;
+  most = default_inodes;
 })
 rename_over_whiteout = refl
 
@@ -103,6 +112,7 @@ upper = record {
   entries = ([], Dir 493 false) ∷ (e ∷ [], File 1) ∷ (f ∷ [], File 1) ∷ (g ∷ [], File 2) ∷ [];
   bodies = (1, body_kinds.File 420 (Bytes (33 ∷ []))) ∷ (2, body_kinds.File 384 (Bytes [])) ∷ [];
   next = 3;
+  most = default_inodes;
 }
 
 rename_one_file : after (op.Rename (e ∷ []) (f ∷ [])) upper (lower ∷ []) ≡ Ok upper
@@ -112,6 +122,7 @@ rename_over_file : after (op.Rename (e ∷ []) (g ∷ [])) upper (lower ∷ []) 
   entries = ([], Dir 493 false) ∷ (f ∷ [], File 1) ∷ (g ∷ [], File 1) ∷ [];
   bodies = (1, body_kinds.File 420 (Bytes (33 ∷ []))) ∷ [];
   next = 3;
+  most = default_inodes;
 })
 rename_over_file = refl
 
@@ -132,14 +143,16 @@ link_lower : after (op.Link (d ∷ f ∷ []) (e ∷ [])) empty (lower ∷ []) �
   entries = ([], Dir 493 false) ∷ (d ∷ [], Dir 448 false) ∷ (d ∷ f ∷ [], File 1) ∷ (e ∷ [], File 1) ∷ [];
   bodies = (1, body_kinds.File 420 (Bytes (104 ∷ 105 ∷ []))) ∷ [];
   next = 2;
+  most = default_inodes;
 })
 link_lower = refl
 
 -- the new name takes the place of a whiteout
-link_over_whiteout : after (op.Link (e ∷ []) (d ∷ g ∷ [])) (record { entries = ([], Dir 493 false) ∷ (d ∷ [], Dir 448 false) ∷ (d ∷ g ∷ [], Whiteout) ∷ (e ∷ [], File 1) ∷ []; bodies = (1, body_kinds.File 420 (Bytes [])) ∷ []; next = 2 }) (lower ∷ []) ≡ Ok (record {
+link_over_whiteout : after (op.Link (e ∷ []) (d ∷ g ∷ [])) (record { entries = ([], Dir 493 false) ∷ (d ∷ [], Dir 448 false) ∷ (d ∷ g ∷ [], Whiteout) ∷ (e ∷ [], File 1) ∷ []; bodies = (1, body_kinds.File 420 (Bytes [])) ∷ []; next = 2; most = default_inodes }) (lower ∷ []) ≡ Ok (record {
   entries = ([], Dir 493 false) ∷ (d ∷ [], Dir 448 false) ∷ (d ∷ g ∷ [], File 1) ∷ (e ∷ [], File 1) ∷ [];
   bodies = (1, body_kinds.File 420 (Bytes [])) ∷ [];
   next = 2;
+  most = default_inodes;
 })
 link_over_whiteout = refl
 
@@ -154,6 +167,7 @@ opaque_lower : after (op.Opaque (d ∷ [])) empty (lower ∷ []) ≡ Ok (record 
   entries = ([], Dir 493 false) ∷ (d ∷ [], Dir 448 true) ∷ [];
   bodies = [];
   next = 1;
+  most = default_inodes;
 })
 opaque_lower = refl
 
@@ -168,14 +182,16 @@ whiteout_lower : after (op.Whiteout (d ∷ [])) empty (lower ∷ []) ≡ Ok (rec
   entries = ([], Dir 493 false) ∷ (d ∷ [], Whiteout) ∷ [];
   bodies = [];
   next = 1;
+  most = default_inodes;
 })
 whiteout_lower = refl
 
 -- what the upper layer has in it goes too, but for the file that has a name beside it
-whiteout_merged : after (op.Whiteout (d ∷ [])) (record { entries = ([], Dir 493 false) ∷ (d ∷ [], Dir 448 false) ∷ (d ∷ f ∷ [], File 1) ∷ (d ∷ g ∷ [], File 2) ∷ (e ∷ [], File 1) ∷ []; bodies = (1, body_kinds.File 420 (Bytes [])) ∷ (2, body_kinds.File 420 (Bytes [])) ∷ []; next = 3 }) (lower ∷ []) ≡ Ok (record {
+whiteout_merged : after (op.Whiteout (d ∷ [])) (record { entries = ([], Dir 493 false) ∷ (d ∷ [], Dir 448 false) ∷ (d ∷ f ∷ [], File 1) ∷ (d ∷ g ∷ [], File 2) ∷ (e ∷ [], File 1) ∷ []; bodies = (1, body_kinds.File 420 (Bytes [])) ∷ (2, body_kinds.File 420 (Bytes [])) ∷ []; next = 3; most = default_inodes }) (lower ∷ []) ≡ Ok (record {
   entries = ([], Dir 493 false) ∷ (d ∷ [], Whiteout) ∷ (e ∷ [], File 1) ∷ [];
   bodies = (1, body_kinds.File 420 (Bytes [])) ∷ [];
   next = 3;
+  most = default_inodes;
 })
 whiteout_merged = refl
 

@@ -209,11 +209,13 @@ erasing_next u ok p path place true usage inodes blocks = record {
   inodes = omega (arith, inodes, inode_count-with_node u p Whiteout ok);
   blocks = omega (arith, blocks, block_count-with_node u p Whiteout ok);
   number = omega arith;
+  most = refl;
   layer = λ within. (whiteout_becomes u ok p path (inode_count (without u p)) refl place).layer (omega (arith, inode_count-with_node u p Whiteout ok, few_from (with_node u p Whiteout) within));
 }
 erasing_next u ok p path place false usage inodes blocks = record {
   inodes = omega (arith, inodes);
   blocks = blocks;
   number = omega arith;
+  most = refl;
   layer = λ within. (clears_place u p ok place).layer;
 }

@@ -29,6 +29,7 @@ use Rattle.snap_copyup.specs.declared.parents.Last.{Last}
 use Rattle.snap_copyup.specs.declared.parents.Last.TheVariants.{Nothing, Dir, File, Symlink, Whiteout}
 use Rattle.snap_copyup.specs.Copying.{with_parents}
 use Rattle.snap_copyup.specs.Places.{with_last, CanStand, TakesMore}
+use Rattle.snap_copyup.proofs.Most.{most_last, most_parents}
 use Rattle.snap_copyup.proofs.ParentDirs.{AddsParents, adds_parents}
 use Rattle.snap_copyup.proofs.Growing.{grows_from}
 use Rattle.snap_copyup.proofs.Layers.{no_missing, IsLayer-put}
@@ -83,6 +84,7 @@ without_bare t p sorted bare =
     sorted
     (λ q. at-without t p q ∙ by q (begins p q) refl)
     (ap (λ o. bodies_without (option_and_then number_of o) (outside p t.entries) t.bodies) (ap (at t) (sym (append-nil p)) ∙ bare []))
+    refl
     refl
   where
     by : (q : Names) (b : Bool) → begins p q ≡ b → (if b then None else at t q) ≡ at t q
@@ -161,10 +163,10 @@ module _ (t : Tree) (p : Names) (has : HasSpace t p) where
   })
 
   abbrev named : Node → Body → Tree
-  named n b = record { entries = insert_entry path_cmp t.entries p n; bodies = insert_entry nat_cmp t.bodies t.next b; next = t.next + 1 }
+  named n b = record (with_entry t p n) { bodies = insert_entry nat_cmp t.bodies t.next b; next = t.next + 1 }
 
   is_named : (n : Node) (b : Body) → with_new t p n b ≡ named n b
-  is_named n b = ap {B = Tree} (λ (w : Tree). record { entries = w.entries; bodies = insert_entry nat_cmp w.bodies t.next b; next = t.next + 1 }) (has.same n)
+  is_named n b = ap {B = Tree} (λ (w : Tree). record w { bodies = insert_entry nat_cmp w.bodies t.next b; next = t.next + 1 }) (has.same n)
 
   adds_new : (n : Node) (b : Body) → inodes_of (Some n) ≡ 0 → dirs n ≡ 0 → number_of n ≡ Some t.next → Adds t (with_new t p n b) p (body_blocks b) true
   adds_new n b none no_dir number = subst (λ (w : Tree). Adds t w p (body_blocks b) true) (sym (is_named n b)) (record {
@@ -225,6 +227,7 @@ module _ (u : Tree) (ls : List Tree) (p : Names) (last : Last) (blocks : ℕ) (n
     inodes = omega (arith, all_inodes, inodes);
     blocks = omega (arith, is_blocks, all_blocks);
     number = next_number;
+    most = most_last last (with_parents u ls p) p ∙ most_parents u ls p;
     layer = λ within. IsLayer-put u ls p last ok layers way path fit within;
   }
 

@@ -1,4 +1,5 @@
 pub mod Outcomes
+pub mod Most
 pub mod Growth
 pub mod Making
 pub mod Writing

@@ -37,6 +37,7 @@ use Rattle.snap_copyup.proofs.Layers.{no_missing}
 use Rattle.snap_copyup.proofs.Copies.{Puts-with_new, copied_view}
 use Rattle.snap_upper.specs.declared.op.Op.TheVariants as op
 use Rattle.snap_upper.specs.After.{tests, first_error, error_if, next_layer}
+use Rattle.snap_upper.proofs.Most.{most_before_move}
 use Rattle.snap_upper.proofs.KindErrors.{link_error}
 use Rattle.snap_upper.specs.Changed.{ShowsAt}
 use Rattle.snap_upper.proofs.Outcomes.{test_passes, error_if_passes}
@@ -251,7 +252,7 @@ module _ (u : Tree) (ls : List Tree) (from to : Names) (ok : IsLayer u) (layers 
   same_inodes = omega (arith, inode_count-with_entry room to named.0 (sorted-without t to grows), ap inodes_of (at-without_inside t to to (begins_itself to)), no_inode named.0 copies.number.0 named.2)
 
   pub same_within : is_within (next_layer (op.Link from to) u ls) ≡ is_within room
-  same_within = ap is_within linked_is ∙ (λ i. nat_le (same_inodes i) 65536 && nat_le room.next 4294967295)
+  same_within = ap is_within linked_is ∙ (λ i. nat_le (same_inodes i) room.most && nat_le room.next 4294967295)
 
   -- ---- the name is put
 
@@ -275,6 +276,9 @@ module _ (u : Tree) (ls : List Tree) (from to : Names) (ok : IsLayer u) (layers 
   pub linked_number : (next_layer (op.Link from to) u ls).next ≡ (with_parents (copied_up u ls from) ls to).next
   linked_number = ap (λ (v : Tree). v.next) linked_is
 
+  pub linked_most : (next_layer (op.Link from to) u ls).most ≡ u.most
+  linked_most = ap (λ (v : Tree). v.most) linked_is ∙ most_before_move u ls from to
+
   pub linked_blocks : block_count (next_layer (op.Link from to) u ls) ≡ block_count room
   linked_blocks =
       let same : block_count (with_entry room to named.0) ≡ block_count room = omega (arith, block_count-with_entry room to named.0 (sorted-without t to grows), ap (weight dirs) (at-without_inside t to to (begins_itself to)), no_dir named.0 copies.number.0 named.2) in
@@ -284,7 +288,7 @@ module _ (u : Tree) (ls : List Tree) (from to : Names) (ok : IsLayer u) (layers 
   linked_layer okr path =
       let same = without_bare room to (sorted-without t to grows) bare in
       let put : with_node room to named.0 ≡ next_layer (op.Link from to) u ls = ap (λ (v : Tree). with_entry v to named.0) same ∙ sym linked_is in
-      let few : inode_count (with_node room to named.0) ≤ 65536 = subst (λ n. n ≤ 65536) (sym (ap inode_count put ∙ linked_inodes)) okr.few in
+      let few : inode_count (with_node room to named.0) ≤ room.most = subst (λ n. n ≤ room.most) (sym (ap inode_count put ∙ linked_inodes)) okr.few in
       subst IsLayer put (IsLayer-with_node room to named.0 okr place path (subst (λ (v : Tree). IsWhole v named.0) (sym same) (okr.nodes from named.0 node_left)) few)
 
   pub own_copy : (k : ℕ) → number_at u from ≡ Some k → copied_up u ls from ≡ u

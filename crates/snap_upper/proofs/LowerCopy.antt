@@ -15,12 +15,14 @@ use Rattle.snap_layer.proofs.Replacing.{is_within_many}
 use Rattle.snap_merge.specs.Objects.{Object, dir, file, symlink, seen, is_shown_dir}
 use Rattle.snap_merge.specs.Walk.{walk}
 use Rattle.snap_copyup.specs.Copying.{below, copied_up, object_body, with_object, with_parents}
+use Rattle.snap_copyup.proofs.Most.{most_parents}
 use Rattle.snap_copyup.proofs.Alone.{below_seen, copied_missing}
 use Rattle.snap_copyup.proofs.ParentDirs.{AddsParents, Extends, adds_parents, parents_extend, parents_stand}
 use Rattle.snap_copyup.proofs.Growing.{grows_from}
 use Rattle.snap_copyup.proofs.Steps.{many_from}
 use Rattle.snap_copyup.proofs.Wholes.{IsWholeObject}
 use Rattle.snap_copyup.proofs.Undoing.{second_way}
+use Rattle.snap_upper.proofs.Most.{most_before_move}
 use Rattle.snap_upper.proofs.Prepared.{longer_out}
 use Rattle.snap_upper.proofs.EitherOrder.{IsBare, bare_here, file_inodes, node_inodes, parents_either}
 
@@ -76,6 +78,9 @@ module _ (u : Tree) (ls : List Tree) (from to : Names) (ok : IsLayer u) (is : Is
 
   ready_next : (with_parents (with_parents u ls from) ls to).next ≡ u.next
   ready_next = above_to.next ∙ above_from.next
+
+  ready_most : (with_parents (with_parents u ls from) ls to).most ≡ u.most
+  ready_most = most_parents v ls to ∙ most_parents u ls from
 
   first_bare : IsBare (with_parents u ls from) from
   first_bare = record { sorted = (grows_from u ls [] from ok.sorted_paths is.way_from).sorted; none = by }
@@ -134,15 +139,15 @@ module _ (u : Tree) (ls : List Tree) (from to : Names) (ok : IsLayer u) (is : Is
   copy_inodes = ap inode_count copy_last ∙ file_inodes w from ready_bare u ok (above_to.bodies ∙ above_from.bodies) ready_next (leaf_node w.next lower_body.0) lower_body.0 (leaf_inodes w.next lower_body.0)
 
   -- where the directories alone pass the limits, they have too many inodes
-  pub ready_many : is_within (with_parents (with_parents u ls from) ls to) ≡ false → 65536 < inode_count (with_parents (with_parents u ls from) ls to)
-  ready_many full = many_from w (omega (arith, ready_next, ok.next.1)) full
+  pub ready_many : is_within (with_parents (with_parents u ls from) ls to) ≡ false → u.most < inode_count (with_parents (with_parents u ls from) ls to)
+  ready_many full = omega (arith, many_from w (omega (arith, ready_next, ok.next.1)) full, ready_most)
 
   -- and then so does the layer with the copy
   pub ready_full : is_within (with_parents (with_parents u ls from) ls to) ≡ false → is_within (with_parents (copied_up u ls from) ls to) ≡ false
-  ready_full full = is_within_many (with_parents (copied_up u ls from) ls to) (omega (arith, ready_many full, copy_inodes))
+  ready_full full = is_within_many (with_parents (copied_up u ls from) ls to) (omega (arith, ready_many full, copy_inodes, most_before_move u ls from to))
 
   -- as it does where a whiteout in place of the copy is too much
   pub white_full : is_within (with_node (with_parents (with_parents u ls from) ls to) from Whiteout) ≡ false → is_within (with_parents (copied_up u ls from) ls to) ≡ false
   white_full full =
       is_within_many (with_parents (copied_up u ls from) ls to)
-      (omega (arith, many_from (with_node w from Whiteout) (omega (arith, ready_next, ok.next.1)) full, node_inodes w from ready_bare Whiteout, copy_inodes))
+      (omega (arith, many_from (with_node w from Whiteout) (omega (arith, ready_next, ok.next.1)) full, node_inodes w from ready_bare Whiteout, copy_inodes, ready_most, most_before_move u ls from to))

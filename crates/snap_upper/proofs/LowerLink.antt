@@ -21,7 +21,7 @@ use Rattle.snap_copyup.proofs.ParentDirs.{parents_stand}
 use Rattle.snap_upper.specs.declared.op.Op.TheVariants as op
 use Rattle.snap_upper.specs.After.{tests, first_error, next_layer}
 use Rattle.snap_upper.proofs.Movable.{dir_above}
-use Rattle.snap_upper.proofs.Linked.{IsLinkable, IsLinkable-passed, adds_to, below_to, copies, free, grows, linked_inodes, out, unseen}
+use Rattle.snap_upper.proofs.Linked.{IsLinkable, IsLinkable-passed, adds_to, below_to, copies, free, grows, linked_inodes, linked_most, out, unseen}
 use Rattle.snap_upper.proofs.Linking.{lower_absent, name_no_dir, name_there}
 use Rattle.snap_upper.proofs.Shifted.{taken}
 use Rattle.snap_upper.proofs.Taken.{kept_from}
@@ -93,7 +93,7 @@ module _ (u : Tree) (ls : List Tree) (from to : Names) (ok : IsLayer u) (layers 
   pub link_full : is_within (with_parents (with_parents u ls from) ls to) ≡ false → is_within (next_layer (op.Link from to) u ls) ≡ false
   link_full full =
       let whole = taken t to (grows u ls from to ok layers passes) (below_to u ls from to ok layers passes) (at t to) refl (λ k e. absurd (none_some (sym no_number ∙ e))) in
-      is_within_many (next_layer (op.Link from to) u ls) (omega (arith, ready_many u ls from to ok lower_file full, copy_inodes u ls from to ok lower_file, whole, few (is_some (at t to)), linked_inodes u ls from to ok layers passes))
+      is_within_many (next_layer (op.Link from to) u ls) (omega (arith, ready_many u ls from to ok lower_file full, copy_inodes u ls from to ok lower_file, whole, few (is_some (at t to)), linked_inodes u ls from to ok layers passes, linked_most u ls from to ok layers passes))
     where
       no_number : number_at (with_parents (copied_up u ls from) ls to) to ≡ None
       no_number =

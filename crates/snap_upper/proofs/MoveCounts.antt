@@ -8,6 +8,7 @@ use Rattle.snap_layer.specs.Tree.{Tree, at}
 use Rattle.snap_layer.specs.Counts.{inode_count, block_count, is_within}
 use Rattle.snap_layer.specs.Layers.{IsLayer}
 use Rattle.snap_layer.specs.Edits.{with_moved, with_opaque, without}
+use Rattle.snap_layer.proofs.Moves.{most_moved}
 use Rattle.snap_layer.proofs.Moving.{moved_becomes}
 use Rattle.snap_layer.proofs.Setting.{dir_mode, dir_stays}
 use Rattle.snap_usage.specs.declared.usage.Usage.{Usage}
@@ -16,6 +17,7 @@ use Rattle.snap_copyup.specs.Copying.{below}
 use Rattle.snap_copyup.proofs.Alone.{free_unseen}
 use Rattle.snap_upper.specs.After.{before_move, renamed, shifted}
 use Rattle.snap_upper.specs.Adding.{IsPlaceable, IsNext}
+use Rattle.snap_upper.proofs.Most.{most_before_move, most_renamed}
 use Rattle.snap_upper.proofs.Outcomes.{few_from}
 use Rattle.snap_upper.proofs.Movable.{IsRenamable}
 use Rattle.snap_upper.proofs.Prepared.{lower_no_dir, prepared_movable}
@@ -72,7 +74,7 @@ module _ (u : Tree) (ls : List Tree) (from to : Names) (ok : IsLayer u) (layers 
   layer path_from path_to within =
       let fits = prepared_fits within in
       let ready = prepared_layer u ls from to ok layers placeable path_from path_to (few_from t fits) (last_from t fits) in
-      let few : inode_count (without (before_move u ls from to) to) + (if is_some (below u ls from) then 1 else 0) ≤ 65536 = omega (arith, counted, few_from (renamed u ls from to) within) in
+      let few : inode_count (without (before_move u ls from to) to) + (if is_some (below u ls from) then 1 else 0) ≤ (with_moved t from to leaves).most = omega (arith, counted, few_from (renamed u ls from to) within, most_renamed u ls from to, most_before_move u ls from to, most_moved t from to leaves) in
       let movable = prepared_movable u ls from to ok layers is path_to ready in
       by covers ((moved_becomes t from to leaves (inode_count (without t to)) (inode_count (without t to) + (if leaves then 1 else 0)) ready movable refl refl).layer few)
     where
@@ -85,5 +87,6 @@ module _ (u : Tree) (ls : List Tree) (from to : Names) (ok : IsLayer u) (layers 
     inodes = omega (arith, inodes, counted);
     blocks = blocks ∙ sym (shifted_blocks t from to (prepared_sorted u ls from to ok layers is) is.not_around leaves covers);
     number = shifted_next t from to (prepared_sorted u ls from to ok layers is) leaves covers ∙ number;
+    most = most_renamed u ls from to;
     layer = λ within. layer path_from path_to within;
   }

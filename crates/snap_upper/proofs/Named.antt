@@ -22,7 +22,7 @@ use Rattle.snap_upper.proofs.Movable.{dir_above}
 use Rattle.snap_upper.proofs.PreparedCounts.{prepared_layer}
 use Rattle.snap_upper.proofs.Shifted.{last_from}
 use Rattle.snap_upper.proofs.Linking.{name_there, name_no_dir}
-use Rattle.snap_upper.proofs.Linked.{IsLinkable, IsLinkable-passed, whiteout_from, free, out, takeable, room_is, room_first, way_without, same_within, linked_inodes, linked_blocks, linked_number, linked_layer}
+use Rattle.snap_upper.proofs.Linked.{IsLinkable, IsLinkable-passed, whiteout_from, free, out, takeable, room_is, room_first, way_without, same_within, linked_inodes, linked_blocks, linked_most, linked_number, linked_layer}
 
 no_bool : true ≡ false → ⊥
 no_bool e = cc
@@ -97,5 +97,6 @@ module _ (u : Tree) (ls : List Tree) (from to : Names) (ok : IsLayer u) (layers 
     inodes = ap (λ (x : Usage). x.inodes) counted ∙ sym (linked_inodes u ls from to ok layers passes);
     blocks = ap (λ (x : Usage). x.blocks) counted ∙ sym (linked_blocks u ls from to ok layers passes);
     number = linked_number u ls from to ok layers passes ∙ number;
+    most = linked_most u ls from to ok layers passes;
     layer = λ within. linked_layer u ls from to ok layers passes (room_layer path_from path_to within) path_to;
   }

@@ -45,7 +45,7 @@ limited_fits t fits = ap (λ b. if b then Ok t else Err LayerFull) fits
 pub limited_full : (t : Tree) → is_within t ≡ false → limited t ≡ Err LayerFull
 limited_full t full = ap (λ b. if b then Ok t else Err LayerFull) full
 
-pub few_from : (t : Tree) → is_within t ≡ true → inode_count t ≤ 65536
+pub few_from : (t : Tree) → is_within t ≡ true → inode_count t ≤ t.most
 few_from t within = grind (arith, nat_tests)
 
 -- a layer is within the limits
@@ -69,12 +69,12 @@ module _ (u t : Tree) (usage : Usage) (numbered : Bool) (next : IsNext u t usage
   pub no_number_left : numbered ≡ true → u.next ≡ 4294967295 → ◌≡◌ {A = Result Planned FsError} (Err LayerFull) (planned (limited t))
   no_number_left one last = planned_full t (limited t) (is_within_last t (omega (arith, next.number, ap {B = ℕ} (λ b. if b then 1 else 0) one, last))) refl
 
-  pub too_many : 65536 < usage.inodes → ◌≡◌ {A = Result Planned FsError} (Err LayerFull) (planned (limited t))
-  too_many many = planned_full t (limited t) (is_within_many t (omega (arith, next.inodes, many))) refl
+  pub too_many : u.most < usage.inodes → ◌≡◌ {A = Result Planned FsError} (Err LayerFull) (planned (limited t))
+  too_many many = planned_full t (limited t) (is_within_many t (omega (arith, next.inodes, next.most, many))) refl
 
-  pub next_planned : u.next ≤ 4294967295 → (numbered ≡ true → u.next < 4294967295) → usage.inodes ≤ 65536 → ◌≡◌ {A = Result Planned FsError} (Ok (record { after = usage })) (planned (limited t))
+  pub next_planned : u.next ≤ 4294967295 → (numbered ≡ true → u.next < 4294967295) → usage.inodes ≤ u.most → ◌≡◌ {A = Result Planned FsError} (Ok (record { after = usage })) (planned (limited t))
   next_planned low below few =
-      let within = is_within_yes t (omega (arith, next.inodes, few)) (omega (arith, next.number, by numbered below)) in
+      let within = is_within_yes t (omega (arith, next.inodes, next.most, few)) (omega (arith, next.number, by numbered below)) in
       planned_fits t usage (limited t) (next.layer within) next.blocks next.inodes refl
     where
       by : (b : Bool) → (b ≡ true → u.next < 4294967295) → u.next + (if b then 1 else 0) ≤ 4294967295

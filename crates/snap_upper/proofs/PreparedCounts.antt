@@ -21,6 +21,7 @@ use Rattle.snap_merge.proofs.Views.{walk_same}
 use Rattle.snap_copyup.specs.declared.parents.Last.{Last}
 use Rattle.snap_copyup.specs.Copying.{with_object, with_parents, copied_up}
 use Rattle.snap_copyup.specs.Places.{TakesMore, last_of, with_last}
+use Rattle.snap_copyup.proofs.Most.{most_parents}
 use Rattle.snap_copyup.proofs.Missing.{missing_from}
 use Rattle.snap_copyup.proofs.Alone.{below_seen, copied_missing}
 use Rattle.snap_copyup.proofs.Copies.{copied_view, same_object}
@@ -205,14 +206,14 @@ module _ (u : Tree) (ls : List Tree) (from to : Names) (ok : IsLayer u) (layers 
   prepared_next false none some = omega (arith, own_next (some refl))
 
   -- it is a layer where it is within the limits
-  pub prepared_layer : IsPath from → IsPath to → inode_count (before_move u ls from to) ≤ 65536 → (before_move u ls from to).next ≤ 4294967295 → IsLayer (before_move u ls from to)
+  pub prepared_layer : IsPath from → IsPath to → inode_count (before_move u ls from to) ≤ (before_move u ls from to).most → (before_move u ls from to).next ≤ 4294967295 → IsLayer (before_move u ls from to)
   prepared_layer path_from path_to few low = by (at u from) refl
     where
       by : (o : Option Node) → at u from ≡ o → IsLayer (before_move u ls from to)
       by (Some n) e =
           let same = prepared_own (ap is_some e) in
-          subst IsLayer (sym same) (IsLayer-with_parents u ls to ok layers is.way_to path_to (subst (λ (x : Tree). inode_count x ≤ 65536) same few))
+          subst IsLayer (sym same) (IsLayer-with_parents u ls to ok layers is.way_to path_to (subst (λ (x : Tree). inode_count x ≤ x.most) same few))
       by None e =
           let growing = grows e in
-          let copy_ok = IsLayer-copied_up u ls from ok layers is.way_from path_from (is_within_yes (copied_up u ls from) (omega (arith, growing.inodes, few)) (omega (arith, (adds e).next, low))) in
+          let copy_ok = IsLayer-copied_up u ls from ok layers is.way_from path_from (is_within_yes (copied_up u ls from) (omega (arith, growing.inodes, few, most_parents (copied_up u ls from) ls to)) (omega (arith, (adds e).next, low))) in
           IsLayer-with_parents (copied_up u ls from) ls to copy_ok layers (way_after e) path_to few

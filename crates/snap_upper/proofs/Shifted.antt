@@ -24,7 +24,7 @@ use Rattle.snap_layer.proofs.Paths.{path_cmp_total, path_cmp-IsAntisymmetric, be
 use Rattle.snap_layer.proofs.Looks.{split_path}
 use Rattle.snap_layer.proofs.Counting.{dropped, dirs, inodes_of, weight, block_count-with_entry, inode_count-with_entry, inode_count-without}
 use Rattle.snap_layer.proofs.Kept.{nothing_below}
-use Rattle.snap_layer.proofs.Moves.{sorted-with_moved, block_count-with_moved, inode_count-with_moved, inode_count-with_moved_whiteout}
+use Rattle.snap_layer.proofs.Moves.{most_moved, sorted-with_moved, block_count-with_moved, inode_count-with_moved, inode_count-with_moved_whiteout}
 use Rattle.snap_layer.proofs.Replacing.{is_within_yes}
 use Rattle.snap_merge.specs.declared.error.FsError.{FsError}
 use Rattle.snap_merge.specs.declared.error.FsError.TheVariants.{IsDir, OutOfMemory}
@@ -40,6 +40,7 @@ use Rattle.snap_copyup.proofs.Layers.{no_missing}
 use Rattle.snap_copyup.proofs.Wholes.{refused_later}
 use Rattle.snap_upper.specs.After.{tests, first_error, after, error_if, kind_error, is_same_name, limited, renamed, before_move, shifted}
 use Rattle.snap_upper.specs.declared.op.Op.TheVariants as op
+use Rattle.snap_upper.proofs.Most.{most_shifted}
 use Rattle.snap_upper.proofs.Outcomes.{after_passes, few_from, limited_fits, layer_fits, refused}
 use Rattle.snap_upper.proofs.Movable.{IsRenamable}
 use Rattle.snap_upper.proofs.Prepared.{IsCopy, own_copy, longer_out, added, way_after, lower_no_dir, lower_is_copy}
@@ -120,19 +121,19 @@ module _ (t : Tree) (p : Names) (sorted : IsStrictlySortedBy path_cmp (keys_of t
 -- ---- the limits
 
 pub last_from : (t : Tree) → is_within t ≡ true → t.next ≤ 4294967295
-last_from t within = by (nat_le (inode_count t) 65536) within
+last_from t within = by (nat_le (inode_count t) t.most) within
   where
     by : (b : Bool) → (b && nat_le t.next 4294967295) ≡ true → t.next ≤ 4294967295
     by true e = grind (arith, nat_tests)
     by false e = absurd (no_bool (sym e))
 
--- a layer with no fewer inodes and the same next number passes the limits too
-pub full_more : (t f : Tree) → inode_count t ≤ inode_count f → f.next ≡ t.next → is_within t ≡ false → is_within f ≡ false
-full_more t f more next full = by (is_within f) refl
+-- a layer with no fewer inodes, the same next number and the same most inodes passes the limits too
+pub full_more : (t f : Tree) → inode_count t ≤ inode_count f → f.next ≡ t.next → f.most ≡ t.most → is_within t ≡ false → is_within f ≡ false
+full_more t f more next most full = by (is_within f) refl
   where
     by : (b : Bool) → is_within f ≡ b → is_within f ≡ false
     by false e = e
-    by true e = absurd (no_bool (sym (is_within_yes t (omega (arith, more, few_from f e)) (omega (arith, next, last_from f e))) ∙ full))
+    by true e = absurd (no_bool (sym (is_within_yes t (omega (arith, more, most, few_from f e)) (omega (arith, next, last_from f e))) ∙ full))
 
 -- why a move was not made is why a layer with the same limits was not
 pub move_refused : {A : Type 0} (r : Result A FsError) (x : LayerError) (v f : Tree) → IsErrAnd r (λ e. OfLayer x e) → (x ≡ layer_errors.LayerFull → is_within v ≡ false) → (is_within v ≡ false → is_within f ≡ false) → IfErr r (λ e. IsRefusal f e)
@@ -200,7 +201,7 @@ module _ (t : Tree) (from to : Names) (sorted : IsStrictlySortedBy path_cmp (key
 
   -- so it leaves the layer within the limits or beyond them
   pub shifted_full : (leaves covers : Bool) → is_within (with_moved t from to leaves) ≡ false → is_within (shifted t from to leaves covers) ≡ false
-  shifted_full leaves covers full = full_more (with_moved t from to leaves) (shifted t from to leaves covers) (omega (arith, marked_inodes leaves covers)) (shifted_next leaves covers ∙ sym (moved_next t from to leaves)) full
+  shifted_full leaves covers full = full_more (with_moved t from to leaves) (shifted t from to leaves covers) (omega (arith, marked_inodes leaves covers)) (shifted_next leaves covers ∙ sym (moved_next t from to leaves)) (most_shifted t from to leaves covers ∙ sym (most_moved t from to leaves)) full
 
   -- what stands at `to` goes, and a whiteout is left or none
   pub shifted_inodes : begins to from ≡ false → (leaves covers : Bool) → inode_count (shifted t from to leaves covers) ≡ inode_count (without t to) + (cond leaves 1 0)
@@ -250,7 +251,7 @@ module _ (u : Tree) (ls : List Tree) (from to : Names) (ok : IsLayer u) (layers 
   passes_too : inode_count (before_move u ls from to) ≤ inode_count (without (before_move u ls from to) to) + (cond (is_some (below u ls from)) 1 0) → is_within (before_move u ls from to) ≡ false → is_within (renamed u ls from to) ≡ false
   passes_too more full =
       full_more t (renamed u ls from to) (omega (arith, more, shifted_inodes t from to grows.sorted is.not_around (is_some (below u ls from)) (is_some (below u ls to))))
-      (shifted_next t from to grows.sorted (is_some (below u ls from)) (is_some (below u ls to))) full
+      (shifted_next t from to grows.sorted (is_some (below u ls from)) (is_some (below u ls to))) (most_shifted t from to (is_some (below u ls from)) (is_some (below u ls to))) full
 
   below_to : (n : List ℕ) (r : Names) → at v (to ++ n ∷ r) ≡ None → at t (to ++ n ∷ r) ≡ None
   below_to n r none = adds.leaves (to ++ n ∷ r) (omega (arith, length-append to (n ∷ r))) ∙ none

@@ -248,7 +248,7 @@ module _ (w : Tree) (from to : Names) (ok : IsLayer w) (none : at w from ≡ Non
       moved_is : with_moved (with_new w from (leaf_node w.next b) b) from to true ≡ with_shifted w from to b
       moved_is =
           same_tree (with_moved t from to true) (with_shifted w from to b) (sorted-with_moved t from to true t_sorted)
-          (sorted-with_node y to n (sorted-with_node w from Whiteout ok.sorted_paths)) alike same_bodies refl
+          (sorted-with_node y to n (sorted-with_node w from Whiteout ok.sorted_paths)) alike same_bodies refl refl
 
       -- which is no directory, so no mark is set
       unmarked : (x : Tree) (k : ℕ) (c : Body) → with_opaque x to (Some (leaf_node k c)) true ≡ x

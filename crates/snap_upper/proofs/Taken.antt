@@ -83,7 +83,7 @@ front_out w front rest out = by (begins w front) refl
 
 -- the layer with a body under the next number
 abbrev more : Tree → Body → Tree
-more t b = record { entries = t.entries; bodies = insert_entry nat_cmp t.bodies t.next b; next = t.next + 1 }
+more t b = record t { bodies = insert_entry nat_cmp t.bodies t.next b; next = t.next + 1 }
 
 module _ (u : Tree) (ls : List Tree) (w : Names) (white : at u w ≡ Some Whiteout) where
   no_number : number_at u w ≡ None
@@ -129,6 +129,7 @@ module _ (u : Tree) (ls : List Tree) (w : Names) (white : at u w ≡ Some Whiteo
         (λ q. at-with_entry (without u w) f n q ∙ ap (cond (is_at (path_cmp q) f) (Some n)) (at-without u w q) ∙ by q ∙ sym (at-without (with_entry u f n) w q ∙ ap (cond (begins w q) None) (at-with_entry u f n q)))
         (bodies_stay ∙ sym (ap (λ o. bodies_without o (outside w (with_entry u f n).entries) u.bodies) (number_after n)))
         refl
+        refl
       where
         both : (b c : Bool) (x y : Option Node) → c ≡ false → cond c x (cond b None y) ≡ cond b None (cond c x y)
         both true true x y e = absurd (cc)
@@ -166,8 +167,8 @@ module _ (u : Tree) (ls : List Tree) (w : Names) (white : at u w ≡ Some Whiteo
           turned : more (without (with_entry u f n) w) b ≡ without (more (with_entry u f n) b) w
           turned =
               let v = with_entry u f n in
-              ap {B = Tree} (λ o. record { entries = outside w v.entries; bodies = insert_entry nat_cmp (bodies_without o (outside w v.entries) v.bodies) v.next b; next = v.next + 1 }) (number_after n)
-              ∙ sym (ap {B = Tree} (λ o. record { entries = outside w v.entries; bodies = bodies_without o (outside w v.entries) (insert_entry nat_cmp v.bodies v.next b); next = v.next + 1 }) (number_after n))
+              ap {B = Tree} (λ o. record v { entries = outside w v.entries; bodies = insert_entry nat_cmp (bodies_without o (outside w v.entries) v.bodies) v.next b; next = v.next + 1 }) (number_after n)
+              ∙ sym (ap {B = Tree} (λ o. record v { entries = outside w v.entries; bodies = bodies_without o (outside w v.entries) (insert_entry nat_cmp v.bodies v.next b); next = v.next + 1 }) (number_after n))
 
       object_out : (o : Option Object) → with_object (without u w) f o ≡ without (with_object u f o) w
       object_out None = refl

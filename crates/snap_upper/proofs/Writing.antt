@@ -14,7 +14,7 @@ use Rattle.snap_layer.specs.declared.node.Node.TheVariants.{Dir, File, Symlink, 
 use Rattle.snap_layer.specs.declared.node.Body.{Body}
 use Rattle.snap_layer.specs.declared.node.Body.TheVariants as body_kinds
 use Rattle.snap_layer.specs.Tree.{Tree, Entries, Bodies, path_cmp, at, body, number_at, number_of}
-use Rattle.snap_layer.specs.Counts.{inode_count, block_count, blocks_of, body_blocks}
+use Rattle.snap_layer.specs.Counts.{inode_count, block_count, blocks_of, body_blocks, most_inodes}
 use Rattle.snap_layer.specs.Layers.{IsLayer, IsFile, IsSymlink}
 use Rattle.snap_layer.specs.Edits.{with_entry, with_node, with_new, with_body, with_filled}
 use Rattle.snap_layer.proofs.Bounds.{blocks_of_bodies}
@@ -93,10 +93,10 @@ insert_twice {K = K} {X = X} R o (e ∷ es) k v w = by (insert_twice R o es k v 
 -- an object put with its old body and then given a new one is the object put with the new body
 pub new_with_body : (t : Tree) (p : Names) (n : Node) (old new : Body) → with_body (with_new t p n old) t.next new ≡ with_new t p n new
 new_with_body t p n old new =
-    ap {B = Tree} (λ (bs : Bodies). record { entries = (with_new t p n old).entries; bodies = bs; next = t.next + 1 }) (insert_twice nat_cmp nat_cmp_total (with_node t p n).bodies t.next old new)
+    ap {B = Tree} (λ (bs : Bodies). record (with_new t p n old) { bodies = bs }) (insert_twice nat_cmp nat_cmp_total (with_node t p n).bodies t.next old new)
 
 pub entry_with_entry : (t : Tree) (p : Names) (old new : Node) → with_entry (with_entry t p old) p new ≡ with_entry t p new
-entry_with_entry t p old new = ap {B = Tree} (λ (es : Entries). record { entries = es; bodies = t.bodies; next = t.next }) (insert_twice path_cmp path_cmp_total t.entries p old new)
+entry_with_entry t p old new = ap {B = Tree} (λ (es : Entries). record t { entries = es }) (insert_twice path_cmp path_cmp_total t.entries p old new)
 
 -- ---- the file at a path
 
@@ -207,5 +207,5 @@ rewrites t k m old new ok is short =
     }
 
 -- a layer's blocks are few
-pub few_blocks : (t : Tree) → IsLayer t → block_count t ≤ 65536 + 65536 * 268435456
-few_blocks t ok = omega (arith, ok.few, blocks_of_bodies t ok)
+pub few_blocks : (t : Tree) → IsLayer t → block_count t ≤ most_inodes + most_inodes * 268435456
+few_blocks t ok = omega (arith, ok.few, ok.most.1, blocks_of_bodies t ok)

@@ -49,11 +49,12 @@ pub record IsPlaceable (u : Tree) (ls : List Tree) (from to : Names) : Type 0 wh
   pub not_around : begins to from ≡ false
   pub clear : (n : List ℕ) → IsFree (at u (to ++ n ∷ []))
 
--- the next layer t of u takes so much, with one file number more or none, and it is a layer where it is within the limits
+-- the next layer t of u takes so much, with one file number more or none and the same most inodes, and it is a layer where it is within the limits
 pub record IsNext (u t : Tree) (usage : Usage) (numbered : Bool) : Type 0 where
   pub inodes : usage.inodes ≡ inode_count t
   pub blocks : usage.blocks ≡ block_count t
   pub number : t.next ≡ u.next + (if numbered then 1 else 0)
+  pub most : t.most ≡ u.most
   pub layer : is_within t ≡ true → IsLayer t
 
 -- the layer with a whiteout at `from`, and with a new file or symlink in place of what stands at `to`

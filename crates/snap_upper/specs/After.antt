@@ -169,7 +169,7 @@ next_layer (Whiteout path) u lowers = tree_erased u lowers path
 abbrev pub Outcome : Type 0
 Outcome = Result Tree FsError
 
--- the layer, where it has at most 65,536 inodes and its file numbers aren't used up
+-- the layer, where it has no more inodes than it may and its file numbers aren't used up
 abbrev pub limited : Tree → Outcome
 limited t = if is_within t then Ok t else Err LayerFull
 

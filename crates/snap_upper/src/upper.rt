@@ -51,7 +51,7 @@ use snap_usage::Usage;
 /// - `Invalid`: the mode is above octal 7777, or the target is empty or has a NUL; `TooBig`: the file
 ///   would have more than 1,048,576 bytes, or more than 2^40 where they aren't kept, or the target has more
 ///   than 4095, or a digest more than 1024.
-/// - `LayerFull`: the layer would have more than 65,536 inodes, or a new file's number would pass
+/// - `LayerFull`: the layer would have more inodes than it may, or a new file's number would pass
 ///   4,294,967,294.
 /// - `OutOfMemory`: a growth was refused, which may be found before `LayerFull` is.
 ///

@@ -2,7 +2,7 @@
 ghost use Rattle.std.specs.Prelude.{◌≡◌, [], ◌∷◌, ◌++◌, ◌+◌, ◌≤◌, ℕ, List, None, Some, Ok, is_some, true, false};
 ghost use Rattle.std.specs.Option.{option_map};
 ghost use Rattle.snap_layer.specs.Tree.{Tree, at, body, IsDirAt};
-ghost use Rattle.snap_layer.specs.Counts.{block_count, inode_count};
+ghost use Rattle.snap_layer.specs.Counts.{block_count, inode_count, most_inodes};
 ghost use Rattle.snap_layer.specs.Edits.{IsFree, IsInnerDir, HasMode, with_mode, with_opaque, without};
 ghost use Rattle.snap_layer.specs.declared.node.Body.TheVariants as body_kinds;
 ghost use Rattle.snap_layer.specs.Contents.{edited, size_of, IsContent, IsShort};
@@ -24,7 +24,6 @@ use snap_copyup::{missing_dirs, missing_dirs_of_both};
 use snap_layer::{Edit, Layer, Node, Shared};
 use snap_merge::{FsError, Seen, Stack};
 use snap_path::Path;
-use snap_path::limits::MAX_INODES;
 use snap_usage::{Usage, blocks_of, count};
 
 /// What a plan of an operation answers.
@@ -141,7 +140,7 @@ fn count_placed(layer: &Layer, lowers: &[Shared], from: &Path, to: &Path) -> Usa
     requires layers { AreLayers lowers.now }
     requires placeable { IsPlaceable layer.now lowers.now from.now to.now }
     ensures count { result ≡ record { blocks = block_count (without (before_move layer.now lowers.now from.now to.now) to.now); inodes = inode_count (without (before_move layer.now lowers.now from.now to.now) to.now) } }
-    ensures few { result.inodes ≤ 100000 }
+    ensures few { result.inodes ≤ most_inodes + 10000 }
 {
     let _ = from.names();
     let _ = to.names();
@@ -223,7 +222,7 @@ fn plan_move(
 fn count_without(layer: &Layer, path: &Path) -> Usage
     requires { (n : List ℕ) → IsFree (at layer.now (path.now ++ n ∷ [])) }
     ensures count { result ≡ record { blocks = block_count (without layer.now path.now); inodes = inode_count (without layer.now path.now) } }
-    ensures few { result.inodes ≤ 65536 }
+    ensures few { result.inodes ≤ most_inodes }
     ensures fewer { result.blocks ≤ block_count layer.now }
 {
     Usage {
@@ -295,7 +294,8 @@ fn fitting(layer: &Layer, after: Usage, numbered: bool) -> Result<Planned, FsErr
     if numbered && number == u32::MAX {
         return Err(FsError::LayerFull);
     }
-    if after.inodes > MAX_INODES as u64 {
+    let most = layer.most_inodes() as u64;
+    if after.inodes > most {
         return Err(FsError::LayerFull);
     }
     Ok(Planned { after })

@@ -97,3 +97,24 @@ fn file_numbers_end(rt: HostRuntime) {
     let refused = layer.add_file(&path, 420, Content::empty(rt.alloc()));
     prove!(matches!(&refused, Err(LayerError::LayerFull)));
 }
+
+#[test]
+fn inodes_end(rt: HostRuntime) {
+    let few = Layer::within(rt.alloc(), DEFAULT_MODE, 3);
+    let mut layer = few.expect(&rt, "memory for a layer");
+    let most = layer.most_inodes();
+    prove!(most == 3);
+    let (file, link) = (path(&rt, rt.alloc(), "/f"), path(&rt, rt.alloc(), "/g"));
+    let content = Content::empty(rt.alloc());
+    assert!(rt; layer.has_rooms(&file, &link));
+    let added = layer.add_linked(&file, &link, Body::File { mode: 420, content });
+    added.expect(&rt, "memory for a file");
+    let whiteout = path(&rt, rt.alloc(), "/h");
+    assert!(rt; layer.has_place(&whiteout));
+    let added = layer.add_whiteout(&whiteout);
+    added.expect(&rt, "memory for a whiteout");
+    let path = path(&rt, rt.alloc(), "/i");
+    assert!(rt; layer.has_place(&path));
+    let refused = layer.add_whiteout(&path);
+    prove!(matches!(&refused, Err(LayerError::LayerFull)));
+}

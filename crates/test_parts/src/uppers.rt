@@ -1,5 +1,7 @@
 // Operations on an upper layer: what they take, and what no view shows.
 ghost use Rattle.std.specs.Prelude.{◌≡◌, ◌∷◌, [], false};
+ghost use Rattle.snap_path.specs.Text.{path_names};
+ghost use Rattle.snap_layer.specs.Edits.{with_entry};
 ghost use Rattle.snap_upper.specs.After.{after, lists_names, planned};
 
 use crate::setup::{equal, holds, layer, path, usage};
@@ -68,6 +70,27 @@ fn no_number_is_left(rt: HostRuntime) {
     let layer = last.expect(&rt, "memory for a layer");
     let (path, mode) = (path(&rt, rt.alloc(), "/f"), 420);
     let answer = plan_alone(&layer, Op::Create { path, mode });
+    prove!(answer == Err(FsError::LayerFull));
+}
+
+// Adds a directory to the layer.
+fn add_dir<R: Abort>(rt: &R, layer: &mut Layer, text: &str)
+    ensures { layer.new ≡ with_entry layer.old (path_names text.now) (Node.Dir 493 false) }
+{
+    let path = path(rt, layer.alloc(), text);
+    holds(rt, layer.has_room(&path));
+    let added = layer.add_dir(&path, DEFAULT_MODE, false);
+    added.expect(rt, "memory for a directory");
+}
+
+#[test]
+fn a_layer_of_three_inodes_is_full(rt: HostRuntime) {
+    let made = Layer::within(rt.alloc(), DEFAULT_MODE, 3);
+    let mut layer = made.expect(&rt, "memory for a layer");
+    add_dir(&rt, &mut layer, "/a");
+    add_dir(&rt, &mut layer, "/b");
+    let path = path(&rt, rt.alloc(), "/c");
+    let answer = plan_alone(&layer, Op::Create { path, mode: 420 });
     prove!(answer == Err(FsError::LayerFull));
 }
 

@@ -4,7 +4,7 @@ use super::on_layer::{is_short, is_target};
 use super::plain::Plain;
 use snap_layer::{Body, Bytes, Content, LayerError, Node};
 use snap_path::Path;
-use snap_path::limits::{MAX_INODES, MAX_MODE};
+use snap_path::limits::MAX_MODE;
 use std::alloc::{AllocError, Global};
 use std::collections::BTreeMap;
 
@@ -150,9 +150,9 @@ impl Plain {
         Ok(())
     }
 
-    /// `LayerFull` where what stands at the path is taken, an inode is added, and there are too many.
+    /// `LayerFull` where what stands at the path is taken, an inode is added, and the layer may not have so many.
     fn check_inodes(&self, path: &Path, adds: bool) -> Result<(), LayerError> {
-        if self.inodes_without(path).saturating_add(usize::from(adds)) > MAX_INODES {
+        if self.inodes_without(path).saturating_add(usize::from(adds)) > self.most {
             return Err(LayerError::LayerFull);
         }
         Ok(())

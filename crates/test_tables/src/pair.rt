@@ -6,6 +6,7 @@ use super::plain::Plain;
 use rand_pcg::Pcg32;
 use snap_layer::{Layer, LayerError};
 use snap_path::Path;
+use snap_path::limits::DEFAULT_LAYER_INODES;
 use std::alloc::{AllocError, Global};
 
 /// Why the comparison ends.
@@ -41,18 +42,23 @@ fn check(is_same: bool, what: &'static str) -> Result<(), Fault> {
 }
 
 impl Pair {
-    /// Empty layers. Those of every fourth pair have few numbers for files left.
+    /// Empty layers. Those of every fourth pair have few numbers for files left, and others may have few inodes.
     pub(crate) fn new(alloc: Global, random: &mut Pcg32) -> Result<Pair, AllocError> {
         let mode = below(random, 4096);
         let few = below(random, 100);
-        let first = if below(random, 4) == 0 {
-            u32::MAX - few
+        let (first, most) = match below(random, 4) {
+            0 => (u32::MAX - few, DEFAULT_LAYER_INODES),
+            1 => (1, 1 + few as usize),
+            _ => (1 + few, DEFAULT_LAYER_INODES),
+        };
+        let layer = if most == DEFAULT_LAYER_INODES {
+            Layer::empty_from(alloc, mode, first)?
         } else {
-            1 + few
+            Layer::within(alloc, mode, most)?
         };
         Ok(Pair {
-            layer: Layer::empty_from(alloc, mode, first)?,
-            plain: Plain::empty_from(alloc, mode, first)?,
+            layer,
+            plain: Plain::empty_from(alloc, mode, first, most)?,
             first,
         })
     }

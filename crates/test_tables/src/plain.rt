@@ -13,6 +13,8 @@ pub(crate) struct Plain {
     pub(crate) entries: BTreeMap<Path, Node>,
     pub(crate) bodies: BTreeMap<u32, Body>,
     pub(crate) next: u32,
+    /// The most inodes that it may have.
+    pub(crate) most: usize,
 }
 
 /// What stands at a path, and what may be done there: a call of the layer each.
@@ -27,8 +29,14 @@ pub(crate) struct Standing {
 }
 
 impl Plain {
-    /// The layer of an empty root directory, with the number of its first file.
-    pub(crate) fn empty_from(alloc: Global, mode: u32, first: u32) -> Result<Plain, AllocError> {
+    /// The layer of an empty root directory, with the number of its first file and the most inodes that it may
+    /// have.
+    pub(crate) fn empty_from(
+        alloc: Global,
+        mode: u32,
+        first: u32,
+        most: usize,
+    ) -> Result<Plain, AllocError> {
         let mut entries = BTreeMap::new(alloc);
         let root = Node::Dir {
             mode,
@@ -40,6 +48,7 @@ impl Plain {
             entries,
             bodies: BTreeMap::new(alloc),
             next: first,
+            most,
         })
     }
 
@@ -50,12 +59,15 @@ impl Plain {
             entries: self.entries.clone()?,
             bodies: self.bodies.clone()?,
             next: self.next,
+            most: self.most,
         })
     }
 
-    /// Whether the entries, the bodies and the next numbers are the same.
+    /// Whether the entries, the bodies, the next numbers and the most inodes are the same.
     pub(crate) fn is_same(&self, other: &Plain) -> bool {
-        self.entries == other.entries && self.bodies == other.bodies && self.next == other.next
+        self.entries == other.entries
+            && self.bodies == other.bodies
+            && (self.next, self.most) == (other.next, other.most)
     }
 
     /// What stands at the path of the first so many names of a path.

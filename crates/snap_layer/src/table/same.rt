@@ -118,7 +118,14 @@ impl Table {
         has_same_bodies(&self.slots, &self.places, &other.slots, &other.places)
     }
 
-    /// Whether the entries, the bodies and the next numbers are the same.
+    /// Whether the next numbers are the same.
+    fn has_next_of(&self, other: &Table) -> bool
+        ensures { IsTrue result ↔ (self.now.next ≡ other.now.next) }
+    {
+        self.next_number() == other.next_number()
+    }
+
+    /// Whether the entries, the bodies, the next numbers and the most inodes are the same.
     ///
     /// Takes no memory. Cost: the number of paths, times the logarithm of a directory's entries, and the bytes of
     /// the files.
@@ -131,6 +138,9 @@ impl Table {
         if !self.has_bodies_of(other) {
             return false;
         }
-        self.next_number() == other.next_number()
+        if !self.has_next_of(other) {
+            return false;
+        }
+        self.most_inodes() == other.most_inodes()
     }
 }

@@ -15,7 +15,7 @@ pub overflow_add-usage-in-Some-2 : goal.overflow_add-usage-in-Some-2
 overflow_add-usage-in-Some-2 c =
     let ok = subst IsLayer c.layer.view_is c.layer.invariant.1 in
     let more = Left-more c.args.layer.now ok c.loop-number.usage _ _ c.loop-number.invariant (sym c.next_body.ensures ∙ c.in-Some.is) in
-    omega (arith, more.0.blocks, blocks_of_bodies c.args.layer.now ok, ok.few, c.blocks_at.ensures)
+    omega (arith, more.0.blocks, blocks_of_bodies c.args.layer.now ok, ok.few, ok.most.1, c.blocks_at.ensures)
 
 pub loop-number-smaller : goal.loop-number-smaller
 loop-number-smaller c =

@@ -10,7 +10,7 @@ use Rattle.snap_layer.specs.Contents.{body_content, body_edited, Grows, IsShort}
 use Rattle.snap_layer.specs.Walk.{view_of}
 use Rattle.snap_layer.specs.Holds.{place}
 use Rattle.snap_layer.proofs.Slots.{on_ok, on_err}
-use Rattle.snap_layer.proofs.Makes.{opens, makes_holds, makes_view, makes_kept, either}
+use Rattle.snap_layer.proofs.Makes.{opens, makes_holds, makes_view, makes_kept, either, most_same}
 use Rattle.snap_layer.proofs.Putting.{makes_same}
 use Rattle.snap_layer.proofs.Changing.{body_set_made, place_there, body_found}
 use Rattle.snap_layer.proofs.Setting.{file_body}
@@ -57,7 +57,7 @@ invariant_of-self c =
     let b : Body = node_body.File had.0 had.1 in
     let edits = file_edited c.args.self.now layer c.args.number b c.args.edit had.2 (subst IsFile had.2 c.requires.file) (subst (λ o. IsShort c.args.edit (body_content o)) had.2 c.requires.short) in
     let ok = c.edit_body.ensures.ok b (body_found (view_of c.self.inside.slots) c.self.inside.root c.self.inside.places.entries c.self.inside.next c.args.self.now m c.args.number c.in-Some.key found ∙ had.2) in
-    either c.edit_body.result ok c.edit_body.ensures.err (λ done. makes_kept c.edit_body.new.slots c.self.inside.root c.self.inside.places.entries c.self.inside.next (with_body c.args.self.now c.args.number (body_edited b c.args.edit)) (body_set_made (view_of c.self.inside.slots) (view_of c.edit_body.new.slots) c.self.inside.root c.self.inside.places.entries c.self.inside.next c.args.self.now m c.args.number c.in-Some.key (body_edited b c.args.edit) found (ap is_some had.2) edits.kind done) edits.layer (node_contracts.the_row).coded c.self-1.given.0) (λ alike. makes_kept c.edit_body.new.slots c.self.inside.root c.self.inside.places.entries c.self.inside.next c.args.self.now (makes_same (view_of c.self.inside.slots) (view_of c.edit_body.new.slots) c.self.inside.root alike c.self.inside.places.entries c.self.inside.places.entries c.self.inside.next c.args.self.now refl m) layer (node_contracts.the_row).coded c.self-1.given.0)
+    either c.edit_body.result ok c.edit_body.ensures.err (λ done. makes_kept c.edit_body.new.slots c.self.inside.root c.self.inside.places.entries c.self.inside.next (with_body c.args.self.now c.args.number (body_edited b c.args.edit)) (body_set_made (view_of c.self.inside.slots) (view_of c.edit_body.new.slots) c.self.inside.root c.self.inside.places.entries c.self.inside.next c.args.self.now m c.args.number c.in-Some.key (body_edited b c.args.edit) found (ap is_some had.2) edits.kind done) edits.layer (most_same c.self.view_is) (node_contracts.the_row).coded c.self-1.given.0) (λ alike. makes_kept c.edit_body.new.slots c.self.inside.root c.self.inside.places.entries c.self.inside.next c.args.self.now (makes_same (view_of c.self.inside.slots) (view_of c.edit_body.new.slots) c.self.inside.root alike c.self.inside.places.entries c.self.inside.places.entries c.self.inside.next c.args.self.now refl m) layer (most_same c.self.view_is) (node_contracts.the_row).coded c.self-1.given.0)
 
 pub returns-clause-ok : goal.returns-clause-ok
 returns-clause-ok c =
@@ -68,7 +68,7 @@ returns-clause-ok c =
     let b : Body = node_body.File had.0 had.1 in
     let edits = file_edited c.args.self.now layer c.args.number b c.args.edit had.2 (subst IsFile had.2 c.requires.file) (subst (λ o. IsShort c.args.edit (body_content o)) had.2 c.requires.short) in
     let ok = c.edit_body.ensures.ok b (body_found (view_of c.self.inside.slots) c.self.inside.root c.self.inside.places.entries c.self.inside.next c.args.self.now m c.args.number c.in-Some.key found ∙ had.2) in
-    λ x is. on_ok c.edit_body.result (λ done. makes_view c.edit_body.new.slots c.self.inside.root c.self.inside.places.entries c.self.inside.next (with_body c.args.self.now c.args.number (body_edited b c.args.edit)) (body_set_made (view_of c.self.inside.slots) (view_of c.edit_body.new.slots) c.self.inside.root c.self.inside.places.entries c.self.inside.next c.args.self.now m c.args.number c.in-Some.key (body_edited b c.args.edit) found (ap is_some had.2) edits.kind done) edits.layer (node_contracts.the_row).coded c.self-1.given.0 ∙ ap (λ y. with_body c.args.self.now c.args.number (body_edited y c.args.edit)) (same_body b x (sym had.2 ∙ is))) ok
+    λ x is. on_ok c.edit_body.result (λ done. makes_view c.edit_body.new.slots c.self.inside.root c.self.inside.places.entries c.self.inside.next (with_body c.args.self.now c.args.number (body_edited b c.args.edit)) (body_set_made (view_of c.self.inside.slots) (view_of c.edit_body.new.slots) c.self.inside.root c.self.inside.places.entries c.self.inside.next c.args.self.now m c.args.number c.in-Some.key (body_edited b c.args.edit) found (ap is_some had.2) edits.kind done) edits.layer (most_same c.self.view_is) (node_contracts.the_row).coded c.self-1.given.0 ∙ ap (λ y. with_body c.args.self.now c.args.number (body_edited y c.args.edit)) (same_body b x (sym had.2 ∙ is))) ok
 
 pub returns-clause-blocks : goal.returns-clause-blocks
 returns-clause-blocks c =
@@ -80,7 +80,7 @@ pub returns-clause-err : goal.returns-clause-err
 returns-clause-err c =
     let m = opens c.self.inside.slots c.self.inside.root c.self.inside.places.entries c.self.inside.next c.args.self.now c.self.inside.tree c.self.invariant c.self.view_is in
     let layer : IsLayer c.args.self.now = subst IsLayer c.self.view_is c.self.invariant.layer in
-    on_err c.edit_body.result (λ alike. makes_view c.edit_body.new.slots c.self.inside.root c.self.inside.places.entries c.self.inside.next c.args.self.now (makes_same (view_of c.self.inside.slots) (view_of c.edit_body.new.slots) c.self.inside.root alike c.self.inside.places.entries c.self.inside.places.entries c.self.inside.next c.args.self.now refl m) layer (node_contracts.the_row).coded c.self-1.given.0) c.edit_body.ensures.err
+    on_err c.edit_body.result (λ alike. makes_view c.edit_body.new.slots c.self.inside.root c.self.inside.places.entries c.self.inside.next c.args.self.now (makes_same (view_of c.self.inside.slots) (view_of c.edit_body.new.slots) c.self.inside.root alike c.self.inside.places.entries c.self.inside.places.entries c.self.inside.next c.args.self.now refl m) layer (most_same c.self.view_is) (node_contracts.the_row).coded c.self-1.given.0) c.edit_body.ensures.err
 
 pub returns-clause-grows : goal.returns-clause-grows
 returns-clause-grows c =

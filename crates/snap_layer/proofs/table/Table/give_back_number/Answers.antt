@@ -3,7 +3,7 @@ use Rattle.snap_layer.specs.contracts.node.Node as node_contracts
 use Rattle.snap_layer.specs.Layers.{IsLayer}
 use Rattle.snap_layer.specs.Undoing.{with_next}
 use Rattle.snap_layer.specs.Walk.{view_of}
-use Rattle.snap_layer.proofs.Makes.{opens, makes_view, makes_kept}
+use Rattle.snap_layer.proofs.Makes.{opens, makes_view, makes_kept, most_same}
 use Rattle.snap_layer.proofs.Numbers.{IsLayer-with_next, made_with_next}
 use Rattle.snap_layer.proofs.table.Table.give_back_number.Goals as goal
 
@@ -12,11 +12,11 @@ invariant_of-self c =
     let u = c.args.self.now in
     let m = opens c.self.inside.slots c.self.inside.root c.self.inside.places.entries c.self.inside.next u c.self.inside.tree c.self.invariant c.self.view_is in
     let layer : IsLayer u = subst IsLayer c.self.view_is c.self.invariant.layer in
-    makes_kept c.self.inside.slots c.self.inside.root c.self.inside.places.entries (c.self.inside.next - 1) (with_next u (u.next - 1)) (made_with_next (view_of c.self.inside.slots) c.self.inside.root c.self.inside.places.entries c.self.inside.next u m) (IsLayer-with_next u layer c.requires.given c.requires.gone) (node_contracts.the_row).coded c.self-1.given.0
+    makes_kept c.self.inside.slots c.self.inside.root c.self.inside.places.entries (c.self.inside.next - 1) (with_next u (u.next - 1)) (made_with_next (view_of c.self.inside.slots) c.self.inside.root c.self.inside.places.entries c.self.inside.next u m) (IsLayer-with_next u layer c.requires.given c.requires.gone) (most_same c.self.view_is) (node_contracts.the_row).coded c.self-1.given.0
 
 pub returns : goal.returns
 returns c =
     let u = c.args.self.now in
     let m = opens c.self.inside.slots c.self.inside.root c.self.inside.places.entries c.self.inside.next u c.self.inside.tree c.self.invariant c.self.view_is in
     let layer : IsLayer u = subst IsLayer c.self.view_is c.self.invariant.layer in
-    makes_view c.self.inside.slots c.self.inside.root c.self.inside.places.entries (c.self.inside.next - 1) (with_next u (u.next - 1)) (made_with_next (view_of c.self.inside.slots) c.self.inside.root c.self.inside.places.entries c.self.inside.next u m) (IsLayer-with_next u layer c.requires.given c.requires.gone) (node_contracts.the_row).coded c.self-1.given.0
+    makes_view c.self.inside.slots c.self.inside.root c.self.inside.places.entries (c.self.inside.next - 1) (with_next u (u.next - 1)) (made_with_next (view_of c.self.inside.slots) c.self.inside.root c.self.inside.places.entries c.self.inside.next u m) (IsLayer-with_next u layer c.requires.given c.requires.gone) (most_same c.self.view_is) (node_contracts.the_row).coded c.self-1.given.0

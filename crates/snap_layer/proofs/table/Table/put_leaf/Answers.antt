@@ -6,7 +6,7 @@ use Rattle.snap_layer.specs.Edits.{with_new}
 use Rattle.snap_layer.specs.Walk.{view_of}
 use Rattle.snap_layer.specs.Holds.{place}
 use Rattle.snap_layer.proofs.Slots.{plain}
-use Rattle.snap_layer.proofs.Makes.{opens, makes_holds, makes_view, makes_kept, either, parent_stands}
+use Rattle.snap_layer.proofs.Makes.{opens, makes_holds, makes_view, makes_kept, either, parent_stands, most_same}
 use Rattle.snap_layer.proofs.Putting.{Spot, makes_same}
 use Rattle.snap_layer.proofs.Files.{fresh_place}
 use Rattle.snap_layer.proofs.Slots.{on_err_by}
@@ -59,13 +59,13 @@ pub invariant_of-self : goal.invariant_of-self
 invariant_of-self c =
     let m = opens c.self.inside.slots c.self.inside.root c.self.inside.places.entries c.self.inside.next c.args.self.now c.self.inside.tree c.self.invariant c.self.view_is in
     let layer : IsLayer c.args.self.now = subst IsLayer c.self.view_is c.self.invariant.layer in
-    makes_kept c.put_leaf.new.slots c.self.inside.root c.put_leaf.new.places.entries c.self.inside.next c.args.self.now (makes_same (view_of c.self.inside.slots) (view_of c.put_leaf.new.slots) c.self.inside.root c.in_err-put_leaf.ensures.err.0 c.self.inside.places.entries c.put_leaf.new.places.entries c.self.inside.next c.args.self.now c.in_err-put_leaf.ensures.err.1 m) layer (node_contracts.the_row).coded c.in_err-put_leaf.self-1-own.given.0
+    makes_kept c.put_leaf.new.slots c.self.inside.root c.put_leaf.new.places.entries c.self.inside.next c.args.self.now (makes_same (view_of c.self.inside.slots) (view_of c.put_leaf.new.slots) c.self.inside.root c.in_err-put_leaf.ensures.err.0 c.self.inside.places.entries c.put_leaf.new.places.entries c.self.inside.next c.args.self.now c.in_err-put_leaf.ensures.err.1 m) layer (most_same c.self.view_is) (node_contracts.the_row).coded c.in_err-put_leaf.self-1-own.given.0
 
 pub returns-in_err-put_leaf-clause-err : goal.returns-in_err-put_leaf-clause-err
 returns-in_err-put_leaf-clause-err c =
     let m = opens c.self.inside.slots c.self.inside.root c.self.inside.places.entries c.self.inside.next c.args.self.now c.self.inside.tree c.self.invariant c.self.view_is in
     let layer : IsLayer c.args.self.now = subst IsLayer c.self.view_is c.self.invariant.layer in
-    on_err_by c.from_residual.result (makes_view c.put_leaf.new.slots c.self.inside.root c.put_leaf.new.places.entries c.self.inside.next c.args.self.now (makes_same (view_of c.self.inside.slots) (view_of c.put_leaf.new.slots) c.self.inside.root c.in_err-put_leaf.ensures.err.0 c.self.inside.places.entries c.put_leaf.new.places.entries c.self.inside.next c.args.self.now c.in_err-put_leaf.ensures.err.1 m) layer (node_contracts.the_row).coded c.in_err-put_leaf.self-1-own.given.0)
+    on_err_by c.from_residual.result (makes_view c.put_leaf.new.slots c.self.inside.root c.put_leaf.new.places.entries c.self.inside.next c.args.self.now (makes_same (view_of c.self.inside.slots) (view_of c.put_leaf.new.slots) c.self.inside.root c.in_err-put_leaf.ensures.err.0 c.self.inside.places.entries c.put_leaf.new.places.entries c.self.inside.next c.args.self.now c.in_err-put_leaf.ensures.err.1 m) layer (most_same c.self.view_is) (node_contracts.the_row).coded c.in_err-put_leaf.self-1-own.given.0)
 
 pub invariant_of-self-inside-2 : goal.invariant_of-self-inside-2
 invariant_of-self-inside-2 c =
@@ -81,7 +81,7 @@ invariant_of-self-2 c =
     let m = opens c.self.inside.slots c.self.inside.root c.self.inside.places.entries c.self.inside.next c.args.self.now c.self.inside.tree c.self.invariant c.self.view_is in
     let layer : IsLayer c.args.self.now = subst IsLayer c.self.view_is c.self.invariant.layer in
     let spot : Spot (view_of c.self.inside.slots) c.self.inside.root c.self.inside.places.entries c.self.inside.next c.args.self.now c.args.path.now c.parent_at-dir.ensures.leads.0 c.parent_at-dir.result.1.now c.parent_at-dir.result.0 = record { makes = m; layer = layer; splits = path_splits; leads = c.parent_at-dir.ensures.leads.2; dir = c.parent_at-dir.ensures.dir } in
-    makes_kept c.put_leaf.new.slots c.self.inside.root c.put_leaf.new.places.entries (c.self.inside.next + 1) (with_new c.args.self.now c.args.path.now (leaf_node c.args.self.now.next c.args.body) c.args.body) (entered_made (view_of c.self.inside.slots) (view_of c.put_leaf.new.slots) c.self.inside.root c.self.inside.places.entries c.put_leaf.new.places.entries c.self.inside.next c.args.self.now c.args.path.now c.parent_at-dir.ensures.leads.0 c.parent_at-dir.result.1.now c.parent_at-dir.result.0 spot c.requires.place c.parent_at-dir.ensures.path (plain c.self.inside.slots) c.args.body c.requires.layer c.in_ok-put_leaf.ensures.ok) (c.requires.layer) (node_contracts.the_row).coded c.self-2-1.given.0
+    makes_kept c.put_leaf.new.slots c.self.inside.root c.put_leaf.new.places.entries (c.self.inside.next + 1) (with_new c.args.self.now c.args.path.now (leaf_node c.args.self.now.next c.args.body) c.args.body) (entered_made (view_of c.self.inside.slots) (view_of c.put_leaf.new.slots) c.self.inside.root c.self.inside.places.entries c.put_leaf.new.places.entries c.self.inside.next c.args.self.now c.args.path.now c.parent_at-dir.ensures.leads.0 c.parent_at-dir.result.1.now c.parent_at-dir.result.0 spot c.requires.place c.parent_at-dir.ensures.path (plain c.self.inside.slots) c.args.body c.requires.layer c.in_ok-put_leaf.ensures.ok) (c.requires.layer) (most_same c.self.view_is) (node_contracts.the_row).coded c.self-2-1.given.0
 
 pub returns-clause-ok : goal.returns-clause-ok
 returns-clause-ok c =
@@ -89,7 +89,7 @@ returns-clause-ok c =
     let m = opens c.self.inside.slots c.self.inside.root c.self.inside.places.entries c.self.inside.next c.args.self.now c.self.inside.tree c.self.invariant c.self.view_is in
     let layer : IsLayer c.args.self.now = subst IsLayer c.self.view_is c.self.invariant.layer in
     let spot : Spot (view_of c.self.inside.slots) c.self.inside.root c.self.inside.places.entries c.self.inside.next c.args.self.now c.args.path.now c.parent_at-dir.ensures.leads.0 c.parent_at-dir.result.1.now c.parent_at-dir.result.0 = record { makes = m; layer = layer; splits = path_splits; leads = c.parent_at-dir.ensures.leads.2; dir = c.parent_at-dir.ensures.dir } in
-    makes_view c.put_leaf.new.slots c.self.inside.root c.put_leaf.new.places.entries (c.self.inside.next + 1) (with_new c.args.self.now c.args.path.now (leaf_node c.args.self.now.next c.args.body) c.args.body) (entered_made (view_of c.self.inside.slots) (view_of c.put_leaf.new.slots) c.self.inside.root c.self.inside.places.entries c.put_leaf.new.places.entries c.self.inside.next c.args.self.now c.args.path.now c.parent_at-dir.ensures.leads.0 c.parent_at-dir.result.1.now c.parent_at-dir.result.0 spot c.requires.place c.parent_at-dir.ensures.path (plain c.self.inside.slots) c.args.body c.requires.layer c.in_ok-put_leaf.ensures.ok) (c.requires.layer) (node_contracts.the_row).coded c.self-2-1.given.0
+    makes_view c.put_leaf.new.slots c.self.inside.root c.put_leaf.new.places.entries (c.self.inside.next + 1) (with_new c.args.self.now c.args.path.now (leaf_node c.args.self.now.next c.args.body) c.args.body) (entered_made (view_of c.self.inside.slots) (view_of c.put_leaf.new.slots) c.self.inside.root c.self.inside.places.entries c.put_leaf.new.places.entries c.self.inside.next c.args.self.now c.args.path.now c.parent_at-dir.ensures.leads.0 c.parent_at-dir.result.1.now c.parent_at-dir.result.0 spot c.requires.place c.parent_at-dir.ensures.path (plain c.self.inside.slots) c.args.body c.requires.layer c.in_ok-put_leaf.ensures.ok) (c.requires.layer) (most_same c.self.view_is) (node_contracts.the_row).coded c.self-2-1.given.0
 
 pub put_leaf-requires-clause-dir : goal.put_leaf-requires-clause-dir
 put_leaf-requires-clause-dir c = c.parent_at-dir.ensures.dir

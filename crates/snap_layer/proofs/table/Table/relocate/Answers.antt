@@ -5,8 +5,9 @@ use Rattle.snap_layer.specs.Layers.{IsLayer}
 use Rattle.snap_layer.specs.Edits.{with_moved}
 use Rattle.snap_layer.specs.Walk.{view_of}
 use Rattle.snap_layer.proofs.Slots.{on_ok, on_err, plain}
-use Rattle.snap_layer.proofs.Makes.{opens, makes_holds, makes_view, makes_kept, either, parent_stands}
+use Rattle.snap_layer.proofs.Makes.{opens, makes_holds, makes_view, makes_kept, either, parent_stands, most_same}
 use Rattle.snap_layer.proofs.Putting.{Spot, makes_same}
+use Rattle.snap_layer.proofs.Moves.{most_moved}
 use Rattle.snap_layer.proofs.Files.{source_stands, source_entry, entries_apart}
 use Rattle.snap_layer.proofs.Entering.{not_itself}
 use Rattle.snap_layer.proofs.Erasing.{relocated_made, not_from, nothing_at}
@@ -86,7 +87,7 @@ invariant_of-self c =
     let layer : IsLayer c.args.self.now = subst IsLayer c.self.view_is c.self.invariant.layer in
     let one : Spot (view_of c.self.inside.slots) c.self.inside.root c.self.inside.places.entries c.self.inside.next c.args.self.now c.args.from.now c.parent_at-left.ensures.leads.0 c.parent_at-left.result.1.now c.parent_at-left.result.0 = record { makes = m; layer = layer; splits = from_splits; leads = c.parent_at-left.ensures.leads.2; dir = c.parent_at-left.ensures.dir } in
     let two : Spot (view_of c.self.inside.slots) c.self.inside.root c.self.inside.places.entries c.self.inside.next c.args.self.now c.args.to.now c.parent_at-gained.ensures.leads.0 c.parent_at-gained.result.1.now c.parent_at-gained.result.0 = record { makes = m; layer = layer; splits = to_splits; leads = c.parent_at-gained.ensures.leads.2; dir = c.parent_at-gained.ensures.dir } in
-    either c.relocate.result c.relocate.ensures.ok c.relocate.ensures.err (λ done. makes_kept c.relocate.new.slots c.self.inside.root c.relocate.new.places.entries c.self.inside.next (with_moved c.args.self.now c.args.from.now c.args.to.now c.args.leaves) (relocated_made (view_of c.self.inside.slots) (view_of c.relocate.new.slots) c.self.inside.root c.self.inside.places.entries c.relocate.new.places.entries c.self.inside.next c.args.self.now c.args.from.now c.args.to.now c.parent_at-left.ensures.leads.0 c.parent_at-left.result.1.now c.parent_at-left.result.0 c.parent_at-gained.ensures.leads.0 c.parent_at-gained.result.1.now c.parent_at-gained.result.0 c.args.leaves one two c.requires.movable (plain c.self.inside.slots) (entries_apart (view_of c.self.inside.slots) c.self.inside.root c.self.inside.places.entries c.self.inside.next c.args.self.now c.args.from.now c.args.to.now c.parent_at-left.ensures.leads.0 c.parent_at-left.result.1.now c.parent_at-left.result.0 c.parent_at-gained.ensures.leads.0 c.parent_at-gained.result.1.now c.parent_at-gained.result.0 one two c.requires.movable) done) (c.requires.layer) (node_contracts.the_row).coded c.self-1.given.0) (λ alike. makes_kept c.relocate.new.slots c.self.inside.root c.relocate.new.places.entries c.self.inside.next c.args.self.now (makes_same (view_of c.self.inside.slots) (view_of c.relocate.new.slots) c.self.inside.root alike.0 c.self.inside.places.entries c.relocate.new.places.entries c.self.inside.next c.args.self.now alike.1 m) layer (node_contracts.the_row).coded c.self-1.given.0)
+    either c.relocate.result c.relocate.ensures.ok c.relocate.ensures.err (λ done. makes_kept c.relocate.new.slots c.self.inside.root c.relocate.new.places.entries c.self.inside.next (with_moved c.args.self.now c.args.from.now c.args.to.now c.args.leaves) (relocated_made (view_of c.self.inside.slots) (view_of c.relocate.new.slots) c.self.inside.root c.self.inside.places.entries c.relocate.new.places.entries c.self.inside.next c.args.self.now c.args.from.now c.args.to.now c.parent_at-left.ensures.leads.0 c.parent_at-left.result.1.now c.parent_at-left.result.0 c.parent_at-gained.ensures.leads.0 c.parent_at-gained.result.1.now c.parent_at-gained.result.0 c.args.leaves one two c.requires.movable (plain c.self.inside.slots) (entries_apart (view_of c.self.inside.slots) c.self.inside.root c.self.inside.places.entries c.self.inside.next c.args.self.now c.args.from.now c.args.to.now c.parent_at-left.ensures.leads.0 c.parent_at-left.result.1.now c.parent_at-left.result.0 c.parent_at-gained.ensures.leads.0 c.parent_at-gained.result.1.now c.parent_at-gained.result.0 one two c.requires.movable) done) (c.requires.layer) (most_same c.self.view_is ∙ sym (most_moved c.args.self.now c.args.from.now c.args.to.now c.args.leaves)) (node_contracts.the_row).coded c.self-1.given.0) (λ alike. makes_kept c.relocate.new.slots c.self.inside.root c.relocate.new.places.entries c.self.inside.next c.args.self.now (makes_same (view_of c.self.inside.slots) (view_of c.relocate.new.slots) c.self.inside.root alike.0 c.self.inside.places.entries c.relocate.new.places.entries c.self.inside.next c.args.self.now alike.1 m) layer (most_same c.self.view_is) (node_contracts.the_row).coded c.self-1.given.0)
 
 pub returns-clause-ok : goal.returns-clause-ok
 returns-clause-ok c =
@@ -96,13 +97,13 @@ returns-clause-ok c =
     let layer : IsLayer c.args.self.now = subst IsLayer c.self.view_is c.self.invariant.layer in
     let one : Spot (view_of c.self.inside.slots) c.self.inside.root c.self.inside.places.entries c.self.inside.next c.args.self.now c.args.from.now c.parent_at-left.ensures.leads.0 c.parent_at-left.result.1.now c.parent_at-left.result.0 = record { makes = m; layer = layer; splits = from_splits; leads = c.parent_at-left.ensures.leads.2; dir = c.parent_at-left.ensures.dir } in
     let two : Spot (view_of c.self.inside.slots) c.self.inside.root c.self.inside.places.entries c.self.inside.next c.args.self.now c.args.to.now c.parent_at-gained.ensures.leads.0 c.parent_at-gained.result.1.now c.parent_at-gained.result.0 = record { makes = m; layer = layer; splits = to_splits; leads = c.parent_at-gained.ensures.leads.2; dir = c.parent_at-gained.ensures.dir } in
-    on_ok c.relocate.result (λ done. makes_view c.relocate.new.slots c.self.inside.root c.relocate.new.places.entries c.self.inside.next (with_moved c.args.self.now c.args.from.now c.args.to.now c.args.leaves) (relocated_made (view_of c.self.inside.slots) (view_of c.relocate.new.slots) c.self.inside.root c.self.inside.places.entries c.relocate.new.places.entries c.self.inside.next c.args.self.now c.args.from.now c.args.to.now c.parent_at-left.ensures.leads.0 c.parent_at-left.result.1.now c.parent_at-left.result.0 c.parent_at-gained.ensures.leads.0 c.parent_at-gained.result.1.now c.parent_at-gained.result.0 c.args.leaves one two c.requires.movable (plain c.self.inside.slots) (entries_apart (view_of c.self.inside.slots) c.self.inside.root c.self.inside.places.entries c.self.inside.next c.args.self.now c.args.from.now c.args.to.now c.parent_at-left.ensures.leads.0 c.parent_at-left.result.1.now c.parent_at-left.result.0 c.parent_at-gained.ensures.leads.0 c.parent_at-gained.result.1.now c.parent_at-gained.result.0 one two c.requires.movable) done) (c.requires.layer) (node_contracts.the_row).coded c.self-1.given.0) c.relocate.ensures.ok
+    on_ok c.relocate.result (λ done. makes_view c.relocate.new.slots c.self.inside.root c.relocate.new.places.entries c.self.inside.next (with_moved c.args.self.now c.args.from.now c.args.to.now c.args.leaves) (relocated_made (view_of c.self.inside.slots) (view_of c.relocate.new.slots) c.self.inside.root c.self.inside.places.entries c.relocate.new.places.entries c.self.inside.next c.args.self.now c.args.from.now c.args.to.now c.parent_at-left.ensures.leads.0 c.parent_at-left.result.1.now c.parent_at-left.result.0 c.parent_at-gained.ensures.leads.0 c.parent_at-gained.result.1.now c.parent_at-gained.result.0 c.args.leaves one two c.requires.movable (plain c.self.inside.slots) (entries_apart (view_of c.self.inside.slots) c.self.inside.root c.self.inside.places.entries c.self.inside.next c.args.self.now c.args.from.now c.args.to.now c.parent_at-left.ensures.leads.0 c.parent_at-left.result.1.now c.parent_at-left.result.0 c.parent_at-gained.ensures.leads.0 c.parent_at-gained.result.1.now c.parent_at-gained.result.0 one two c.requires.movable) done) (c.requires.layer) (most_same c.self.view_is ∙ sym (most_moved c.args.self.now c.args.from.now c.args.to.now c.args.leaves)) (node_contracts.the_row).coded c.self-1.given.0) c.relocate.ensures.ok
 
 pub returns-clause-err : goal.returns-clause-err
 returns-clause-err c =
     let m = opens c.self.inside.slots c.self.inside.root c.self.inside.places.entries c.self.inside.next c.args.self.now c.self.inside.tree c.self.invariant c.self.view_is in
     let layer : IsLayer c.args.self.now = subst IsLayer c.self.view_is c.self.invariant.layer in
-    on_err c.relocate.result (λ alike. makes_view c.relocate.new.slots c.self.inside.root c.relocate.new.places.entries c.self.inside.next c.args.self.now (makes_same (view_of c.self.inside.slots) (view_of c.relocate.new.slots) c.self.inside.root alike.0 c.self.inside.places.entries c.relocate.new.places.entries c.self.inside.next c.args.self.now alike.1 m) layer (node_contracts.the_row).coded c.self-1.given.0) c.relocate.ensures.err
+    on_err c.relocate.result (λ alike. makes_view c.relocate.new.slots c.self.inside.root c.relocate.new.places.entries c.self.inside.next c.args.self.now (makes_same (view_of c.self.inside.slots) (view_of c.relocate.new.slots) c.self.inside.root alike.0 c.self.inside.places.entries c.relocate.new.places.entries c.self.inside.next c.args.self.now alike.1 m) layer (most_same c.self.view_is) (node_contracts.the_row).coded c.self-1.given.0) c.relocate.ensures.err
 
 pub returns-clause-sure : goal.returns-clause-sure
 returns-clause-sure c =

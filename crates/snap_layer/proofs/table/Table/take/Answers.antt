@@ -4,7 +4,7 @@ use Rattle.snap_layer.specs.Layers.{IsLayer}
 use Rattle.snap_layer.specs.Edits.{without}
 use Rattle.snap_layer.specs.Walk.{view_of}
 use Rattle.snap_layer.proofs.Slots.{plain}
-use Rattle.snap_layer.proofs.Makes.{Makes, opens, makes_holds, makes_view, makes_kept}
+use Rattle.snap_layer.proofs.Makes.{Makes, opens, makes_holds, makes_view, makes_kept, most_same}
 use Rattle.snap_layer.proofs.Putting.{Spot}
 use Rattle.snap_layer.proofs.Files.{source_stands}
 use Rattle.snap_layer.proofs.Covering.{taken_made}
@@ -35,7 +35,7 @@ invariant_of-self c =
     let layer : IsLayer c.args.self.now = subst IsLayer c.self.view_is c.self.invariant.layer in
     let spot : Spot (view_of c.self.inside.slots) c.self.inside.root c.self.inside.places.entries c.self.inside.next c.args.self.now c.args.path.now c.parent_at-dir.ensures.leads.0 c.parent_at-dir.result.1.now c.parent_at-dir.result.0 = record { makes = m; layer = layer; splits = path_splits; leads = c.parent_at-dir.ensures.leads.2; dir = c.parent_at-dir.ensures.dir } in
     let made : Makes (view_of c.take_target.new.slots) c.self.inside.root c.take_target.new.places.entries c.self.inside.next (without c.args.self.now c.args.path.now) = taken_made (view_of c.self.inside.slots) (view_of c.take_target.new.slots) c.self.inside.root c.self.inside.places.entries c.take_target.new.places.entries c.self.inside.next c.args.self.now c.args.path.now c.parent_at-dir.ensures.leads.0 c.parent_at-dir.result.1.now c.parent_at-dir.result.0 spot c.requires.takeable (plain c.self.inside.slots) c.take_target.ensures in
-    makes_kept c.take_target.new.slots c.self.inside.root c.take_target.new.places.entries c.self.inside.next (without c.args.self.now c.args.path.now) made c.requires.layer (node_contracts.the_row).coded c.self-1.given.0
+    makes_kept c.take_target.new.slots c.self.inside.root c.take_target.new.places.entries c.self.inside.next (without c.args.self.now c.args.path.now) made c.requires.layer (most_same c.self.view_is) (node_contracts.the_row).coded c.self-1.given.0
 
 pub returns : goal.returns
 returns c =
@@ -44,7 +44,7 @@ returns c =
     let layer : IsLayer c.args.self.now = subst IsLayer c.self.view_is c.self.invariant.layer in
     let spot : Spot (view_of c.self.inside.slots) c.self.inside.root c.self.inside.places.entries c.self.inside.next c.args.self.now c.args.path.now c.parent_at-dir.ensures.leads.0 c.parent_at-dir.result.1.now c.parent_at-dir.result.0 = record { makes = m; layer = layer; splits = path_splits; leads = c.parent_at-dir.ensures.leads.2; dir = c.parent_at-dir.ensures.dir } in
     let made : Makes (view_of c.take_target.new.slots) c.self.inside.root c.take_target.new.places.entries c.self.inside.next (without c.args.self.now c.args.path.now) = taken_made (view_of c.self.inside.slots) (view_of c.take_target.new.slots) c.self.inside.root c.self.inside.places.entries c.take_target.new.places.entries c.self.inside.next c.args.self.now c.args.path.now c.parent_at-dir.ensures.leads.0 c.parent_at-dir.result.1.now c.parent_at-dir.result.0 spot c.requires.takeable (plain c.self.inside.slots) c.take_target.ensures in
-    makes_view c.take_target.new.slots c.self.inside.root c.take_target.new.places.entries c.self.inside.next (without c.args.self.now c.args.path.now) made c.requires.layer (node_contracts.the_row).coded c.self-1.given.0
+    makes_view c.take_target.new.slots c.self.inside.root c.take_target.new.places.entries c.self.inside.next (without c.args.self.now c.args.path.now) made c.requires.layer (most_same c.self.view_is) (node_contracts.the_row).coded c.self-1.given.0
 
 pub take_target-requires : goal.take_target-requires
 take_target-requires c = c.parent_at-dir.ensures.dir
