@@ -32,6 +32,9 @@ func WithDigest(digest string) Option { return Option{"digest", digest} }
 // WithExtra has a file command charge so much more, where it makes a charge and that fits.
 func WithExtra(extra Usage) Option { return Option{"extra", extra} }
 
+// WithPeek lets a lookup be of a committed snapshot too.
+func WithPeek() Option { return Option{"peek", true} }
+
 // A Filter has the parts that a snapshot must match. Nil parts match each.
 type Filter struct {
 	Name, Parent *string
@@ -296,45 +299,52 @@ func (s *Store) Opaque(ctx context.Context, namespace, key, path string, options
 	return s.change(ctx, "opaque", file(namespace, key, path), options)
 }
 
-// Look tells what is seen at a path of an active snapshot or a view.
-func (s *Store) Look(ctx context.Context, namespace, key, path string) (Seen, error) {
+// Look tells what is seen at a path of an active snapshot or a view, and WithPeek of a committed one.
+func (s *Store) Look(ctx context.Context, namespace, key, path string, options ...Option) (Seen, error) {
 	var answer struct{ Seen Seen }
-	err := s.call(ctx, "look", file(namespace, key, path), nil, &answer)
+	err := s.call(ctx, "look", file(namespace, key, path), options, &answer)
 	return answer.Seen, err
 }
 
 // List tells the names in a directory, in byte order.
-func (s *Store) List(ctx context.Context, namespace, key, path string) ([]string, error) {
+func (s *Store) List(ctx context.Context, namespace, key, path string, options ...Option) ([]string, error) {
 	var answer struct{ Names []string }
-	err := s.call(ctx, "list", file(namespace, key, path), nil, &answer)
+	err := s.call(ctx, "list", file(namespace, key, path), options, &answer)
 	return answer.Names, err
 }
 
 // Read tells the first bytes of a file, and its size; of one whose bytes aren't kept its size and its digest.
-func (s *Store) Read(ctx context.Context, namespace, key, path string) (Content, error) {
+func (s *Store) Read(ctx context.Context, namespace, key, path string, options ...Option) (Content, error) {
 	var answer Content
-	err := s.call(ctx, "read", file(namespace, key, path), nil, &answer)
+	err := s.call(ctx, "read", file(namespace, key, path), options, &answer)
 	return answer, err
 }
 
 // ReadPart tells the bytes of a file from an offset on, at most max of them, or all where it is 0, and its size; of one
 // whose bytes aren't kept its size and its digest.
-func (s *Store) ReadPart(ctx context.Context, namespace, key, path string, offset, max uint64) (Part, error) {
+func (s *Store) ReadPart(ctx context.Context, namespace, key, path string, offset, max uint64, options ...Option) (Part, error) {
 	var answer Part
 	given := file(namespace, key, path)
 	given["offset"] = offset
 	if max != 0 {
 		given["max"] = max
 	}
-	err := s.call(ctx, "read", given, nil, &answer)
+	err := s.call(ctx, "read", given, options, &answer)
 	return answer, err
 }
 
 // Resolve tells where a path leads, its symlinks followed.
-func (s *Store) Resolve(ctx context.Context, namespace, key, path string) (string, error) {
+func (s *Store) Resolve(ctx context.Context, namespace, key, path string, options ...Option) (string, error) {
 	var answer struct{ Path string }
-	err := s.call(ctx, "resolve", file(namespace, key, path), nil, &answer)
+	err := s.call(ctx, "resolve", file(namespace, key, path), options, &answer)
 	return answer.Path, err
+}
+
+// DiskUsage tells what is taken by what is seen at a path and below it, as du(1) counts it.
+func (s *Store) DiskUsage(ctx context.Context, namespace, key, path string, options ...Option) (Usage, error) {
+	var answer struct{ Blocks, Inodes uint64 }
+	err := s.call(ctx, "du", file(namespace, key, path), options, &answer)
+	return Usage{answer.Blocks, answer.Inodes}, err
 }
 
 // Quota tells what a namespace may take and what it takes.

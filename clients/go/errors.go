@@ -46,7 +46,7 @@ const (
 	ErrLeaseExists Reason = "LeaseExists"
 	// ErrTooDeep: the snapshot would have more than 64 ancestors.
 	ErrTooDeep Reason = "TooDeep"
-	// ErrTooManyActives: 64 snapshots are active.
+	// ErrTooManyActives: as many snapshots are active as the store was opened for.
 	ErrTooManyActives Reason = "TooManyActives"
 	// ErrOverLimit: the namespace hasn't so much free. The Refusal tells what it has.
 	ErrOverLimit Reason = "OverLimit"
@@ -86,7 +86,7 @@ const (
 	ErrTooManyLinks Reason = "TooManyLinks"
 	// ErrBadPath: the text is no path.
 	ErrBadPath Reason = "BadPath"
-	// ErrLayerFull: the layer would have more than 65,536 inodes.
+	// ErrLayerFull: the layer would have more inodes than the store was opened with (Config.LayerInodes).
 	ErrLayerFull Reason = "LayerFull"
 )
 

@@ -31,7 +31,7 @@ type log struct {
 
 // Commands that change nothing and make no entry in the journal. A log does without them.
 var isLookup = map[string]bool{
-	"look": true, "list": true, "read": true, "resolve": true, "quota": true, "tree": true, "journal": true,
+	"look": true, "list": true, "read": true, "resolve": true, "du": true, "quota": true, "tree": true, "journal": true,
 	"report": true,
 }
 

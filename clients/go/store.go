@@ -37,6 +37,10 @@ type Config struct {
 	Namespaces map[string]Usage
 	// Journal is the most entries of the journal's first round, or the default where it is 0.
 	Journal uint64
+	// Slots is how many snapshots may be active at one time, of all namespaces together: 1 to 4096, or 64 where it is 0.
+	Slots uint64
+	// LayerInodes is the most inodes of each layer that is made, or the default, 65,536, where it is 0.
+	LayerInodes uint64
 	// Log is the path of a file that keeps the calls, or empty for none. It must not have lines yet.
 	Log string
 }
@@ -106,6 +110,12 @@ func (c Config) fields() fields {
 	given := fields{"root": c.Root, "namespaces": namespaces}
 	if c.Journal != 0 {
 		given["journal"] = c.Journal
+	}
+	if c.Slots != 0 {
+		given["slots"] = c.Slots
+	}
+	if c.LayerInodes != 0 {
+		given["layer_inodes"] = c.LayerInodes
 	}
 	return given
 }

@@ -133,6 +133,8 @@ func TestFiles(t *testing.T) {
 	equal(t, part(store.ReadPart(ctx, "a", "k", "/d/f", 4999, 0)), Part{Bytes: []byte{0}, Size: 5000})
 	equal(t, part(store.ReadPart(ctx, "a", "k", "/d/f", 5001, 1)), Part{Bytes: []byte{}, Size: 5000})
 	equal(t, must[string](t)(store.Resolve(ctx, "a", "k", "/s")), "/d/f")
+	equal(t, must[Usage](t)(store.DiskUsage(ctx, "a", "k", "/")), Usage{4, 4})
+	equal(t, must[Usage](t)(store.DiskUsage(ctx, "a", "k", "/d/f")), Usage{2, 1})
 	equal(t, must[Usage](t)(store.Trim(ctx, "a", "k")), Usage{4, 4})
 	equal(t, must[Usage](t)(store.Charge(ctx, "a", "k", Usage{10, 10})), Usage{10, 10})
 	equal(t, must[Usage](t)(store.Charge(ctx, "a", "k", Usage{11, 11}, WithWant(Usage{20, 20}))), Usage{20, 20})
@@ -197,6 +199,10 @@ func TestSnapshots(t *testing.T) {
 	equal(t, walk(store.Walk(ctx, "a", "", 0, Filter{Labels: map[string]*string{"x": nil, "y": text("2")}})), []Info{base})
 	granted(t, store.LeaseAdd(ctx, "a", "lease", "base")) // 18
 	equal(t, must[Usage](t)(store.ChainUsage(ctx, "a", "v")), Usage{1, 1})
+	_, notActive := store.Look(ctx, "a", "base", "/")
+	isError(t, notActive, ErrNotActive)
+	equal(t, must[Seen](t)(store.Look(ctx, "a", "base", "/", WithPeek())), Seen{Type: Directory, Mode: 0o755})
+	equal(t, must[Usage](t)(store.DiskUsage(ctx, "a", "base", "/", WithPeek())), Usage{1, 1})
 	equal(t, must[Swept](t)(store.TrySweep(ctx, "a", 0)), Swept{Usage{}, 0, []string{}})
 	quota := Quota{Limit: Usage{100, 100}, Charged: Usage{1, 1}, Committed: Usage{1, 1}, Free: Usage{99, 99}}
 	equal(t, must[Quota](t)(store.Quota(ctx, "a")), quota)
@@ -339,6 +345,15 @@ func TestLimitsOfASnapshot(t *testing.T) {
 	}
 	_, err = store.Prepare(ctx, "a", "64", "")
 	isError(t, err, ErrTooManyActives)
+}
+
+func TestSlots(t *testing.T) {
+	if given := (Config{Slots: 2}).fields()["slots"]; given != uint64(2) {
+		t.Errorf("slots are %v", given)
+	}
+	if given, there := (Config{}).fields()["slots"]; there {
+		t.Errorf("slots are %v", given)
+	}
 }
 
 // Of three entries the session and the prepare take one each, and the discard keeps the last.

@@ -32,7 +32,7 @@ from typing import Any, Iterator, Mapping, NamedTuple, Sequence, Tuple, Type, Ty
 PROGRAM = Path(__file__).resolve().parents[2] / "crates/snap_replay/out/snap_replay"
 
 # Commands that change nothing and make no entry in the journal. A log does without them.
-_LOOKUPS = frozenset({"look", "list", "read", "resolve", "quota", "tree", "journal", "report"})
+_LOOKUPS = frozenset({"look", "list", "read", "resolve", "du", "quota", "tree", "journal", "report"})
 # Fields by which a command that makes an entry becomes one that makes none.
 _TRIES = ("try", "chain")
 # Commands that change nothing and make an entry. A log has them, since entries are numbered, but need not
@@ -300,7 +300,7 @@ class TooDeep(Refused):
 
 
 class TooManyActives(Refused):
-    """64 snapshots are active."""
+    """As many snapshots are active as the store was opened for."""
 
 
 class OverLimit(Refused):
@@ -376,7 +376,7 @@ class BadPath(Refused):
 
 
 class LayerFull(Refused):
-    """The layer would have more than 65,536 inodes."""
+    """The layer would have more inodes than the store was opened with (`layer_inodes`, 65,536)."""
 
 
 _REFUSALS: Mapping[str, Type[Refused]] = {each.__name__: each for each in Refused.__subclasses__()}
@@ -579,10 +579,15 @@ class Store:
         namespaces: Mapping[str, Pair],
         journal: int | None = None,
         *,
+        slots: int | None = None,
+        layer_inodes: int | None = None,
         program: str | os.PathLike[str] = PROGRAM,
         log: str | os.PathLike[str] | None = None,
     ) -> None:
         """Opens a store with namespaces and their limits, and, where a log is named, begins that.
+
+        `slots` is how many snapshots may be active at one time, of all namespaces together: 1 to 4096, and 64
+        where it is left out.
 
         Raises FileExistsError where the log has lines, BlockingIOError where another process has it, OSError
         where the program doesn't start, and BadArgument or JournalFull where the store is refused.
@@ -592,7 +597,8 @@ class Store:
             if log is not None:
                 self._log = _Log.create(log)
             limits = [[name, *limit] for name, limit in namespaces.items()]
-            self._call("open", root=root, namespaces=limits, journal=journal)
+            bounds = {"journal": journal, "slots": slots, "layer_inodes": layer_inodes}
+            self._call("open", root=root, namespaces=limits, **bounds)
         except BaseException:
             self._abort()
             if self._log:
@@ -1020,11 +1026,11 @@ class Store:
         """Hides what the layers below have in a directory."""
         return self._change("opaque", session, extra, ns=namespace, key=key, path=path)
 
-    # Lookups in an active snapshot or a view. They make no entry.
+    # Lookups in an active snapshot or a view, and with `peek` in a committed one. They make no entry.
 
-    def look(self, namespace: str, key: str, path: str) -> Seen | None:
+    def look(self, namespace: str, key: str, path: str, peek: bool = False) -> Seen | None:
         """What is seen at a path, or None."""
-        seen = self._call("look", ns=namespace, key=key, path=path)["seen"]
+        seen = self._call("look", ns=namespace, key=key, path=path, peek=peek or None)["seen"]
         if seen is None:
             return None
         if "dir" in seen:
@@ -1035,31 +1041,36 @@ class Store:
             return File(seen["file"], seen["size"])
         return Symlink(seen["symlink"])
 
-    def list(self, namespace: str, key: str, path: str) -> tuple[str, ...]:
+    def list(self, namespace: str, key: str, path: str, peek: bool = False) -> tuple[str, ...]:
         """The names in a directory, in byte order."""
-        return tuple(self._call("list", ns=namespace, key=key, path=path)["names"])
+        return tuple(self._call("list", ns=namespace, key=key, path=path, peek=peek or None)["names"])
 
-    def read(self, namespace: str, key: str, path: str) -> Content | SizedContent:
+    def read(self, namespace: str, key: str, path: str, peek: bool = False) -> Content | SizedContent:
         """The first bytes of a file, and its size; of one whose bytes aren't kept its size and its digest."""
-        answer = self._call("read", ns=namespace, key=key, path=path)
+        answer = self._call("read", ns=namespace, key=key, path=path, peek=peek or None)
         if "digest" in answer:
             return SizedContent(answer["size"], answer["digest"])
         return Content(bytes.fromhex(answer["head"]), answer["size"])
 
     def read_part(
-        self, namespace: str, key: str, path: str, offset: int = 0, max: int | None = None
+        self, namespace: str, key: str, path: str, offset: int = 0, max: int | None = None, peek: bool = False
     ) -> Part | SizedContent:
         """The bytes of a file from an offset on, at most so many, or all, and its size; of one whose bytes aren't kept
         its size and its digest."""
-        answer = self._call("read", ns=namespace, key=key, path=path, offset=offset, max=max)
+        answer = self._call("read", ns=namespace, key=key, path=path, offset=offset, max=max, peek=peek or None)
         if "digest" in answer:
             return SizedContent(answer["size"], answer["digest"])
         return Part(bytes.fromhex(answer["bytes"]), answer["size"])
 
-    def resolve(self, namespace: str, key: str, path: str) -> str:
+    def resolve(self, namespace: str, key: str, path: str, peek: bool = False) -> str:
         """Where a path leads, its symlinks followed."""
-        found: str = self._call("resolve", ns=namespace, key=key, path=path)["path"]
+        found: str = self._call("resolve", ns=namespace, key=key, path=path, peek=peek or None)["path"]
         return found
+
+    def du(self, namespace: str, key: str, path: str, peek: bool = False) -> Usage:
+        """What is taken by what is seen at a path and below it, as du(1) counts it."""
+        answer = self._call("du", ns=namespace, key=key, path=path, peek=peek or None)
+        return Usage(answer["blocks"], answer["inodes"])
 
     # Questions to the store that make no entry
 

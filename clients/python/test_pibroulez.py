@@ -130,6 +130,8 @@ class Commands(unittest.TestCase):
         self.assertEqual(store.read_part("a", "k", "/d/f", 4999), Part(b"\0", 5000))
         self.assertEqual(store.read_part("a", "k", "/d/f", 5001), Part(b"", 5000))
         self.assertEqual(store.resolve("a", "k", "/s"), "/d/f")
+        self.assertEqual(store.du("a", "k", "/"), Usage(4, 4))
+        self.assertEqual(store.du("a", "k", "/d/f"), Usage(2, 1))
 
     def test_files_of_a_size(self) -> None:
         digest = "sha256:ab"
@@ -279,6 +281,12 @@ class Commands(unittest.TestCase):
             with self.assertRaises(pibroulez.TooManyActives):
                 store.prepare("a", "k64", "")
 
+    def test_slots_of_a_store(self) -> None:
+        with open_store(slots=1) as store:
+            self.assertEqual(store.prepare("a", "k", ""), Prepared((), 1, 0))
+            with self.assertRaises(pibroulez.TooManyActives):
+                store.prepare("a", "l", "")
+
 
 class Documents(unittest.TestCase):
     """What docs/SCRIPT.md has in its section on commands."""
@@ -310,6 +318,10 @@ class Refusals(unittest.TestCase):
         with open_store() as store:
             commit_empty(store, "base")
             commit_empty(store, "child", "base")
+            self.assert_refused(pibroulez.NotActive, "book", lambda: store.look("a", "base", "/"))
+            self.assertEqual(store.look("a", "base", "/", peek=True), Directory(0o755))
+            self.assertEqual(store.list("a", "child", "/", peek=True), ())
+            self.assertEqual(store.du("a", "child", "/", peek=True), Usage(1, 1))
             store.prepare("a", "k", "")
             for error, call in (
                 (pibroulez.BadArgument, lambda: store.prepare("a", "", "")),

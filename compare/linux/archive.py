@@ -16,8 +16,8 @@ from random import Random
 # A file of the machine above this is made sparse, with its size and without its bytes.
 MOST_BYTES = 65_536
 SPARSE_BYTES = 100_000_000
-# Of a layer, so that it has at most 65,536 inodes with the directories and what is changed.
-MOST_FILES = 40_000
+# Of a layer.
+MOST_FILES = 400_000
 FEW, SOME, MANY = 10, 100, 1000
 
 

@@ -14,6 +14,7 @@ Answer = dict[str, Any]
 DEFAULT_DIRECTORY_MODE = 0o755
 DEFAULT_FILE_MODE = 0o644
 HEAD_BYTES = 16
+BLOCK_BYTES = 4096
 LARGEST_FILE = 1_048_576
 # Far behind the end of any file, and still an offset to the kernel.
 GREATEST_OFFSET = 1 << 62
@@ -24,7 +25,7 @@ SIZED = "trusted.sized"
 OPERATIONS = frozenset(
     "mkdir create put write truncate setmode symlink link unlink rmdir rename opaque whiteout".split()
 )
-LOOKUPS = frozenset("look list read resolve".split())
+LOOKUPS = frozenset("look list read resolve du".split())
 
 _NAMES = {
     errno.ENOENT: "NotFound",
@@ -113,6 +114,8 @@ def look_up(command: Command) -> Answer:
             return {"names": _list(path)}
         case "read":
             return _read(path, command)
+        case "du":
+            return _disk_usage(path)
         case _:
             return {"path": _resolve(path)}
 
@@ -210,6 +213,27 @@ def _read(path: bytes, command: Command) -> Answer:
         return {"head": os.read(descriptor, HEAD_BYTES).hex(), "size": size}
     finally:
         os.close(descriptor)
+
+
+def _disk_usage(path: bytes) -> Answer:
+    """What is taken at a path and below it, each inode once, as du(1) counts, with the blocks that the bytes need. A
+    directory always counts."""
+    blocks = inodes = 0
+    seen = set()
+    waiting = [path]
+    while waiting:
+        found = waiting.pop()
+        status = os.lstat(found)
+        if stat.S_ISDIR(status.st_mode):
+            blocks += 1
+            waiting += [os.path.join(found, name) for name in os.listdir(found)]
+        elif (status.st_dev, status.st_ino) in seen:
+            continue
+        elif stat.S_ISREG(status.st_mode):
+            blocks += -(-status.st_size // BLOCK_BYTES)
+        seen.add((status.st_dev, status.st_ino))
+        inodes += 1
+    return {"blocks": blocks, "inodes": inodes}
 
 
 def _opened(path: bytes) -> int:

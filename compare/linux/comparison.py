@@ -13,6 +13,8 @@ from linux.program import Program, ProgramEnded
 
 GRANTED: Answer = {"granted": True}
 NOT_ASKED: Answer = {"asked": False}
+FULL = refusal("LayerFull")
+LAYER_INODES = 65_536
 
 
 @dataclass
@@ -54,6 +56,7 @@ class Comparison:
     layers: Layers
     counts: Counts
     whole_every: int
+    layer_inodes: int = LAYER_INODES
 
     def run(self, commands: Iterable[Command]) -> Found | None:
         """The first difference that is not declared, if there is one."""
@@ -84,6 +87,8 @@ class Comparison:
         if "error" in self.program.ask(command):
             return
         match do:
+            case "open":
+                self.layer_inodes = command.get("layer_inodes", LAYER_INODES)
             case "prepare":
                 self.layers.prepare(ns, key, command["parent"])
             case "view":
@@ -112,8 +117,10 @@ class Comparison:
         here, *answers = self.program.ask_all([command, *lookups])
         if not self.layers.is_shown(ns, key):
             return
+        if here == FULL:
+            self._judge_full(command)
         with self.layers.inside(ns, key):
-            if here.get("from", "file") == "file":
+            if here.get("from", "file") == "file" and here != FULL:
                 self._compare(command, here if "error" in here else GRANTED, operate)
                 if command["do"] == "mkdir" and "error" not in here:
                     self._take_mode_as_given(command)
@@ -127,6 +134,14 @@ class Comparison:
             self._count_step(command, here)
         if self.counts.steps % self.whole_every == 0:
             self._look_at_all(ns, key)
+
+    def _judge_full(self, command: Command) -> None:
+        """A layer is full where the directories that it lacks, what is made and a whiteout could pass its limit. Linux
+        has none, and is not asked."""
+        most = sum(path.count("/") + 1 for path in paths_of(command))
+        _, inodes = self.layers.usage(command["ns"], command["key"])
+        self._judge(command, NOT_ASKED, FULL, inodes + most > self.layer_inodes)
+        self.counts.declared["inodes-above-65536"] += 1
 
     def _count_step(self, command: Command, here: Answer) -> None:
         self.counts.steps += 1
@@ -202,6 +217,7 @@ def _lookups_of_all() -> Iterator[Command]:
     """The lookups that show everything in the root of this process."""
     yield {"do": "look", "path": "/"}
     yield {"do": "list", "path": "/"}
+    yield {"do": "du", "path": "/"}
     for name, status in entries(b"/"):
         path = name.decode()
         yield {"do": "look", "path": path}

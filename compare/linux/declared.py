@@ -217,5 +217,6 @@ _RULES: dict[str, list[Rule]] = {
     "look": [_on_the_way],
     "list": [_on_the_way],
     "read": [_on_the_way, _at_a_symlink],
+    "du": [_on_the_way],
     "resolve": [],
 }

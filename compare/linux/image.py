@@ -16,8 +16,8 @@ from pathlib import Path
 from typing import BinaryIO
 
 from linux.archive import make_image
-from linux.calls import Answer, Command, look_up
-from linux.layers import BLOCK_BYTES, Layers, entries
+from linux.calls import BLOCK_BYTES, Answer, Command, look_up
+from linux.layers import Layers, entries
 from linux.main import INTERRUPTED, PROGRAM, REPOSITORY
 from linux.place import CannotMount, mounting_place
 from linux.program import Program, ProgramEnded, line_of

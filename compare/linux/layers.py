@@ -6,10 +6,9 @@ from collections.abc import Iterator
 from contextlib import contextmanager
 from dataclasses import dataclass, field
 
-from linux.calls import DEFAULT_DIRECTORY_MODE
+from linux.calls import BLOCK_BYTES, DEFAULT_DIRECTORY_MODE
 from linux.system import mount, rooted_in, unmount
 
-BLOCK_BYTES = 4096
 OPAQUE = "trusted.overlay.opaque"
 MOUNT_OPTIONS = "index=off,redirect_dir=off,metacopy=off,xino=off"
 

@@ -27,7 +27,7 @@ ABOUT = """
 Compares the program with Linux's overlayfs. Each snapshot of a script is a directory of a tmpfs, and each
 active one and each view a mount of them (index=off,redirect_dir=off,metacopy=off,xino=off). Each file operation is
 made by the program and by its system call. After each of them both sides have to grant it, or refuse it with the
-same error, to show the same by look, list, read and resolve, and to count the same blocks and inodes.
+same error, to show the same by look, list, read, resolve and du, and to count the same blocks and inodes.
 
 Without a SCRIPT it takes, in this order, a case of each declared difference (docs/LINUX.md), the scripts of
 examples/, and scripts that it makes from the seed, until these have made so many steps. With SCRIPTs it takes these

@@ -174,7 +174,7 @@ def entry_of(place: str, path: str, status: os.stat_result, firsts: dict[tuple[i
     if kind == stat.S_IFLNK:
         return Entry("symlink", path, mode, 0, os.readlink(place))
     if kind == stat.S_IFREG:
-        with open(place, "rb") as file:
+        with open(place, "rb", buffering=0) as file:
             return Entry("file", path, mode, status.st_size, digest_of(file, status.st_size))
     return Entry("pipe" if kind == stat.S_IFIFO else "device file", path, mode, 0, "")
 

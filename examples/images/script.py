@@ -13,7 +13,8 @@ from images.entries import WHITEOUT, Entry
 from images.sources import Layer
 from images.tree import LeftOut, Tree, reason, text_of
 
-MOST_INODES = 65_536
+# The most inodes of a layer that a store can be opened with.
+MOST_INODES = 1 << 24
 MOST_ANCESTORS = 64
 MOST_LINE_BYTES = 1 << 24
 
@@ -62,7 +63,8 @@ class Script:
         self.out.write(json.dumps(command, separators=(",", ":"), ensure_ascii=False) + "\n")
 
     def open(self, limit: list[int]) -> None:
-        self.say({"do": "open", "root": "/r", "namespaces": [[ns, *limit] for ns in self.namespaces]})
+        namespaces = [[ns, *limit] for ns in self.namespaces]
+        self.say({"do": "open", "root": "/r", "namespaces": namespaces, "layer_inodes": MOST_INODES})
 
     def layers(self, layers: list[Layer]) -> None:
         """A snapshot for each layer, and what the store then has."""

@@ -31,6 +31,9 @@ const namespace = "containerd"
 // What a block of a usage is, in bytes.
 const blockSize = 4096
 
+// How many snapshots may be active at one time: as many as a store can have slots.
+const mostActive = 4096
+
 // How many snapshots a page of a walk has.
 const pageSize = 64
 
@@ -85,6 +88,7 @@ func openStore(ctx context.Context, program, root string) (*pibroulez.Store, err
 		Program:    program,
 		Root:       root,
 		Namespaces: map[string]pibroulez.Usage{namespace: {Blocks: 1 << 40, Inodes: 1 << 40}},
+		Slots:      mostActive,
 		Log:        path,
 	})
 }

@@ -9,7 +9,7 @@ use Rattle.snap_ledger.specs.States.{ChargeState, free_charge}
 use Rattle.snap_call.specs.declared.config.Namespace.{Namespace}
 use Rattle.snap_call.specs.declared.state.State.{State}
 use Rattle.snap_call.specs.Good.{Good}
-use Rattle.snap_call.specs.Records.{charge_of, charge_at, open_count, active_at, is_slot, recharged, without_slot, with_record, committed_as}
+use Rattle.snap_call.specs.Records.{charge_of, charge_at, open_count, active_at, is_slot, recharged, without_slot, with_record, committed_as, max_slots}
 use Rattle.snap_call.specs.State.{limit_at}
 use Rattle.snap_call.proofs.Sums.{charge_of-recharged_own, charge_of-recharged_other, charge_of-without_own, charge_of-without_other, charge_of-committed_own, charge_of-committed_other, charge_of-with_record_own, charge_of-with_record_other}
 use Rattle.std.specs.Prelude.{nat_le, ◌&&◌}
@@ -62,7 +62,7 @@ total_set us place to was before after there here elsewhere k at =
 
 -- after a change of one namespace's charge and one slot's
 pub accounts_changed : (s t : State) (us vs : List Usage) (cs ds : List ChargeState) (n m place slot : ℕ) (to : Usage) (c : ChargeState)
-    → AreAccounts s us cs n → Good t → t.namespaces ≡ s.namespaces → place < length s.namespaces → slot < 64
+    → AreAccounts s us cs n → Good t → t.namespaces ≡ s.namespaces → place < length s.namespaces → slot < max_slots
     → charge_of place t.records ≡ to → ((k : ℕ) → k ≢ place → charge_of k t.records ≡ charge_of k s.records)
     → charge_at slot t.records ≡ c → ((k : ℕ) → k ≢ slot → charge_at k t.records ≡ charge_at k s.records)
     → m ≡ open_count t.records → vs ≡ set us place to → ds ≡ set cs slot c
@@ -119,7 +119,7 @@ pub accounts_same : (s t : State) (us : List Usage) (cs : List ChargeState) (n :
 accounts_same s t us cs n accounts good spaces same = accounts_kept s t us cs n accounts good (ap (λ (l : List Namespace). length l) spaces) (λ k. ap (charge_of k) same) (λ k. ap (charge_at k) same) (ap open_count same)
 
 -- the charge of a slot, in the row and in the records
-pub charge_in-at : (s : State) (us : List Usage) (cs : List ChargeState) (n slot : ℕ) → AreAccounts s us cs n → slot < 64 → charge_in cs slot ≡ charge_at slot s.records
+pub charge_in-at : (s : State) (us : List Usage) (cs : List ChargeState) (n slot : ℕ) → AreAccounts s us cs n → slot < max_slots → charge_in cs slot ≡ charge_at slot s.records
 charge_in-at s us cs n slot accounts low = slice_get-found cs slot (charge_at slot s.records) (free_charge slot) (accounts.charges_are slot low)
 
 -- the namespace of an open snapshot is one of the store's
@@ -128,7 +128,7 @@ place-of s slot r good e = active_at-all (λ (t : Record). t.namespace < length 
 
 -- a slot is charged so much
 pub accounts_recharged : (s t : State) (us vs : List Usage) (cs ds : List ChargeState) (n slot : ℕ) (to : Usage) (r : Record)
-    → AreAccounts s us cs n → Good t → active_at slot s.records ≡ Some r → slot < 64 → t.namespaces ≡ s.namespaces → t.records ≡ recharged slot to s.records → open_count t.records ≡ open_count s.records
+    → AreAccounts s us cs n → Good t → active_at slot s.records ≡ Some r → slot < max_slots → t.namespaces ≡ s.namespaces → t.records ≡ recharged slot to s.records → open_count t.records ≡ open_count s.records
     → vs ≡ set us r.namespace (charge_with r to s.records) → ds ≡ set cs slot (record (charge_in cs slot) { usage = to }) → AreAccounts t vs ds n
 accounts_recharged s t us vs cs ds n slot to r accounts good e low spaces is count is_vs is_ds =
     let old : charge_in cs slot ≡ record { slot = slot; id = r.id; usage = usage_of r.content; issued = true } = charge_in-at s us cs n slot accounts low ∙ charge_at-Some slot s.records r e in
@@ -144,7 +144,7 @@ accounts_recharged s t us vs cs ds n slot to r accounts good e low spaces is cou
 
 -- a slot is free again, and its snapshot gone
 pub accounts_freed : (s t : State) (us vs : List Usage) (cs ds : List ChargeState) (n m slot : ℕ) (r : Record)
-    → AreAccounts s us cs n → Good t → active_at slot s.records ≡ Some r → slot < 64 → t.namespaces ≡ s.namespaces → t.records ≡ without_slot slot s.records → m ≡ open_count t.records
+    → AreAccounts s us cs n → Good t → active_at slot s.records ≡ Some r → slot < max_slots → t.namespaces ≡ s.namespaces → t.records ≡ without_slot slot s.records → m ≡ open_count t.records
     → vs ≡ set us r.namespace (minus (charge_of r.namespace s.records) (usage_of r.content)) → ds ≡ set cs slot (free_charge slot) → AreAccounts t vs ds m
 accounts_freed s t us vs cs ds n m slot r accounts good e low spaces is count is_vs is_ds =
     accounts_changed s t us vs cs ds n m r.namespace slot (minus (charge_of r.namespace s.records) (usage_of r.content)) (free_charge slot) accounts good spaces
@@ -157,7 +157,7 @@ accounts_freed s t us vs cs ds n m slot r accounts good e low spaces is count is
 
 -- a slot is free again, and its snapshot committed
 pub accounts_committed : (s t : State) (us vs : List Usage) (cs ds : List ChargeState) (n m slot number : ℕ) (name : Bytes) (layer : Tree) (r : Record)
-    → AreAccounts s us cs n → Good t → active_at slot s.records ≡ Some r → slot < 64 → t.namespaces ≡ s.namespaces → t.records ≡ with_record (committed_as name layer number r) (without_slot slot s.records) → m ≡ open_count t.records
+    → AreAccounts s us cs n → Good t → active_at slot s.records ≡ Some r → slot < max_slots → t.namespaces ≡ s.namespaces → t.records ≡ with_record (committed_as name layer number r) (without_slot slot s.records) → m ≡ open_count t.records
     → vs ≡ set us r.namespace (charge_with r (count_of layer) s.records) → ds ≡ set cs slot (free_charge slot) → AreAccounts t vs ds m
 accounts_committed s t us vs cs ds n m slot number name layer r accounts good e low spaces is count is_vs is_ds =
     accounts_changed s t us vs cs ds n m r.namespace slot (charge_with r (count_of layer) s.records) (free_charge slot) accounts good spaces
@@ -170,7 +170,7 @@ accounts_committed s t us vs cs ds n m slot number name layer r accounts good e 
 
 -- a free slot is taken by a new snapshot
 pub accounts_added : (s t : State) (us vs : List Usage) (cs ds : List ChargeState) (n m slot : ℕ) (r : Record)
-    → AreAccounts s us cs n → Good t → active_at slot s.records ≡ None → is_slot slot r ≡ true → slot < 64 → r.namespace < length s.namespaces → t.namespaces ≡ s.namespaces → t.records ≡ with_record r s.records → m ≡ open_count t.records
+    → AreAccounts s us cs n → Good t → active_at slot s.records ≡ None → is_slot slot r ≡ true → slot < max_slots → r.namespace < length s.namespaces → t.namespaces ≡ s.namespaces → t.records ≡ with_record r s.records → m ≡ open_count t.records
     → vs ≡ set us r.namespace (plus (charge_of r.namespace s.records) (usage_of r.content)) → ds ≡ set cs slot (record { slot = slot; id = r.id; usage = usage_of r.content; issued = true }) → AreAccounts t vs ds m
 accounts_added s t us vs cs ds n m slot r accounts good none own low inside spaces is count is_vs is_ds =
     accounts_changed s t us vs cs ds n m r.namespace slot (plus (charge_of r.namespace s.records) (usage_of r.content)) (record { slot = slot; id = r.id; usage = usage_of r.content; issued = true }) accounts good spaces

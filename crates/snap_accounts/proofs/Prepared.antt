@@ -11,7 +11,7 @@ use Rattle.snap_record.specs.declared.record.Content.TheVariants.{Active}
 use Rattle.snap_call.specs.declared.refusal.Refusal.TheVariants.{TooDeep}
 use Rattle.snap_call.specs.declared.state.State.{State}
 use Rattle.snap_call.specs.Good.{Good}
-use Rattle.snap_call.specs.Records.{charge_of, active_at, has_key, is_slot, open_count, with_record}
+use Rattle.snap_call.specs.Records.{charge_of, active_at, has_key, is_slot, open_count, with_record, max_slots}
 use Rattle.snap_call.specs.State.{limit_at, is_present, is_base, is_too_deep}
 use Rattle.snap_call.specs.Step.{one, place_for, place_on, slot_for, new_record}
 use Rattle.snap_call.proofs.Counts.{open_count-with_active, open_count-most}
@@ -33,24 +33,24 @@ pub open_count-prepared : (s : State) (place : ℕ) (key parent : Bytes) (labels
 open_count-prepared s place key parent labels slot rs is = ap open_count is ∙ open_count-with_active slot (new_record s place key parent labels (Active slot one)) s.records (new_active-is_slot s place key parent labels slot)
 
 -- a free slot holds nothing
-pub charge_in-free : (s : State) (us : List Usage) (cs : List ChargeState) (n slot : ℕ) → AreAccounts s us cs n → slot < 64 → active_at slot s.records ≡ None → (charge_in cs slot).usage ≡ no_usage
+pub charge_in-free : (s : State) (us : List Usage) (cs : List ChargeState) (n slot : ℕ) → AreAccounts s us cs n → slot < max_slots → active_at slot s.records ≡ None → (charge_in cs slot).usage ≡ no_usage
 charge_in-free s us cs n slot accounts low none = ap (λ (c : ChargeState). c.usage) (charge_in-at s us cs n slot accounts low ∙ charge_at-None slot s.records none)
 
--- at most 64 snapshots are open
-pub open-most : (s : State) (us : List Usage) (cs : List ChargeState) (n : ℕ) → AreAccounts s us cs n → n ≤ 64
-open-most s us cs n accounts = let most = open_count-most s.records accounts.good.slots accounts.good.open_slots in omega (arith, most, accounts.open_are)
+-- at most 4096 snapshots are open
+pub open-most : (s : State) (us : List Usage) (cs : List ChargeState) (n : ℕ) → AreAccounts s us cs n → n ≤ max_slots
+open-most s us cs n accounts = let most = open_count-most s.slots s.records accounts.good.slots accounts.good.open_slots in omega (arith, most, accounts.open_are, accounts.good.few_slots.1)
 
 -- a new snapshot is charged, and its slot is taken
 pub accounts_prepared : (s : State) (us vs : List Usage) (cs ds : List ChargeState) (n place slot : ℕ) (key parent : Bytes) (labels : List Label) (rs : List Record)
     → AreAccounts s us cs n → place < length s.namespaces → has_key place key s.records ≡ false → is_base place parent s.records ≡ true → is_too_deep place parent s.records ≡ false
-    → slot < 64 → active_at slot s.records ≡ None → covers (limit_at place s.namespaces) (plus (charge_of place s.records) one) ≡ true
+    → slot < s.slots → slot < max_slots → active_at slot s.records ≡ None → covers (limit_at place s.namespaces) (plus (charge_of place s.records) one) ≡ true
     → rs ≡ with_record (new_record s place key parent labels (Active slot one)) s.records → vs ≡ set us place (plus (charge_of place s.records) one) → ds ≡ set cs slot (record { slot = slot; id = s.next_id; usage = one; issued = true })
     → AreAccounts (record s { records = rs; next_id = s.next_id + 1; entries = s.entries + 1 }) vs ds (n + 1)
-accounts_prepared s us vs cs ds n place slot key parent labels rs accounts inside new base deep low none fits is is_vs is_ds =
+accounts_prepared s us vs cs ds n place slot key parent labels rs accounts inside new base deep low few none fits is is_vs is_ds =
     let good = good_prepared s place key parent labels slot accounts.good inside new base deep low none (covers-Covers (limit_at place s.namespaces) (plus (charge_of place s.records) one) fits) in
     accounts_added s (record s { records = rs; next_id = s.next_id + 1; entries = s.entries + 1 }) us vs cs ds n (n + 1) slot (new_record s place key parent labels (Active slot one)) accounts
     (subst (λ (l : List Record). Good (record s { records = l; next_id = s.next_id + 1; entries = s.entries + 1 })) (sym is) good)
-    none (new_active-is_slot s place key parent labels slot) low inside refl is
+    none (new_active-is_slot s place key parent labels slot) few inside refl is
     (ap (λ (k : ℕ). k + 1) accounts.open_are ∙ sym (open_count-prepared s place key parent labels slot rs is))
     is_vs is_ds
 
@@ -77,9 +77,9 @@ pub site : (s : State) (namespace key parent : Bytes) (place : ℕ) → IsPlace 
 site s namespace key parent place is few = record { inside = place_of-below namespace s.namespaces place is.named; new = is.free; base = is.base; deep = is.deep; numbers = few }
 
 -- where both were found, a snapshot can be added there
-pub vacant : (s : State) (namespace key parent : Bytes) (labels : List Label) (place slot : ℕ) → place_for s namespace key parent labels ≡ Ok place → slot_for s place ≡ Ok slot → IsVacant s (record { place = place; slot = slot }) key parent
-vacant s namespace key parent labels place slot e f =
+pub vacant : (s : State) (namespace key parent : Bytes) (labels : List Label) (place slot : ℕ) → slot < max_slots → place_for s namespace key parent labels ≡ Ok place → slot_for s place ≡ Ok slot → IsVacant s (record { place = place; slot = slot }) key parent
+vacant s namespace key parent labels place slot few e f =
     let is = place_for-Ok s namespace key parent labels place e in
     let found = slot_for-Ok s place slot f in
-    let free = lowest_free-Some s.records slot found.lowest in
-    record { site = site s namespace key parent place is (leb-true s.next_id 4294967295 found.few); low = free.0; free = free.1; fits = found.room }
+    let free = lowest_free-Some s.slots s.records slot found.lowest in
+    record { site = site s namespace key parent place is (leb-true s.next_id 4294967295 found.few); low = free.0; few = few; free = free.1; fits = found.room }

@@ -1,9 +1,10 @@
--- The charges of the 64 slots.
+-- The charges of all slots.
 use Rattle.std.proofs.Common.{◌≡◌, ◌≢◌, ℕ, zero, suc, ◌<◌, List, [], ◌∷◌, ◌++◌, length, get_or, set, true, false, Some, eqb, sym, refl, ap, ◌∙◌, subst, ⊎_elim, arith, length-append}
 use Rattle.std.specs.Prelude.{slice_get}
 use Rattle.std.proofs.lemmas.Bool.Decides.{eqb_tells}
 use Rattle.std.proofs.lemmas.List.{get_or-set_same, get_or-set_other, length-set}
 use Rattle.snap_ledger.specs.States.{ChargeState, free_charge, free_row}
+use Rattle.snap_call.specs.Records.{max_slots}
 use Rattle.snap_accounts.specs.Slots.{charge_in, IsRow}
 
 -- an item that is found is the one at its place
@@ -18,16 +19,16 @@ get_or-default (z ∷ xs) zero c d lt = refl
 get_or-default (z ∷ xs) (suc i) c d lt = get_or-default xs i c d (omega arith)
 
 -- the charge at a place of the row is that of the slot
-pub found-in : (charges : List ChargeState) (i slot : ℕ) (x : ChargeState) → i ≡ slot → IsRow charges → slot < 64 → x ≡ get_or charges i x → x ≡ charge_in charges slot
+pub found-in : (charges : List ChargeState) (i slot : ℕ) (x : ChargeState) → i ≡ slot → IsRow charges → slot < max_slots → x ≡ get_or charges i x → x ≡ charge_in charges slot
 found-in charges i slot x e row low at =
     let inside : slot < length charges = (let p = row.count in omega arith) in
     at ∙ ap (λ (k : ℕ). get_or charges k x) e ∙ get_or-default charges slot x (free_charge slot) inside
 
-pub slot-found : (charges : List ChargeState) (i slot : ℕ) (x : ChargeState) → i ≡ slot → IsRow charges → slot < 64 → x ≡ get_or charges i x → slot ≡ x.slot
+pub slot-found : (charges : List ChargeState) (i slot : ℕ) (x : ChargeState) → i ≡ slot → IsRow charges → slot < max_slots → x ≡ get_or charges i x → slot ≡ x.slot
 slot-found charges i slot x e row low at = sym (ap (λ (c : ChargeState). c.slot) (found-in charges i slot x e row low at) ∙ row.places slot low)
 
 -- a row with one charge in its place changed
-pub row-set : (charges : List ChargeState) (slot : ℕ) (x : ChargeState) → IsRow charges → slot < 64 → x.slot ≡ slot → IsRow (set charges slot x)
+pub row-set : (charges : List ChargeState) (slot : ℕ) (x : ChargeState) → IsRow charges → slot < max_slots → x.slot ≡ slot → IsRow (set charges slot x)
 row-set charges slot x row low e = record {
   count = length-set charges slot x ∙ row.count;
   places = λ k lt. ⊎_elim
@@ -66,8 +67,8 @@ free_row-get (suc n) k lt =
     (λ (h : (eqb k n ≡ false) × (k ≢ n)). in_row (free_row n) (free_charge n) (free_charge k) k (free_row-get n k (let p = h.1 in omega arith)))
     (eqb_tells k n)
 
-pub row-free : IsRow (free_row 64)
+pub row-free : IsRow (free_row max_slots)
 row-free = record {
-  count = length-free_row 64;
-  places = λ k lt. ap (λ (c : ChargeState). c.slot) (slice_get-found (free_row 64) k (free_charge k) (free_charge k) (free_row-get 64 k lt));
+  count = length-free_row max_slots;
+  places = λ k lt. ap (λ (c : ChargeState). c.slot) (slice_get-found (free_row max_slots) k (free_charge k) (free_charge k) (free_row-get max_slots k lt));
 }

@@ -5,7 +5,7 @@ use Rattle.snap_usage.specs.Counted.{covers}
 use Rattle.snap_ledger.specs.States.{plus}
 use Rattle.snap_record.specs.Labels.{Bytes}
 use Rattle.snap_call.specs.declared.state.State.{State}
-use Rattle.snap_call.specs.Records.{charge_of, active_at, has_key}
+use Rattle.snap_call.specs.Records.{charge_of, active_at, has_key, max_slots}
 use Rattle.snap_call.specs.State.{limit_at, is_base, is_too_deep}
 use Rattle.snap_call.specs.Step.{one}
 use Rattle.snap_accounts.specs.declared.prepare.Vacancy.{Vacancy}
@@ -18,9 +18,10 @@ pub record IsSite (s : State) (place : ℕ) (key parent : Bytes) : Type 0 where
   pub deep : is_too_deep place parent s.records ≡ false
   pub numbers : s.next_id ≤ 4294967295
 
--- an active one can be: its slot is free too, and its namespace's limit covers 1/1 more
+-- an active one can be: its slot is a free one of the store, and its namespace's limit covers 1/1 more
 pub record IsVacant (s : State) (v : Vacancy) (key parent : Bytes) : Type 0 where
   pub site : IsSite s v.place key parent
-  pub low : v.slot < 64
+  pub low : v.slot < s.slots
+  pub few : v.slot < max_slots
   pub free : active_at v.slot s.records ≡ None
   pub fits : covers (limit_at v.place s.namespaces) (plus (charge_of v.place s.records) one) ≡ true

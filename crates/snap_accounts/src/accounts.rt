@@ -38,7 +38,8 @@ impl<N: StoreName> Model for Accounts<N> {
 
 impl<N: StoreName> Accounts<N> {
     /// The state of a new store: all namespaces of the configuration are charged 0/0, and all slots are
-    /// free. Takes memory for the totals and the charges. The cost grows with the number of namespaces.
+    /// free. Takes memory for the totals, and for a charge of each of the 4096 slots that a store can have, however
+    /// many this one has. The cost grows with the number of namespaces.
     pub fn opening(
         alloc: Global,
         table: NewTable,

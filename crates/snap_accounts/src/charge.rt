@@ -2,7 +2,7 @@
 ghost use Rattle.std.specs.Prelude.{◌≡◌, ◌<◌, ◌+◌, ◌^◌, length, true, IfOk, IfErr};
 ghost use Rattle.snap_usage.specs.Counted.{Covers, covers as covers_of};
 ghost use Rattle.snap_ledger.specs.States.{CoversOne, Meets, minus, plus};
-ghost use Rattle.snap_call.specs.Records.{charge_of, charge_at, active_at, recharged, open_count};
+ghost use Rattle.snap_call.specs.Records.{charge_of, charge_at, active_at, recharged, open_count, max_slots};
 ghost use Rattle.snap_call.specs.State.{limit_at, over_limit};
 ghost use Rattle.snap_call.specs.Step.{charge as charge_step, trim as trim_step, discard as discard_step, greater, fits, granted, IsOpen, IsCovered};
 ghost use Rattle.snap_call.specs.declared.call.Given.TheVariants.{Count};
@@ -47,7 +47,7 @@ impl<N: StoreName> Accounts<N> {
     /// What both halves of an open slot's charge hold, by its share: the slot is open under the share's
     /// id, and charged the share's usage. Takes no memory. The cost is constant.
     pub fn meet(&mut self, share: &mut Share<N>) -> Usage
-        requires { share.old.slot < 64 }
+        requires { share.old.slot < max_slots }
         ensures met { Meets (charge_at share.old.slot self.old.records) share.old }
         ensures held { result ≡ share.old.usage }
         ensures covers { CoversOne result }
@@ -140,7 +140,7 @@ impl<N: StoreName> Accounts<N> {
     /// covers neither. Both count an entry. Takes no memory. The cost grows with the logarithm of the
     /// number of records.
     pub fn charge(&mut self, share: &mut Share<N>, need: Usage, want: Usage) -> Result<Usage, Usage>
-        requires slot { share.old.slot < 64 }
+        requires slot { share.old.slot < max_slots }
         requires entries { self.old.entries < 2 ^ 63 }
         ensures allowed { IsOpen share.old.id (active_at share.old.slot self.old.records) }
         ensures granted { IfOk result (λ now. charge_step self.old share.old.slot need want (active_at share.old.slot self.old.records) ≡ (self.new, Charged now)) }
@@ -179,7 +179,7 @@ impl<N: StoreName> Accounts<N> {
     /// Lowers the charge of the share's slot to a count that it covers, and counts an entry. Takes no
     /// memory. The cost grows with the logarithm of the number of records.
     pub fn trim(&mut self, share: &mut Share<N>, count: Usage)
-        requires slot { share.old.slot < 64 }
+        requires slot { share.old.slot < max_slots }
         requires entries { self.old.entries < 2 ^ 63 }
         requires count { Covers share.old.usage count }
         requires one { CoversOne count }
@@ -197,7 +197,7 @@ impl<N: StoreName> Accounts<N> {
     /// Removes the snapshot of the share's slot, and frees the slot; the answer is what it was charged.
     /// It counts an entry. Takes no memory. The cost grows with the logarithm of the number of records.
     pub fn discard(&mut self, share: Share<N>) -> Usage
-        requires slot { share.slot < 64 }
+        requires slot { share.slot < max_slots }
         requires entries { self.old.entries < 2 ^ 63 }
         ensures allowed { IsOpen share.id (active_at share.slot self.old.records) }
         ensures step { discard_step self.old share.slot (active_at share.slot self.old.records) ≡ (self.new, Discarded result) }

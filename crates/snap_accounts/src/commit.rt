@@ -5,7 +5,7 @@ ghost use Rattle.snap_layer.specs.Tree.{Tree};
 ghost use Rattle.snap_usage.specs.Counted.{Covers, count_of};
 ghost use Rattle.snap_ledger.specs.States.{minus, plus};
 ghost use Rattle.snap_call.specs.Forms.{is_key};
-ghost use Rattle.snap_call.specs.Records.{charge_of, charge_at, active_at, open_count};
+ghost use Rattle.snap_call.specs.Records.{charge_of, charge_at, active_at, open_count, max_slots};
 ghost use Rattle.snap_call.specs.Step.{commit_as, refused, IsCovered};
 ghost use Rattle.snap_call.specs.declared.reply.Reply.TheVariants.{Committed};
 ghost use Rattle.snap_accounts.specs.Commits.{CanCommit};
@@ -88,7 +88,7 @@ impl<N: StoreName> Accounts<N> {
         lease: &Option<Text>,
         layer: &Shared,
     ) -> Result<Usage, (NoMemory, Share<N>)>
-        requires slot { share.slot < 64 }
+        requires slot { share.slot < max_slots }
         requires entries { self.old.entries < 2 ^ 63 }
         requires covers { Covers share.usage (count_of layer.now) }
         requires possible { CanCommit self.old share.slot name.now lease.now }

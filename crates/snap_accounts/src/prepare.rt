@@ -2,7 +2,7 @@
 ghost use Rattle.std.specs.Prelude.{◌≡◌, ◌<◌, ◌≤◌, ◌+◌, ◌^◌, length, true, None, Some, IfOk, OnOk, OnErr, IfErr, Ok, Err};
 ghost use Rattle.snap_usage.specs.Counted.{covers as covers_of};
 ghost use Rattle.snap_ledger.specs.States.{plus};
-ghost use Rattle.snap_call.specs.Records.{charge_of, active_at, lowest_free, has_key, open_count};
+ghost use Rattle.snap_call.specs.Records.{charge_of, active_at, lowest_free, has_key, max_slots, open_count};
 ghost use Rattle.snap_call.specs.State.{limit_at, place_of, is_base, is_too_deep};
 ghost use Rattle.snap_call.specs.Step.{prepare, prepared, new_record, one, refused, place_on, place_for, slot_for};
 ghost use Rattle.snap_accounts.specs.Entries.{IsRecorded};
@@ -42,14 +42,15 @@ impl<N: StoreName> Accounts<N> {
     fn slot_for(&self, place: usize) -> Result<u64, Refusal>
         requires { place < length self.now.namespaces }
         ensures ok { IfOk result (λ slot. slot_for self.now place ≡ Ok slot) }
-        ensures low { IfOk result (λ slot. slot < 64) }
+        ensures low { IfOk result (λ slot. slot < self.now.slots) }
+        ensures few { IfOk result (λ slot. slot < max_slots) }
         ensures free { IfOk result (λ slot. active_at slot self.now.records ≡ None) }
         ensures fits { IfOk result (λ slot. covers_of (limit_at place self.now.namespaces) (plus (charge_of place self.now.records) one) ≡ true) }
         ensures numbers { IfOk result (λ slot. self.now.next_id ≤ 4294967295) }
         ensures recorded { IfErr result IsRecorded }
         ensures refused { IfErr result (λ why. slot_for self.now place ≡ Err why) }
     {
-        let Some(slot) = self.state.records.lowest_free() else {
+        let Some(slot) = self.state.records.lowest_free(self.state.slots) else {
             return Err(Refusal::TooManyActives);
         };
         if !has_room(self.state.limit_at(place), self.total(place), one()) {
@@ -111,8 +112,9 @@ impl<N: StoreName> Accounts<N> {
     /// or for more than 64 labels; `NoNamespace`; `NotFound` where the namespace has no snapshot of the
     /// parent's name; `AlreadyExists` where it has one of the key; `NotCommitted` where the parent is not
     /// committed; `TooDeep` where the snapshot would have more than 64 committed ancestors;
-    /// `TooManyActives` where all 64 slots are open; `OverLimit` with what is free, where 1/1 does not
-    /// fit; `NumbersSpent` after the id 4,294,967,295. Takes no memory. The cost grows with the
+    /// `TooManyActives` where all slots of the store are open, whatever namespaces have them; `OverLimit` with what is free, where 1/1 does not
+    /// fit; `NumbersSpent` after the id 4,294,967,295. Takes no memory. The cost grows with the number of
+    /// slots, of which 64 open ones are one step, with the
     /// logarithm of the number of records, once for each ancestor, and with the number of labels.
     pub fn vacancy(
         &self,

@@ -19,6 +19,7 @@ use Rattle.std.proofs.lemmas.Bool.{lt-ltb}
 use Rattle.std.specs.Prelude.{if◌then◌else◌}
 use Rattle.snap_accounts.specs.Entries.{IsPlain, IsRecorded}
 use Rattle.snap_book.specs.Book.{JournalValue, BookValue, IsBeginning, IsLast, Kept, Recorded, RefusedBy}
+use Rattle.snap_call.proofs.AsMany.{Replays-slots}
 use Rattle.snap_call.proofs.Replaying.{replays_step, step-entries}
 
 -- a call that is recorded: j has room made as m, and then the entry as k
@@ -95,3 +96,7 @@ plain_allowed s (calls.Trim slot id) plain = absurd plain
 plain_allowed s (calls.Commit slot id name lease) plain = absurd plain
 plain_allowed s (calls.Discard slot id) plain = absurd plain
 plain_allowed s call plain = tt
+
+-- a round leaves the store as many slots as it began with
+pub kept_slots : (s : State) (j : JournalValue) → Kept s j → s.slots ≡ j.opening.slots
+kept_slots s j kept = Replays-slots j.opening j.entries s kept.replays

@@ -1,8 +1,9 @@
 -- What clauses see of a snapshot in its writer's hands.
--- Cited by `Book::prepare`, `Book::prepare_with_reply`, `replay_within` and others.
+-- Cited by `Book::prepare`, `Book::prepare_within`, `replay_within` and others.
 use Rattle.std.specs.Prelude.{ℕ, List, [], ◌∷◌, Option, Some}
 use Rattle.snap_layer.specs.declared.node.Node.{Node}
 use Rattle.snap_layer.specs.declared.node.Node.TheVariants.{Dir}
+use Rattle.snap_layer.specs.Edits.{root_within}
 use Rattle.snap_layer.specs.Tree.{Tree, at}
 use Rattle.snap_ledger.specs.States.{ShareState}
 use Rattle.snap_record.specs.Labels.{Bytes}
@@ -24,3 +25,7 @@ mode_of other = 493
 abbrev pub root_mode : List Tree → ℕ
 root_mode [] = 493
 root_mode (layer ∷ layers) = mode_of (at layer [])
+
+-- the layer of a new snapshot over these: a root alone, which may have so many inodes
+abbrev pub fresh : ℕ → List Tree → Tree
+fresh inodes lowers = root_within inodes (root_mode lowers) 1

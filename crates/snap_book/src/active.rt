@@ -2,6 +2,7 @@
 ghost use Rattle.std.specs.Prelude.{◌≡◌, ◌<◌, IfOk, IfErr};
 ghost use Rattle.snap_usage.specs.Counted.{Covers, count_of};
 ghost use Rattle.snap_ledger.specs.States.{CoversOne, minus};
+ghost use Rattle.snap_call.specs.Records.{max_slots};
 ghost use Rattle.snap_book.specs.Held.{share_of};
 
 use snap_call::EntryRoom;
@@ -32,13 +33,14 @@ pub struct Active<N: StoreName> {
 impl<N: StoreName> Model for Active<N> {
     ghost use Rattle.std.specs.Prelude.{◌<◌};
     ghost use Rattle.snap_usage.specs.Counted.{Covers, count_of};
+    ghost use Rattle.snap_call.specs.Records.{max_slots};
     ghost use Rattle.snap_book.specs.Active.{ActiveValue};
 
     ghost Value = { ActiveValue };
 
     ghost view = { λ a. record { namespace = a.namespace; key = a.key; lowers = a.lowers; layer = a.layer; share = a.share } };
 
-    ghost invariant = { λ a. (a.share.slot < 64) × Covers a.share.usage (count_of a.layer) };
+    ghost invariant = { λ a. (a.share.slot < max_slots) × Covers a.share.usage (count_of a.layer) };
 }
 
 /// An active snapshot whose layer does not change any more. It has no `Drop`, as [`Active`].
@@ -54,13 +56,14 @@ pub struct Sealed<N: StoreName> {
 impl<N: StoreName> Model for Sealed<N> {
     ghost use Rattle.std.specs.Prelude.{◌<◌};
     ghost use Rattle.snap_usage.specs.Counted.{Covers, count_of};
+    ghost use Rattle.snap_call.specs.Records.{max_slots};
     ghost use Rattle.snap_book.specs.Active.{ActiveValue};
 
     ghost Value = { ActiveValue };
 
     ghost view = { λ a. record { namespace = a.namespace; key = a.key; lowers = a.lowers; layer = a.layer; share = a.share } };
 
-    ghost invariant = { λ a. (a.share.slot < 64) × Covers a.share.usage (count_of a.layer) };
+    ghost invariant = { λ a. (a.share.slot < max_slots) × Covers a.share.usage (count_of a.layer) };
 }
 
 /// What is left of an open snapshot whose layer is let go: its share, and the room for the entry of its discard. It
@@ -73,12 +76,13 @@ pub struct Released<N: StoreName> {
 impl<N: StoreName> Model for Released<N> {
     ghost use Rattle.std.specs.Prelude.{◌<◌};
     ghost use Rattle.snap_ledger.specs.States.{ShareState};
+    ghost use Rattle.snap_call.specs.Records.{max_slots};
 
     ghost Value = { ShareState };
 
     ghost view = { λ r. r.share };
 
-    ghost invariant = { λ r. r.share.slot < 64 };
+    ghost invariant = { λ r. r.share.slot < max_slots };
 }
 
 /// A snapshot that is given back, sealed or not.
@@ -102,10 +106,10 @@ impl<N: StoreName> Active<N> {
         self.key.as_str()
     }
 
-    /// Its slot, one of 0 to 63.
+    /// Its slot, from 0: one of those of the store.
     pub fn slot(&self) -> u64
         ensures slot { result ≡ self.now.share.slot }
-        ensures low { result < 64 }
+        ensures low { result < max_slots }
     {
         self.share.slot()
     }

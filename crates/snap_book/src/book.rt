@@ -1,5 +1,5 @@
 // A book: its state, its journal, and what is read of both.
-ghost use Rattle.std.specs.Prelude.{◌≡◌, ◌≤◌, ◌<◌, ◌+◌, ◌↔◌, ℕ, None, Some, length, Ok, Err, IfErr, IsErrOf, ◌⊎◌, [], IfOk, OnErr, false};
+ghost use Rattle.std.specs.Prelude.{◌≡◌, ◌≤◌, ◌<◌, ◌+◌, ◌↔◌, ℕ, None, Some, length, Ok, Err, IfErr, IsErrOf, ◌⊎◌, [], IfOk, OnErr, false, true};
 ghost use Rattle.snap_call.specs.Good.{Good};
 ghost use Rattle.snap_call.specs.Journal.{Replays};
 ghost use Rattle.snap_call.specs.Records.{open_count, charge_of, sum_of};
@@ -8,7 +8,7 @@ ghost use Rattle.snap_call.specs.declared.call.Given.TheVariants.{Nothing};
 ghost use Rattle.snap_call.specs.declared.reply.Reply.TheVariants.{Opened};
 ghost use Rattle.snap_call.specs.declared.refusal.Refusal.TheVariants.{JournalFull, BadArgument, NumbersSpent, OutOfMemory};
 ghost use Rattle.snap_book.specs.Book.{IsBeginning, IsLast, Recorded};
-ghost use Rattle.snap_call.specs.Forms.{is_config};
+ghost use Rattle.snap_call.specs.Forms.{is_config, is_layer_limit};
 ghost use Rattle.snap_call.specs.State.{opening, limit_at, place_of, name_at};
 ghost use Rattle.snap_call.specs.Totals.{taken_by};
 ghost use Rattle.snap_accounts.specs.Entries.{IsUnrecorded};
@@ -60,7 +60,8 @@ impl<N: StoreName> Book<N> {
     /// A book with the namespaces of the configuration and no snapshots.
     ///
     /// `BadArgument` where a part of the configuration has not its form; `OutOfMemory` where memory is
-    /// refused.
+    /// refused. Memory and cost grow with the numbers of namespaces and of slots; besides there is a charge
+    /// for each of the 4096 slots that a store can have, together 192 KiB.
     pub fn open(alloc: Global, table: NewTable, config: Config) -> Result<Book<N>, Refusal>
         requires { table ≡ N.table }
         ensures opened { IfOk result (λ b. b ≡ record { state = opening config; journal = []; opening = opening config; limit = config.journal; copy = None }) }
@@ -123,6 +124,14 @@ impl<N: StoreName> Book<N> {
         self.journal.take_copy()
     }
 
+    /// The most inodes of the layer of each snapshot that is prepared. Takes no memory. The cost is constant.
+    pub fn layer_inodes(&self) -> u64
+        ensures same { result ≡ self.now.state.layer_inodes }
+        ensures formed { is_layer_limit result ≡ true }
+    {
+        self.accounts.state().layer_inodes
+    }
+
     /// The entries of the round. Takes no memory. The cost is constant.
     pub fn journal(&self) -> &[SharedEntry]
         ensures { result.now ≡ self.now.journal }
@@ -152,14 +161,14 @@ impl<N: StoreName> Book<N> {
     }
 
     /// What the open snapshots of the namespace were charged when the round began, for
-    /// [`history`](snap_history::history); none where the store has no such namespace. Takes memory for 64 places.
-    /// The cost grows with the number of namespaces.
+    /// [`history`](snap_history::history); none where the store has no such namespace. Takes memory for a
+    /// place for each slot. The cost grows with the numbers of slots and of namespaces.
     pub fn opening_shares(&self, namespace: &str) -> Result<Shares, AllocError>
-        ensures { IfOk result (λ shares. (place : ℕ) → place_of namespace.now self.now.state.namespaces ≡ Some place → shares ≡ shares_of place self.now.opening.records) }
+        ensures { IfOk result (λ shares. (place : ℕ) → place_of namespace.now self.now.state.namespaces ≡ Some place → shares ≡ shares_of self.now.opening.slots place self.now.opening.records) }
     {
         match self.accounts.state().place_of(namespace) {
             Some(place) => self.journal.shares().of_namespace(self.alloc, place),
-            None => Shares::none(self.alloc),
+            None => Shares::none(self.alloc, self.accounts.state().slots),
         }
     }
 

@@ -94,7 +94,7 @@ impl Model for Journal {
 
     ghost view = { λ j. record { entries = j.entries.items; opening = j.opening; limit = j.limit; copy = j.copy; room = vec_capacity j.entries - vec_len j.entries } };
 
-    ghost invariant = { λ j. (j.limit ≤ 1048576) × (j.shares ≡ open_shares j.opening.records) };
+    ghost invariant = { λ j. (j.limit ≤ 1048576) × (j.shares ≡ open_shares j.opening.slots j.opening.records) };
 }
 
 impl Journal {
@@ -106,16 +106,17 @@ impl Journal {
         Ok(Journal {
             entries: Vec::new(alloc),
             opening: Opening::of(alloc, state)?,
-            shares: OpenShares::of(alloc, &state.records)?,
+            shares: OpenShares::of(alloc, state.slots, &state.records)?,
             limit,
             copy: None,
             session_room: None,
         })
     }
 
-    // No entries, at another state. It takes no memory.
+    // No entries, at another state with as many slots. It takes no memory.
     pub(crate) fn begin(&mut self, state: &State, limit: u64)
-        requires { limit ≤ 1048576 }
+        requires limit { limit ≤ 1048576 }
+        requires slots { state.now.slots ≡ self.old.opening.slots }
         ensures room { self.old.room ≤ self.new.room }
         ensures began { self.new ≡ record { entries = []; opening = state.now; limit = limit; copy = None; room = self.new.room } }
     {
@@ -219,7 +220,7 @@ impl Journal {
 
     // What the open snapshots of the state that the round began at were charged.
     pub(crate) fn shares(&self) -> &OpenShares
-        ensures { result.now ≡ open_shares self.now.opening.records }
+        ensures { result.now ≡ open_shares self.now.opening.slots self.now.opening.records }
     {
         &self.shares
     }

@@ -1,4 +1,4 @@
-// The plain calls: View, Remove, Update, Stat, Usage, Mounts and Walk.
+// The plain calls: those that take no snapshot out of its writer's hands and put none into them.
 ghost use Rattle.std.specs.Prelude.{◌≡◌, ◌≤◌, ◌<◌, ◌+◌, ◌^◌, ◌↔◌, length, IfOk, OnErr, IfErr, IsErrOf};
 ghost use Rattle.snap_call.specs.Journal.{entry};
 ghost use Rattle.snap_call.specs.Records.{open_count};

@@ -1,6 +1,6 @@
 // A new active snapshot.
-ghost use Rattle.std.specs.Prelude.{◌≡◌, ◌<◌, ◌≤◌, ◌+◌, ◌^◌, ◌↔◌, length, IfOk, OnOk, OnErr, IfErr, IsErrOf, Some, false};
-ghost use Rattle.snap_layer.specs.Edits.{root_only};
+ghost use Rattle.std.specs.Prelude.{◌≡◌, ◌<◌, ◌≤◌, ◌+◌, ◌^◌, ◌↔◌, length, IfOk, OnOk, OnErr, IfErr, IsErrOf, Some, false, true};
+ghost use Rattle.snap_call.specs.Forms.{is_layer_limit};
 ghost use Rattle.snap_call.specs.Records.{open_count};
 ghost use Rattle.snap_call.specs.State.{place_of, ancestors, ids_of, is_too_deep, layers_of};
 ghost use Rattle.snap_call.specs.Step.{one, prepared};
@@ -10,7 +10,7 @@ ghost use Rattle.snap_call.specs.declared.call.Given.TheVariants.{Nothing};
 ghost use Rattle.snap_call.specs.declared.reply.Reply.TheVariants.{Prepared};
 ghost use Rattle.snap_call.specs.declared.refusal.Refusal.TheVariants.{JournalFull};
 ghost use Rattle.snap_accounts.specs.Vacant.{IsVacant};
-ghost use Rattle.snap_book.specs.Active.{root_mode};
+ghost use Rattle.snap_book.specs.Active.{fresh, root_mode};
 ghost use Rattle.snap_book.specs.Book.{Recorded, RefusedBy, prepare_reply};
 
 use crate::active::Active;
@@ -94,16 +94,19 @@ impl<N: StoreName> Active<N> {
         parent: &str,
         labels: &Labels,
         lowers: Sequence<Shared>,
+        layer_inodes: u64,
     ) -> Result<Active<N>, AllocError>
         requires entries { accounts.old.entries < 2 ^ 63 }
+        requires inodes { is_layer_limit layer_inodes ≡ true }
         requires vacant { IsVacant accounts.old vacancy key.now parent.now }
         ensures added { OnOk result (accounts.new ≡ (prepared accounts.old vacancy.place key.now parent.now labels.now vacancy.slot).0) }
-        ensures active { IfOk result (λ a. a ≡ record { namespace = vacancy.place; key = key.now; lowers = lowers; layer = root_only (root_mode lowers) 1; share = record { slot = vacancy.slot; id = accounts.old.next_id; usage = one } }) }
+        ensures active { IfOk result (λ a. a ≡ record { namespace = vacancy.place; key = key.now; lowers = lowers; layer = fresh layer_inodes lowers; share = record { slot = vacancy.slot; id = accounts.old.next_id; usage = one } }) }
         ensures open { OnOk result (open_count accounts.new.records ≡ open_count accounts.old.records + 1) }
         ensures unchanged { OnErr result (accounts.new ≡ accounts.old) }
     {
         let own_key = Text::copy_of(alloc, key)?;
-        let layer = Layer::empty(alloc, root_mode(alloc, lowers.as_slice()))?;
+        let mode = root_mode(alloc, lowers.as_slice());
+        let layer = Layer::within(alloc, mode, layer_inodes as usize)?;
         let discard_room = EntryRoom::new(alloc)?;
         let share = accounts.add(alloc, vacancy, key, parent, labels)?;
         Ok(Active {
@@ -129,12 +132,12 @@ impl<N: StoreName> Book<N> {
     /// key, a parent or labels that have not their form, or for more than 64 labels; `NoNamespace`;
     /// `NotFound` where the namespace has no snapshot of the parent's name; `AlreadyExists` where it has
     /// one of the key; `NotCommitted` where the parent is not committed; `TooDeep` where the snapshot
-    /// would have more than 64 committed ancestors; `TooManyActives` where all 64 slots are open;
+    /// would have more than 64 committed ancestors; `TooManyActives` where all slots of the store are open;
     /// `OverLimit` with what is free; `NumbersSpent` after the id 4,294,967,295. At last `OutOfMemory`
     /// where memory for the snapshot is refused. `JournalFull` and `OutOfMemory` leave the book as it
     /// was, the others all but the journal. Its cost grows with the logarithm of the number of
-    /// records, once for each ancestor and once for the snapshot itself, and with the texts and the
-    /// labels.
+    /// records, once for each ancestor and once for the snapshot itself, with the texts and the
+    /// labels, and with the number of slots, of which 64 open ones are one step.
     pub fn prepare(
         &mut self,
         session: u64,
@@ -148,33 +151,37 @@ impl<N: StoreName> Book<N> {
         ensures namespace { IfOk result (λ a. place_of namespace.now self.old.state.namespaces ≡ Some a.namespace) }
         ensures key { IfOk result (λ a. a.key ≡ key.now) }
         ensures lowers { IfOk result (λ a. a.lowers ≡ layers_of (ancestors a.namespace parent.now self.old.state.records)) }
-        ensures layer { IfOk result (λ a. a.layer ≡ root_only (root_mode a.lowers) 1) }
+        ensures layer { IfOk result (λ a. a.layer ≡ fresh self.old.state.layer_inodes a.lowers) }
         ensures usage { IfOk result (λ a. a.share.usage ≡ one) }
         ensures refused { IfErr result (λ why. RefusedBy self.old self.new session (calls.Prepare namespace.now key.now parent.now labels.now) Nothing why) }
         ensures full { IsErrOf result JournalFull ↔ (self.old.limit < length self.old.journal + open_count self.old.state.records + 2) }
     {
-        match self.prepare_with_reply(session, namespace, key, parent, labels) {
+        let layer_inodes = self.layer_inodes();
+        match self.prepare_within(session, namespace, key, parent, labels, layer_inodes) {
             Ok((active, _)) => Ok(active),
             Err(why) => Err(why),
         }
     }
 
-    /// Makes an active snapshot as [`Book::prepare`] does, and gives the call's reply beside it.
-    pub fn prepare_with_reply(
+    /// Makes an active snapshot as [`Book::prepare`] does, with a layer of at most so many inodes, and gives the
+    /// call's reply beside it.
+    pub fn prepare_within(
         &mut self,
         session: u64,
         namespace: &str,
         key: &str,
         parent: &str,
         labels: &Labels,
+        layer_inodes: u64,
     ) -> Result<(Active<N>, Reply), Refusal>
+        requires { is_layer_limit layer_inodes ≡ true }
         ensures granted { IfOk result (λ p. Recorded self.old self.new session (calls.Prepare namespace.now key.now parent.now labels.now) Nothing (Prepared p.0.share.id p.0.share.slot (ids_of (ancestors p.0.namespace parent.now self.old.state.records)))) }
         // The reply is that of the entry.
         ensures reply { IfOk result (λ p. p.1 ≡ Prepared p.0.share.id p.0.share.slot (ids_of (ancestors p.0.namespace parent.now self.old.state.records))) }
         ensures namespace { IfOk result (λ p. place_of namespace.now self.old.state.namespaces ≡ Some p.0.namespace) }
         ensures key { IfOk result (λ p. p.0.key ≡ key.now) }
         ensures lowers { IfOk result (λ p. p.0.lowers ≡ layers_of (ancestors p.0.namespace parent.now self.old.state.records)) }
-        ensures layer { IfOk result (λ p. p.0.layer ≡ root_only (root_mode p.0.lowers) 1) }
+        ensures layer { IfOk result (λ p. p.0.layer ≡ fresh layer_inodes p.0.lowers) }
         ensures usage { IfOk result (λ p. p.0.share.usage ≡ one) }
         ensures refused { IfErr result (λ why. RefusedBy self.old self.new session (calls.Prepare namespace.now key.now parent.now labels.now) Nothing why) }
         ensures full { IsErrOf result JournalFull ↔ (self.old.limit < length self.old.journal + open_count self.old.state.records + 2) }
@@ -201,6 +208,7 @@ impl<N: StoreName> Book<N> {
             parent,
             labels,
             lowers,
+            layer_inodes,
         )?;
         self.journal.push(entry, copy);
         Ok((active, answer))

@@ -97,25 +97,11 @@ open_count-committed slot name layer number rs r e =
 pub open_count-some : (slot : ℕ) (rs : List Record) (r : Record) → active_at slot rs ≡ Some r → 1 ≤ open_count rs
 open_count-some slot rs r e = let less = open_count-without_slot slot rs r e in omega arith
 
--- the slot of an active is below a number
-abbrev IsBelow : ℕ → Content → Type 0
-IsBelow n (View layers) = Unit {0}
-IsBelow n (Active slot charged) = slot < n
-IsBelow n (Committed layer usage) = Unit {0}
-
+-- the slots of all actives are below a number
 abbrev AllBelow : ℕ → List Record → Type 0
-AllBelow n rs = AllByRecursion (λ r. IsBelow n r.content) rs
+AllBelow n rs = AllByRecursion (λ r. HasLowSlot n r.content) rs
 
-place-below : (c : Content) → HasLowSlot c → IsBelow 64 c
-place-below (View layers) h = tt
-place-below (Active slot charged) h = h
-place-below (Committed layer usage) h = tt
-
-all-below : (rs : List Record) → AllByRecursion (λ r. HasLowSlot r.content) rs → AllBelow 64 rs
-all-below [] all = tt
-all-below (t ∷ ts) all = (place-below t.content all.0, all-below ts all.1)
-
-none_active : (c : Content) → IsBelow 0 c → active_one c ≡ 0
+none_active : (c : Content) → HasLowSlot 0 c → active_one c ≡ 0
 none_active (View layers) h = refl
 none_active (Active slot charged) h = absurd (omega arith)
 none_active (Committed layer usage) h = refl
@@ -124,7 +110,7 @@ none_open : (rs : List Record) → AllBelow 0 rs → open_count rs ≡ 0
 none_open [] all = refl
 none_open (t ∷ ts) all = let none = none_active t.content all.0 in let rest = none_open ts all.1 in omega (arith, open_count-cons t ts)
 
-below-other : (n : ℕ) (c : Content) → has_slot n c ≡ false → IsBelow (suc n) c → IsBelow n c
+below-other : (n : ℕ) (c : Content) → has_slot n c ≡ false → HasLowSlot (suc n) c → HasLowSlot n c
 below-other n (View layers) e h = tt
 below-other n (Active slot charged) e h =
     ⊎_elim
@@ -148,10 +134,10 @@ count_below (suc n) rs apart all = at (active_at n rs) refl (count_below n)
     at : (o : Option Record) → active_at n rs ≡ o → ((ts : List Record) → AllPairwise AreApart ts → AllBelow n ts → open_count ts ≤ n) → open_count rs ≤ suc n
     at None is next = let few = next rs apart (below-free n rs is all) in omega arith
     at (Some r) is next =
-        let few = next (without_slot n rs) (pairwise-without (is_slot n) AreApart rs apart) (below-free n (without_slot n rs) (active_at-without_slot_own n rs apart) (all-without (is_slot n) (λ r. IsBelow (suc n) r.content) rs all)) in
+        let few = next (without_slot n rs) (pairwise-without (is_slot n) AreApart rs apart) (below-free n (without_slot n rs) (active_at-without_slot_own n rs apart) (all-without (is_slot n) (λ r. HasLowSlot (suc n) r.content) rs all)) in
         let less = open_count-without_slot n rs r is in
         omega arith
 
--- at most 64 are active, since no two have the same slot
-pub open_count-most : (rs : List Record) → AllPairwise AreApart rs → AllByRecursion (λ r. HasLowSlot r.content) rs → open_count rs ≤ 64
-open_count-most rs apart placed = count_below 64 rs apart (all-below rs placed)
+-- at most so many are active as there are slots, since no two have the same one
+pub open_count-most : (n : ℕ) (rs : List Record) → AllPairwise AreApart rs → AllByRecursion (λ r. HasLowSlot n r.content) rs → open_count rs ≤ n
+open_count-most n rs apart placed = count_below n rs apart placed

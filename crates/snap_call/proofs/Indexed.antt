@@ -13,7 +13,7 @@ use Rattle.snap_record.specs.declared.record.Content.{Content}
 use Rattle.snap_record.specs.declared.record.Content.TheVariants.{View, Active, Committed}
 use Rattle.snap_record.specs.declared.record.Record.{Record}
 use Rattle.snap_call.specs.Indexes.{AreIndexed, name_in, name_of, slot_of}
-use Rattle.snap_call.specs.Records.{is_named, record_at, has_key, has_slot, is_slot, is_active, active_at, with_record, without, without_slot, without_key, recharged, relabelled, AllPairwise, AreApart, HasLowSlot}
+use Rattle.snap_call.specs.Records.{is_named, record_at, has_key, has_slot, is_slot, is_active, active_at, with_record, without, without_slot, without_key, recharged, relabelled, AllPairwise, AreApart, HasLowSlot, max_slots}
 use Rattle.snap_call.specs.Spaces.{edited_at}
 use Rattle.snap_call.specs.declared.open_slots.Name.{Name}
 use Rattle.snap_call.specs.declared.record_edit.RecordEdit.TheVariants as edits
@@ -206,12 +206,12 @@ module _ (rs : List Record) (names : List (Option Name)) (at : AreIndexed rs nam
   indexed-same others same = record { sorted = at.sorted; apart = at.apart; low = at.low; slots = λ k. same k ∙ at.slots k }
 
   -- a record more
-  module _ (r : Record) (new : has_key r.namespace r.key rs ≡ false) (few : HasLowSlot r.content) (free : (slot : ℕ) → is_slot slot r ≡ true → active_at slot rs ≡ None) where
+  module _ (r : Record) (new : has_key r.namespace r.key rs ≡ false) (few : HasLowSlot max_slots r.content) (free : (slot : ℕ) → is_slot slot r ≡ true → active_at slot rs ≡ None) where
     indexed-more : (others : List (Option Name)) → ((k : ℕ) → name_in k others ≡ option_map name_of (active_at k (with_record r rs))) → AreIndexed (with_record r rs) others
     indexed-more others slots = record {
       sorted = sorted-with_record r rs new at.sorted;
       apart = pairwise-with_record r AreApart rs (apart_all r rs free) (apart_back r rs (apart_all r rs free)) at.apart;
-      low = all-with_record r (λ t. HasLowSlot t.content) rs few at.low;
+      low = all-with_record r (λ t. HasLowSlot max_slots t.content) rs few at.low;
       slots = slots;
     }
 
@@ -229,7 +229,7 @@ module _ (rs : List Record) (names : List (Option Name)) (at : AreIndexed rs nam
   indexed-less p others slots = record {
     sorted = sorted-without p rs at.sorted;
     apart = pairwise-without p AreApart rs at.apart;
-    low = all-without p (λ t. HasLowSlot t.content) rs at.low;
+    low = all-without p (λ t. HasLowSlot max_slots t.content) rs at.low;
     slots = slots;
   }
 
@@ -255,7 +255,7 @@ module _ (rs : List Record) (names : List (Option Name)) (at : AreIndexed rs nam
         (λ t u is h k out. h k (sym (same_slot slot k to t.content is) ∙ out))
         (λ t u is h k out. same_slot slot k to u.content is ∙ h k out)
         at.apart;
-    low = all-recharged slot to (λ t. HasLowSlot t.content) rs (λ t is h. place_anew slot to t.content is h) at.low;
+    low = all-recharged slot to (λ t. HasLowSlot max_slots t.content) rs (λ t is h. place_anew slot to max_slots t.content is h) at.low;
     slots = at_slot (λ k. name_in k names ≡ option_map name_of (active_at k (recharged slot to rs))) slot own
         (λ k other ne. at.slots k ∙ ap (option_map name_of) (sym (active_at-recharged_other slot k to rs ne)));
   }
@@ -270,7 +270,7 @@ module _ (rs : List Record) (names : List (Option Name)) (at : AreIndexed rs nam
   indexed-relabelled place key labels number = record {
     sorted = sorted-relabelled place key labels number rs at.sorted;
     apart = pairwise-relabelled place key labels number AreApart rs (λ t u h. h) (λ t u h. h) at.apart;
-    low = all-relabelled place key labels number (λ t. HasLowSlot t.content) rs (λ t h. h) at.low;
+    low = all-relabelled place key labels number (λ t. HasLowSlot max_slots t.content) rs (λ t h. h) at.low;
     slots = λ k. at.slots k ∙ same k (active_at k rs) refl;
   }
     where
@@ -300,13 +300,13 @@ module _ (rs : List Record) (names : List (Option Name)) (at : AreIndexed rs nam
       (at_slot (λ k. name_in k others ≡ name_in k names) slot (freed slot ∙ after_own slot None names ∙ sym none) (λ k other ne. freed k ∙ after_other k slot None names other))
 
   -- a record that isn't active comes, or memory is refused
-  pub indexed-tried : {E : Type 0} (r : Record) (done : Result (Unit {0}) E) (ts : List Record) → has_key r.namespace r.key rs ≡ false → HasLowSlot r.content → ((slot : ℕ) → is_slot slot r ≡ true → active_at slot rs ≡ None)
+  pub indexed-tried : {E : Type 0} (r : Record) (done : Result (Unit {0}) E) (ts : List Record) → has_key r.namespace r.key rs ≡ false → HasLowSlot max_slots r.content → ((slot : ℕ) → is_slot slot r ≡ true → active_at slot rs ≡ None)
       → slot_of r.content ≡ None → OnOk done (ts ≡ with_record r rs) → OnErr done (ts ≡ rs) → AreIndexed ts names
   indexed-tried r (Ok u) ts new few free idle ok err = subst (λ l. AreIndexed l names) (sym ok) (indexed-with_idle rs names at r new few free (λ k. slot_of-none k r.content idle))
   indexed-tried r (Err e) ts new few free idle ok err = subst (λ l. AreIndexed l names) (sym err) at
 
   -- an active one came
-  pub indexed-came : {E : Type 0} (r : Record) (slot : ℕ) (n : Name) (done : Result (Unit {0}) E) (ts : List Record) (middle others : List (Option Name)) → has_key r.namespace r.key rs ≡ false → HasLowSlot r.content → ((k : ℕ) → is_slot k r ≡ true → active_at k rs ≡ None)
+  pub indexed-came : {E : Type 0} (r : Record) (slot : ℕ) (n : Name) (done : Result (Unit {0}) E) (ts : List Record) (middle others : List (Option Name)) → has_key r.namespace r.key rs ≡ false → HasLowSlot max_slots r.content → ((k : ℕ) → is_slot k r ≡ true → active_at k rs ≡ None)
       → slot_of r.content ≡ Some slot → n ≡ name_of r → is_ok done ≡ true → OnOk done (ts ≡ with_record r rs)
       → ((k : ℕ) → name_in k middle ≡ name_in k names) → ((k : ℕ) → name_in k others ≡ name_after k slot (Some n) middle) → AreIndexed ts others
   indexed-came r slot n (Err e) ts middle others new few free own is done ok same put = absurd (true≢false (sym done))

@@ -141,9 +141,11 @@ good_counters s m n good = record {
   ids = good.ids;
   numbered = good.numbered;
   fewer = good.fewer;
+  few_slots = good.few_slots;
   slots = good.slots;
   open_slots = good.open_slots;
   shown = good.shown;
+  layers = good.layers;
   chains = good.chains;
 }
 
@@ -154,7 +156,7 @@ good_counted s good = good_counters s s.sessions (s.entries + 1) good
 
 -- of a free key, on a base that is there, with the next id, in no slot of another, and within the limit
 pub good_added : (s : State) (r : Record) → Good s → r.namespace < length s.namespaces → has_key r.namespace r.key s.records ≡ false
-    → is_base r.namespace r.parent s.records ≡ true → is_too_deep r.namespace r.parent s.records ≡ false → r.id ≡ s.next_id → IsCounted r.content → HasLowSlot r.content → IsShown s.records r.namespace r.parent r.content
+    → is_base r.namespace r.parent s.records ≡ true → is_too_deep r.namespace r.parent s.records ≡ false → r.id ≡ s.next_id → IsCounted r.content → HasLowSlot s.slots r.content → IsShown s.records r.namespace r.parent r.content
     → AllByRecursion (AreApart r) s.records → AllByRecursion (λ t. AreApart t r) s.records
     → Covers (limit_at r.namespace s.namespaces) (plus (charge_of r.namespace s.records) (usage_of r.content)) → Good (added s r)
 good_added s r good low free base deep next count few shown apart beside room = record {
@@ -174,9 +176,11 @@ good_added s r good low free base deep next count few shown apart beside room = 
       good.ids;
   numbered = all-with_record r (λ t. t.id < s.next_id + 1) rs (omega (arith, next)) (all-map (λ t. t.id < s.next_id) (λ t. t.id < s.next_id + 1) (λ t h. omega (arith, h)) rs good.numbered);
   fewer = omega (arith, length-with_record r rs, good.fewer);
+  few_slots = good.few_slots;
   slots = pairwise-with_record r AreApart rs apart beside good.slots;
-  open_slots = all-with_record r (λ t. HasLowSlot t.content) rs few good.open_slots;
+  open_slots = all-with_record r (λ t. HasLowSlot s.slots t.content) rs few good.open_slots;
   shown = stand_shown ns rs ts keeps ts chained (all-with_record r (λ t. IsShown rs t.namespace t.parent t.content) rs shown good.shown);
+  layers = good.layers;
   chains = stand_chains ns rs ts keeps ts chained;
 }
   where
@@ -196,7 +200,7 @@ good_added s r good low free base deep next count few shown apart beside room = 
     chained = all-with_record r (λ t. IsSome (chain rs t)) rs (chain-found rs r.namespace r.parent deep) good.chains
 
 pub good_prepared : (s : State) (place : ℕ) (key parent : Bytes) (labels : List Label) (slot : ℕ) → Good s → place < length s.namespaces → has_key place key s.records ≡ false
-    → is_base place parent s.records ≡ true → is_too_deep place parent s.records ≡ false → slot < 64 → active_at slot s.records ≡ None
+    → is_base place parent s.records ≡ true → is_too_deep place parent s.records ≡ false → slot < s.slots → active_at slot s.records ≡ None
     → Covers (limit_at place s.namespaces) (plus (charge_of place s.records) one) → Good (prepared s place key parent labels slot).0
 good_prepared s place key parent labels slot good low free base deep few none room =
     good_added s r good low free base deep refl tt few tt
@@ -218,9 +222,9 @@ nothing_more limit total a = record { blocks = omega (arith, a.blocks); inodes =
 pub good_view_added : (s : State) (r : Record) → Good s → r.content ≡ View (shown_layers r.namespace r.parent s.records) → r.id ≡ s.next_id → r.namespace < length s.namespaces → has_key r.namespace r.key s.records ≡ false
     → is_base r.namespace r.parent s.records ≡ true → is_too_deep r.namespace r.parent s.records ≡ false → Good (added s r)
 good_view_added s r good is next low free base deep =
-    good_added s r good low free base deep next (subst IsCounted (sym is) tt) (subst HasLowSlot (sym is) tt) (subst (IsShown s.records r.namespace r.parent) (sym is) refl)
-    (all-map (λ t. HasLowSlot t.content) (AreApart r) (λ t h k held. absurd (true≢false (sym held ∙ ap (has_slot k) is))) s.records good.open_slots)
-    (all-map (λ t. HasLowSlot t.content) (λ t. AreApart t r) (λ t h k held. ap (has_slot k) is) s.records good.open_slots)
+    good_added s r good low free base deep next (subst IsCounted (sym is) tt) (subst (HasLowSlot s.slots) (sym is) tt) (subst (IsShown s.records r.namespace r.parent) (sym is) refl)
+    (all-map (λ t. HasLowSlot s.slots t.content) (AreApart r) (λ t h k held. absurd (true≢false (sym held ∙ ap (has_slot k) is))) s.records good.open_slots)
+    (all-map (λ t. HasLowSlot s.slots t.content) (λ t. AreApart t r) (λ t h k held. ap (has_slot k) is) s.records good.open_slots)
     (subst (λ (u : Usage). Covers (limit_at r.namespace s.namespaces) (plus (charge_of r.namespace s.records) u)) (sym (ap usage_of is)) (nothing_more (limit_at r.namespace s.namespaces) (charge_of r.namespace s.records) (good.within r.namespace low)))
 
 pub good_viewed : (s : State) (place : ℕ) (key parent : Bytes) (labels : List Label) → Good s → place < length s.namespaces → has_key place key s.records ≡ false
@@ -230,10 +234,10 @@ good_viewed s place key parent labels good low free base deep = good_view_added 
 -- ---- an active snapshot charged anew
 
 module _ (slot : ℕ) (to : Usage) where
-  pub place_anew : (c : Content) → has_slot slot c ≡ true → HasLowSlot c → slot < 64
-  place_anew (View layers) e h = absurd (true≢false (sym e))
-  place_anew (Active k u) e h = subst (λ (n : ℕ). n < 64) (eqb-true k slot e) h
-  place_anew (Committed l u) e h = absurd (true≢false (sym e))
+  pub place_anew : (most : ℕ) (c : Content) → has_slot slot c ≡ true → HasLowSlot most c → slot < most
+  place_anew most (View layers) e h = absurd (true≢false (sym e))
+  place_anew most (Active k u) e h = subst (λ (n : ℕ). n < most) (eqb-true k slot e) h
+  place_anew most (Committed l u) e h = absurd (true≢false (sym e))
 
   pub good_recharged : (s : State) (r : Record) → Good s → active_at slot s.records ≡ Some r → Covers (limit_at r.namespace s.namespaces) (charge_with r to s.records)
       → Good (record s { records = recharged slot to s.records; entries = s.entries + 1 })
@@ -251,12 +255,14 @@ module _ (slot : ℕ) (to : Usage) where
     ids = pairwise-recharged slot to (λ t u. t.id ≢ u.id) rs (λ t u is h. h) (λ t u is h. h) good.ids;
     numbered = all-recharged slot to (λ t. t.id < s.next_id) rs (λ t is h. h) good.numbered;
     fewer = omega (arith, length-recharged slot to rs, good.fewer);
+    few_slots = good.few_slots;
     slots = pairwise-recharged slot to AreApart rs
         (λ t u is h k out. h k (sym (same_slot slot k to t.content is) ∙ out))
         (λ t u is h k out. same_slot slot k to u.content is ∙ h k out)
         good.slots;
-    open_slots = all-recharged slot to (λ t. HasLowSlot t.content) rs (λ t is h. place_anew t.content is h) good.open_slots;
+    open_slots = all-recharged slot to (λ t. HasLowSlot s.slots t.content) rs (λ t is h. place_anew s.slots t.content is h) good.open_slots;
     shown = stand_shown ns rs ts keeps ts chained (all-recharged slot to (λ t. IsShown rs t.namespace t.parent t.content) rs (λ t is h. tt) good.shown);
+    layers = good.layers;
     chains = stand_chains ns rs ts keeps ts chained;
   }
     where
@@ -301,9 +307,11 @@ good_discarded s slot r good e = record {
   ids = pairwise-without (is_slot slot) (λ t u. t.id ≢ u.id) rs good.ids;
   numbered = all-without (is_slot slot) (λ t. t.id < s.next_id) rs good.numbered;
   fewer = omega (arith, length-without (is_slot slot) rs, good.fewer);
+  few_slots = good.few_slots;
   slots = pairwise-without (is_slot slot) AreApart rs good.slots;
-  open_slots = all-without (is_slot slot) (λ t. HasLowSlot t.content) rs good.open_slots;
+  open_slots = all-without (is_slot slot) (λ t. HasLowSlot s.slots t.content) rs good.open_slots;
   shown = stand_shown ns rs ts keeps ts chained (all-without (is_slot slot) (λ t. IsShown rs t.namespace t.parent t.content) rs good.shown);
+  layers = good.layers;
   chains = stand_chains ns rs ts keeps ts chained;
 }
   where
@@ -391,9 +399,11 @@ module _ (s : State) (place : ℕ) (key : Bytes) (r : Record) (good : Good s) (e
     ids = pairwise-without p (λ t u. t.id ≢ u.id) rs good.ids;
     numbered = all-without p (λ t. t.id < s.next_id) rs good.numbered;
     fewer = omega (arith, length-without p rs, good.fewer);
+    few_slots = good.few_slots;
     slots = pairwise-without p AreApart rs good.slots;
-    open_slots = all-without p (λ t. HasLowSlot t.content) rs good.open_slots;
+    open_slots = all-without p (λ t. HasLowSlot s.slots t.content) rs good.open_slots;
     shown = shown_on P rs ts keeps ts on chained (all-without p (λ t. IsShown rs t.namespace t.parent t.content) rs good.shown);
+    layers = good.layers;
     chains = chains_on P rs ts keeps ts on chained;
   }
     where
@@ -447,12 +457,14 @@ good_committed s slot name lease layer r good e free less = record {
       (pairwise-without (is_slot slot) (λ t u. t.id ≢ u.id) rs good.ids);
   numbered = all-with_record c (λ t. t.id < s.next_id) us (active_at-all (λ t. t.id < s.next_id) slot rs r e good.numbered) (all-without (is_slot slot) (λ t. t.id < s.next_id) rs good.numbered);
   fewer = omega (arith, length-with_record c us, length-without_found (is_slot slot) rs r e, good.fewer);
+  few_slots = good.few_slots;
   slots = pairwise-with_record c AreApart us
-      (all-map (λ t. HasLowSlot t.content) (AreApart c) (λ t h k is. absurd (true≢false (sym is))) us places)
-      (all-map (λ t. HasLowSlot t.content) (λ t. AreApart t c) (λ t h k is. refl) us places)
+      (all-map (λ t. HasLowSlot s.slots t.content) (AreApart c) (λ t h k is. absurd (true≢false (sym is))) us places)
+      (all-map (λ t. HasLowSlot s.slots t.content) (λ t. AreApart t c) (λ t h k is. refl) us places)
       (pairwise-without (is_slot slot) AreApart rs good.slots);
-  open_slots = all-with_record c (λ t. HasLowSlot t.content) us tt places;
+  open_slots = all-with_record c (λ t. HasLowSlot s.slots t.content) us tt places;
   shown = stand_shown ns rs ts keeps ts chained (all-with_record c (λ t. IsShown rs t.namespace t.parent t.content) us tt (all-without (is_slot slot) (λ t. IsShown rs t.namespace t.parent t.content) rs good.shown));
+  layers = good.layers;
   chains = stand_chains ns rs ts keeps ts chained;
 }
   where
@@ -501,8 +513,8 @@ good_committed s slot name lease layer r good e free less = record {
     chained : AllByRecursion (λ t. IsSome (chain rs t)) ts
     chained = all-with_record c (λ t. IsSome (chain rs t)) us (active_at-all (λ t. IsSome (chain rs t)) slot rs r e good.chains) (all-without (is_slot slot) (λ t. IsSome (chain rs t)) rs good.chains)
 
-    places : AllByRecursion (λ t. HasLowSlot t.content) us
-    places = all-without (is_slot slot) (λ t. HasLowSlot t.content) rs good.open_slots
+    places : AllByRecursion (λ t. HasLowSlot s.slots t.content) us
+    places = all-without (is_slot slot) (λ t. HasLowSlot s.slots t.content) rs good.open_slots
 
 -- ---- a snapshot with other labels
 
@@ -521,10 +533,12 @@ good_relabelled s place key labels good = record {
   ids = pairwise-relabelled place key labels n (λ t u. t.id ≢ u.id) rs (λ t u h. h) (λ t u h. h) good.ids;
   numbered = all-relabelled place key labels n (λ t. t.id < s.next_id) rs (λ t h. h) good.numbered;
   fewer = omega (arith, length-relabelled place key labels n rs, good.fewer);
+  few_slots = good.few_slots;
   slots = pairwise-relabelled place key labels n AreApart rs (λ t u h. h) (λ t u h. h) good.slots;
-  open_slots = all-relabelled place key labels n (λ t. HasLowSlot t.content) rs (λ t h. h) good.open_slots;
+  open_slots = all-relabelled place key labels n (λ t. HasLowSlot s.slots t.content) rs (λ t h. h) good.open_slots;
   shown = all-relabelled place key labels n (λ t. IsShown ts t.namespace t.parent t.content) rs (λ t h. h)
       (all-map (λ t. IsShown rs t.namespace t.parent t.content) (λ t. IsShown ts t.namespace t.parent t.content) (λ t h. shown_anew rs ts t.namespace t.parent t.content (alike-layers rs ts alike t.namespace t.parent) h) rs good.shown);
+  layers = good.layers;
   chains = all-relabelled place key labels n (λ t. IsSome (chain ts t)) rs (λ t h. h) (all-map (λ t. IsSome (chain rs t)) (λ t. IsSome (chain ts t)) (alike-some_chain rs ts alike) rs good.chains);
 }
   where

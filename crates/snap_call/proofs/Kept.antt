@@ -1,5 +1,5 @@
 -- Each step keeps what is true of the state, and so does the replay of a journal.
-use Rattle.std.proofs.Common.{◌≡◌, ℕ, zero, suc, ◌+◌, ◌<◌, Bool, true, false, List, [], ◌∷◌, length, Option, Some, None, refl, sym, ap, subst, arith}
+use Rattle.std.proofs.Common.{◌≡◌, ℕ, zero, suc, ◌+◌, ◌<◌, ◌≤◌, Bool, true, false, List, [], ◌∷◌, length, Option, Some, None, refl, sym, ap, subst, arith}
 use Rattle.std.specs.List.{list_all}
 use Rattle.std.specs.List.Sorted.{IsStrictlySortedBy}
 use Rattle.std.specs.Option.{option_map_or, is_some}
@@ -27,8 +27,8 @@ use Rattle.snap_call.specs.declared.refusal.Refusal.{Refusal}
 use Rattle.snap_call.specs.declared.refusal.Refusal.TheVariants.{NoNamespace, NotFound}
 use Rattle.snap_call.specs.declared.reply.Reply.{Reply}
 use Rattle.snap_call.specs.declared.state.State.{State}
-use Rattle.snap_call.specs.Forms.{is_limit, is_namespace, is_text, have_distinct_names, is_config, is_key, is_page, is_start}
-use Rattle.snap_call.specs.Records.{charge_of, has_key, has_children, is_active, is_committed, record_at, active_at}
+use Rattle.snap_call.specs.Forms.{is_limit, is_layer_limit, is_namespace, is_slots, is_text, have_distinct_names, is_config, is_key, is_page, is_start}
+use Rattle.snap_call.specs.Records.{charge_of, has_key, has_children, is_active, is_committed, record_at, active_at, max_slots}
 use Rattle.snap_call.specs.State.{opening, place_of, limit_at}
 use Rattle.snap_call.specs.Good.{Good}
 use Rattle.snap_call.specs.Step.{refused, session, prepared, prepare_at, prepare, greater, fits, charge_to, charge, trim, commit_as, commit, discard, ask, step, IsCovered, IsAllowed, place_for, slot_for, unless_refused, view_at, view, remove_record, remove, update_record, update, walk, in_namespace, has_named, set_limit_at, set_limit, lease_create, lease_add_record, lease_add, lease_release, at_record}
@@ -58,7 +58,7 @@ good_prepare_at : (s : State) (namespace key parent : Bytes) (labels : List Labe
 good_prepare_at s namespace key parent labels place good is =
     good_unless_refused s good (slot_for s place) (prepared s place key parent labels) (λ slot e.
     let found = slot_for-Ok s place slot e in
-    let free = lowest_free-Some s.records slot found.lowest in
+    let free = lowest_free-Some s.slots s.records slot found.lowest in
     good_prepared s place key parent labels slot good (place_of-below namespace s.namespaces place is.named) is.free is.base is.deep free.0 free.1 (covers-Covers _ _ found.room))
 
 pub good_prepare : (s : State) (namespace key parent : Bytes) (labels : List Label) → Good s → Good (prepare s namespace key parent labels).0
@@ -221,17 +221,27 @@ namespaces_formed c e =
     let each = list_all is_namespace c.namespaces in
     let few = nat_le (length c.namespaces) 64 in
     let apart = have_distinct_names c.namespaces in
+    let slots = is_slots c.slots in
     let journal = nat_le c.journal 1048576 in
-    let h = and_parts (root && each && few && apart && journal) (nat_le 1 c.first_id) e in
-    let i = and_parts (root && each && few && apart) journal h.0 in
-    let j = and_parts (root && each && few) apart i.0 in
+    let g = and_parts (root && each && few && apart && slots && journal && nat_le 1 c.first_id) (is_layer_limit c.layer_inodes) e in
+    let h = and_parts (root && each && few && apart && slots && journal) (nat_le 1 c.first_id) g.0 in
+    let i = and_parts (root && each && few && apart && slots) journal h.0 in
+    let s = and_parts (root && each && few && apart) slots i.0 in
+    let j = and_parts (root && each && few) apart s.0 in
     ((and_parts root each (and_parts (root && each) few j.0).0).1, j.1)
 
 root_formed : (c : Config) → is_config c ≡ true → is_root_text c.root ≡ true
-root_formed c e = (and_parts _ _ (and_parts _ _ (and_parts _ _ (and_parts _ _ (and_parts _ _ e).0).0).0).0).0
+root_formed c e = (and_parts _ _ (and_parts _ _ (and_parts _ _ (and_parts _ _ (and_parts _ _ (and_parts _ _ (and_parts _ _ e).0).0).0).0).0).0).0
 
 first_given : (c : Config) → is_config c ≡ true → 0 < c.first_id
-first_given c e = let first : nat_le 1 c.first_id ≡ true = (and_parts _ _ e).1 in grind (arith, nat_tests)
+first_given c e = let first : nat_le 1 c.first_id ≡ true = (and_parts _ _ (and_parts _ _ e).0).1 in grind (arith, nat_tests)
+
+slots_given : (c : Config) → is_config c ≡ true → (1 ≤ c.slots) × (c.slots ≤ max_slots)
+slots_given c e =
+    let parts = and_parts (nat_le 1 c.slots) (nat_le c.slots max_slots) (and_parts _ (is_slots c.slots) (and_parts _ _ (and_parts _ _ (and_parts _ _ e).0).0).0).1 in
+    let some : nat_le 1 c.slots ≡ true = parts.0 in
+    let few : nat_le c.slots max_slots ≡ true = parts.1 in
+    (grind (arith, nat_tests), grind (arith, nat_tests))
 
 pub good_opening : (c : Config) → is_config c ≡ true → Good (opening c)
 unfolding IsStrictlySortedBy
@@ -249,10 +259,12 @@ good_opening c e = record {
   ids = tt;
   numbered = tt;
   fewer = first_given c e;
+  few_slots = slots_given c e;
   slots = tt;
   open_slots = tt;
   shown = tt;
   chains = tt;
+  layers = (and_parts _ _ e).1;
 }
 
 -- ---- a journal

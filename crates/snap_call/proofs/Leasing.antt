@@ -150,9 +150,11 @@ module _ (limit : Usage) where
     ids = good.ids;
     numbered = good.numbered;
     fewer = good.fewer;
+    few_slots = good.few_slots;
     slots = good.slots;
     open_slots = good.open_slots;
     shown = good.shown;
+    layers = good.layers;
     chains = good.chains;
   }
 
@@ -173,9 +175,11 @@ good_leasing s ls good leased once = record {
   ids = good.ids;
   numbered = good.numbered;
   fewer = good.fewer;
+  few_slots = good.few_slots;
   slots = good.slots;
   open_slots = good.open_slots;
   shown = good.shown;
+  layers = good.layers;
   chains = good.chains;
 }
 

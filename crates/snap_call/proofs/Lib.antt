@@ -17,6 +17,7 @@ mod Marks
 pub mod Gathered
 mod Equal
 mod Indexed
+mod Marked
 mod Referred
 mod Committing
 pub mod Leasing
@@ -26,4 +27,5 @@ pub mod Sweeping
 pub mod Kept
 pub mod Counts
 pub mod Replaying
+pub mod AsMany
 pub mod Totals

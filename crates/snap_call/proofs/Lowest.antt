@@ -1,6 +1,6 @@
 -- The lowest free slot.
-use Rattle.std.proofs.Common.{◌≡◌, ◌≢◌, ℕ, zero, suc, ◌+◌, ◌<◌, List, [], ◌∷◌, Bool, true, false, true≢false, Some, None, refl, sym, ap, ◌∙◌, subst, ⊎_elim, arith}
-use Rattle.std.proofs.lemmas.Bool.Decides.{eqb_tells}
+use Rattle.std.proofs.Common.{◌≡◌, ◌≢◌, ℕ, zero, suc, ◌+◌, ◌<◌, ◌≤◌, leb, List, [], ◌∷◌, Bool, true, false, true≢false, Some, None, refl, sym, ap, ◌∙◌, subst, ⊎_elim, arith}
+use Rattle.std.proofs.lemmas.Bool.Decides.{eqb_tells, leb_tells}
 use Rattle.std.specs.Prelude.{◌==◌, if◌then◌else◌, Option}
 use Rattle.std.specs.Option.{option_or}
 use Rattle.snap_record.specs.declared.record.Record.{Record}
@@ -72,23 +72,34 @@ past : (k : ℕ) (rs : List Record) → lowest_free k rs ≡ None → is_free k 
 unfolding lowest_free
 past k rs low is = rw (low, is) refl
 
--- the lowest free slot is one of 0 to 63, no record is in it, and one is in each slot below it
-pub lowest_free-Some : (rs : List Record) (slot : ℕ) → lowest_free 64 rs ≡ Some slot → (slot < 64) × (active_at slot rs ≡ None) × ((k : ℕ) → k < slot → (r : Record) × (active_at k rs ≡ Some r))
-lowest_free-Some rs slot e =
-    let h = lowest_below 64 rs slot e in
+-- the lowest free slot below a number: no record is in it, and one is in each slot below it
+pub lowest_free-Some : (n : ℕ) (rs : List Record) (slot : ℕ) → lowest_free n rs ≡ Some slot → (slot < n) × (active_at slot rs ≡ None) × ((k : ℕ) → k < slot → (r : Record) × (active_at k rs ≡ Some r))
+lowest_free-Some n rs slot e =
+    let h = lowest_below n rs slot e in
     (h.0, is_free-None slot rs h.1, λ k lt. is_free-Some k rs (h.2 k lt))
 
--- where there is none, a record is in each of the 64
-pub lowest_free-None : (rs : List Record) → lowest_free 64 rs ≡ None → (k : ℕ) → k < 64 → (r : Record) × (active_at k rs ≡ Some r)
-lowest_free-None rs e k lt = is_free-Some k rs (none_below 64 rs e k lt)
+-- where there is none, a record is in each
+pub lowest_free-None : (n : ℕ) (rs : List Record) → lowest_free n rs ≡ None → (k : ℕ) → k < n → (r : Record) × (active_at k rs ≡ Some r)
+lowest_free-None n rs e k lt = is_free-Some k rs (none_below n rs e k lt)
 
--- for a loop over the slots: at the start, at a free slot, at one that is taken, and at the end
+-- for a loop over the slots: at the start, at a free slot, past slots that are taken, and at the end
 pub lowest_free-start : (rs : List Record) → lowest_free 0 rs ≡ None
 unfolding lowest_free
 lowest_free-start rs = refl
 
-pub lowest_free-found : (k : ℕ) (rs : List Record) → lowest_free k rs ≡ None → is_free k rs ≡ true → k < 64 → lowest_free 64 rs ≡ Some k
-lowest_free-found k rs low is lt = found_below 64 rs k low is lt
+pub lowest_free-found : (n k : ℕ) (rs : List Record) → lowest_free k rs ≡ None → is_free k rs ≡ true → k < n → lowest_free n rs ≡ Some k
+lowest_free-found n k rs low is lt = found_below n rs k low is lt
 
-pub lowest_free-past : (k : ℕ) (rs : List Record) → lowest_free k rs ≡ None → is_free k rs ≡ false → lowest_free (k + 1) rs ≡ None
-lowest_free-past k rs low is = let e : k + 1 ≡ suc k = omega arith in ap (λ n. lowest_free n rs) e ∙ past k rs low is
+none_where : (n : ℕ) (rs : List Record) → ((k : ℕ) → k < n → is_free k rs ≡ false) → lowest_free n rs ≡ None
+unfolding lowest_free
+none_where zero rs taken = refl
+none_where (suc n) rs taken = past n rs (none_where n rs (λ k lt. taken k (omega arith))) (taken n (omega arith))
+
+pub lowest_free-past : (k n : ℕ) (rs : List Record) → lowest_free k rs ≡ None → ((j : ℕ) → k ≤ j → j < n → is_free j rs ≡ false) → lowest_free n rs ≡ None
+lowest_free-past k n rs low taken = none_where n rs (λ j lt. ⊎_elim
+    (λ (h : (leb k j ≡ true) × (k ≤ j)). taken j h.1 lt)
+    (λ (h : (leb k j ≡ false) × (j < k)). none_below k rs low j h.1)
+    (leb_tells k j))
+
+pub lowest_free-end : (k n : ℕ) (rs : List Record) → lowest_free k rs ≡ None → n ≤ k → lowest_free n rs ≡ None
+lowest_free-end k n rs low most = none_where n rs (λ j lt. none_below k rs low j (omega arith))

@@ -51,7 +51,7 @@ place_for-Ok s namespace key parent labels place e = formed-Ok s namespace key p
 
 -- a slot that is the lowest free one, with room for 1/1 and an id that is left
 pub record IsSlotFor (s : State) (place slot : ℕ) : Type 0 where
-  pub lowest : lowest_free 64 s.records ≡ Some slot
+  pub lowest : lowest_free s.slots s.records ≡ Some slot
   pub room : covers (limit_at place s.namespaces) (plus (charge_of place s.records) one) ≡ true
   pub few : nat_le s.next_id 4294967295 ≡ true
 
@@ -60,7 +60,7 @@ roomy-Ok s place k slot true true e = (cc, refl, refl)
 roomy-Ok s place k slot true false e = absurd (cc)
 roomy-Ok s place k slot false few e = absurd (cc)
 
-slot_in-Ok : (s : State) (place slot : ℕ) (o : Option ℕ) → lowest_free 64 s.records ≡ o → slot_in s place o ≡ Ok slot → IsSlotFor s place slot
+slot_in-Ok : (s : State) (place slot : ℕ) (o : Option ℕ) → lowest_free s.slots s.records ≡ o → slot_in s place o ≡ Ok slot → IsSlotFor s place slot
 slot_in-Ok s place slot None low e = absurd (cc)
 slot_in-Ok s place slot (Some k) low e =
     let h = roomy-Ok s place k slot (covers (limit_at place s.namespaces) (plus (charge_of place s.records) one)) (nat_le s.next_id 4294967295) e in
@@ -68,4 +68,4 @@ slot_in-Ok s place slot (Some k) low e =
 
 -- a slot that was found is one
 pub slot_for-Ok : (s : State) (place slot : ℕ) → slot_for s place ≡ Ok slot → IsSlotFor s place slot
-slot_for-Ok s place slot e = slot_in-Ok s place slot (lowest_free 64 s.records) refl e
+slot_for-Ok s place slot e = slot_in-Ok s place slot (lowest_free s.slots s.records) refl e

@@ -255,9 +255,11 @@ module _ (s : State) (namespace : Bytes) (place moment : ℕ) where
         ids = pairwise-filter stays (λ t u. t.id ≢ u.id) rs good.ids;
         numbered = all-filter (λ t. t.id < s.next_id) stays rs good.numbered;
         fewer = omega (arith, length-filtered stays rs, good.fewer);
+        few_slots = good.few_slots;
         slots = pairwise-filter stays AreApart rs good.slots;
-        open_slots = all-filter (λ t. HasLowSlot t.content) stays rs good.open_slots;
+        open_slots = all-filter (λ t. HasLowSlot s.slots t.content) stays rs good.open_slots;
         shown = shown_on P rs ts keeps ts on chained (all-filter (λ t. IsShown rs t.namespace t.parent t.content) stays rs good.shown);
+        layers = good.layers;
         chains = chains_on P rs ts keeps ts on chained;
       }
         where

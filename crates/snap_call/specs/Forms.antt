@@ -2,11 +2,13 @@
 -- Cited by `Config::is_valid`, `is_key`, `is_parent` and others.
 use Rattle.std.specs.Prelude.{ℕ, ◌==◌, Bool, true, not, ◌&&◌, nat_le, List, [], ◌∷◌, length, bytes_eq}
 use Rattle.std.specs.List.{list_any, list_all}
+use Rattle.snap_layer.specs.Counts.{most_inodes}
 use Rattle.snap_usage.specs.declared.usage.Usage.{Usage}
 use Rattle.snap_record.specs.Labels.{Bytes}
 use Rattle.snap_mount.specs.Mounts.{is_root_text}
 use Rattle.snap_call.specs.declared.config.Config.{Config}
 use Rattle.snap_call.specs.declared.config.Namespace.{Namespace}
+use Rattle.snap_call.specs.Records.{max_slots}
 
 -- 1 to so many bytes, none of them NUL
 abbrev pub is_text : ℕ → Bytes → Bool
@@ -42,6 +44,14 @@ abbrev pub have_distinct_names : List Namespace → Bool
 have_distinct_names [] = true
 have_distinct_names (n ∷ ns) = not (list_any (λ m. bytes_eq m.name n.name) ns) && have_distinct_names ns
 
+-- how many slots a store can have
+abbrev pub is_slots : ℕ → Bool
+is_slots n = nat_le 1 n && nat_le n max_slots
+
+-- the most inodes of a layer: 1 to 2^24
+abbrev pub is_layer_limit : ℕ → Bool
+is_layer_limit inodes = nat_le 1 inodes && nat_le inodes most_inodes
+
 -- what a store can be opened with
 abbrev pub is_config : Config → Bool
-is_config c = is_root_text c.root && list_all is_namespace c.namespaces && nat_le (length c.namespaces) 64 && have_distinct_names c.namespaces && nat_le c.journal 1048576 && nat_le 1 c.first_id
+is_config c = is_root_text c.root && list_all is_namespace c.namespaces && nat_le (length c.namespaces) 64 && have_distinct_names c.namespaces && is_slots c.slots && nat_le c.journal 1048576 && nat_le 1 c.first_id && is_layer_limit c.layer_inodes

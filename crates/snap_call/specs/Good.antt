@@ -1,6 +1,6 @@
 -- What is true of the state whenever no call is under way.
 -- Cited by `State::opening`, `State::commit`, `State::plan_sweep` and others.
-use Rattle.std.specs.Prelude.{◌≡◌, ◌≢◌, ℕ, ◌<◌, true, List, IsSome, IsSomeAnd, length}
+use Rattle.std.specs.Prelude.{◌≡◌, ◌≢◌, ℕ, ◌<◌, ◌≤◌, true, List, IsSome, IsSomeAnd, length}
 use Rattle.std.specs.List.{AllByRecursion}
 use Rattle.std.specs.List.Sorted.{IsStrictlySortedBy}
 use Rattle.snap_usage.specs.Counted.{count_of, Covers}
@@ -12,8 +12,8 @@ use Rattle.snap_record.specs.declared.record.Record.{Record}
 use Rattle.snap_mount.specs.Mounts.{is_root_text}
 use Rattle.snap_call.specs.declared.config.Namespace.{Namespace}
 use Rattle.snap_call.specs.declared.state.State.{State}
-use Rattle.snap_call.specs.Forms.{is_limit, have_distinct_names}
-use Rattle.snap_call.specs.Records.{record_cmp, committed_at, charge_of, AllPairwise, AreApart, HasLowSlot}
+use Rattle.snap_call.specs.Forms.{is_limit, is_layer_limit, have_distinct_names}
+use Rattle.snap_call.specs.Records.{record_cmp, committed_at, charge_of, AllPairwise, AreApart, HasLowSlot, max_slots}
 use Rattle.snap_call.specs.State.{place_of, limit_at, chain_from, is_base, shown_layers}
 
 -- each snapshot that the lease names is a committed one of the lease's namespace
@@ -55,10 +55,13 @@ pub record Good (s : State) : Type 0 where
   pub numbered : AllByRecursion (λ r. r.id < s.next_id) s.records
   -- there are fewer snapshots than the next id
   pub fewer : length s.records < s.next_id
-  -- no two active snapshots have the same slot, and each has one of 0 to 63
+  -- the store has 1 to 4096 slots, no two active snapshots have the same one, and each has one of them
+  pub few_slots : (1 ≤ s.slots) × (s.slots ≤ max_slots)
   pub slots : AllPairwise AreApart s.records
-  pub open_slots : AllByRecursion (λ r. HasLowSlot r.content) s.records
+  pub open_slots : AllByRecursion (λ r. HasLowSlot s.slots r.content) s.records
   -- each view keeps the layers that it shows
   pub shown : AllByRecursion (λ r. IsShown s.records r.namespace r.parent r.content) s.records
   -- each snapshot has a chain of at most 64 committed ancestors
   pub chains : AllByRecursion (λ r. IsSome (chain_from 64 s.records r.namespace r.parent)) s.records
+  -- the most inodes of a layer are 1 to 2^24
+  pub layers : is_layer_limit s.layer_inodes ≡ true

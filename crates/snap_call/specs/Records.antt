@@ -150,6 +150,14 @@ committed_as name layer number r = record r { key = name; content = Committed la
 abbrev pub is_free : ℕ → List Record → Bool
 is_free slot rs = if list_any (is_slot slot) rs then false else true
 
+-- the slots of a store that isn't given a number of them
+abbrev pub default_slots : ℕ
+default_slots = 64
+
+-- the most slots of a store
+abbrev pub max_slots : ℕ
+max_slots = 4096
+
 -- of the slots below a number, the lowest that is free
 unfoldable pub lowest_free : ℕ → List Record → Option ℕ
 lowest_free zero rs = None
@@ -160,10 +168,10 @@ abbrev pub AllPairwise : {X : Type 0} → (X → X → Type 0) → List X → Ty
 AllPairwise R [] = Unit {0}
 AllPairwise R (x ∷ xs) = AllByRecursion (R x) xs × AllPairwise R xs
 
--- an active snapshot's slot is one of 0 to 63
-abbrev pub HasLowSlot : Content → Type 0
-HasLowSlot (Active slot charged) = slot < 64
-HasLowSlot content = Unit {0}
+-- an active snapshot's slot is below a number
+abbrev pub HasLowSlot : ℕ → Content → Type 0
+HasLowSlot n (Active slot charged) = slot < n
+HasLowSlot n content = Unit {0}
 
 -- the two are not active in the same slot
 abbrev pub AreApart : Record → Record → Type 0

@@ -20,7 +20,7 @@ use Rattle.snap_call.specs.Records.{charge_of, has_key, committed_at}
 
 -- the state of a store that is opened: no records, no leases, no sessions, no entries
 abbrev pub opening : Config → State
-opening c = record { root = c.root; namespaces = c.namespaces; records = []; leases = []; next_id = c.first_id; sessions = 0; entries = 0 }
+opening c = record { root = c.root; namespaces = c.namespaces; slots = c.slots; records = []; leases = []; next_id = c.first_id; sessions = 0; entries = 0; layer_inodes = c.layer_inodes }
 
 -- the place of a namespace, if the store has it
 abbrev pub place_of : Bytes → List Namespace → Option ℕ

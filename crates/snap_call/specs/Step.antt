@@ -78,7 +78,7 @@ new_record s place key parent labels content = record { namespace = place; key =
 abbrev pub added : State → Record → State
 added s r = record s { records = with_record r s.records; next_id = s.next_id + 1; entries = s.entries + 1 }
 
--- Prepare: a new active snapshot, in the lowest free slot, charged 1/1 for its root. The reply has the ids of its committed ancestors, nearest first.
+-- Prepare: a new active snapshot, in the lowest free slot of the store, charged 1/1 for its root. The reply has the ids of its committed ancestors, nearest first.
 abbrev pub one : Usage
 one = record { blocks = 1; inodes = 1 }
 
@@ -91,7 +91,7 @@ slot_in s place (Some slot) =
     else Err (over_limit s place)
 
 abbrev pub slot_for : State → ℕ → Result ℕ Refusal
-slot_for s place = slot_in s place (lowest_free 64 s.records)
+slot_for s place = slot_in s place (lowest_free s.slots s.records)
 
 abbrev pub prepared : State → ℕ → Bytes → Bytes → List Label → ℕ → State × Reply
 prepared s place key parent labels slot = (added s (new_record s place key parent labels (Active slot one)), Prepared s.next_id slot (ids_of (ancestors place parent s.records)))

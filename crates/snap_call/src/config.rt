@@ -1,9 +1,10 @@
 ghost use Rattle.std.specs.Prelude.{◌≡◌};
 ghost use Rattle.snap_call.specs.Forms.{is_config};
 
-use crate::forms::{are_namespaces, has_distinct_names};
+use crate::forms::{are_namespaces, has_distinct_names, is_slots};
 use crate::limits::{MAX_JOURNAL, MAX_NAMESPACES};
 use snap_mount::is_root_text;
+use snap_path::limits::MAX_LAYER_INODES;
 use snap_record::{Sequence, Text};
 use snap_usage::Usage;
 use std::alloc::AllocError;
@@ -24,10 +25,14 @@ pub struct Config {
     pub root: Text,
     /// At most 64 namespaces with distinct names.
     pub namespaces: Sequence<Namespace>,
+    /// How many snapshots may be open at one time, all namespaces together: 1 to 4096.
+    pub slots: u64,
     /// The most entries of the journal: 0 to 1,048,576.
     pub journal: u64,
     /// The id of the first snapshot, from 1.
     pub first_id: u32,
+    /// The most inodes of each layer that is made in it, its root's one among them: 1 to 16,777,216.
+    pub layer_inodes: u64,
 }
 
 /// A copy of the name.
@@ -53,7 +58,10 @@ impl Config {
             && are_namespaces(namespaces)
             && namespaces.len() <= MAX_NAMESPACES
             && has_distinct_names(namespaces)
+            && is_slots(self.slots)
             && self.journal <= MAX_JOURNAL
             && 1 <= self.first_id
+            && 1 <= self.layer_inodes
+            && self.layer_inodes <= MAX_LAYER_INODES as u64
     }
 }

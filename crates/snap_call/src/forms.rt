@@ -1,9 +1,9 @@
 ghost use Rattle.std.specs.Prelude.{◌≡◌, ◌==◌, bytes_eq};
 ghost use Rattle.std.specs.List.{list_any, list_all};
-ghost use Rattle.snap_call.specs.Forms.{is_text, is_key, is_parent, is_page, is_start, is_limit, is_namespace, have_distinct_names};
+ghost use Rattle.snap_call.specs.Forms.{is_text, is_key, is_parent, is_page, is_slots, is_start, is_limit, is_namespace, have_distinct_names};
 
 use crate::config::Namespace;
-use crate::limits::{MAX_KEY_BYTES, MAX_LIMIT, MAX_NAMESPACE_BYTES, MAX_PAGE};
+use crate::limits::{MAX_KEY_BYTES, MAX_LIMIT, MAX_NAMESPACE_BYTES, MAX_PAGE, MAX_SLOTS};
 use snap_usage::Usage;
 
 /// Whether the text has 1 to so many bytes, none of them NUL.
@@ -41,6 +41,13 @@ pub fn is_page(most: u64) -> bool
     ensures { result ≡ is_page most }
 {
     1 <= most && most <= MAX_PAGE
+}
+
+/// Whether a store can have so many slots: 1 to 4096. Takes no memory.
+pub(crate) fn is_slots(slots: u64) -> bool
+    ensures { result ≡ is_slots slots }
+{
+    1 <= slots && slots <= MAX_SLOTS
 }
 
 /// Whether a walk can begin after the text: at most 1024 bytes. Takes no memory.

@@ -13,6 +13,12 @@ pub const MAX_NAMESPACES: usize = 64;
 /// The most blocks and the most inodes of a namespace's limit: 2^40.
 pub const MAX_LIMIT: u64 = 1_099_511_627_776;
 
+/// How many snapshots may be open at one time in a store whose opening doesn't say: the slots 0 to 63.
+pub const DEFAULT_SLOTS: u64 = 64;
+
+/// The most slots of a store: how many snapshots may be open at one time, all namespaces together.
+pub const MAX_SLOTS: u64 = 4096;
+
 /// The most committed ancestors of a snapshot.
 pub const MAX_ANCESTORS: u64 = 64;
 

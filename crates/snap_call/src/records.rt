@@ -1,14 +1,13 @@
 ghost use Rattle.std.specs.Prelude.{◌≡◌, ◌<◌, ◌+◌, ◌^◌, [], true, false, map, length, option_copied, None, OnOk, OnErr, IfErr, IfOk, IsTrue, ◌↔◌, ℕ};
 ghost use Rattle.std.specs.List.{list_any};
 ghost use Rattle.std.specs.Option.{option_map};
-ghost use Rattle.snap_call.specs.Records.{record_at, has_key, has_children, child_count, is_slot, active_at, with_record, without_key, without_keys, without_slot, recharged, relabelled, page, lowest_free, HasLowSlot};
+ghost use Rattle.snap_call.specs.Records.{record_at, has_key, has_children, child_count, is_slot, active_at, with_record, without_key, without_keys, without_slot, recharged, relabelled, page, lowest_free, HasLowSlot, max_slots};
 ghost use Rattle.snap_call.specs.Indexes.{slot_of};
 
 use crate::open_slots::{Name, OpenSlots};
 use crate::record_edit::RecordEdit;
 use crate::removed::Removed;
 use crate::spaces::Spaces;
-use snap_ledger::MAX_SLOTS;
 use snap_path::NoMemory;
 use snap_record::{Content, Filter, Info, Labels, Record, Sequence, Text};
 use snap_usage::Usage;
@@ -152,14 +151,19 @@ impl Records {
         self.slots.get(slot).is_some()
     }
 
-    /// The lowest slot that is not open, if there is one. Takes no memory. The cost is constant.
-    pub fn lowest_free(&self) -> Option<u64>
-        ensures { result ≡ lowest_free 64 self.now }
+    /// The lowest slot below a number that is not open, if there is one. Takes no memory. It goes over
+    /// the open slots below that one, where 64 that follow on each other from a multiple of 64 are one
+    /// step: of 4096 slots it takes 128 steps at the most.
+    pub fn lowest_free(&self, slots: u64) -> Option<u64>
+        ensures { result ≡ lowest_free slots self.now }
     {
-        for slot in 0..MAX_SLOTS {
-            if !self.is_open(slot) {
+        let mut slot = 0;
+        while slot < slots {
+            let open = self.slots.open_from(slot);
+            if open == 0 {
                 return Some(slot);
             }
+            slot = slot.saturating_add(open);
         }
         None
     }
@@ -169,7 +173,7 @@ impl Records {
     pub fn insert(&mut self, added: Record) -> Result<(), (NoMemory, Record)>
         requires new { has_key added.namespace added.key self.old ≡ false }
         requires few { length self.old + 1 < 2 ^ 64 }
-        requires low { HasLowSlot added.content }
+        requires low { HasLowSlot max_slots added.content }
         requires free { (slot : ℕ) → is_slot slot added ≡ true → active_at slot self.old ≡ None }
         ensures ok { OnOk result (self.new ≡ with_record added self.old) }
         ensures err { OnErr result (self.new ≡ self.old) }

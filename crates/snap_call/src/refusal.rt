@@ -49,7 +49,7 @@ pub enum Refusal {
     /// The snapshot would have more than 64 committed ancestors.
     #[error("too many ancestors")]
     TooDeep,
-    /// All 64 slots for active snapshots are taken.
+    /// As many snapshots are open as the store may have: all its slots are taken.
     #[error("too many active snapshots")]
     TooManyActives,
     /// The namespace's limit does not cover the amount; so much was free.

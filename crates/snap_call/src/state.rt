@@ -24,6 +24,8 @@ pub struct State {
     /// The directory that the snapshots' directories lie in.
     pub root: Text,
     pub namespaces: Sequence<Namespace>,
+    /// How many snapshots may be open at one time. No call changes it.
+    pub slots: u64,
     pub records: Records,
     pub leases: Leases,
     /// The id of the next snapshot.
@@ -32,6 +34,8 @@ pub struct State {
     pub sessions: u64,
     /// How many entries were ever recorded.
     pub entries: u64,
+    /// The most inodes of each layer that is made.
+    pub layer_inodes: u64,
 }
 
 // The record of an active snapshot as it is once it is committed under the name with the layer, by the
@@ -73,11 +77,13 @@ impl State {
         State {
             root: config.root,
             namespaces: config.namespaces,
+            slots: config.slots,
             records: Records::new(alloc),
             leases: Leases::new(alloc),
             next_id: config.first_id as u64,
             sessions: 0,
             entries: 0,
+            layer_inodes: config.layer_inodes,
         }
     }
 

@@ -8,7 +8,7 @@ use Rattle.snap_call.specs.declared.call.Given.TheVariants.{Nothing, Layer}
 use Rattle.snap_call.specs.declared.entry.Entry.{Entry}
 use Rattle.snap_call.specs.declared.reply.Reply.TheVariants.{Opened, Prepared, Committed}
 use Rattle.snap_call.specs.declared.state.State.{State}
-use Rattle.snap_call.specs.Records.{lowest_free}
+use Rattle.snap_call.specs.Records.{default_slots, lowest_free}
 use Rattle.snap_call.specs.State.{opening}
 use Rattle.snap_call.specs.Step.{step}
 use Rattle.snap_call.specs.Journal.{entry, Replays}
@@ -20,7 +20,7 @@ abbrev layer : Tree
 layer = root_only 493 1
 
 abbrev start : State
-start = opening (record { root = 47 ∷ 114 ∷ []; namespaces = record { name = 97 ∷ []; limit = record { blocks = 10; inodes = 10 } } ∷ []; journal = 100; first_id = 1 })
+start = opening (record { root = 47 ∷ 114 ∷ []; namespaces = record { name = 97 ∷ []; limit = record { blocks = 10; inodes = 10 } } ∷ []; slots = default_slots; journal = 100; first_id = 1; layer_inodes = 65536 })
 
 abbrev opened : Entry
 opened = entry 0 calls.Session Nothing Opened

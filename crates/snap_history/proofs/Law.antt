@@ -141,15 +141,15 @@ shares_below-in place (suc n) slot rs low =
       | inr apart ↦ (let below : slot < n = omega (arith, low, apart) in share_in-append_low slot before (share_for place last) (omega (arith, below, long)) ∙ shares_below-in place n slot rs below)
     ]
 
-opening_holds : (name : Bytes) (place : ℕ) (shares : List (Option Usage)) (s : State) → shares ≡ shares_of place s.records → place_of name s.namespaces ≡ Some place → Holds name place shares s
+opening_holds : (name : Bytes) (place : ℕ) (shares : List (Option Usage)) (s : State) → shares ≡ shares_of s.slots place s.records → place_of name s.namespaces ≡ Some place → Holds name place shares s
 opening_holds name place shares s are named = record {
   named = named;
-  places = ap (λ (l : List (Option Usage)). length l) are ∙ shares_below-length place 64 s.records;
-  agrees = λ slot low. ap (share_in slot) are ∙ shares_below-in place 64 slot s.records low;
+  places = ap (λ (l : List (Option Usage)). length l) are ∙ shares_below-length place s.slots s.records;
+  agrees = λ slot low. ap (share_in slot) are ∙ shares_below-in place s.slots slot s.records low;
 }
 
 -- what the entries of a round tell, from the charge after them all
-pub told_history : (name : Bytes) (place : ℕ) (shares : List (Option Usage)) (s : State) (es : List Entry) (t : State) → Good s → shares ≡ shares_of place s.records → Replays s es t → place_of name t.namespaces ≡ Some place
+pub told_history : (name : Bytes) (place : ℕ) (shares : List (Option Usage)) (s : State) (es : List Entry) (t : State) → Good s → shares ≡ shares_of s.slots place s.records → Replays s es t → place_of name t.namespaces ≡ Some place
     → infos_of name s.entries shares (charge_before (charge_of place t.records) (changes_of name shares es)) es ≡ history place s es
 told_history name place shares s es t good are h named =
     let held = opening_holds name place shares s are (sym (Replays-names s es t h name) ∙ named) in

@@ -60,8 +60,8 @@ share_by place (Some r) = if r.namespace == place then Some (usage_of r.content)
 -- the namespace has its place, and the table has what its open snapshots are charged
 pub record Holds (name : Bytes) (place : ℕ) (shares : List (Option Usage)) (s : State) : Type 0 where
   pub named : place_of name s.namespaces ≡ Some place
-  pub places : length shares ≡ 64
-  pub agrees : (slot : ℕ) → slot < 64 → share_in slot shares ≡ share_by place (active_at slot s.records)
+  pub places : length shares ≡ s.slots
+  pub agrees : (slot : ℕ) → slot < s.slots → share_in slot shares ≡ share_by place (active_at slot s.records)
 
 -- the table holds after the step, and of the charge before and after it the change tells the parts; the rest is the same
 pub record Turns (name : Bytes) (place : ℕ) (s : State) (shares : List (Option Usage)) (c : Change) (t : State) : Type 0 where
@@ -120,6 +120,7 @@ plain_change own reply h = refl
 -- a step that leaves the charges and the slots
 record Even (name : Bytes) (place : ℕ) (s t : State) (reply : Reply) : Type 0 where
   named : place_of name t.namespaces ≡ place_of name s.namespaces
+  as_many : t.slots ≡ s.slots
   slots : (slot : ℕ) → share_by place (active_at slot t.records) ≡ share_by place (active_at slot s.records)
   charges : charge_of place t.records ≡ charge_of place s.records
   plain : Plain reply
@@ -130,21 +131,26 @@ module _ (name : Bytes) (place : ℕ) (s : State) (shares : List (Option Usage))
   abbrev Evenly : State × Reply → Type 0
   Evenly p = Even name place s p.0 p.1
 
-  even_same : (t : State) (reply : Reply) → t.records ≡ s.records → t.namespaces ≡ s.namespaces → Plain reply → Even name place s t reply
-  even_same t reply same spaces plain = record {
+  even_same : (t : State) (reply : Reply) → t.records ≡ s.records → t.namespaces ≡ s.namespaces → t.slots ≡ s.slots → Plain reply → Even name place s t reply
+  even_same t reply same spaces as_many plain = record {
     named = ap (place_of name) spaces;
+    as_many = as_many;
     slots = λ slot. ap (λ (rs : List Record). share_by place (active_at slot rs)) same;
     charges = ap (charge_of place) same;
     plain = plain;
   }
 
   even_refused : (why : Refusal) → Evenly (refused s why)
-  even_refused why = even_same (refused s why).0 (replies.Refused why) refl refl tt
+  even_refused why = even_same (refused s why).0 (replies.Refused why) refl refl refl tt
 
   -- the table and no change
   even_turns : (t : State) (reply : Reply) → Even name place s t reply → Turns name place s shares no_change t
   even_turns t reply even = record {
-    holds = record { named = even.named ∙ held.named; places = held.places; agrees = λ slot low. held.agrees slot low ∙ sym (even.slots slot) };
+    holds = record {
+      named = even.named ∙ held.named;
+      places = held.places ∙ sym even.as_many;
+      agrees = λ slot low. held.agrees slot (subst (λ (n : ℕ). slot < n) even.as_many low) ∙ sym (even.slots slot);
+    };
     rest = charge_of place s.records;
     before = sym (plus-none (charge_of place s.records));
     after = even.charges ∙ sym (plus-none (charge_of place s.records));
@@ -164,7 +170,7 @@ module _ (name : Bytes) (place : ℕ) (s : State) (shares : List (Option Usage))
   refuses = even_turns (counted s) (replies.Refused NoNamespace) (even_refused NoNamespace)
 
   even_session : Evenly (session s)
-  even_session = cases_if Evenly (nat_lt s.sessions 65536) _ _ (λ few. even_same _ replies.Opened refl refl tt) (λ spent. even_same s _ refl refl tt)
+  even_session = cases_if Evenly (nat_lt s.sessions 65536) _ _ (λ few. even_same _ replies.Opened refl refl refl tt) (λ spent. even_same s _ refl refl refl tt)
 
   -- a call in a namespace that the store has
   in_its_namespace : (P : State × Reply → Type 0) (namespace : Bytes) (next : ℕ → State × Reply) → P (refused s NoNamespace) → ((at : ℕ) → place_of namespace s.namespaces ≡ Some at → P (next at)) → P (in_namespace s namespace next)
@@ -187,20 +193,20 @@ module _ (name : Bytes) (place : ℕ) (s : State) (shares : List (Option Usage))
   even_at_record namespace key next here = in_its_namespace Evenly namespace _ (even_refused NoNamespace) (λ at e. at_its_record Evenly at key (next at) (even_refused NotFound) (λ r f. here at r))
 
   even_ask : (answer : Record → Reply) → ((r : Record) → Plain (answer r)) → (namespace key : Bytes) → Evenly (ask s answer namespace key)
-  even_ask answer plain namespace key = cases_if Evenly (is_key key) _ _ (λ formed. even_at_record namespace key _ (λ at r. even_same _ (answer r) refl refl (plain r))) (λ bad. even_refused _)
+  even_ask answer plain namespace key = cases_if Evenly (is_key key) _ _ (λ formed. even_at_record namespace key _ (λ at r. even_same _ (answer r) refl refl refl (plain r))) (λ bad. even_refused _)
 
   plain_mounts : (r : Record) → Plain (mounts s r)
   plain_mounts r = cases_if Plain (is_committed r.content) _ _ (λ committed. tt) (λ other. tt)
 
   even_walk : (namespace after : Bytes) (most : ℕ) (asked : Filter) → Evenly (walk s namespace after most asked)
-  even_walk namespace after most asked = cases_if Evenly (is_start after && is_page most) _ _ (λ formed. in_its_namespace Evenly namespace _ (even_refused NoNamespace) (λ at e. even_same _ _ refl refl tt)) (λ bad. even_refused _)
+  even_walk namespace after most asked = cases_if Evenly (is_start after && is_page most) _ _ (λ formed. in_its_namespace Evenly namespace _ (even_refused NoNamespace) (λ at e. even_same _ _ refl refl refl tt)) (λ bad. even_refused _)
 
   even_set_limit : (namespace : Bytes) (limit : Usage) → Evenly (set_limit s namespace limit)
   even_set_limit namespace limit =
       cases_if Evenly (is_limit limit) _ _
       (λ formed. in_its_namespace Evenly namespace (set_limit_at s limit) (even_refused NoNamespace)
       (λ at e. cases_if Evenly (covers limit (charge_of at s.records)) _ _
-      (λ covered. record { named = place_of-limited limit name at s.namespaces; slots = λ slot. refl; charges = refl; plain = tt })
+      (λ covered. record { named = place_of-limited limit name at s.namespaces; as_many = refl; slots = λ slot. refl; charges = refl; plain = tt })
       (λ below. even_refused _)))
       (λ bad. even_refused _)
 
@@ -208,13 +214,13 @@ module _ (name : Bytes) (place : ℕ) (s : State) (shares : List (Option Usage))
   even_lease_create namespace lease until =
       cases_if Evenly (is_key lease) _ _
       (λ formed. in_its_namespace Evenly namespace _ (even_refused NoNamespace)
-      (λ at e. cases_if Evenly (has_lease s.leases namespace lease) _ _ (λ there. even_refused _) (λ new. even_same _ replies.Done refl refl tt)))
+      (λ at e. cases_if Evenly (has_lease s.leases namespace lease) _ _ (λ there. even_refused _) (λ new. even_same _ replies.Done refl refl refl tt)))
       (λ bad. even_refused _)
 
   even_lease_add_record : (namespace lease key : Bytes) (r : Record) → Evenly (lease_add_record s namespace lease key r)
   even_lease_add_record namespace lease key r =
       cases_if Evenly (not (is_committed r.content)) _ _ (λ other. even_refused _)
-      (λ is. cases_if Evenly (not (has_lease s.leases namespace lease)) _ _ (λ none. even_refused _) (λ there. even_same _ replies.Done refl refl tt))
+      (λ is. cases_if Evenly (not (has_lease s.leases namespace lease)) _ _ (λ none. even_refused _) (λ there. even_same _ replies.Done refl refl refl tt))
 
   even_lease_add : (namespace lease key : Bytes) → Evenly (lease_add s namespace lease key)
   even_lease_add namespace lease key =
@@ -226,7 +232,7 @@ module _ (name : Bytes) (place : ℕ) (s : State) (shares : List (Option Usage))
   even_lease_release namespace lease =
       cases_if Evenly (is_key lease) _ _
       (λ formed. in_its_namespace Evenly namespace _ (even_refused NoNamespace)
-      (λ at e. cases_if Evenly (has_lease s.leases namespace lease) _ _ (λ there. even_same _ replies.Done refl refl tt) (λ none. even_refused _)))
+      (λ at e. cases_if Evenly (has_lease s.leases namespace lease) _ _ (λ there. even_same _ replies.Done refl refl refl tt) (λ none. even_refused _)))
       (λ bad. even_refused _)
 
   -- a result, or the refusal of a place
@@ -240,6 +246,7 @@ module _ (name : Bytes) (place : ℕ) (s : State) (shares : List (Option Usage))
       cases_if Evenly (nat_le s.next_id 4294967295) _ _
       (λ few. record {
         named = refl;
+        as_many = refl;
         slots = λ slot. ap (share_by place) (active_at-with_record_other slot new s.records refl);
         charges = charge_of-with_record place new s.records ∙ ap (plus (charge_of place s.records)) (either_none (at == place)) ∙ plus-none (charge_of place s.records);
         plain = tt;
@@ -266,7 +273,7 @@ module _ (name : Bytes) (place : ℕ) (s : State) (shares : List (Option Usage))
       let ts : List Record = relabelled at key labels (s.entries + 1) s.records in
       let alike : AreAlike s.records ts = bare-relabelled at key labels (s.entries + 1) s.records in
       cases_if Evenly (is_granted r.labels given paths) _ _
-      (λ granted. record { named = refl; slots = alike_slots ts alike; charges = alike-charge_of s.records ts alike place; plain = tt })
+      (λ granted. record { named = refl; as_many = refl; slots = alike_slots ts alike; charges = alike-charge_of s.records ts alike place; plain = tt })
       (λ bad. even_refused _)
 
   even_update : (namespace key : Bytes) (given : List Label) (paths : List Bytes) → Evenly (update s namespace key given paths)
@@ -348,8 +355,8 @@ module _ (name : Bytes) (place : ℕ) (s : State) (shares : List (Option Usage))
       (λ at e. subst (λ (b : Bool). Named b (sweep_at s namespace moment at)) (sym (own_is namespace at e)) (sweeps namespace moment at))
 
   -- one slot of the table changes
-  agree_set : (slot : ℕ) (o : Option Usage) (ts : List Record) → slot < 64 → o ≡ share_by place (active_at slot ts) → ((k : ℕ) → k ≢ slot → active_at k ts ≡ active_at k s.records)
-      → (k : ℕ) → k < 64 → share_in k (with_share slot o shares) ≡ share_by place (active_at k ts)
+  agree_set : (slot : ℕ) (o : Option Usage) (ts : List Record) → slot < s.slots → o ≡ share_by place (active_at slot ts) → ((k : ℕ) → k ≢ slot → active_at k ts ≡ active_at k s.records)
+      → (k : ℕ) → k < s.slots → share_in k (with_share slot o shares) ≡ share_by place (active_at k ts)
   agree_set slot o ts low here others k small =
       ⊎_elim
       (λ (h : ((k == slot) ≡ true) × (k ≡ slot)).
@@ -360,12 +367,12 @@ module _ (name : Bytes) (place : ℕ) (s : State) (shares : List (Option Usage))
       get_or-set_other shares slot k o None h.1 ∙ held.agrees k small ∙ sym (ap (share_by place) (others k h.1)))
       (eqb_tells k slot)
 
-  set_places : (slot : ℕ) (o : Option Usage) → length (with_share slot o shares) ≡ 64
+  set_places : (slot : ℕ) (o : Option Usage) → length (with_share slot o shares) ≡ s.slots
   set_places slot o = length-set shares slot o ∙ held.places
 
   prepares : (at : ℕ) (key parent : Bytes) (labels : List Label) (slot : ℕ) → IsSlotFor s at slot → Named (at == place) (prepared_state s at key parent labels slot)
   prepares at key parent labels slot found =
-      let lowest = lowest_free-Some s.records slot found.lowest in
+      let lowest = lowest_free-Some s.slots s.records slot found.lowest in
       let new : Record = new_record s at key parent labels (Active slot one) in
       let ts : List Record = with_record new s.records in
       let own : is_slot slot new ≡ true = Active-is_slot slot one new refl in
@@ -392,8 +399,8 @@ module _ (name : Bytes) (place : ℕ) (s : State) (shares : List (Option Usage))
   -- ---- steps on a slot
 
   module _ (slot : ℕ) (r : Record) (stands : active_at slot s.records ≡ Some r) where
-    low : slot < 64
-    low = subst HasLowSlot (active_at-Active slot s.records r stands) (active_at-all (λ t. HasLowSlot t.content) slot s.records r stands good.open_slots)
+    low : slot < s.slots
+    low = subst (HasLowSlot s.slots) (active_at-Active slot s.records r stands) (active_at-all (λ t. HasLowSlot s.slots t.content) slot s.records r stands good.open_slots)
 
     share_now : share_in slot shares ≡ (if r.namespace == place then Some (usage_of r.content) else None)
     share_now = held.agrees slot low ∙ ap (share_by place) stands
@@ -402,37 +409,41 @@ module _ (name : Bytes) (place : ℕ) (s : State) (shares : List (Option Usage))
     OnSlot given p = Turns name place s (slot_shares p.1 given slot shares) (slot_change p.1 given (share_in slot shares)) p.0
 
     -- its share becomes another amount, and the records those that have it
-    turned_to : (to : Usage) (o : Option Usage) (t : State) → t.namespaces ≡ s.namespaces → o ≡ share_by place (active_at slot t.records) → ((k : ℕ) → k ≢ slot → active_at k t.records ≡ active_at k s.records)
+    turned_to : (to : Usage) (o : Option Usage) (t : State) → t.namespaces ≡ s.namespaces → t.slots ≡ s.slots → o ≡ share_by place (active_at slot t.records) → ((k : ℕ) → k ≢ slot → active_at k t.records ≡ active_at k s.records)
         → charge_of place t.records ≡ plus (charge_of place (without_slot slot s.records)) (if r.namespace == place then to else no_usage) → Turns name place s (with_share slot o shares) (changed_to to (share_in slot shares)) t
-    turned_to to o t spaces here others charged =
+    turned_to to o t spaces as_many here others charged =
         subst (λ (x : Option Usage). Turns name place s (with_share slot o shares) (changed_to to x) t) (sym share_now)
         (record {
-          holds = record { named = ap (place_of name) spaces ∙ held.named; places = set_places slot o; agrees = agree_set slot o t.records low here others };
+          holds = record {
+            named = ap (place_of name) spaces ∙ held.named;
+            places = set_places slot o ∙ sym as_many;
+            agrees = λ k small. agree_set slot o t.records low here others k (subst (λ (n : ℕ). k < n) as_many small);
+          };
           rest = charge_of place (without_slot slot s.records);
           before = charge_of-without place (is_slot slot) s.records r stands ∙ ap (plus (charge_of place (without_slot slot s.records))) (sym (found_in (r.namespace == place) (usage_of r.content) to));
           after = charged ∙ ap (plus (charge_of place (without_slot slot s.records))) (sym (left_in (r.namespace == place) (usage_of r.content) to));
         })
 
     -- charged anew
-    recharges : (to : Usage) (t : State) → t.namespaces ≡ s.namespaces → t.records ≡ recharged slot to s.records → Turns name place s (recharged_to slot to shares) (changed_to to (share_in slot shares)) t
-    recharges to t spaces is =
-        turned_to to (option_map (λ before. to) (share_in slot shares)) t spaces
+    recharges : (to : Usage) (t : State) → t.namespaces ≡ s.namespaces → t.slots ≡ s.slots → t.records ≡ recharged slot to s.records → Turns name place s (recharged_to slot to shares) (changed_to to (share_in slot shares)) t
+    recharges to t spaces as_many is =
+        turned_to to (option_map (λ before. to) (share_in slot shares)) t spaces as_many
         (ap (option_map (λ (before : Usage). to)) share_now ∙ mapped_if (r.namespace == place) (usage_of r.content) to
         ∙ sym (ap (λ (rs : List Record). share_by place (active_at slot rs)) is ∙ ap (share_by place) (active_at-recharged_own slot to s.records r stands)))
         (λ k ne. ap (active_at k) is ∙ active_at-recharged_other slot k to s.records ne)
         (ap (charge_of place) is ∙ charge_of-recharged place slot to s.records r stands)
 
     turns_charge_to : (given : Given) (o : Option Usage) → OnSlot given (charge_to s slot r o)
-    turns_charge_to given (Some to) = recharges to _ refl refl
+    turns_charge_to given (Some to) = recharges to _ refl refl refl
     turns_charge_to given None = refuses
 
     turns_trim : (now : Usage) → OnSlot (Count now) (trim s slot (Count now) (Some r))
-    turns_trim now = recharges now _ refl refl
+    turns_trim now = recharges now _ refl refl refl
 
     commits : (key : Bytes) (lease : Option Bytes) (layer : Tree) → OnSlot (Layer layer) (committed_state s slot key lease layer r)
     commits key lease layer =
         let c : Record = committed_as key layer (s.entries + 1) r in
-        turned_to (count_of layer) None _ refl
+        turned_to (count_of layer) None _ refl refl
         (sym (ap (share_by place) (active_at-committed_own slot key layer (s.entries + 1) s.records r good.slots)))
         (λ k ne. active_at-committed_other slot k key layer (s.entries + 1) s.records r ne)
         (charge_of-with_record place c (without_slot slot s.records))
@@ -446,7 +457,7 @@ module _ (name : Bytes) (place : ℕ) (s : State) (shares : List (Option Usage))
 
     turns_discard : (given : Given) → OnSlot given (discard s slot (Some r))
     turns_discard given =
-        turned_to no_usage None _ refl
+        turned_to no_usage None _ refl refl
         (sym (ap (share_by place) (active_at-without_slot_own slot s.records good.slots)))
         (λ k ne. active_at-without_slot_other slot k s.records ne)
         (sym (ap (plus (charge_of place (without_slot slot s.records))) (either_none (r.namespace == place)) ∙ plus-none _))

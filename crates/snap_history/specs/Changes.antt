@@ -97,9 +97,9 @@ turned whole part to =
     let rest = minus whole part in
     record { blocks = min (rest.blocks + to.blocks) 18446744073709551615; inodes = min (rest.inodes + to.inodes) 18446744073709551615 }
 
--- no open snapshots
-abbrev pub no_shares : List (Option Usage)
-no_shares = replicate 64 None
+-- no open snapshots, in a store with so many slots
+abbrev pub no_shares : ℕ → List (Option Usage)
+no_shares slots = replicate slots None
 
 -- the changes of the entries
 abbrev pub changes_of : Bytes → List (Option Usage) → List Entry → List Change

@@ -17,9 +17,9 @@ abbrev pub open_below : ℕ → List Record → List (Option OpenShare)
 open_below zero rs = []
 open_below (suc slot) rs = open_below slot rs ++ option_map open_share (active_at slot rs) ∷ []
 
--- those of all 64 slots
-abbrev pub open_shares : List Record → List (Option OpenShare)
-open_shares rs = open_below 64 rs
+-- those of all slots of a store that has so many
+abbrev pub open_shares : ℕ → List Record → List (Option OpenShare)
+open_shares slots rs = open_below slots rs
 
 -- what the snapshot is charged, where it is of the namespace at the place
 abbrev pub share_for : ℕ → Option OpenShare → Option Usage
@@ -27,5 +27,5 @@ share_for place None = None
 share_for place (Some s) = if s.namespace == place then Some s.charged else None
 
 -- what the open snapshots of the namespace at the place are charged, each in the place of its slot
-abbrev pub shares_of : ℕ → List Record → List (Option Usage)
-shares_of place rs = map (share_for place) (open_shares rs)
+abbrev pub shares_of : ℕ → ℕ → List Record → List (Option Usage)
+shares_of slots place rs = map (share_for place) (open_shares slots rs)

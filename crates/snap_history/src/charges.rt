@@ -98,7 +98,7 @@ pub fn history(
 ) -> Result<Sequence<EntryInfo>, AllocError>
     requires { length entries.now ≤ last }
     // The entries lead from the state that the round began at, with these shares, to one with this number and this charge.
-    ensures { IfOk result (λ infos. (s t : State) (place : ℕ) → Good s → held.now ≡ shares_of place s.records → Replays s entries.now t
+    ensures { IfOk result (λ infos. (s t : State) (place : ℕ) → Good s → held.now ≡ shares_of s.slots place s.records → Replays s entries.now t
         → place_of name.now t.namespaces ≡ Some place → t.entries ≡ last → charge_of place t.records ≡ now
         → infos ≡ history_page after most (history place s entries.now)) }
 {

@@ -1,12 +1,11 @@
 // What the open snapshots of all namespaces are charged, in one state.
-ghost use Rattle.std.specs.Prelude.{◌≡◌, ◌≤◌, IfOk, map, option_copied};
+ghost use Rattle.std.specs.Prelude.{◌≡◌, ◌≤◌, IfOk, length, map, option_copied};
 ghost use Rattle.std.specs.Option.{option_map};
 ghost use Rattle.std.specs.Vec.{vec_capacity};
 ghost use Rattle.snap_history.specs.Open.{open_share, open_shares, share_for};
 
 use crate::shares::Shares;
 use snap_call::Records;
-use snap_ledger::MAX_SLOTS;
 use snap_record::Record;
 use snap_usage::Usage;
 use std::alloc::{AllocError, Global};
@@ -19,7 +18,7 @@ pub(crate) struct OpenShare {
     pub(crate) charged: Usage,
 }
 
-/// What the open snapshots of a state are charged, in a place for each of the 64 slots. A journal keeps those of
+/// What the open snapshots of a state are charged, in a place for each slot of the store. A journal keeps those of
 /// the state that its round began at: entries tell what a charge becomes, and not what it was before.
 ///
 /// Contracts see the list of the places.
@@ -29,7 +28,7 @@ pub struct OpenShares {
 }
 
 impl Model for OpenShares {
-    ghost use Rattle.std.specs.Prelude.{◌≡◌, ◌≤◌, List, Option, length};
+    ghost use Rattle.std.specs.Prelude.{◌≤◌, List, Option, length};
     ghost use Rattle.std.specs.Vec.{vec_capacity};
     ghost use Rattle.snap_history.specs.declared.open.OpenShare.{OpenShare};
 
@@ -37,7 +36,7 @@ impl Model for OpenShares {
 
     ghost view = { λ s. s.list.items };
 
-    ghost invariant = { λ s. (length s.list.items ≡ 64) × (64 ≤ vec_capacity s.list) };
+    ghost invariant = { λ s. length s.list.items ≤ vec_capacity s.list };
 }
 
 fn open_share(found: Option<&Record>) -> Option<OpenShare>
@@ -53,13 +52,13 @@ fn open_share(found: Option<&Record>) -> Option<OpenShare>
 }
 
 // The shares of the open ones among the records take the place of what is in the list. It takes no memory.
-fn fill(list: &mut Vec<Option<OpenShare>>, records: &Records)
-    requires { 64 ≤ vec_capacity list.old }
-    ensures items { list.new.items ≡ open_shares records.now }
+fn fill(list: &mut Vec<Option<OpenShare>>, slots: u64, records: &Records)
+    requires { slots ≤ vec_capacity list.old }
+    ensures items { list.new.items ≡ open_shares slots records.now }
     ensures room { vec_capacity list.new ≡ vec_capacity list.old }
 {
     list.clear();
-    for slot in 0..MAX_SLOTS {
+    for slot in 0..slots {
         list.push_reserved(open_share(records.active_at(slot)));
     }
 }
@@ -90,25 +89,27 @@ fn those_of(
 }
 
 impl OpenShares {
-    /// Those of the open ones among the records. Takes memory for 64 places. The cost grows with the logarithm of
-    /// the number of records.
-    pub fn of(alloc: Global, records: &Records) -> Result<OpenShares, AllocError>
-        ensures { IfOk result (λ shares. shares ≡ open_shares records.now) }
+    /// Those of the open ones among the records, in a store with so many slots. Takes memory for a place for each.
+    /// The cost grows with the number of slots and the logarithm of the number of records.
+    pub fn of(alloc: Global, slots: u64, records: &Records) -> Result<OpenShares, AllocError>
+        ensures { IfOk result (λ shares. shares ≡ open_shares slots records.now) }
     {
-        let mut list = Vec::with_capacity(alloc, MAX_SLOTS as usize)?;
-        fill(&mut list, records);
+        let mut list = Vec::with_capacity(alloc, slots as usize)?;
+        fill(&mut list, slots, records);
         Ok(OpenShares { list })
     }
 
-    /// Those of other records take their place. Takes no memory. The cost grows with the logarithm of the number
-    /// of records.
+    /// Those of other records take their place, of as many slots. Takes no memory. The cost grows with the number of
+    /// slots and the logarithm of the number of records.
     pub fn set(&mut self, records: &Records)
-        ensures { self.new ≡ open_shares records.now }
+        ensures { self.new ≡ open_shares (length self.old) records.now }
     {
-        fill(&mut self.list, records);
+        let slots = self.list.len() as u64;
+        fill(&mut self.list, slots, records);
     }
 
-    /// Those of the namespace at a place. Takes memory for 64 places.
+    /// Those of the namespace at a place. Takes memory for a place for each
+    /// slot.
     pub fn of_namespace(&self, alloc: Global, place: usize) -> Result<Shares, AllocError>
         ensures { IfOk result (λ shares. shares ≡ map (share_for place) self.now) }
     {

@@ -5,12 +5,11 @@ ghost use Rattle.snap_history.specs.Changes.{change_of, is_own, named_shares, no
 use crate::change::{Change, ONE, named_change, slot_change};
 use crate::target::{namespace_in, slot_in};
 use snap_call::{Call, Entry, Given, Reply};
-use snap_ledger::MAX_SLOTS;
 use snap_usage::Usage;
 use std::alloc::{AllocError, Global};
 use std::marker::Model;
 
-/// What the open snapshots of one namespace are charged, in a place for each of the 64 slots.
+/// What the open snapshots of one namespace are charged, in a place for each slot of the store.
 ///
 /// Contracts see the list of the places.
 #[derive(Drop)]
@@ -19,23 +18,22 @@ pub struct Shares {
 }
 
 impl Model for Shares {
-    ghost use Rattle.std.specs.Prelude.{◌≡◌, List, Option, length};
+    ghost use Rattle.std.specs.Prelude.{List, Option};
     ghost use Rattle.snap_usage.specs.declared.usage.Usage.{Usage};
 
     ghost Value = { List (Option Usage) };
 
     ghost view = { λ s. s.list.items };
-
-    ghost invariant = { λ s. length s.list.items ≡ 64 };
 }
 
 impl Shares {
-    /// Those of a namespace without open snapshots. Takes memory for 64 places.
-    pub fn none(alloc: Global) -> Result<Shares, AllocError>
-        ensures { IfOk result (λ shares. shares ≡ no_shares) }
+    /// Those of a namespace without open snapshots, in a store with so many slots. Takes memory for a place
+    /// for each.
+    pub fn none(alloc: Global, slots: u64) -> Result<Shares, AllocError>
+        ensures { IfOk result (λ shares. shares ≡ no_shares slots) }
     {
-        let mut list = Vec::with_capacity(alloc, MAX_SLOTS as usize)?;
-        for _ in 0..MAX_SLOTS {
+        let mut list = Vec::with_capacity(alloc, slots as usize)?;
+        for _ in 0..slots {
             list.push_reserved(None);
         }
         Ok(Shares { list })
@@ -63,8 +61,9 @@ impl Shares {
     fn set(&mut self, slot: u64, share: Option<Usage>)
         ensures { self.new ≡ with_share slot share self.old }
     {
-        if slot < MAX_SLOTS {
-            self.list[slot as usize] = share;
+        let place = slot as usize;
+        if place < self.list.len() {
+            self.list[place] = share;
         }
     }
 

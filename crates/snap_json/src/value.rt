@@ -30,14 +30,17 @@ impl<'a> Value<'a> {
     pub fn get(&self, name: &str) -> Option<&Value<'a>>
         ensures { option_map (λ v. view v.now) result ≡ get name.now (view self.now) }
     {
-        member(self.as_object()?, name)
+        let Value::Object(members) = self else {
+            return None;
+        };
+        member(members, name)
     }
 
     /// Whether it is an object. Takes no memory, and its cost is constant.
     pub fn is_object(&self) -> bool
         ensures { result ≡ is_some (as_object (view self.now)) }
     {
-        self.as_object().is_some()
+        matches!(self, Value::Object(_))
     }
 
     /// The members, where this is an object, as they came.

@@ -1,5 +1,5 @@
 // The two halves of a slot, and the calls that move both alike.
-ghost use Rattle.std.specs.Prelude.{◌≡◌, ◌<◌, ◌+◌, [], true, IfOk, OnOk};
+ghost use Rattle.std.specs.Prelude.{◌≡◌, ◌<◌, ◌+◌, ◌^◌, [], true, IfOk, OnOk};
 ghost use Rattle.std.specs.Arc.{arc_value};
 ghost use Rattle.snap_ledger.specs.Halves.{maker as maker_of};
 ghost use Rattle.snap_ledger.specs.States.{CoversOne, SumFits, Meets, plus, minus, free_row, free_charge};
@@ -15,10 +15,6 @@ use std::alloc::{AllocError, Global};
 use std::marker::{Brand, Model, PhantomData};
 use std::mem;
 use std::sync::Arc;
-
-/// The slots of a store, which are 0 to 63: at most so many snapshots are active. A limit of this
-/// project.
-pub const MAX_SLOTS: u64 = 64;
 
 /// The name of a store: which table its halves are of.
 pub trait StoreName {
@@ -120,7 +116,7 @@ impl<N: StoreName> Share<N> {
         usage
     }
 
-    /// The slot, below 64 where the charge is of a [`Charge::row`].
+    /// The slot, below their number where the charge is of a [`Charge::row`].
     pub fn slot(&self) -> u64
         ensures { result ≡ self.now.slot }
     {
@@ -136,16 +132,17 @@ impl<N: StoreName> Share<N> {
 }
 
 impl<N: StoreName> Charge<N> {
-    /// The free charges of slots 0 to 63, in order. It takes memory for them and for the table's
-    /// shared place; the error says that there was none, and nothing is left then.
-    pub fn row(alloc: Global, table: NewTable) -> Result<Vec<Charge<N>>, AllocError>
+    /// The free charges of so many slots from 0 on, in order. It takes memory for them, which grows
+    /// with their number, and for the table's shared place; the error says that there was none, and
+    /// nothing is left then.
+    pub fn row(alloc: Global, table: NewTable, slots: u64) -> Result<Vec<Charge<N>>, AllocError>
         requires { table ≡ N.table }
-        ensures { IfOk result (λ row. row.items ≡ free_row 64) }
+        ensures { IfOk result (λ row. row.items ≡ free_row slots) }
     {
         let NewTable { table, mut first } = table;
         let table = Arc::new(alloc, table)?;
-        let mut row = Vec::with_capacity(alloc, MAX_SLOTS as usize)?;
-        for slot in 0..MAX_SLOTS {
+        let mut row = Vec::with_capacity(alloc, slots as usize)?;
+        for slot in 0..slots {
             row.push(Charge::made(&table, &mut first, slot)?)?;
         }
         Ok(row)
@@ -158,7 +155,7 @@ impl<N: StoreName> Charge<N> {
         slot: u64,
     ) -> Result<Charge<N>, AllocError>
         requires name { ((arc_value table.now).shared.table_id ≡ N.table) × (maker.old.table_id ≡ N.table) × (0 < N.table.words) }
-        requires slot { (maker.old.me ≡ (maker_of slot, [])) × (slot < 64) }
+        requires slot { (maker.old.me ≡ (maker_of slot, [])) × (slot + 1 < 2 ^ 64) }
         ensures maker { OnOk result ((maker.new.table_id ≡ N.table) × (maker.new.me ≡ (maker_of (slot + 1), []))) }
         ensures charge { IfOk result (λ c. c ≡ free_charge slot) }
     {

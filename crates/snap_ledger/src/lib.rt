@@ -9,4 +9,4 @@
 mod halves;
 mod rule;
 
-pub use halves::{Charge, MAX_SLOTS, NewTable, Share, StoreName};
+pub use halves::{Charge, NewTable, Share, StoreName};

@@ -8,3 +8,4 @@ pub mod Ends
 pub mod Reaching
 pub mod Named
 pub mod Sharing
+mod Parts

@@ -8,3 +8,4 @@ pub mod Rules
 pub mod Listing
 pub mod Resolving
 pub mod Arrivals
+pub mod Taken

@@ -1,5 +1,5 @@
 -- The names in a directory (readdir(3); overlayfs.rst, "readdir").
--- Cited by `Stack::list`, `Stack::has_names`, `Active::list` and others.
+-- Cited by `Stack::list`, `Stack::has_names`, `Stack::taken` and others.
 use Rattle.std.specs.Prelude.{◌≡◌, ℕ, List, [], ◌∷◌, ◌++◌, filter, Option, Some, None, is_some, Result, Ok, Err}
 use Rattle.std.specs.declared.cmp.Ordering.{Ordering}
 use Rattle.std.specs.Ordering.{nat_cmp}

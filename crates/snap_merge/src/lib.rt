@@ -10,6 +10,7 @@ mod look;
 mod names;
 mod resolve;
 mod stack;
+mod taken;
 
 pub use error::FsError;
 pub use look::{Seen, hides, is_dir, show_are_layers};

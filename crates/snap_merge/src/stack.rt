@@ -28,8 +28,8 @@ use std::marker::Model;
 /// layers, and what a layer gets later is seen by the next stack over it.
 #[derive(Drop)]
 pub struct Stack<'a> {
-    top: Option<&'a Layer>,
-    lowers: &'a [Shared],
+    pub(crate) top: Option<&'a Layer>,
+    pub(crate) lowers: &'a [Shared],
 }
 
 impl<'a> Model for Stack<'a> {
@@ -99,7 +99,7 @@ impl<'a> Stack<'a> {
     }
 
     /// Shows a proof that each of the layers is one by `IsLayer`.
-    fn show_are_layers(&self)
+    pub(crate) fn show_are_layers(&self)
         ensures { AreLayers self.now }
     {
         if let Some(top) = self.top {
@@ -189,7 +189,7 @@ impl<'a> Stack<'a> {
     }
 
     /// The names in the directory at which something is seen.
-    fn names(&self, alloc: Global, path: &Path) -> Result<Vec<Name>, FsError>
+    pub(crate) fn names(&self, alloc: Global, path: &Path) -> Result<Vec<Name>, FsError>
         ensures ok { IfOk result (λ v. v.items ≡ names self.now path.now) }
         ensures err { IfErr result (λ e. e ≡ FsError.OutOfMemory no_memory) }
     {

@@ -207,6 +207,7 @@ answer_data (answers.Head head size) = object (member (codes "head") (string (en
 answer_data (answers.Part bytes size) = object (member (codes "bytes") (string (encode_lower bytes)) (only (codes "size") (number_data size)))
 answer_data (answers.Known size digest) = object (member (codes "digest") (digest_data digest) (only (codes "size") (number_data size)))
 answer_data (answers.Path path) = object (only (codes "path") (string (text_of path)))
+answer_data (answers.Taken taken) = object (member (codes "blocks") (number_data taken.blocks) (only (codes "inodes") (number_data taken.inodes)))
 answer_data (answers.Quota quotas) = object (only (codes "quota") (object (members_with quota_data quotas no_members)))
 answer_data (answers.Tree nodes) = object (only (codes "tree") (array (items_of (map node_data nodes))))
 answer_data (answers.Journal entries) = object (only (codes "journal") (array (items_of (map entry_data entries))))

@@ -4,11 +4,13 @@
 use Rattle.std.specs.Prelude.{ℕ, [], Bool, true, false, Option, Some, None, Result, Ok}
 use Rattle.serde_json.specs.Data.{Data}
 use Rattle.serde_json.specs.Find.{as_bool, as_str}
+use Rattle.snap_layer.specs.Counts.{default_inodes}
 use Rattle.snap_usage.specs.declared.usage.Usage.{Usage}
 use Rattle.snap_record.specs.Labels.{Bytes}
 use Rattle.snap_record.specs.declared.filter.Filter.{Filter}
 use Rattle.snap_call.specs.declared.call.Call.TheVariants as calls
 use Rattle.snap_call.specs.declared.config.Config.{Config}
+use Rattle.snap_call.specs.Records.{default_slots}
 use Rattle.snap_history.specs.declared.kind.CallKind.{CallKind}
 use Rattle.snap_history.specs.declared.kind.CallKind.TheVariants as kinds
 use Rattle.snap_script.specs.declared.fault.Field.TheVariants as fields
@@ -33,13 +35,15 @@ named line = do namespace ← text fields.Namespace line; key ← text fields.Ke
 abbrev pub limit_of : Data → Result Usage Fault
 limit_of line = do blocks ← required as_natural fields.Blocks line; inodes ← required as_natural fields.Inodes line; Ok (record { blocks = blocks; inodes = inodes })
 
--- the store that open names, by its root, its namespaces and the most entries of its journal. The first id is 1.
+-- the store that open names, by its root, its namespaces, the most entries of its journal, how many slots it has, and the most inodes of a layer. The first id is 1.
 unfoldable pub config_of : Data → Result Config Fault
 config_of line = do
   root ← text fields.Root line
   namespaces ← required as_namespaces fields.Namespaces line
   journal ← optional as_natural fields.Journal (Ok 1048576) line
-  Ok (record { root = root; namespaces = namespaces; journal = journal; first_id = 1 })
+  slots ← optional as_natural fields.Slots (Ok default_slots) line
+  inodes ← optional as_natural fields.LayerInodes (Ok default_inodes) line
+  Ok (record { root = root; namespaces = namespaces; slots = slots; journal = journal; first_id = 1; layer_inodes = inodes })
 
 -- the filter of a walk: each part that is there is asked for
 unfoldable pub filter_of : Data → Result Filter Fault
@@ -94,6 +98,7 @@ lookup_of lookup_verbs.Look line = Ok lookups.Look
 lookup_of lookup_verbs.List line = Ok lookups.List
 lookup_of lookup_verbs.Read line = do Ok (read_asked (← given as_natural fields.Offset line) (← given as_natural fields.Most line))
 lookup_of lookup_verbs.Resolve line = Ok lookups.Resolve
+lookup_of lookup_verbs.Usage line = Ok lookups.Usage
 
 -- the command of a line by its verb; a file command and a lookup are on a snapshot s
 unfoldable pub command_of : Verb → Data → Result Command Fault
@@ -102,7 +107,7 @@ command_of verbs.Reopen line = do Ok (commands.Reopen (← optional as_natural f
 command_of verbs.Roll line = do Ok (commands.Roll (← optional as_natural fields.Journal (Ok 1048576) line))
 command_of (verbs.Call kind) line = call_of kind line
 command_of (verbs.File verb) line = do s ← named line; Ok (commands.File s.0 s.1 (← file_operation verb line) (← optional as_usage fields.Extra (Ok (record { blocks = 0; inodes = 0 })) line))
-command_of (verbs.Lookup verb) line = do s ← named line; path ← path_in fields.Path line; Ok (commands.Lookup s.0 s.1 (← lookup_of verb line) path)
+command_of (verbs.Lookup verb) line = do s ← named line; path ← path_in fields.Path line; asked ← lookup_of verb line; Ok (commands.Lookup s.0 s.1 asked path (← optional as_bool fields.Peek (Ok false) line))
 command_of verbs.Quota line = do Ok (commands.Quota (← given as_str fields.Namespace line))
 command_of verbs.Tree line = do Ok (commands.Tree (← text fields.Namespace line))
 command_of verbs.Journal line = do Ok (commands.Journal (← text fields.Namespace line) (← optional as_natural fields.After (Ok 0) line) (← optional as_natural fields.Most (Ok 64) line) (← optional as_bool fields.Full (Ok false) line))

@@ -22,7 +22,7 @@ use Rattle.snap_script.specs.Faults.{field_name}
 
 -- the fields that each command has, with and without a default
 abbrev pub fields_of : Verb → List Field
-fields_of verbs.Open = fields.Root ∷ fields.Namespaces ∷ fields.Journal ∷ []
+fields_of verbs.Open = fields.Root ∷ fields.Namespaces ∷ fields.Journal ∷ fields.Slots ∷ fields.LayerInodes ∷ []
 fields_of verbs.Reopen = fields.Journal ∷ []
 fields_of verbs.Roll = fields.Journal ∷ []
 fields_of (verbs.Call kinds.Session) = []
@@ -56,10 +56,11 @@ fields_of (verbs.File (file_verbs.At path_verbs.Opaque)) = fields.Namespace ∷ 
 fields_of (verbs.File (file_verbs.At path_verbs.Whiteout)) = fields.Namespace ∷ fields.Key ∷ fields.Path ∷ fields.Extra ∷ []
 fields_of (verbs.File file_verbs.Link) = fields.Namespace ∷ fields.Key ∷ fields.From ∷ fields.To ∷ fields.Extra ∷ []
 fields_of (verbs.File file_verbs.Rename) = fields.Namespace ∷ fields.Key ∷ fields.From ∷ fields.To ∷ fields.Extra ∷ []
-fields_of (verbs.Lookup lookup_verbs.Look) = fields.Namespace ∷ fields.Key ∷ fields.Path ∷ []
-fields_of (verbs.Lookup lookup_verbs.List) = fields.Namespace ∷ fields.Key ∷ fields.Path ∷ []
-fields_of (verbs.Lookup lookup_verbs.Read) = fields.Namespace ∷ fields.Key ∷ fields.Path ∷ fields.Offset ∷ fields.Most ∷ []
-fields_of (verbs.Lookup lookup_verbs.Resolve) = fields.Namespace ∷ fields.Key ∷ fields.Path ∷ []
+fields_of (verbs.Lookup lookup_verbs.Look) = fields.Namespace ∷ fields.Key ∷ fields.Path ∷ fields.Peek ∷ []
+fields_of (verbs.Lookup lookup_verbs.List) = fields.Namespace ∷ fields.Key ∷ fields.Path ∷ fields.Peek ∷ []
+fields_of (verbs.Lookup lookup_verbs.Read) = fields.Namespace ∷ fields.Key ∷ fields.Path ∷ fields.Peek ∷ fields.Offset ∷ fields.Most ∷ []
+fields_of (verbs.Lookup lookup_verbs.Resolve) = fields.Namespace ∷ fields.Key ∷ fields.Path ∷ fields.Peek ∷ []
+fields_of (verbs.Lookup lookup_verbs.Usage) = fields.Namespace ∷ fields.Key ∷ fields.Path ∷ fields.Peek ∷ []
 fields_of verbs.Quota = fields.Namespace ∷ []
 fields_of verbs.Tree = fields.Namespace ∷ []
 fields_of verbs.Journal = fields.Namespace ∷ fields.After ∷ fields.Most ∷ fields.Full ∷ []

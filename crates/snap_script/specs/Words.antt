@@ -49,6 +49,7 @@ words =
     ∷ (codes "list", verbs.Lookup lookup_verbs.List)
     ∷ (codes "read", verbs.Lookup lookup_verbs.Read)
     ∷ (codes "resolve", verbs.Lookup lookup_verbs.Resolve)
+    ∷ (codes "du", verbs.Lookup lookup_verbs.Usage)
     ∷ (codes "quota", verbs.Quota)
     ∷ (codes "tree", verbs.Tree)
     ∷ (codes "journal", verbs.Journal)

@@ -174,6 +174,8 @@ pub enum Answer {
     },
     /// The path that another leads to: `{"path":"/d/x"}`.
     Path(Path),
+    /// What is taken at and below a path: `{"blocks":4,"inodes":3}`.
+    Taken(Usage),
     /// What namespaces may take and what they take:
     /// `{"quota":{"a":{"charged":[5,4],"committed":[4,3],"free":[95,96],"limit":[100,100],"open":[1,1],"spare":[0,0]}}}`.
     Quota(Sequence<(Text, QuotaInfo)>),
@@ -224,6 +226,7 @@ impl Drop for Answer {
             Answer::Part { bytes: _, size: _ } => {}
             Answer::Known { size: _, digest: _ } => {}
             Answer::Path(_) => {}
+            Answer::Taken(_) => {}
             Answer::Quota(_) => {}
             Answer::Tree(_) => {}
             Answer::Journal(_) => {}
@@ -290,6 +293,9 @@ impl ToJson for Answer {
             }
             Answer::Known { size, digest } => { pair(alloc, out, "digest", digest, "size", size) }
             Answer::Path(own) => only(alloc, out, "path", &own.as_str()),
+            Answer::Taken(Usage { blocks, inodes }) => {
+                pair(alloc, out, "blocks", blocks, "inodes", inodes)
+            }
             Answer::Quota(found) => quotas(alloc, out, found.as_slice()),
             Answer::Tree(nodes) => only(alloc, out, "tree", nodes),
             Answer::Journal(entries) => only(alloc, out, "journal", entries),

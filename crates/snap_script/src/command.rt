@@ -61,12 +61,14 @@ pub enum Command {
         operation: Option<Op>,
         extra: Usage,
     },
-    /// Asks what an active snapshot shows at a path. There is none where its text is no path.
+    /// Asks what an active snapshot or a view shows at a path, and where it may be peeked at, what a committed one
+    /// would. There is no path where its text is none.
     Lookup {
         namespace: Text,
         key: Text,
         lookup: Lookup,
         path: Option<Path>,
+        peek: bool,
     },
     /// Asks what a sweep of a namespace would take away at a moment. Nothing goes.
     TrySweep {
@@ -111,6 +113,8 @@ pub enum Lookup {
     Part { offset: u64, most: u64 },
     /// The path that it leads to, once the symlinks in it are followed.
     Resolve,
+    /// What is taken at and below it.
+    Usage,
 }
 
 /// The names of the namespaces, in their order. The memory and the cost grow with them.

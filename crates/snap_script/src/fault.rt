@@ -22,6 +22,9 @@ pub enum Field {
     Root,
     Namespaces,
     Journal,
+    /// How many snapshots may be open at one time.
+    Slots,
+    LayerInodes,
     /// `ns`, a namespace's name.
     Namespace,
     Key,
@@ -48,6 +51,8 @@ pub enum Field {
     Chain,
     /// Whether a journal tells the lines that make the calls.
     Full,
+    /// Whether a lookup may be of a committed snapshot.
+    Peek,
     Blocks,
     Inodes,
     Path,
@@ -121,6 +126,8 @@ impl Field {
             Field::Root => "root",
             Field::Namespaces => "namespaces",
             Field::Journal => "journal",
+            Field::Slots => "slots",
+            Field::LayerInodes => "layer_inodes",
             Field::Namespace => "ns",
             Field::Key => "key",
             Field::Parent => "parent",
@@ -138,6 +145,7 @@ impl Field {
             Field::Try => "try",
             Field::Chain => "chain",
             Field::Full => "full",
+            Field::Peek => "peek",
             Field::Blocks => "blocks",
             Field::Inodes => "inodes",
             Field::Path => "path",

@@ -14,11 +14,11 @@ use crate::fields::{
 };
 use crate::operation::{file_operation, path_in};
 use crate::verb::{LookupVerb, Verb};
-use snap_call::limits::MAX_JOURNAL;
+use snap_call::limits::{DEFAULT_SLOTS, MAX_JOURNAL};
 use snap_call::{Call, Config};
 use snap_history::CallKind;
 use snap_json::Value;
-use snap_path::limits::MAX_FILE_BYTES;
+use snap_path::limits::{DEFAULT_LAYER_INODES, MAX_FILE_BYTES};
 use snap_record::{Filter, Text};
 use snap_usage::Usage;
 use std::alloc::Global;
@@ -48,11 +48,15 @@ pub(crate) fn config_of(alloc: Global, line: &Value<'_>) -> Result<Config, ReadE
     let root = text(alloc, Field::Root, line)?;
     let namespaces = namespaces(alloc, line)?;
     let journal = number_or(MAX_JOURNAL, Field::Journal, line)?;
+    let slots = number_or(DEFAULT_SLOTS, Field::Slots, line)?;
+    let layer_inodes = number_or(DEFAULT_LAYER_INODES as u64, Field::LayerInodes, line)?;
     Ok(Config {
         root,
         namespaces,
+        slots,
         journal,
         first_id: FIRST_ID,
+        layer_inodes,
     })
 }
 
@@ -282,6 +286,7 @@ fn lookup_of(verb: LookupVerb, line: &Value<'_>) -> Result<Lookup, Fault>
             Ok(read_asked(offset, most))
         }
         LookupVerb::Resolve => Ok(Lookup::Resolve),
+        LookupVerb::Usage => Ok(Lookup::Usage),
     }
 }
 
@@ -318,6 +323,7 @@ pub(crate) fn command_of(alloc: Global, verb: Verb, line: &Value<'_>) -> Result<
                 key,
                 lookup: lookup_of(verb, line)?,
                 path,
+                peek: is_true(Field::Peek, line)?,
             })
         }
         Verb::Quota => Ok(Command::Quota {

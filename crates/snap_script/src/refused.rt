@@ -57,6 +57,7 @@ impl Answer {
             | Answer::Part { .. }
             | Answer::Known { .. }
             | Answer::Path(_)
+            | Answer::Taken(_)
             | Answer::Quota(_)
             | Answer::Tree(_)
             | Answer::Journal(_)

@@ -126,7 +126,13 @@ fn fields_of(verb: Verb) -> &'static [Field]
     ensures { result.now ≡ fields_of verb }
 {
     match verb {
-        Verb::Open => &[Field::Root, Field::Namespaces, Field::Journal],
+        Verb::Open => &[
+            Field::Root,
+            Field::Namespaces,
+            Field::Journal,
+            Field::Slots,
+            Field::LayerInodes,
+        ],
         Verb::Reopen | Verb::Roll => &[Field::Journal],
         Verb::Call(kind) => call_fields(kind),
         Verb::File(FileVerb::At(verb)) => path_fields(verb),
@@ -137,13 +143,14 @@ fn fields_of(verb: Verb) -> &'static [Field]
             Field::To,
             Field::Extra,
         ],
-        Verb::Lookup(LookupVerb::Look | LookupVerb::List | LookupVerb::Resolve) => {
-            &[Field::Namespace, Field::Key, Field::Path]
-        }
+        Verb::Lookup(
+            LookupVerb::Look | LookupVerb::List | LookupVerb::Resolve | LookupVerb::Usage,
+        ) => { &[Field::Namespace, Field::Key, Field::Path, Field::Peek] }
         Verb::Lookup(LookupVerb::Read) => &[
             Field::Namespace,
             Field::Key,
             Field::Path,
+            Field::Peek,
             Field::Offset,
             Field::Most,
         ],

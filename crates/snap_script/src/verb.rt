@@ -54,6 +54,7 @@ pub(crate) enum LookupVerb {
     List,
     Read,
     Resolve,
+    Usage,
 }
 
 /// The calls that are commands.
@@ -79,7 +80,7 @@ const CALLS: [CallKind; 18] = [
 ];
 
 /// The words of the other commands.
-const WORDS: [(&str, Verb); 24] = [
+const WORDS: [(&str, Verb); 25] = [
     ("open", Verb::Open),
     ("reopen", Verb::Reopen),
     ("roll", Verb::Roll),
@@ -100,6 +101,7 @@ const WORDS: [(&str, Verb); 24] = [
     ("list", Verb::Lookup(LookupVerb::List)),
     ("read", Verb::Lookup(LookupVerb::Read)),
     ("resolve", Verb::Lookup(LookupVerb::Resolve)),
+    ("du", Verb::Lookup(LookupVerb::Usage)),
     ("quota", Verb::Quota),
     ("tree", Verb::Tree),
     ("journal", Verb::Journal),

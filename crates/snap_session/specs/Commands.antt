@@ -13,6 +13,7 @@ use Rattle.snap_merge.specs.Objects.{Object, dir, file, symlink, seen}
 use Rattle.snap_merge.specs.Listing.{listing}
 use Rattle.snap_merge.specs.Reading.{reading}
 use Rattle.snap_merge.specs.Resolving.{resolution}
+use Rattle.snap_merge.specs.Taken.{taken}
 use Rattle.snap_upper.specs.declared.op.Op.{Op}
 use Rattle.snap_record.specs.Labels.{Bytes}
 use Rattle.snap_call.specs.declared.call.Call.TheVariants as calls
@@ -33,7 +34,7 @@ use Rattle.snap_world.specs.declared.step.Answer.{Answer as StepAnswer}
 use Rattle.snap_world.specs.declared.step.Answer.TheVariants as step_answers
 use Rattle.snap_world.specs.World.{WorldValue}
 use Rattle.snap_world.specs.Move.{move}
-use Rattle.snap_world.specs.Stacks.{stack_of}
+use Rattle.snap_world.specs.Stacks.{peeked_of, stack_of}
 use Rattle.snap_world.specs.declared.round.ReopenFault.{ReopenFault}
 use Rattle.snap_world.specs.declared.round.ReopenFault.TheVariants as faults
 use Rattle.snap_world.specs.Round.{reopen_answer, reopened}
@@ -142,6 +143,12 @@ looked_up lookups.List layers path = found_or_failed answers.Names (listing laye
 looked_up lookups.Read layers path = found_or_failed read_of (reading layers path)
 looked_up (lookups.Part offset most) layers path = found_or_failed (part_of offset most) (reading layers path)
 looked_up lookups.Resolve layers path = found_or_failed answers.Path (resolution layers path)
+looked_up lookups.Usage layers path = found_or_failed answers.Taken (taken layers path)
+
+-- the layers of a snapshot that is looked at, or why there are none; where it is peeked at, a committed one has some
+abbrev pub layers_at : WorldValue → Bytes → Bytes → Bool → Result (List Tree) Refusal
+layers_at w namespace key false = stack_of w namespace key
+layers_at w namespace key true = option_map_or Ok (peeked_of w namespace key) (stack_of w namespace key)
 
 -- a lookup in the layers of a snapshot, or why there are none; there is no path where its text was none. No step is made
 abbrev pub lookup : Lookup → Option Names → Result (List Tree) Refusal → Answer
@@ -202,7 +209,7 @@ on_store s n (commands.Trim namespace key) = on_key s.world namespace key (λ sl
 on_store s n (commands.Commit namespace key name lease) = on_key s.world namespace key (λ slot id. stepped n slot (Locked n (calls.Commit slot id name lease)) s.world)
 on_store s n (commands.Discard namespace key) = on_key s.world namespace key (λ slot id. stepped n slot (Locked n (calls.Discard slot id)) s.world)
 on_store s n (commands.File namespace key operation extra) = on_key s.world namespace key (λ slot id. performed n slot id operation extra s.world)
-on_store s n (commands.Lookup namespace key asked path) = (s.world, lookup asked path (stack_of s.world namespace key))
+on_store s n (commands.Lookup namespace key asked path peek) = (s.world, lookup asked path (layers_at s.world namespace key peek))
 on_store s n (commands.TrySweep namespace moment) = (s.world, answers.Reply (sweep s.world.state namespace moment).1)
 on_store s n (commands.ChainUsage namespace key) = (s.world, usage_answer (chain_usage s.world.state namespace key))
 on_store s n (commands.Quota namespace) = (s.world, quota_answer s namespace)

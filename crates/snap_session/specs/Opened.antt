@@ -26,7 +26,7 @@ unopened = record { store = None; spent = false }
 
 -- the world that a configuration opens
 abbrev pub new_world : Config → WorldValue
-new_world c = record { state = opening c; journal = []; opening = opening c; limit = c.journal; hands = replicate 64 None }
+new_world c = record { state = opening c; journal = []; opening = opening c; limit = c.journal; hands = replicate c.slots None }
 
 -- what the snapshot in the slot is charged; nothing where there is none
 abbrev pub share_at : ℕ → WorldValue → Usage

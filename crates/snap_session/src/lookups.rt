@@ -1,9 +1,8 @@
 // What a snapshot shows at a path.
-ghost use Rattle.std.specs.Prelude.{◌≡◌, IfOk, drop, length, take};
+ghost use Rattle.std.specs.Prelude.{◌≡◌, IfOk, Ok, drop, length, take};
 ghost use Rattle.snap_merge.specs.Objects.{object};
 ghost use Rattle.snap_script.specs.declared.answer.Answer.TheVariants as answers;
-ghost use Rattle.snap_world.specs.Stacks.{stack_of};
-ghost use Rattle.snap_session.specs.Commands.{part_of, read_of, shown_file, shown_of, looked_up, lookup};
+ghost use Rattle.snap_session.specs.Commands.{layers_at, part_of, read_of, shown_file, shown_of, looked_up, lookup};
 
 use snap_layer::{Bytes, Content};
 use snap_ledger::StoreName;
@@ -128,9 +127,30 @@ fn looked_up(
             Err(FsError::OutOfMemory(no_memory)) => Err(no_memory),
             Err(error) => Ok(Answer::Failed(error)),
         },
+        Lookup::Usage => match stack.taken(alloc, path) {
+            Ok(taken) => Ok(Answer::Taken(taken)),
+            Err(FsError::OutOfMemory(no_memory)) => Err(no_memory),
+            Err(error) => Ok(Answer::Failed(error)),
+        },
     }
 }
 
+// A lookup in the layers; there is no path where its text was none.
+fn lookup_in(
+    alloc: Global,
+    asked: Lookup,
+    path: Option<Path>,
+    stack: &Stack<'_>,
+) -> Result<Answer, NoMemory>
+    ensures { IfOk result (λ answer. answer ≡ lookup asked path (Ok stack.now)) }
+{
+    match path {
+        Some(path) => looked_up(alloc, asked, stack, &path),
+        None => Ok(Answer::Failed(FsError::BadPath)),
+    }
+}
+
+// A lookup of a snapshot; where it may be peeked at, also of a committed one.
 pub(crate) fn lookup<N: StoreName>(
     alloc: Global,
     world: &World<N>,
@@ -138,15 +158,18 @@ pub(crate) fn lookup<N: StoreName>(
     key: Text,
     asked: Lookup,
     path: Option<Path>,
+    peek: bool,
 ) -> Result<Answer, NoMemory>
-    ensures { IfOk result (λ answer. answer ≡ lookup asked path (stack_of world.now namespace key)) }
+    ensures { IfOk result (λ answer. answer ≡ lookup asked path (layers_at world.now namespace key peek)) }
 {
-    let stack = match world.stack(namespace.as_str(), key.as_str()) {
-        Ok(stack) => stack,
-        Err(why) => return Ok(Answer::refused(why)),
-    };
-    match path {
-        Some(path) => looked_up(alloc, asked, &stack, &path),
-        None => Ok(Answer::Failed(FsError::BadPath)),
+    if peek {
+        if let Some((layer, lowers)) = world.peek(namespace.as_str(), key.as_str())? {
+            let stack = Stack::over(layer, lowers.as_slice());
+            return lookup_in(alloc, asked, path, &stack);
+        }
+    }
+    match world.stack(namespace.as_str(), key.as_str()) {
+        Ok(stack) => lookup_in(alloc, asked, path, &stack),
+        Err(why) => Ok(Answer::refused(why)),
     }
 }

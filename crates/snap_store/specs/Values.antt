@@ -10,12 +10,12 @@ use Rattle.snap_call.specs.declared.reply.Reply.TheVariants as replies
 use Rattle.snap_call.specs.declared.state.State.{State}
 use Rattle.snap_call.specs.State.{place_of, ancestors, ids_of, layers_of, shown_layers}
 use Rattle.snap_call.specs.Step.{greater, one}
-use Rattle.snap_book.specs.Active.{ActiveValue, root_mode}
+use Rattle.snap_book.specs.Active.{ActiveValue, fresh}
 use Rattle.snap_book.specs.Viewed.{ViewedValue}
 use Rattle.snap_tape.specs.Tapes.{SessionValue, Taped}
 
--- a new active snapshot, by the state that its call met: its namespace has the place that its text has there; it has the key; below it are the layers of the parent and the parent's ancestors, nearest first, one for each id of the reply's chain, and none without a parent; its own layer is a root alone with the mode of the nearest one's root; its share is 1/1
-pub record IsPrepared (old new : SessionValue) (namespace asked parent : Bytes) (labels : List Label) (a : ActiveValue) : Type 0 where
+-- a new active snapshot, by the state that its call met: its namespace has the place that its text has there; it has the key; below it are the layers of the parent and the parent's ancestors, nearest first, one for each id of the reply's chain, and none without a parent; its own layer is a root alone with the mode of the nearest one's root, which may have so many inodes; its share is 1/1
+pub record IsPrepared (inodes : ℕ) (old new : SessionValue) (namespace asked parent : Bytes) (labels : List Label) (a : ActiveValue) : Type 0 where
   pub met : State
   pub place : place_of namespace met.namespaces ≡ Some a.namespace
   pub taped : Taped old new (calls.Prepare namespace asked parent labels) Nothing (replies.Prepared a.share.id a.share.slot (ids_of (ancestors a.namespace parent met.records)))
@@ -23,7 +23,7 @@ pub record IsPrepared (old new : SessionValue) (namespace asked parent : Bytes) 
   pub lowers : a.lowers ≡ layers_of (ancestors a.namespace parent met.records)
   pub each : length a.lowers ≡ length (ids_of (ancestors a.namespace parent met.records))
   pub base : parent ≡ [] → a.lowers ≡ []
-  pub layer : a.layer ≡ root_only (root_mode a.lowers) 1
+  pub layer : a.layer ≡ fresh inodes a.lowers
   pub usage : a.share.usage ≡ one
 
 -- a new view, by the state that its call met: it has the reply's id, and shows the layers of the parent and the parent's ancestors, nearest first, one for each id of the reply's chain, or one empty layer

@@ -6,7 +6,7 @@ ghost use Rattle.snap_call.specs.State.{place_of};
 ghost use Rattle.snap_call.specs.Totals.{counted_in};
 ghost use Rattle.snap_book.specs.Round.{next_round, round_answer};
 ghost use Rattle.snap_round.specs.Rounds.{whole};
-ghost use Rattle.snap_store.specs.Rounds.{round_of};
+ghost use Rattle.snap_store.specs.Rounds.{HasLayers, round_of};
 ghost use Rattle.snap_store.specs.Closing.{AreSessions, HasCause, IsKept, IsRefusal, IsSettled};
 
 use crate::cause::{Cause, close_cause};
@@ -73,14 +73,15 @@ impl<N: RoundName> Store<N> {
         ensures returned { IfErr result (λ back. back.sessions ≡ sessions) }
         ensures cause { IfErr result (λ back. HasCause back.store back.sessions.items back.cause) }
     {
-        let (alloc, book, tie) = self.into_book();
+        let (alloc, book, tie, layer_inodes) = self.into_book();
         match close_cause(alloc, &book, sessions.as_slice()) {
             Ok(None) => Ok(Closed::of(alloc, book, tie)),
-            Ok(Some(cause)) => Err(NotClosed::of(alloc, book, tie, sessions, cause)),
+            Ok(Some(cause)) => Err(NotClosed::of(alloc, book, tie, layer_inodes, sessions, cause)),
             Err(no_memory) => Err(NotClosed::of(
                 alloc,
                 book,
                 tie,
+                layer_inodes,
                 sessions,
                 Cause::OutOfMemory(no_memory),
             )),
@@ -120,12 +121,14 @@ impl<N: RoundName> NotClosed<N> {
         alloc: Global,
         book: Book<N>,
         tie: Tie<N>,
+        layer_inodes: u64,
         sessions: Vec<Session>,
         cause: Cause,
     ) -> NotClosed<N>
         requires refused { IsRefusal book sessions.items cause }
         requires began { open_count book.opening.records ≡ 0 }
         requires whole { tie ≡ whole (round_of book) }
+        requires layers { HasLayers (round_of book) layer_inodes }
         ensures same { result.store ≡ round_of book }
         ensures returned { result.sessions ≡ sessions }
         ensures cause { HasCause result.store result.sessions.items result.cause }
@@ -133,7 +136,7 @@ impl<N: RoundName> NotClosed<N> {
         // The clauses of the records tell what the book keeps.
         let _records = book.records();
         NotClosed {
-            store: Store::of(alloc, book, tie),
+            store: Store::of(alloc, book, tie, layer_inodes),
             sessions,
             cause,
         }

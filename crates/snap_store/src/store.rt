@@ -13,7 +13,7 @@ ghost use Rattle.snap_call.specs.declared.reply.Reply.TheVariants as replies;
 ghost use Rattle.snap_book.specs.Held.{share_of};
 ghost use Rattle.snap_tape.specs.Tapes.{RefusedOn, Taped};
 ghost use Rattle.snap_round.specs.Rounds.{whole};
-ghost use Rattle.snap_store.specs.Rounds.{round_of};
+ghost use Rattle.snap_store.specs.Rounds.{HasLayers, round_of};
 ghost use Rattle.snap_store.specs.Values.{IsChargedTo, IsPrepared, IsViewed};
 
 use crate::note::{entry_of, is_recorded};
@@ -65,6 +65,8 @@ pub struct Store<N: RoundName> {
     pub(crate) alloc: Global,
     pub(crate) book: Mutex<Locked<N>>,
     tie: Tie<N>,
+    // The most inodes of a new layer. The book has it too, of which nothing is known here.
+    layer_inodes: u64,
 }
 
 impl<N: RoundName> Model for Store<N> {
@@ -72,23 +74,30 @@ impl<N: RoundName> Model for Store<N> {
     ghost use Rattle.snap_call.specs.Records.{open_count};
     ghost use Rattle.snap_round.specs.Rounds.{outer};
     ghost use Rattle.snap_round.specs.declared.rule.Round.{Round};
+    ghost use Rattle.snap_store.specs.Rounds.{HasLayers};
 
     ghost Value = { Round };
 
     ghost view = { λ s. s.tie.round };
 
     // No call rolls the book: the round began without open snapshots.
-    ghost invariant = { λ s. (s.tie ≡ outer s.tie.round) × (open_count s.tie.round.opening.records ≡ 0) };
+    ghost invariant = { λ s. (s.tie ≡ outer s.tie.round) × (open_count s.tie.round.opening.records ≡ 0) × HasLayers s.tie.round s.layer_inodes };
 }
 
 // The store of a book that begins a round, which the type names.
-fn known<N: RoundName, K: KnownRound>(alloc: Global, book: Book<N>, tie: Tie<N>) -> Store<N>
+fn known<N: RoundName, K: KnownRound>(
+    alloc: Global,
+    book: Book<N>,
+    tie: Tie<N>,
+    layer_inodes: u64,
+) -> Store<N>
     requires known { round_of book ≡ K.round }
     requires idle { open_count book.opening.records ≡ 0 }
+    requires layers { HasLayers (round_of book) layer_inodes }
     requires whole { tie ≡ whole tie.round }
     ensures { result ≡ round_of book }
 {
-    Store::of(alloc, book, tie.begin::<K>())
+    Store::of(alloc, book, tie.begin::<K>(), layer_inodes)
 }
 
 // The store of a book that begins a round.
@@ -98,14 +107,16 @@ pub(crate) fn begun<N: RoundName>(alloc: Global, book: Book<N>, tie: Tie<N>) -> 
     requires whole { tie ≡ whole tie.round }
     ensures { result ≡ round_of book }
 {
-    known::<N, Brand>(alloc, book, tie)
+    let layer_inodes = book.layer_inodes();
+    known::<N, Brand>(alloc, book, tie, layer_inodes)
 }
 
 impl<N: RoundName> Store<N> {
     // The store of a book, which is of the round of the tie.
-    pub(crate) fn of(alloc: Global, book: Book<N>, tie: Tie<N>) -> Store<N>
+    pub(crate) fn of(alloc: Global, book: Book<N>, tie: Tie<N>, layer_inodes: u64) -> Store<N>
         requires whole { tie ≡ whole (round_of book) }
         requires idle { open_count book.opening.records ≡ 0 }
+        requires layers { HasLayers (round_of book) layer_inodes }
         ensures { result ≡ round_of book }
     {
         let (tie, half) = tie.split();
@@ -113,24 +124,31 @@ impl<N: RoundName> Store<N> {
             alloc,
             book: Mutex::new(Locked { book, half }),
             tie,
+            layer_inodes,
         }
     }
 
-    // Its book, out of the lock: it is of the store's round.
-    pub(crate) fn into_book(self) -> (Global, Book<N>, Tie<N>)
+    // Its book, out of the lock: it is of the store's round. Beside it the most inodes of a new layer.
+    pub(crate) fn into_book(self) -> (Global, Book<N>, Tie<N>, u64)
         ensures round { round_of result.1 ≡ self }
         ensures whole { result.2 ≡ whole (round_of result.1) }
         ensures idle { open_count result.1.opening.records ≡ 0 }
+        ensures layers { HasLayers (round_of result.1) result.3 }
     {
-        let Store { alloc, book, tie } = self;
+        let Store {
+            alloc,
+            book,
+            tie,
+            layer_inodes,
+        } = self;
         let Locked { book, half } = book.into_inner();
-        (alloc, book, tie.join(half))
+        (alloc, book, tie.join(half), layer_inodes)
     }
 
     /// A store with the namespaces of the configuration and no snapshots, in a round without sessions.
     ///
     /// `BadArgument` where a part of the configuration has not its form; `OutOfMemory` where memory is
-    /// refused. It waits for nobody.
+    /// refused. Memory and cost are those of [`Book::open`](snap_book::Book::open). It waits for nobody.
     pub fn open(alloc: Global, new: NewStore, config: Config) -> Result<Store<N>, Refusal>
         requires { new ≡ (N.table, N.rounds) }
         ensures opened { IfOk result (λ store. store ≡ record { opening = opening config; limit = config.journal }) }
@@ -140,6 +158,14 @@ impl<N: RoundName> Store<N> {
         let (charges, tie) = new.into_parts();
         let book = Book::open(alloc, charges, config)?;
         Ok(begun(alloc, book, tie))
+    }
+
+    /// The most inodes of the layer of each snapshot that is prepared. Takes no memory, and waits for nobody. The cost
+    /// is constant.
+    pub fn layer_inodes(&self) -> u64
+        ensures { result ≡ self.now.opening.layer_inodes }
+    {
+        self.layer_inodes
     }
 
     /// Opens a session of the round. Its tape begins with the entry of this call.
@@ -178,15 +204,16 @@ impl<N: RoundName> Store<N> {
         labels: &Labels,
     ) -> Result<Active<N>, Refusal>
         // Ok: the entry is on the tape, and the snapshot is the step's.
-        ensures granted { IfOk result (λ a. IsPrepared session.old session.new namespace.now key.now parent.now labels.now a) }
+        ensures granted { IfOk result (λ a. IsPrepared self.now.opening.layer_inodes session.old session.new namespace.now key.now parent.now labels.now a) }
         ensures refused { IfErr result (λ why. RefusedOn session.old session.new (calls.Prepare namespace.now key.now parent.now labels.now) Nothing why) }
         ensures room { session.old.spare ≤ session.new.spare + 1 }
     {
         session.reserve(1)?;
         let mut locked = self.book.lock(rt);
         let book = &mut locked.book;
-        match book.prepare(session.number(), namespace, key, parent, labels) {
-            Ok(active) => {
+        let n = session.number();
+        match book.prepare_within(n, namespace, key, parent, labels, self.layer_inodes) {
+            Ok((active, _)) => {
                 session.note(book.take_entry());
                 Ok(active)
             }

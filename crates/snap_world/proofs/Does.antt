@@ -21,13 +21,12 @@ use Rattle.snap_call.specs.declared.call.Given.{Given}
 use Rattle.snap_call.specs.declared.reply.Reply.TheVariants as replies
 use Rattle.snap_record.specs.declared.record.Record.{Record}
 use Rattle.snap_layer.specs.Tree.{Tree}
-use Rattle.snap_layer.specs.Edits.{root_only}
 use Rattle.snap_merge.specs.declared.error.FsError.{FsError}
 use Rattle.snap_merge.specs.declared.error.FsError.TheVariants as errors
 use Rattle.snap_upper.specs.declared.op.Op.{Op}
 use Rattle.snap_upper.specs.After.{Outcome, lists_names}
 use Rattle.snap_book.specs.Files.{worked}
-use Rattle.snap_book.specs.Active.{ActiveValue, root_mode}
+use Rattle.snap_book.specs.Active.{ActiveValue, fresh}
 use Rattle.snap_accounts.specs.Entries.{IsPlain}
 use Rattle.snap_book.specs.Book.{BookValue, AnsweredBy, Recorded}
 use Rattle.snap_world.specs.declared.step.Answer.{Answer}
@@ -42,13 +41,13 @@ use Rattle.snap_world.proofs.Places.{with_hand-twice, with_hand-again}
 use Rattle.snap_world.proofs.Steps.{admits, charges, found, in_session, missed}
 
 pub charge_does : (old new : BookValue) (hands out after : List (Option HandValue)) (slot n id : ℕ) (need want : Usage) (a b : ActiveValue) (reply : Reply) → Fits (world_of old hands)
-    → hand_at slot hands ≡ Some (record { snapshot = a; sealed = false }) → is_under id (record { snapshot = a; sealed = false }) ≡ true → slot < 64
+    → hand_at slot hands ≡ Some (record { snapshot = a; sealed = false }) → is_under id (record { snapshot = a; sealed = false }) ≡ true
     → AnsweredBy old new n (calls.Charge a.share.slot a.share.id need want) Nothing reply → b ≡ charged a reply → (reply ≡ Refused JournalFull) ↔ (old.limit ≤ length old.journal + open_count old.state.records)
     → out ≡ with_hand slot None hands → after ≡ with_hand slot (Some (record { snapshot = b; sealed = false })) out
     → DoesCall (world_of old hands) n (calls.Charge slot id need want) (answers.Reply reply) (world_of new after)
-charge_does old new hands out after slot n id need want a b reply fits at under low answered is full gone back =
+charge_does old new hands out after slot n id need want a b reply fits at under answered is full gone back =
     let h : HandValue = record { snapshot = a; sealed = false } in
-    let slot_is : a.share.slot ≡ slot = placed (world_of old hands) slot h fits low at in
+    let slot_is : a.share.slot ≡ slot = placed (world_of old hands) slot h fits at in
     let id_is : a.share.id ≡ id = under-id id h under in
     let here : AnsweredBy old new n (calls.Charge slot id need want) Nothing reply =
     subst (λ (i : ℕ). AnsweredBy old new n (calls.Charge slot i need want) Nothing reply) id_is
@@ -56,13 +55,13 @@ charge_does old new hands out after slot n id need want a b reply fits at under 
     charges old new hands out after slot n id (calls.Charge slot id need want) (λ g. Nothing) a b reply at under here is full gone back
 
 pub trim_does : (old new : BookValue) (hands out after : List (Option HandValue)) (slot n id : ℕ) (a b : ActiveValue) (reply : Reply) → Fits (world_of old hands)
-    → hand_at slot hands ≡ Some (record { snapshot = a; sealed = false }) → is_under id (record { snapshot = a; sealed = false }) ≡ true → slot < 64
+    → hand_at slot hands ≡ Some (record { snapshot = a; sealed = false }) → is_under id (record { snapshot = a; sealed = false }) ≡ true
     → AnsweredBy old new n (calls.Trim a.share.slot a.share.id) (Count (count_of a.layer)) reply → b ≡ charged a reply → (reply ≡ Refused JournalFull) ↔ (old.limit ≤ length old.journal + open_count old.state.records)
     → out ≡ with_hand slot None hands → after ≡ with_hand slot (Some (record { snapshot = b; sealed = false })) out
     → DoesCall (world_of old hands) n (calls.Trim slot id) (answers.Reply reply) (world_of new after)
-trim_does old new hands out after slot n id a b reply fits at under low answered is full gone back =
+trim_does old new hands out after slot n id a b reply fits at under answered is full gone back =
     let h : HandValue = record { snapshot = a; sealed = false } in
-    let slot_is : a.share.slot ≡ slot = placed (world_of old hands) slot h fits low at in
+    let slot_is : a.share.slot ≡ slot = placed (world_of old hands) slot h fits at in
     let id_is : a.share.id ≡ id = under-id id h under in
     let here : AnsweredBy old new n (calls.Trim slot id) (Count (count_of a.layer)) reply =
     subst (λ (i : ℕ). AnsweredBy old new n (calls.Trim slot i) (Count (count_of a.layer)) reply) id_is
@@ -138,10 +137,10 @@ plain_does old new hands n call reply asks answered full = at call asks answered
     at call a h = absurd a
 
 pub prepare_does : (old new : BookValue) (hands after : List (Option HandValue)) (n : ℕ) (namespace key parent : Bytes) (labels : List Label) (reply : Reply) → AnsweredBy old new n (calls.Prepare namespace key parent labels) Nothing reply
-    → after ≡ with_prepared (place_of namespace old.state.namespaces) key parent old.state.records hands reply → (reply ≡ Refused JournalFull) ↔ (old.limit < length old.journal + open_count old.state.records + 2)
+    → after ≡ with_prepared old.state.layer_inodes (place_of namespace old.state.namespaces) key parent old.state.records hands reply → (reply ≡ Refused JournalFull) ↔ (old.limit < length old.journal + open_count old.state.records + 2)
     → DoesCall (world_of old hands) n (calls.Prepare namespace key parent labels) (answers.Reply reply) (world_of new after)
 prepare_does old new hands after n namespace key parent labels reply answered left full =
-    let f : Reply → List (Option HandValue) = with_prepared (place_of namespace old.state.namespaces) key parent old.state.records hands in
+    let f : Reply → List (Option HandValue) = with_prepared old.state.layer_inodes (place_of namespace old.state.namespaces) key parent old.state.records hands in
     ⊎_elim (λ e. inl e) (λ e. inr (ap answers.Reply e.0, (e.1, λ i. world_of (e.2 i) ((left ∙ ap f e.0) i))))
     (admits old new hands after hands 2 n (calls.Prepare namespace key parent labels) Nothing f reply (ends old new n (calls.Prepare namespace key parent labels) Nothing reply answered) full left refl)
 
@@ -210,7 +209,7 @@ no_file b hands slot op e =
 
 -- the same, where the texts are read first
 pub prepare_does_as : (old new : BookValue) (hands after : List (Option HandValue)) (n : ℕ) (a b c namespace key parent : Bytes) (labels : List Label) (reply : Reply) → a ≡ namespace → b ≡ key → c ≡ parent
-    → AnsweredBy old new n (calls.Prepare a b c labels) Nothing reply → after ≡ with_prepared (place_of a old.state.namespaces) b c old.state.records hands reply → (reply ≡ Refused JournalFull) ↔ (old.limit < length old.journal + open_count old.state.records + 2)
+    → AnsweredBy old new n (calls.Prepare a b c labels) Nothing reply → after ≡ with_prepared old.state.layer_inodes (place_of a old.state.namespaces) b c old.state.records hands reply → (reply ≡ Refused JournalFull) ↔ (old.limit < length old.journal + open_count old.state.records + 2)
     → DoesCall (world_of old hands) n (calls.Prepare namespace key parent labels) (answers.Reply reply) (world_of new after)
 prepare_does_as old new hands after n a b c namespace key parent labels reply is_a is_b is_c answered left full =
     subst (λ (x : Bytes). DoesCall (world_of old hands) n (calls.Prepare x key parent labels) (answers.Reply reply) (world_of new after)) is_a
@@ -219,17 +218,17 @@ prepare_does_as old new hands after n a b c namespace key parent labels reply is
     (prepare_does old new hands after n a b c labels reply answered left full)))
 
 -- the hands after a granted prepare
-pub prepare_left : (namespace key parent : Bytes) (ns : List Namespace) (rs : List Record) (hands after : List (Option HandValue)) (a : ActiveValue) (slot : ℕ) (reply : Reply) → reply ≡ replies.Prepared a.share.id a.share.slot (ids_of (ancestors a.namespace parent rs))
-    → place_of namespace ns ≡ Some a.namespace → a.key ≡ key → a.lowers ≡ layers_of (ancestors a.namespace parent rs) → a.layer ≡ root_only (root_mode a.lowers) 1 → a.share.usage ≡ one → slot ≡ a.share.slot
-    → after ≡ with_hand slot (Some (record { snapshot = a; sealed = false })) hands → after ≡ with_prepared (place_of namespace ns) key parent rs hands reply
-prepare_left namespace key parent ns rs hands after a slot reply answer place named lowers layer share at put =
+pub prepare_left : (inodes : ℕ) (namespace key parent : Bytes) (ns : List Namespace) (rs : List Record) (hands after : List (Option HandValue)) (a : ActiveValue) (slot : ℕ) (reply : Reply) → reply ≡ replies.Prepared a.share.id a.share.slot (ids_of (ancestors a.namespace parent rs))
+    → place_of namespace ns ≡ Some a.namespace → a.key ≡ key → a.lowers ≡ layers_of (ancestors a.namespace parent rs) → a.layer ≡ fresh inodes a.lowers → a.share.usage ≡ one → slot ≡ a.share.slot
+    → after ≡ with_hand slot (Some (record { snapshot = a; sealed = false })) hands → after ≡ with_prepared inodes (place_of namespace ns) key parent rs hands reply
+prepare_left inodes namespace key parent ns rs hands after a slot reply answer place named lowers layer share at put =
     let share_is : a.share ≡ record { slot = a.share.slot; id = a.share.id; usage = one } = λ i. record { slot = a.share.slot; id = a.share.id; usage = share i } in
-    let layer_is : a.layer ≡ root_only (root_mode (layers_of (ancestors a.namespace parent rs))) 1 = layer ∙ ap (λ (l : List Tree). root_only (root_mode l) 1) lowers in
-    let hand_is : record { snapshot = a; sealed = false } ≡ new_hand key parent rs a.share.id a.share.slot a.namespace =
+    let layer_is : a.layer ≡ fresh inodes (layers_of (ancestors a.namespace parent rs)) = layer ∙ ap (λ (l : List Tree). fresh inodes l) lowers in
+    let hand_is : record { snapshot = a; sealed = false } ≡ new_hand inodes key parent rs a.share.id a.share.slot a.namespace =
     λ i. record { snapshot = record { namespace = a.namespace; key = named i; lowers = lowers i; layer = layer_is i; share = share_is i }; sealed = false } in
     put ∙ (λ i. with_hand (at i) (Some (hand_is i)) hands)
-    ∙ ap (λ (o : Option ℕ). with_hand a.share.slot (option_map (new_hand key parent rs a.share.id a.share.slot) o) hands) (sym place)
-    ∙ ap (λ (r : Reply). with_prepared (place_of namespace ns) key parent rs hands r) (sym answer)
+    ∙ ap (λ (o : Option ℕ). with_hand a.share.slot (option_map (new_hand inodes key parent rs a.share.id a.share.slot) o) hands) (sym place)
+    ∙ ap (λ (r : Reply). with_prepared inodes (place_of namespace ns) key parent rs hands r) (sym answer)
 
 -- a granted prepare, by its reply
 pub answered_granted : (old new : BookValue) (n : ℕ) (call : Call) (given : Given) (id slot : ℕ) (chain : List ℕ) (result : Reply) → Recorded old new n call given (replies.Prepared id slot chain)

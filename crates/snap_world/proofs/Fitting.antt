@@ -36,6 +36,7 @@ use Rattle.snap_call.proofs.Keeping.{covers-Covers}
 use Rattle.snap_call.proofs.Kept.{good_step}
 use Rattle.snap_call.proofs.Lists.{active_at-all}
 use Rattle.snap_call.proofs.InOrder.{has_key-without}
+use Rattle.snap_call.proofs.AsMany.{step-slots}
 use Rattle.snap_call.proofs.Lowest.{lowest_free-Some}
 use Rattle.snap_call.proofs.Places.{IsPlace, IsSlotFor, place_for-Ok, slot_for-Ok}
 use Rattle.snap_call.proofs.Replaying.{replays_push}
@@ -63,7 +64,7 @@ cases_if P false x y f g = g refl
 
 -- the hands are those of the open slots of these records
 abbrev AgreeAll : List (Option HandValue) → List Record → Type 0
-AgreeAll hands rs = (slot : ℕ) → slot < 64 → AgreesAt slot rs (hand_at slot hands) (active_at slot rs)
+AgreeAll hands rs = (slot : ℕ) → AgreesAt slot rs (hand_at slot hands) (active_at slot rs)
 
 -- each record has its ancestors
 abbrev AreChained : List Record → Type 0
@@ -105,12 +106,12 @@ module _ (rs ts : List Record) (same_lowers : AreSame rs ts) where
   -- one slot changes
   agree_set : (slot : ℕ) (o : Option HandValue) (hands : List (Option HandValue)) → AgreeAll hands rs → slot < length hands → AgreesAt slot ts o (active_at slot ts)
       → ((k : ℕ) → k ≢ slot → active_at k ts ≡ active_at k rs) → AgreeAll (with_hand slot o hands) ts
-  agree_set slot o hands agree low here others k small =
+  agree_set slot o hands agree low here others k =
       ⊎_elim
       (λ (e : (eqb k slot ≡ true) × (k ≡ slot)). let P : ℕ → Type 0 = λ j. AgreesAt j ts (hand_at j (with_hand slot o hands)) (active_at j ts) in
       subst P (sym e.1) (subst (λ (x : Option HandValue). AgreesAt slot ts x (active_at slot ts)) (sym (hand_at-own slot o hands low)) here))
       (λ (e : (eqb k slot ≡ false) × (k ≢ slot)). subst (λ (x : Option HandValue). AgreesAt k ts x (active_at k ts)) (sym (hand_at-other k slot o hands e.1))
-      (subst (λ (x : Option Record). AgreesAt k ts (hand_at k hands) x) (sym (others k e.1)) (still_hand k (hand_at k hands) (agree k small))))
+      (subst (λ (x : Option Record). AgreesAt k ts (hand_at k hands) x) (sym (others k e.1)) (still_hand k (hand_at k hands) (agree k))))
       (eqb_tells k slot)
 
   -- a hand that goes with its record
@@ -119,7 +120,7 @@ module _ (rs ts : List Record) (same_lowers : AreSame rs ts) where
 
   -- no slot changes
   agree_on : (hands : List (Option HandValue)) → AgreeAll hands rs → ((k : ℕ) → active_at k ts ≡ active_at k rs) → AgreeAll hands ts
-  agree_on hands agree same k small = subst (λ (x : Option Record). AgreesAt k ts (hand_at k hands) x) (sym (same k)) (still_hand k (hand_at k hands) (agree k small))
+  agree_on hands agree same k = subst (λ (x : Option Record). AgreesAt k ts (hand_at k hands) x) (sym (same k)) (still_hand k (hand_at k hands) (agree k))
 
 -- ---- records with other labels
 
@@ -148,7 +149,7 @@ module _ (rs ts : List Record) (alike : AreAlike rs ts) where
       subst (λ (x : Option Record). AgreesAt k ts (Some h) x) (sym found.1) (alike_hand k h r found.0 found.2 is)
 
   agree_alike : (hands : List (Option HandValue)) → AgreeAll hands rs → AgreeAll hands ts
-  agree_alike hands agree k small = alike_at k (hand_at k hands) (active_at k rs) refl (agree k small)
+  agree_alike hands agree k = alike_at k (hand_at k hands) (active_at k rs) refl (agree k)
 
 -- the snapshot is charged so much
 abbrev charged_so : ActiveValue → Usage → ActiveValue
@@ -332,45 +333,45 @@ left_sweep s hands namespace moment good agree =
 left_session : (s : State) (hands : List (Option HandValue)) → AgreeAll hands s.records → Left (λ reply. hands) (session s)
 left_session s hands agree = cases_if (Left (λ reply. hands)) (nat_lt s.sessions 65536) _ _ (λ e. agree) (λ e. agree)
 
-left_room : (s : State) (namespace key parent : Bytes) (labels : List Label) (place slot : ℕ) (hands : List (Option HandValue)) → Good s → AgreeAll hands s.records → length hands ≡ 64 → IsPlace s namespace key parent place → IsSlotFor s place slot
-    → Left (with_prepared (Some place) key parent s.records hands) (prepared_state s place key parent labels slot)
+left_room : (s : State) (namespace key parent : Bytes) (labels : List Label) (place slot : ℕ) (hands : List (Option HandValue)) → Good s → AgreeAll hands s.records → length hands ≡ s.slots → IsPlace s namespace key parent place → IsSlotFor s place slot
+    → Left (with_prepared s.layer_inodes (Some place) key parent s.records hands) (prepared_state s place key parent labels slot)
 left_room s namespace key parent labels place slot hands good agree places is found =
-    let lowest = lowest_free-Some s.records slot found.lowest in
+    let lowest = lowest_free-Some s.slots s.records slot found.lowest in
     let new : Record = new_record s place key parent labels (Active slot one) in
     let ts : List Record = with_record new s.records in
     let keeps : Keeps s.records ts = Keeps-with_record new s.records is.free in
     let own : is_slot slot new ≡ true = Active-is_slot slot one new refl in
     let low : slot < length hands = (let p = lowest.0 in omega (arith, places)) in
-    let hand : HandValue = new_hand key parent s.records s.next_id slot place in
+    let hand : HandValue = new_hand s.layer_inodes key parent s.records s.next_id slot place in
     let same : layers_of (ancestors place parent s.records) ≡ layers_of (ancestors place parent ts) = ap layers_of (sym (keeps-ancestors Every s.records ts (every s.records ts keeps) place parent (on_parent Every place parent tt) (chain-found s.records place parent is.deep))) in
     agree_set s.records ts (same_where s.records ts good.chains keeps) slot (Some hand) hands agree low
     (subst (λ (x : Option Record). AgreesAt slot ts (Some hand) x) (sym (active_at-with_record_own slot new s.records own lowest.1))
     (record { namespace = refl; key = refl; lowers = same; slot = refl; id = refl; usage = refl; covers = record { blocks = omega arith; inodes = omega arith } }))
     (λ k ne. active_at-with_record_other k new s.records (is_slot-other slot k new ne own))
 
-left_prepare_at : (s : State) (namespace key parent : Bytes) (labels : List Label) (place : ℕ) (hands : List (Option HandValue)) → Good s → AgreeAll hands s.records → length hands ≡ 64 → IsPlace s namespace key parent place
-    → Left (with_prepared (Some place) key parent s.records hands) (prepare_at s key parent labels place)
+left_prepare_at : (s : State) (namespace key parent : Bytes) (labels : List Label) (place : ℕ) (hands : List (Option HandValue)) → Good s → AgreeAll hands s.records → length hands ≡ s.slots → IsPlace s namespace key parent place
+    → Left (with_prepared s.layer_inodes (Some place) key parent s.records hands) (prepare_at s key parent labels place)
 left_prepare_at s namespace key parent labels place hands good agree places is =
-    left_unless_refused s (with_prepared (Some place) key parent s.records hands) (slot_for s place) (prepared_state s place key parent labels) (λ why. agree)
+    left_unless_refused s (with_prepared s.layer_inodes (Some place) key parent s.records hands) (slot_for s place) (prepared_state s place key parent labels) (λ why. agree)
     (λ slot e. left_room s namespace key parent labels place slot hands good agree places is (slot_for-Ok s place slot e))
 
-left_prepare : (s : State) (namespace key parent : Bytes) (labels : List Label) (hands : List (Option HandValue)) → Good s → AgreeAll hands s.records → length hands ≡ 64
-    → Left (with_prepared (place_of namespace s.namespaces) key parent s.records hands) (step s (calls.Prepare namespace key parent labels) Nothing)
+left_prepare : (s : State) (namespace key parent : Bytes) (labels : List Label) (hands : List (Option HandValue)) → Good s → AgreeAll hands s.records → length hands ≡ s.slots
+    → Left (with_prepared s.layer_inodes (place_of namespace s.namespaces) key parent s.records hands) (step s (calls.Prepare namespace key parent labels) Nothing)
 left_prepare s namespace key parent labels hands good agree places =
-    left_unless_refused s (with_prepared (place_of namespace s.namespaces) key parent s.records hands) (place_for s namespace key parent labels) (prepare_at s key parent labels) (λ why. agree)
+    left_unless_refused s (with_prepared s.layer_inodes (place_of namespace s.namespaces) key parent s.records hands) (place_for s namespace key parent labels) (prepare_at s key parent labels) (λ why. agree)
     (λ place e.
     let is = place_for-Ok s namespace key parent labels place e in
-    subst (λ (o : Option ℕ). Left (with_prepared o key parent s.records hands) (prepare_at s key parent labels place)) (sym is.named) (left_prepare_at s namespace key parent labels place hands good agree places is))
+    subst (λ (o : Option ℕ). Left (with_prepared s.layer_inodes o key parent s.records hands) (prepare_at s key parent labels place)) (sym is.named) (left_prepare_at s namespace key parent labels place hands good agree places is))
 
 -- ---- steps
 
 -- a recorded call whose hands are left so
-fits_recorded : (w : WorldValue) (n : ℕ) (call : Call) (given : Given) (f : Reply → List (Option HandValue)) → Fits w → IsAllowed w.state call given → ((r : Reply) → length (f r) ≡ 64) → Left f (step w.state call given) → Fits (recorded w n call given f).0
+fits_recorded : (w : WorldValue) (n : ℕ) (call : Call) (given : Given) (f : Reply → List (Option HandValue)) → Fits w → IsAllowed w.state call given → ((r : Reply) → length (f r) ≡ w.state.slots) → Left f (step w.state call given) → Fits (recorded w n call given f).0
 fits_recorded w n call given f fit allowed places left = record {
   good = good_step w.state call given fit.good allowed;
   began = fit.began;
   replays = replays_push w.opening w.journal w.state (entry n call given (step w.state call given).1) fit.replays allowed refl;
-  places = places (step w.state call given).1;
+  places = places (step w.state call given).1 ∙ sym (step-slots w.state call given);
   hands = left;
 }
 
@@ -378,21 +379,21 @@ fits_admitted : (w : WorldValue) (more : ℕ) (left : List (Option HandValue)) (
 fits_admitted w more left next full not_full = cases_if (λ (p : WorldValue × Answer). Fits p.0) _ _ _ (λ e. full) (λ e. not_full)
 
 fits_on_hand : (w : WorldValue) (slot : ℕ) (test : HandValue → Bool) (next : HandValue → WorldValue × Answer) → Fits w
-    → ((h : HandValue) (r : Record) → slot < 64 → hand_at slot w.hands ≡ Some h → active_at slot w.state.records ≡ Some r → IsHandOf slot w.state.records h r → test h ≡ true → Fits (next h).0) → Fits (on_hand w slot test next).0
+    → ((h : HandValue) (r : Record) → slot < length w.hands → hand_at slot w.hands ≡ Some h → active_at slot w.state.records ≡ Some r → IsHandOf slot w.state.records h r → test h ≡ true → Fits (next h).0) → Fits (on_hand w slot test next).0
 fits_on_hand w slot test next fit use_it = at (hand_at slot w.hands) refl
   where
     at : (o : Option HandValue) → hand_at slot w.hands ≡ o → Fits (on_found w test next o).0
     at None e = fit
     at (Some h) e =
-        let low : slot < 64 = (let p = hand_at-low slot h w.hands e in let q = fit.places in omega arith) in
-        let r = holds w slot h fit low e in
+        let low : slot < length w.hands = hand_at-low slot h w.hands e in
+        let r = holds w slot h fit e in
         cases_if (λ (p : WorldValue × Answer). Fits p.0) (test h) _ _ (λ t. use_it h r.0 low e r.1 r.2 t) (λ t. fit)
 
 and_left : (a b : Bool) → (a && b) ≡ true → a ≡ true
 and_left true b e = refl
 and_left false b e = absurd (cc)
 
-set_places : (w : WorldValue) (slot : ℕ) (o : Option HandValue) → Fits w → length (with_hand slot o w.hands) ≡ 64
+set_places : (w : WorldValue) (slot : ℕ) (o : Option HandValue) → Fits w → length (with_hand slot o w.hands) ≡ w.state.slots
 set_places w slot o fit = length-set w.hands slot o ∙ fit.places
 
 -- the slot is stands under the id
@@ -412,9 +413,9 @@ fits_called w n calls.Session fit =
     (λ spent. fit))
 fits_called w n (calls.Prepare namespace key parent labels) fit =
     fits_admitted w 2 w.hands _ fit
-    (fits_recorded w n (calls.Prepare namespace key parent labels) Nothing (with_prepared (place_of namespace w.state.namespaces) key parent w.state.records w.hands) fit tt places (left_prepare w.state namespace key parent labels w.hands fit.good fit.hands fit.places))
+    (fits_recorded w n (calls.Prepare namespace key parent labels) Nothing (with_prepared w.state.layer_inodes (place_of namespace w.state.namespaces) key parent w.state.records w.hands) fit tt places (left_prepare w.state namespace key parent labels w.hands fit.good fit.hands fit.places))
   where
-    places : (r : Reply) → length (with_prepared (place_of namespace w.state.namespaces) key parent w.state.records w.hands r) ≡ 64
+    places : (r : Reply) → length (with_prepared w.state.layer_inodes (place_of namespace w.state.namespaces) key parent w.state.records w.hands r) ≡ w.state.slots
     places replies.Opened = fit.places
     places (replies.Prepared id slot chain) = set_places w slot _ fit
     places (replies.Viewed id chain) = fit.places
@@ -434,15 +435,15 @@ fits_called w n (calls.Charge slot id need want) fit =
     fits_on_hand w slot (is_working id) _ fit
     (λ h r low at stands is test. fits_admitted w 1 w.hands _ fit
     (fits_recorded w n (calls.Charge slot id need want) Nothing (λ reply. with_hand slot (charged_hand h reply) w.hands) fit (open_under w slot id h r stands is (and_left _ _ test)) (λ reply. set_places w slot _ fit)
-    (left_charge w.state slot need want w.hands h r fit.good fit.hands (let p = fit.places in omega (arith, low)) at stands is)))
+    (left_charge w.state slot need want w.hands h r fit.good fit.hands low at stands is)))
 fits_called w n (calls.Trim slot id) fit =
     fits_on_hand w slot (is_working id) _ fit
     (λ h r low at stands is test. fits_admitted w 1 w.hands _ fit
     (fits_recorded w n (calls.Trim slot id) (Count (count_of h.snapshot.layer)) (λ reply. with_hand slot (charged_hand h reply) w.hands) fit (covered_under w slot id h r stands is (and_left _ _ test)) (λ reply. set_places w slot _ fit)
-    (left_trim w.state slot w.hands h r fit.good fit.hands (let p = fit.places in omega (arith, low)) stands is)))
+    (left_trim w.state slot w.hands h r fit.good fit.hands low stands is)))
 fits_called w n (calls.Commit slot id name lease) fit =
     fits_on_hand w slot (is_under id) _ fit
-    (λ h r low at stands is test. let inside : slot < length w.hands = (let p = fit.places in omega (arith, low)) in
+    (λ h r inside at stands is test.
     fits_admitted w 1 (with_hand slot (Some (sealed_hand h.snapshot)) w.hands) _
     (record { good = fit.good; began = fit.began; replays = fit.replays; places = set_places w slot _ fit; hands = seals slot w.hands w.state.records h r fit.good.chains fit.hands inside stands is })
     (fits_recorded w n (calls.Commit slot id name lease) (Layer h.snapshot.layer) (λ reply. with_hand slot (committed_hand h.snapshot reply) w.hands) fit (covered_under w slot id h r stands is test) (λ reply. set_places w slot _ fit)
@@ -451,7 +452,7 @@ fits_called w n (calls.Discard slot id) fit =
     fits_on_hand w slot (is_under id) _ fit
     (λ h r low at stands is test.
     fits_recorded w n (calls.Discard slot id) Nothing (λ reply. with_hand slot None w.hands) fit (open_under w slot id h r stands is test) (λ reply. set_places w slot _ fit)
-    (left_discard w.state slot w.hands r fit.good fit.hands (let p = fit.places in omega (arith, low)) stands))
+    (left_discard w.state slot w.hands r fit.good fit.hands low stands))
 fits_called w n (calls.Stat namespace key) fit =
     fits_admitted w 1 w.hands _ fit
     (fits_recorded w n (calls.Stat namespace key) Nothing (λ reply. w.hands) fit tt (λ r. fit.places) (left_ask w.state w.hands (λ r. replies.Info (info_of r)) namespace key fit.hands))
@@ -498,14 +499,14 @@ within share (Ok t) next is = at (covers share (count_of t)) refl is
     at true e is = let same : t ≡ next = cc in subst (λ (l : Tree). Covers share (count_of l)) same (covers-Covers share (count_of t) e)
     at false e is = absurd (cc)
 
-fits_filed : (w : WorldValue) (slot : ℕ) (h : HandValue) (r : Record) (o : Outcome) → Fits w → slot < 64 → active_at slot w.state.records ≡ Some r → IsHandOf slot w.state.records h r → ((next : Tree) → o ≡ Ok next → Covers h.snapshot.share.usage (count_of next)) → Fits (with_outcome w slot h o).0
+fits_filed : (w : WorldValue) (slot : ℕ) (h : HandValue) (r : Record) (o : Outcome) → Fits w → slot < length w.hands → active_at slot w.state.records ≡ Some r → IsHandOf slot w.state.records h r → ((next : Tree) → o ≡ Ok next → Covers h.snapshot.share.usage (count_of next)) → Fits (with_outcome w slot h o).0
 fits_filed w slot h r (Err e) fit low stands is covers_it = fit
 fits_filed w slot h r (Ok next) fit low stands is covers_it = record {
   good = fit.good;
   began = fit.began;
   replays = fit.replays;
   places = set_places w slot _ fit;
-  hands = agree_set w.state.records w.state.records (same_here w.state.records) slot _ w.hands fit.hands (let p = fit.places in omega (arith, low))
+  hands = agree_set w.state.records w.state.records (same_here w.state.records) slot _ w.hands fit.hands low
       (subst (λ (x : Option Record). AgreesAt slot w.state.records (Some (record { snapshot = record { namespace = h.snapshot.namespace; key = h.snapshot.key; lowers = h.snapshot.lowers; layer = next; share = h.snapshot.share }; sealed = h.sealed })) x) (sym stands)
       (record { namespace = is.namespace; key = is.key; lowers = is.lowers; slot = is.slot; id = is.id; usage = is.usage; covers = covers_it next refl }))
       (λ k ne. refl);
@@ -524,8 +525,7 @@ fits_sealed w slot fit = at (hand_at slot w.hands) refl
     at : (o : Option HandValue) → hand_at slot w.hands ≡ o → Fits (record w { hands = with_hand slot (option_map (λ h. sealed_hand h.snapshot) o) w.hands })
     at None e = subst (λ (l : List (Option HandValue)). Fits (record w { hands = l })) (sym (with_hand-again slot None w.hands e)) fit
     at (Some h) e =
-        let low : slot < 64 = (let p = hand_at-low slot h w.hands e in let q = fit.places in omega arith) in
-        let r = holds w slot h fit low e in
+        let r = holds w slot h fit e in
         record { good = fit.good; began = fit.began; replays = fit.replays; places = set_places w slot _ fit; hands = seals slot w.hands w.state.records h r.0 fit.good.chains fit.hands (hand_at-low slot h w.hands e) r.1 r.2 }
 
 fits_left : (w v : WorldValue) (call : Call) → Fits w → IsLeft w call v → Fits v

@@ -1,5 +1,5 @@
 -- The hand of an active snapshot, and the layers of a view, found by the snapshot's key.
-use Rattle.std.proofs.Common.{◌≡◌, ℕ, ◌<◌, List, [], ◌∷◌, Bool, true, false, true≢false, Option, None, Some, eq-eqb, refl, sym, ap, ◌∙◌, subst}
+use Rattle.std.proofs.Common.{◌≡◌, ℕ, ◌<◌, List, [], ◌∷◌, Bool, true, false, true≢false, Option, None, Some, IsSome, eq-eqb, refl, sym, ap, ◌∙◌, subst}
 use Rattle.std.specs.Prelude.{Result, Ok, Err, ok_or}
 use Rattle.std.specs.Option.{option_map_or}
 use Rattle.snap_layer.specs.Tree.{Tree}
@@ -11,8 +11,8 @@ use Rattle.snap_record.specs.declared.record.Record.{Record}
 use Rattle.snap_call.specs.declared.refusal.Refusal.{Refusal}
 use Rattle.snap_call.specs.declared.refusal.Refusal.TheVariants.{NoNamespace, NotFound}
 use Rattle.snap_call.specs.Good.{IsShown}
-use Rattle.snap_call.specs.Records.{active_at, has_slot, is_named, is_slot, record_at, AllPairwise, AreApart, HasLowSlot}
-use Rattle.snap_call.specs.State.{place_of}
+use Rattle.snap_call.specs.Records.{active_at, has_slot, is_named, is_slot, record_at, AllPairwise, AreApart}
+use Rattle.snap_call.specs.State.{chain_from, place_of}
 use Rattle.snap_call.specs.declared.state.State.{State}
 use Rattle.snap_call.proofs.Lists.{record_at-all, some_same}
 use Rattle.snap_book.specs.Slot.{found_of}
@@ -50,13 +50,16 @@ module _ (w : WorldValue) (fits : Fits w) (namespace key : Bytes) (r : Record) (
   here : (place : ℕ) × (record_at place key w.state.records ≡ Some r)
   here = found-record w.state namespace key r found
 
+  -- it has a chain of ancestors
+  pub chained : IsSome (chain_from 64 w.state.records r.namespace r.parent)
+  chained = record_at-all (λ t. IsSome (chain_from 64 w.state.records t.namespace t.parent)) here.0 key w.state.records r here.1 fits.good.chains
+
   -- the hand of an active snapshot stands in its slot, and is that of the key's record
   pub stands : (slot : ℕ) (charged : Usage) → r.content ≡ Active slot charged → (h : HandValue) × (hand_at slot w.hands ≡ Some h) × IsHandOf slot w.state.records h r
   stands slot charged is =
-      let low : slot < 64 = subst HasLowSlot is (record_at-all (λ t. HasLowSlot t.content) here.0 key w.state.records r here.1 fits.good.open_slots) in
       let own : is_slot slot r ≡ true = ap (has_slot slot) is ∙ eq-eqb slot slot refl in
       let e : active_at slot w.state.records ≡ Some r = record_at-active_at slot here.0 key w.state.records r fits.good.slots own here.1 in
-      hand_if slot w.state.records r (hand_at slot w.hands) (subst (λ (o : Option Record). AgreesAt slot w.state.records (hand_at slot w.hands) o) e (fits.hands slot low))
+      hand_if slot w.state.records r (hand_at slot w.hands) (subst (λ (o : Option Record). AgreesAt slot w.state.records (hand_at slot w.hands) o) e (fits.hands slot))
 
   -- the layers below that hand's own are those of the record's ancestors
   pub active_over : (slot : ℕ) (charged : Usage) (h : HandValue) → r.content ≡ Active slot charged → hand_at slot w.hands ≡ Some h → IsOver w.state.records (layers_in h) (found_of w.state namespace key)

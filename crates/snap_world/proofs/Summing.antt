@@ -74,33 +74,33 @@ module _ (f : Content → Usage) (idle : (c : Content) → is_active c ≡ false
           ∙ ap (λ (o : Option Record). plus (plus (part r) (slots f place rs n)) (added_at f place o)) here
           ∙ sym (plus-joined (part r) (slots f place rs n) (added_at f place (active_at n rs)))
 
-  -- all 64 slots
-  total : (rs : List Record) → AllPairwise AreApart rs → AllByRecursion (λ r. HasLowSlot r.content) rs → slots f place rs 64 ≡ sum_of f place rs
-  total [] apart low = empty 64
-  total (r ∷ rs) apart low = at r.content refl (total rs apart.1 low.1)
+  -- all slots
+  total : (n : ℕ) (rs : List Record) → AllPairwise AreApart rs → AllByRecursion (λ r. HasLowSlot n r.content) rs → slots f place rs n ≡ sum_of f place rs
+  total n [] apart low = empty n
+  total n (r ∷ rs) apart low = at r.content refl (total n rs apart.1 low.1)
     where
       either : (b : Bool) → (if b then no_usage else no_usage) ≡ no_usage
       either true = refl
       either false = refl
 
-      resting : is_active r.content ≡ false → ((k : ℕ) → k < 64 → is_slot k r ≡ false) → slots f place rs 64 ≡ sum_of f place rs → slots f place (r ∷ rs) 64 ≡ sum_of f place (r ∷ rs)
+      resting : is_active r.content ≡ false → ((k : ℕ) → k < n → is_slot k r ≡ false) → slots f place rs n ≡ sum_of f place rs → slots f place (r ∷ rs) n ≡ sum_of f place (r ∷ rs)
       resting is other rest =
           let nothing : part r ≡ no_usage = ap (λ (u : Usage). if r.namespace == place then u else no_usage) (idle r.content is) ∙ either (r.namespace == place) in
-          past r rs 64 other ∙ rest ∙ sym (ap (λ (u : Usage). plus u (sum_of f place rs)) nothing ∙ none-plus (sum_of f place rs))
+          past r rs n other ∙ rest ∙ sym (ap (λ (u : Usage). plus u (sum_of f place rs)) nothing ∙ none-plus (sum_of f place rs))
 
-      at : (c : Content) → r.content ≡ c → slots f place rs 64 ≡ sum_of f place rs → slots f place (r ∷ rs) 64 ≡ sum_of f place (r ∷ rs)
+      at : (c : Content) → r.content ≡ c → slots f place rs n ≡ sum_of f place rs → slots f place (r ∷ rs) n ≡ sum_of f place (r ∷ rs)
       at (View layers) e rest = resting (ap is_active e) (λ k below. ap (has_slot k) e) rest
       at (Committed layer taken) e rest = resting (ap is_active e) (λ k below. ap (has_slot k) e) rest
       at (Active slot charged) e rest =
           let is : is_slot slot r ≡ true = ap (has_slot slot) e ∙ eq-eqb slot slot refl in
-          let below : slot < 64 = subst HasLowSlot e low.0 in
-          found r rs slot 64 below is (none_active slot rs (all-map (AreApart r) (λ t. is_slot slot t ≡ false) (λ t a. a slot is) rs apart.0)) ∙ ap (plus (part r)) rest
+          let below : slot < n = subst (HasLowSlot n) e low.0 in
+          found r rs slot n below is (none_active slot rs (all-map (AreApart r) (λ t. is_slot slot t ≡ false) (λ t a. a slot is) rs apart.0)) ∙ ap (plus (part r)) rest
 
 -- hands and records that agree add the same
 module _ (w : WorldValue) (fits : Fits w) (place : ℕ) (g : HandValue → Usage) (f : Content → Usage)
     (same : (slot : ℕ) (h : HandValue) (r : Record) → hand_at slot w.hands ≡ Some h → active_at slot w.state.records ≡ Some r → IsHandOf slot w.state.records h r → g h ≡ f r.content) where
-  each : (slot : ℕ) → slot < 64 → added_by g place (hand_at slot w.hands) ≡ added_at f place (active_at slot w.state.records)
-  each slot low = at (hand_at slot w.hands) refl (active_at slot w.state.records) refl (fits.hands slot low)
+  each : (slot : ℕ) → added_by g place (hand_at slot w.hands) ≡ added_at f place (active_at slot w.state.records)
+  each slot = at (hand_at slot w.hands) refl (active_at slot w.state.records) refl (fits.hands slot)
     where
       at : (o : Option HandValue) → hand_at slot w.hands ≡ o → (q : Option Record) → active_at slot w.state.records ≡ q → AgreesAt slot w.state.records o q → added_by g place o ≡ added_at f place q
       at None e None d a = refl
@@ -108,15 +108,18 @@ module _ (w : WorldValue) (fits : Fits w) (place : ℕ) (g : HandValue → Usage
       at (Some h) e None d a = absurd a
       at (Some h) e (Some r) d a = ap (λ k. if k == place then g h else no_usage) a.namespace ∙ ap (λ (u : Usage). if r.namespace == place then u else no_usage) (same slot h r e d a)
 
-  below : (n : ℕ) → n ≤ 64 → sum_below g place w.hands n ≡ slots f place w.state.records n
+  below : (n : ℕ) → sum_below g place w.hands n ≡ slots f place w.state.records n
   unfolding sum_below
-  below zero le = refl
-  below (suc n) le =
-      ap (λ (u : Usage). plus u (added_by g place (hand_at n w.hands))) (below n (omega arith))
-      ∙ ap (plus (slots f place w.state.records n)) (each n (omega arith))
+  below zero = refl
+  below (suc n) =
+      ap (λ (u : Usage). plus u (added_by g place (hand_at n w.hands))) (below n)
+      ∙ ap (plus (slots f place w.state.records n)) (each n)
 
-  whole : ((c : Content) → is_active c ≡ false → f c ≡ no_usage) → sum_below g place w.hands 64 ≡ sum_of f place w.state.records
-  whole idle = below 64 (omega arith) ∙ total f idle place w.state.records fits.good.slots fits.good.open_slots
+  whole : ((c : Content) → is_active c ≡ false → f c ≡ no_usage) → sum_below g place w.hands (length w.hands) ≡ sum_of f place w.state.records
+  whole idle =
+      below (length w.hands)
+      ∙ ap (slots f place w.state.records) fits.places
+      ∙ total f idle place w.state.slots w.state.records fits.good.slots fits.good.open_slots
 
 idle_active : (c : Content) → is_active c ≡ false → active_usage c ≡ no_usage
 idle_active (View layers) e = refl
@@ -129,14 +132,14 @@ idle_spare hands (Active slot charged) e = absurd (cc)
 idle_spare hands (Committed layer taken) e = refl
 
 -- the shares in the hands are the charges of the active records
-pub shares_are : (w : WorldValue) → Fits w → (place : ℕ) → sum_below share_in place w.hands 64 ≡ sum_of active_usage place w.state.records
+pub shares_are : (w : WorldValue) → Fits w → (place : ℕ) → sum_below share_in place w.hands (length w.hands) ≡ sum_of active_usage place w.state.records
 shares_are w fits place =
     whole w fits place share_in active_usage
     (λ slot h r e d a. a.usage ∙ sym (ap active_usage (active_at-Active slot w.state.records r d)))
     idle_active
 
 -- and what the layers of the hands don't take is what is spare of them
-pub spares_are : (w : WorldValue) → Fits w → (place : ℕ) → sum_below spare_in place w.hands 64 ≡ sum_of (spare_usage w.hands) place w.state.records
+pub spares_are : (w : WorldValue) → Fits w → (place : ℕ) → sum_below spare_in place w.hands (length w.hands) ≡ sum_of (spare_usage w.hands) place w.state.records
 spares_are w fits place =
     whole w fits place spare_in (spare_usage w.hands)
     (λ slot h r e d a.
@@ -186,11 +189,12 @@ rises g place hands n (suc more) =
     (covers_all (sum_below g place hands (n + more)) (sum_below g place hands n) (rises g place hands n more) (added_by g place (hand_at (n + more) hands)))
 
 -- each of them is within that over all slots
-pub sum_within : (g : HandValue → Usage) (place : ℕ) (hands : List (Option HandValue)) (n : ℕ) → n < 64 → Covers (sum_below g place hands 64) (plus (sum_below g place hands n) (added_by g place (hand_at n hands)))
+pub sum_within : (g : HandValue → Usage) (place : ℕ) (hands : List (Option HandValue)) (n : ℕ) → n < length hands → Covers (sum_below g place hands (length hands)) (plus (sum_below g place hands n) (added_by g place (hand_at n hands)))
 sum_within g place hands n lt =
-    let e : (n + 1) + (63 - n) ≡ 64 = omega arith in
-    subst (λ (u : Usage). Covers (sum_below g place hands 64) u) (sum_next g place hands n)
-    (subst (λ k. Covers (sum_below g place hands k) (sum_below g place hands (n + 1))) e (rises g place hands (n + 1) (63 - n)))
+    let more = length hands - (n + 1) in
+    let e : (n + 1) + more ≡ length hands = omega arith in
+    subst (λ (u : Usage). Covers (sum_below g place hands (length hands)) u) (sum_next g place hands n)
+    (subst (λ k. Covers (sum_below g place hands k) (sum_below g place hands (n + 1))) e (rises g place hands (n + 1) more))
 
 -- what is spare of a share is within it
 spare_one : (place : ℕ) (o : Option HandValue) → Covers (added_by share_in place o) (added_by spare_in place o)
@@ -210,24 +214,24 @@ spares_below place hands zero = record { blocks = omega arith; inodes = omega ar
 spares_below place hands (suc n) = both _ _ _ _ (spares_below place hands n) (spare_one place (hand_at n hands))
 
 -- the charge covers the shares, and these what is spare of them
-pub charge_covers : (w : WorldValue) → Fits w → (place : ℕ) → Covers (charge_of place w.state.records) (sum_below share_in place w.hands 64)
+pub charge_covers : (w : WorldValue) → Fits w → (place : ℕ) → Covers (charge_of place w.state.records) (sum_below share_in place w.hands (length w.hands))
 charge_covers w fits place =
-    subst (λ (u : Usage). Covers u (sum_below share_in place w.hands 64)) (sym (charge_split place w.state.records))
+    subst (λ (u : Usage). Covers u (sum_below share_in place w.hands (length w.hands))) (sym (charge_split place w.state.records))
     (subst (λ (u : Usage). Covers (plus (sum_of committed_usage place w.state.records) (sum_of active_usage place w.state.records)) u) (sym (shares_are w fits place))
     (Covers-plus (sum_of committed_usage place w.state.records) (sum_of active_usage place w.state.records)))
 
-pub shares_cover : (place : ℕ) (hands : List (Option HandValue)) → Covers (sum_below share_in place hands 64) (sum_below spare_in place hands 64)
-shares_cover place hands = spares_below place hands 64
+pub shares_cover : (place : ℕ) (hands : List (Option HandValue)) → Covers (sum_below share_in place hands (length hands)) (sum_below spare_in place hands (length hands))
+shares_cover place hands = spares_below place hands (length hands)
 
 -- what is left of the charge without the shares is what is committed
-pub committed_left : (w : WorldValue) → Fits w → (place : ℕ) → minus (charge_of place w.state.records) (sum_below share_in place w.hands 64) ≡ sum_of committed_usage place w.state.records
+pub committed_left : (w : WorldValue) → Fits w → (place : ℕ) → minus (charge_of place w.state.records) (sum_below share_in place w.hands (length w.hands)) ≡ sum_of committed_usage place w.state.records
 committed_left w fits place =
-    ap (λ (u : Usage). minus u (sum_below share_in place w.hands 64)) (charge_split place w.state.records)
+    ap (λ (u : Usage). minus u (sum_below share_in place w.hands (length w.hands))) (charge_split place w.state.records)
     ∙ ap (minus (plus (sum_of committed_usage place w.state.records) (sum_of active_usage place w.state.records))) (shares_are w fits place)
     ∙ minus-plus (sum_of committed_usage place w.state.records) (sum_of active_usage place w.state.records)
 
 -- no sum comes near 2^64
-pub shares_few : (w : WorldValue) → Fits w → (place : ℕ) → place < length w.state.namespaces → ((sum_below share_in place w.hands 64).blocks < 2 ^ 64) × ((sum_below share_in place w.hands 64).inodes < 2 ^ 64)
+pub shares_few : (w : WorldValue) → Fits w → (place : ℕ) → place < length w.state.namespaces → ((sum_below share_in place w.hands (length w.hands)).blocks < 2 ^ 64) × ((sum_below share_in place w.hands (length w.hands)).inodes < 2 ^ 64)
 shares_few w fits place inside =
     let limit = limit_at place w.state.namespaces in
     let h = and_parts (nat_le limit.blocks 1099511627776) (nat_le limit.inodes 1099511627776) (fits.good.limits place inside) in
@@ -239,7 +243,7 @@ shares_few w fits place inside =
       (let p = within.inodes in let q = covers.inodes in omega arith),
     )
 
-pub spares_few : (w : WorldValue) → Fits w → (place : ℕ) → place < length w.state.namespaces → ((sum_below spare_in place w.hands 64).blocks < 2 ^ 64) × ((sum_below spare_in place w.hands 64).inodes < 2 ^ 64)
+pub spares_few : (w : WorldValue) → Fits w → (place : ℕ) → place < length w.state.namespaces → ((sum_below spare_in place w.hands (length w.hands)).blocks < 2 ^ 64) × ((sum_below spare_in place w.hands (length w.hands)).inodes < 2 ^ 64)
 spares_few w fits place inside =
     let few = shares_few w fits place inside in
     let blocks = few.0 in

@@ -2,7 +2,6 @@
 -- Cited by `World::call`, `World::operate`, `World::run` and others.
 use Rattle.std.specs.Prelude.{ℕ, ◌+◌, ◌==◌, Bool, true, false, not, ◌&&◌, nat_lt, if◌then◌else◌, List, [], ◌∷◌, ◌++◌, length, Option, None, Some, Ok, Err}
 use Rattle.std.specs.Option.{option_map, option_map_or}
-use Rattle.snap_layer.specs.Edits.{root_only}
 use Rattle.snap_usage.specs.declared.usage.Usage.{Usage}
 use Rattle.snap_usage.specs.Counted.{count_of}
 use Rattle.snap_record.specs.Labels.{Bytes}
@@ -19,7 +18,7 @@ use Rattle.snap_call.specs.Records.{open_count}
 use Rattle.snap_call.specs.State.{place_of, ancestors, layers_of}
 use Rattle.snap_call.specs.Step.{step, one}
 use Rattle.snap_upper.specs.After.{Outcome}
-use Rattle.snap_book.specs.Active.{ActiveValue, root_mode}
+use Rattle.snap_book.specs.Active.{ActiveValue, fresh}
 use Rattle.snap_book.specs.Files.{worked}
 use Rattle.snap_world.specs.declared.step.Step.{Step}
 use Rattle.snap_world.specs.declared.step.Step.TheVariants as steps
@@ -52,16 +51,16 @@ abbrev pub committed_hand : ActiveValue → Reply → Option HandValue
 committed_hand a (replies.Committed id usage) = None
 committed_hand a reply = Some (sealed_hand a)
 
--- the hand of a new snapshot in the namespace at a place: the layers of its committed ancestors, a layer of a root alone over them, and a share of 1/1
-abbrev pub new_hand : Bytes → Bytes → List Record → ℕ → ℕ → ℕ → HandValue
-new_hand key parent rs id slot place =
+-- the hand of a new snapshot in the namespace at a place: the layers of its committed ancestors, a layer of a root alone over them, which may have so many inodes, and a share of 1/1
+abbrev pub new_hand : ℕ → Bytes → Bytes → List Record → ℕ → ℕ → ℕ → HandValue
+new_hand inodes key parent rs id slot place =
     let lowers = layers_of (ancestors place parent rs) in
-    record { snapshot = record { namespace = place; key = key; lowers = lowers; layer = root_only (root_mode lowers) 1; share = record { slot = slot; id = id; usage = one } }; sealed = false }
+    record { snapshot = record { namespace = place; key = key; lowers = lowers; layer = fresh inodes lowers; share = record { slot = slot; id = id; usage = one } }; sealed = false }
 
 -- the hands after a prepare of the key, on the parent, in the namespace at a place; the records are those before it
-abbrev pub with_prepared : Option ℕ → Bytes → Bytes → List Record → List (Option HandValue) → Reply → List (Option HandValue)
-with_prepared place key parent rs hands (replies.Prepared id slot chain) = with_hand slot (option_map (new_hand key parent rs id slot) place) hands
-with_prepared place key parent rs hands reply = hands
+abbrev pub with_prepared : ℕ → Option ℕ → Bytes → Bytes → List Record → List (Option HandValue) → Reply → List (Option HandValue)
+with_prepared inodes place key parent rs hands (replies.Prepared id slot chain) = with_hand slot (option_map (new_hand inodes key parent rs id slot) place) hands
+with_prepared inodes place key parent rs hands reply = hands
 
 -- ---- calls
 
@@ -108,7 +107,7 @@ abbrev pub called : WorldValue → ℕ → Call → WorldValue × Answer
 called w n calls.Session =
     admitted w 1 w.hands (if nat_lt w.state.sessions 65536 then recorded w n calls.Session Nothing (λ reply. w.hands) else (w, answers.Reply (replies.Refused NumbersSpent)))
 called w n (calls.Prepare namespace key parent labels) =
-    admitted w 2 w.hands (recorded w n (calls.Prepare namespace key parent labels) Nothing (with_prepared (place_of namespace w.state.namespaces) key parent w.state.records w.hands))
+    admitted w 2 w.hands (recorded w n (calls.Prepare namespace key parent labels) Nothing (with_prepared w.state.layer_inodes (place_of namespace w.state.namespaces) key parent w.state.records w.hands))
 called w n (calls.Charge slot id need want) =
     on_hand w slot (is_working id) (λ h. admitted w 1 w.hands
     (recorded w n (calls.Charge slot id need want) Nothing (λ reply. with_hand slot (charged_hand h reply) w.hands)))

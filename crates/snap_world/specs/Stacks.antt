@@ -1,6 +1,6 @@
 -- What the snapshots of a world show: the layers of an active one, its own over those of its ancestors, and those of a view.
 -- Cited by `World::call`, `World::operate`, `World::run` and others.
-use Rattle.std.specs.Prelude.{◌≡◌, ℕ, List, ◌∷◌, Option, Result, Ok, Err, ok_or, option_map}
+use Rattle.std.specs.Prelude.{◌≡◌, ℕ, List, ◌∷◌, Option, None, Some, Result, Ok, Err, ok_or, option_map}
 use Rattle.snap_layer.specs.Tree.{Tree}
 use Rattle.snap_record.specs.Labels.{Bytes}
 use Rattle.snap_record.specs.declared.record.Content.{Content}
@@ -29,6 +29,20 @@ stack_in hands (Ok r) = stack_by hands r.content
 -- the layers that the snapshot of this key in the namespace shows, or why there are none
 abbrev pub stack_of : WorldValue → Bytes → Bytes → Result (List Tree) Refusal
 stack_of w namespace key = stack_in w.hands (found_of w.state namespace key)
+
+-- what a committed snapshot would show: its own layer over those of its ancestors, nearest first (overlayfs.rst, "Multiple lower layers"); nothing for any other
+abbrev pub peeked_by : List Record → Record → Content → Option (List Tree)
+peeked_by rs r (Committed layer usage) = Some (layer ∷ layers_of (ancestors r.namespace r.parent rs))
+peeked_by rs r content = None
+
+-- the same of the record that was found, if there is one
+abbrev pub peeked_in : List Record → Result Record Refusal → Option (List Tree)
+peeked_in rs (Err why) = None
+peeked_in rs (Ok r) = peeked_by rs r r.content
+
+-- the layers that the committed snapshot of this key in the namespace would show, if there is one
+abbrev pub peeked_of : WorldValue → Bytes → Bytes → Option (List Tree)
+peeked_of w namespace key = peeked_in w.state.records (found_of w.state namespace key)
 
 -- the layers of an active snapshot are one over those of its committed ancestors, nearest first; those of a view are the ancestors' alone, or one empty layer
 abbrev pub IsOverBy : List Record → List Tree → ℕ → Bytes → Content → Type 0

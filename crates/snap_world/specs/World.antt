@@ -1,6 +1,6 @@
 -- A store and the hands of its writers.
 -- Cited by `World::reopen`, `World::call`, `World::operate` and others.
-use Rattle.std.specs.Prelude.{◌≡◌, ℕ, ◌<◌, Bool, List, length, Option, None, Some, slice_index_or, slice_set}
+use Rattle.std.specs.Prelude.{◌≡◌, ℕ, Bool, List, length, Option, None, Some, slice_index_or, slice_set}
 use Rattle.snap_usage.specs.Counted.{Covers, count_of}
 use Rattle.snap_record.specs.Records.{usage_of}
 use Rattle.snap_record.specs.declared.record.Record.{Record}
@@ -18,7 +18,7 @@ pub record HandValue : Type 0 where
   pub snapshot : ActiveValue
   pub sealed : Bool
 
--- a store, the entries of the round, the state that it began at, the most entries, and the hand of each of the 64 slots
+-- a store, the entries of the round, the state that it began at, the most entries, and the hand of each slot
 pub record WorldValue : Type 0 where
   pub state : State
   pub journal : List Entry
@@ -59,5 +59,5 @@ pub record Fits (w : WorldValue) : Type 0 where
   pub good : Good w.state
   pub began : IsBeginning w.opening
   pub replays : Replays w.opening w.journal w.state
-  pub places : length w.hands ≡ 64
-  pub hands : (slot : ℕ) → slot < 64 → AgreesAt slot w.state.records (hand_at slot w.hands) (active_at slot w.state.records)
+  pub places : length w.hands ≡ w.state.slots
+  pub hands : (slot : ℕ) → AgreesAt slot w.state.records (hand_at slot w.hands) (active_at slot w.state.records)

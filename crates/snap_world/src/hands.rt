@@ -1,5 +1,5 @@
 // The open snapshots of a world, each in the place of its slot. They have to be spent.
-ghost use Rattle.std.specs.Prelude.{◌≡◌, ◌<◌, false, true, replicate, Some, None, IfOk, IfErr, OnErr, IfSome, IsSome, MatchOption, option_copied};
+ghost use Rattle.std.specs.Prelude.{◌≡◌, ◌<◌, false, true, replicate, Some, None, IfOk, IfErr, OnErr, IfSome, IsSome, MatchOption, option_copied, length};
 ghost use Rattle.snap_usage.specs.Counted.{count_of};
 ghost use Rattle.snap_book.specs.Held.{share_of};
 ghost use Rattle.snap_world.specs.World.{hand_at, with_hand};
@@ -8,7 +8,7 @@ ghost use Rattle.snap_world.specs.Stacks.{layers_in};
 ghost use Rattle.snap_world.specs.Sums.{spare_in};
 
 use snap_book::{Active, Book, Held, Sealed};
-use snap_ledger::{MAX_SLOTS, StoreName};
+use snap_ledger::StoreName;
 use snap_merge::Stack;
 use snap_path::NoMemory;
 use snap_usage::{Usage, difference};
@@ -163,33 +163,38 @@ impl<N: StoreName> Hand<N> {
     }
 }
 
-// A place for each of the 64 slots.
+// A place for each slot of the store.
 pub(crate) struct Hands<N: StoreName> {
     alloc: Global,
     list: Vec<Option<Hand<N>>>,
 }
 
 impl<N: StoreName> Model for Hands<N> {
-    ghost use Rattle.std.specs.Prelude.{◌≡◌, List, Option, length};
+    ghost use Rattle.std.specs.Prelude.{List, Option};
     ghost use Rattle.snap_world.specs.World.{HandValue};
 
     ghost Value = { List (Option HandValue) };
 
     ghost view = { λ h. h.list.items };
-
-    ghost invariant = { λ h. length h.list.items ≡ 64 };
 }
 
 impl<N: StoreName> Hands<N> {
-    // No hands.
-    pub(crate) fn open(alloc: Global) -> Result<Hands<N>, AllocError>
-        ensures { IfOk result (λ hands. hands ≡ replicate 64 None) }
+    // No hands, and so many places.
+    pub(crate) fn open(alloc: Global, slots: u64) -> Result<Hands<N>, AllocError>
+        ensures { IfOk result (λ hands. hands ≡ replicate slots None) }
     {
-        let mut list = Vec::with_capacity(alloc, MAX_SLOTS as usize)?;
-        for _ in 0..MAX_SLOTS {
+        let mut list = Vec::with_capacity(alloc, slots as usize)?;
+        for _ in 0..slots {
             list.push_reserved(None);
         }
         Ok(Hands { alloc, list })
+    }
+
+    // How many places there are.
+    pub(crate) fn len(&self) -> u64
+        ensures { result ≡ length self.now }
+    {
+        self.list.len() as u64
     }
 
     // Where memory comes from.
@@ -210,11 +215,12 @@ impl<N: StoreName> Hands<N> {
     // The hand goes out of its place.
     pub(crate) fn take(&mut self, slot: u64) -> Option<Hand<N>>
         ensures taken { result ≡ hand_at slot self.old }
-        ensures low { IfSome result (λ _. slot < 64) }
+        ensures low { IfSome result (λ _. slot < length self.new) }
         ensures rest { self.new ≡ with_hand slot None self.old }
     {
-        if slot < MAX_SLOTS {
-            self.list[slot as usize].take()
+        let place = slot as usize;
+        if place < self.list.len() {
+            self.list[place].take()
         } else {
             None
         }
@@ -254,7 +260,7 @@ impl<N: StoreName> Hands<N> {
     pub(crate) fn take_out(&mut self, slot: u64) -> Hand<N>
         requires { IsSome (hand_at slot self.old) }
         ensures hand { hand_at slot self.old ≡ Some result }
-        ensures low { slot < 64 }
+        ensures low { slot < length self.new }
         ensures rest { self.new ≡ with_hand slot None self.old }
     {
         let taken = self.take(slot);
@@ -264,7 +270,7 @@ impl<N: StoreName> Hands<N> {
 
     // The snapshot of this id goes out of its place, if it stands there.
     pub(crate) fn take_under(&mut self, slot: u64, id: u32) -> Option<Hand<N>>
-        ensures { MatchOption result ((meets (is_under id) (hand_at slot self.old) ≡ false) × (self.new ≡ self.old)) (λ h. (hand_at slot self.old ≡ Some h) × (is_under id h ≡ true) × (slot < 64) × (self.new ≡ with_hand slot None self.old)) }
+        ensures { MatchOption result ((meets (is_under id) (hand_at slot self.old) ≡ false) × (self.new ≡ self.old)) (λ h. (hand_at slot self.old ≡ Some h) × (is_under id h ≡ true) × (slot < length self.new) × (self.new ≡ with_hand slot None self.old)) }
     {
         if self.has(slot, id) {
             Some(self.take_out(slot))
@@ -275,7 +281,7 @@ impl<N: StoreName> Hands<N> {
 
     // And if it isn't sealed.
     pub(crate) fn take_working(&mut self, slot: u64, id: u32) -> Option<Active<N>>
-        ensures { MatchOption result ((meets (is_working id) (hand_at slot self.old) ≡ false) × (self.new ≡ self.old)) (λ a. (hand_at slot self.old ≡ Some (record { snapshot = a; sealed = false })) × (is_under id (record { snapshot = a; sealed = false }) ≡ true) × (slot < 64) × (self.new ≡ with_hand slot None self.old)) }
+        ensures { MatchOption result ((meets (is_working id) (hand_at slot self.old) ≡ false) × (self.new ≡ self.old)) (λ a. (hand_at slot self.old ≡ Some (record { snapshot = a; sealed = false })) × (is_under id (record { snapshot = a; sealed = false }) ≡ true) × (slot < length self.new) × (self.new ≡ with_hand slot None self.old)) }
     {
         if self.has_working(slot, id) {
             Some(self.take_out(slot).into_active())
@@ -286,7 +292,7 @@ impl<N: StoreName> Hands<N> {
 
     // The snapshot goes out of its place, if one stands there that isn't sealed.
     pub(crate) fn take_unsealed(&mut self, slot: u64) -> Option<Active<N>>
-        ensures { MatchOption result ((meets is_unsealed (hand_at slot self.old) ≡ false) × (self.new ≡ self.old)) (λ a. (hand_at slot self.old ≡ Some (record { snapshot = a; sealed = false })) × (slot < 64) × (self.new ≡ with_hand slot None self.old)) }
+        ensures { MatchOption result ((meets is_unsealed (hand_at slot self.old) ≡ false) × (self.new ≡ self.old)) (λ a. (hand_at slot self.old ≡ Some (record { snapshot = a; sealed = false })) × (slot < length self.new) × (self.new ≡ with_hand slot None self.old)) }
     {
         if self.has_unsealed(slot) {
             Some(self.take_out(slot).into_active())
@@ -297,7 +303,7 @@ impl<N: StoreName> Hands<N> {
 
     // A hand comes into a free place.
     pub(crate) fn put(&mut self, slot: u64, hand: Hand<N>)
-        requires low { slot < 64 }
+        requires low { slot < length self.old }
         requires free { hand_at slot self.old ≡ None }
         ensures { self.new ≡ with_hand slot (Some hand) self.old }
     {

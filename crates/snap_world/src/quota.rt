@@ -9,7 +9,7 @@ ghost use Rattle.snap_world.specs.World.{hand_at};
 use crate::hands::Hands;
 use crate::world::World;
 use snap_call::{Refusal, Reply};
-use snap_ledger::{MAX_SLOTS, StoreName};
+use snap_ledger::StoreName;
 use snap_usage::{Usage, difference};
 use std::alloc::AllocError;
 
@@ -52,12 +52,12 @@ impl<N: StoreName> Hands<N> {
 
     // The shares of the open snapshots of the namespace at the place.
     fn shares(&self, place: usize) -> Usage
-        requires blocks { (sum_below share_in place self.now 64).blocks < 2 ^ 64 }
-        requires inodes { (sum_below share_in place self.now 64).inodes < 2 ^ 64 }
-        ensures { result ≡ sum_below share_in place self.now 64 }
+        requires blocks { (sum_below share_in place self.now (length self.now)).blocks < 2 ^ 64 }
+        requires inodes { (sum_below share_in place self.now (length self.now)).inodes < 2 ^ 64 }
+        ensures { result ≡ sum_below share_in place self.now (length self.now) }
     {
         let mut sum = Usage::ZERO;
-        for slot in 0..MAX_SLOTS {
+        for slot in 0..self.len() {
             sum = sum.plus(self.share_in(slot, place));
         }
         sum
@@ -65,12 +65,12 @@ impl<N: StoreName> Hands<N> {
 
     // What of these their layers don't take.
     fn spares(&self, place: usize) -> Usage
-        requires blocks { (sum_below spare_in place self.now 64).blocks < 2 ^ 64 }
-        requires inodes { (sum_below spare_in place self.now 64).inodes < 2 ^ 64 }
-        ensures { result ≡ sum_below spare_in place self.now 64 }
+        requires blocks { (sum_below spare_in place self.now (length self.now)).blocks < 2 ^ 64 }
+        requires inodes { (sum_below spare_in place self.now (length self.now)).inodes < 2 ^ 64 }
+        ensures { result ≡ sum_below spare_in place self.now (length self.now) }
     {
         let mut sum = Usage::ZERO;
-        for slot in 0..MAX_SLOTS {
+        for slot in 0..self.len() {
             sum = sum.plus(self.spare_in(slot, place));
         }
         sum
@@ -100,7 +100,7 @@ impl<N: StoreName> World<N> {
     }
 
     /// What the namespace may take and what it takes. `None` where the store has no such namespace. It leaves no
-    /// entry. Takes no memory. The cost grows with the number of namespaces, and goes over the 64 slots.
+    /// entry. Takes no memory. The cost grows with the number of namespaces, and goes over the slots.
     pub fn quota(&self, namespace: &str) -> Option<Quota>
         ensures { result ≡ quota self.now namespace.now }
     {

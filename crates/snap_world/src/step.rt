@@ -125,10 +125,11 @@ impl<N: StoreName> Hands<N> {
     ) -> Reply
         requires { Fits (world_of book.old self.old) }
         ensures answered { AnsweredBy book.old book.new session (calls.Prepare namespace.now key.now parent.now labels.now) Nothing result }
-        ensures hands { self.new ≡ with_prepared (place_of namespace.now book.old.state.namespaces) key.now parent.now book.old.state.records self.old result }
+        ensures hands { self.new ≡ with_prepared book.old.state.layer_inodes (place_of namespace.now book.old.state.namespaces) key.now parent.now book.old.state.records self.old result }
         ensures full { (result ≡ replies.Refused JournalFull) ↔ (book.old.limit < length book.old.journal + open_count book.old.state.records + 2) }
     {
-        match book.prepare_with_reply(session, namespace, key, parent, labels) {
+        let layer_inodes = book.layer_inodes();
+        match book.prepare_within(session, namespace, key, parent, labels, layer_inodes) {
             Ok((active, reply)) => {
                 let slot = active.slot();
                 self.put(slot, Hand::of(active));
@@ -203,7 +204,7 @@ impl<N: StoreName> Hands<N> {
         lease: &Option<Text>,
         sealed: Sealed<N>,
     ) -> Reply
-        requires low { slot < 64 }
+        requires low { slot < length self.old }
         requires free { hand_at slot self.old ≡ None }
         requires slot { sealed.share.slot ≡ slot }
         requires id { sealed.share.id ≡ id }

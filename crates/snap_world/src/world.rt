@@ -60,15 +60,16 @@ impl<N: StoreName> World<N> {
     /// A world with the namespaces of the configuration, without snapshots and hands.
     ///
     /// `BadArgument` where a part of the configuration has not its form; `OutOfMemory` where memory is
-    /// refused.
+    /// refused. Memory and cost are those of the book's, and a place for the hand of each slot.
     pub fn open(alloc: Global, table: NewTable, config: Config) -> Result<World<N>, Refusal>
         requires { table ≡ N.table }
-        ensures opened { IfOk result (λ w. w ≡ record { state = opening config; journal = []; opening = opening config; limit = config.journal; hands = replicate 64 None }) }
+        ensures opened { IfOk result (λ w. w ≡ record { state = opening config; journal = []; opening = opening config; limit = config.journal; hands = replicate config.slots None }) }
         ensures bad { IsErrOf result BadArgument ↔ (is_config config ≡ false) }
         ensures err { IfErr result (λ why. (why ≡ BadArgument) ⊎ (why ≡ OutOfMemory no_memory)) }
     {
+        let slots = config.slots;
         let book = Book::open(alloc, table, config)?;
-        let hands = Hands::open(alloc)?;
+        let hands = Hands::open(alloc, slots)?;
         Ok(World { book, hands })
     }
 
@@ -198,7 +199,7 @@ impl<N: StoreName> World<N> {
     /// What the open snapshots of the namespace were charged when the round began, as
     /// [`Book::opening_shares`](snap_book::Book::opening_shares) has it.
     pub fn opening_shares(&self, namespace: &str) -> Result<Shares, AllocError>
-        ensures { IfOk result (λ shares. (place : ℕ) → place_of namespace.now self.now.state.namespaces ≡ Some place → shares ≡ shares_of place self.now.opening.records) }
+        ensures { IfOk result (λ shares. (place : ℕ) → place_of namespace.now self.now.state.namespaces ≡ Some place → shares ≡ shares_of self.now.opening.slots place self.now.opening.records) }
     {
         self.book.opening_shares(namespace)
     }

@@ -88,7 +88,7 @@ commit_of_refused (calls.Commit slot id name lease) given why = refl
 commit_of_refused call given why = refl
 
 -- a granted Commit of a tape is one of the tape with more behind it
-pub more_tape : (tape more : List Entry) (d : Done) (g : Granted) → IsCommitOf tape d g → IsCommitOf (tape ++ more) d g
+pub more_tape : {inodes : ℕ} → (tape more : List Entry) (d : Done) (g : Granted) → IsCommitOf inodes tape d g → IsCommitOf inodes (tape ++ more) d g
 more_tape tape more d g is = record { end = is.end; id = is.id; prepared = any_left _ tape more is.prepared; made = is.made; usage = is.usage; count = is.count }
 
 -- ---- calls for a job
@@ -135,11 +135,11 @@ module _ (j : Job) where
   run_goes s t old new op result h = followed s t old new op h.first result h.follows
 
   -- a prepare
-  pub prepare_goes : (s t : SessionValue) (namespace key parent : Bytes) (labels : List Label) (answer : Result ActiveValue Refusal)
+  pub prepare_goes : (inodes : ℕ) (s t : SessionValue) (namespace key parent : Bytes) (labels : List Label) (answer : Result ActiveValue Refusal)
       → IsWorkFor j (calls.Prepare namespace key parent labels)
-      → IfOk answer (λ a. IsPrepared s t namespace key parent labels a) → IfErr answer (λ why. RefusedOn s t (calls.Prepare namespace key parent labels) Nothing why) → GoesOn j s t []
-  prepare_goes s t namespace key parent labels (Ok a) work granted none = taped s t (calls.Prepare namespace key parent labels) Nothing _ granted.taped work
-  prepare_goes s t namespace key parent labels (Err why) work none by = refused s t (calls.Prepare namespace key parent labels) Nothing why by work
+      → IfOk answer (λ a. IsPrepared inodes s t namespace key parent labels a) → IfErr answer (λ why. RefusedOn s t (calls.Prepare namespace key parent labels) Nothing why) → GoesOn j s t []
+  prepare_goes inodes s t namespace key parent labels (Ok a) work granted none = taped s t (calls.Prepare namespace key parent labels) Nothing _ granted.taped work
+  prepare_goes inodes s t namespace key parent labels (Err why) work none by = refused s t (calls.Prepare namespace key parent labels) Nothing why by work
 
   -- a commit under a text that is the job's name
   pub commits_as : (name text : Bytes) (lease : Option Bytes) → j.end ≡ ends.Commit name lease → text ≡ name → j.end ≡ ends.Commit text lease
@@ -157,18 +157,18 @@ module _ (j : Job) where
 
 -- ---- what is known of a snapshot, once the tape has gone on
 
-pub ready : (old new : SessionValue) (j : Job) (before after : ActiveValue) → IsFresh old.tape j before → GoesOn j old new [] → IsSameSnapshot before after → all_after j.ops before.layer before.lowers ≡ Ok after.layer → IsReady new.tape j after
+pub ready : {inodes : ℕ} → (old new : SessionValue) (j : Job) (before after : ActiveValue) → IsFresh inodes old.tape j before → GoesOn j old new [] → IsSameSnapshot before after → all_after j.ops before.layer before.lowers ≡ Ok after.layer → IsReady inodes new.tape j after
 ready old new j before after fresh goes same done = record {
   prepared = subst (λ (l : List Entry). Any (IsPrepareOf j after.share.id) l) (sym goes.tape) (any_left (IsPrepareOf j after.share.id) old.tape goes.more (subst (λ id. Any (IsPrepareOf j id) old.tape) (sym same.id) fresh.prepared));
   made = record { lowers = before.lowers; base = fresh.base; made = ap (λ (t : Tree). all_after j.ops t before.lowers) (sym fresh.layer) ∙ done };
 }
 
 -- a job that has no commit
-pub ends_so : (old new : SessionValue) (j : Job) (end : Ended) → with_end j end [] ≡ [] → IsEndOf j end → GoesOn j old new [] → HasRunJob old new j end
-ends_so old new j end none own goes = record { granted = []; goes = goes; of = subst (λ (l : List Done). AllZip (IsCommitOf new.tape) l []) (sym none) tt; own = own }
+pub ends_so : {inodes : ℕ} → (old new : SessionValue) (j : Job) (end : Ended) → with_end j end [] ≡ [] → IsEndOf inodes j end → GoesOn j old new [] → HasRunJob inodes old new j end
+ends_so {inodes = inodes} old new j end none own goes = record { granted = []; goes = goes; of = subst (λ (l : List Done). AllZip (IsCommitOf inodes new.tape) l []) (sym none) tt; own = own }
 
 -- a job that was committed
-pub committed_so : (old new : SessionValue) (j : Job) (a : ActiveValue) (name : Bytes) (lease : Option Bytes) (id : ℕ) (usage : Usage) → j.end ≡ ends.Commit name lease → IsReady old.tape j a → id ≡ a.share.id → usage ≡ count_of a.layer → GoesOn j old new (granted a name lease ∷ []) → HasRunJob old new j (ended.Committed id usage)
+pub committed_so : {inodes : ℕ} → (old new : SessionValue) (j : Job) (a : ActiveValue) (name : Bytes) (lease : Option Bytes) (id : ℕ) (usage : Usage) → j.end ≡ ends.Commit name lease → IsReady inodes old.tape j a → id ≡ a.share.id → usage ≡ count_of a.layer → GoesOn j old new (granted a name lease ∷ []) → HasRunJob inodes old new j (ended.Committed id usage)
 committed_so old new j a name lease id usage end ready same counted goes = record {
   granted = granted a name lease ∷ [];
   goes = goes;
@@ -187,7 +187,7 @@ committed_so old new j a name lease id usage end ready same counted goes = recor
 }
 
 -- the tape went on before
-pub then_ended : (old mid new : SessionValue) (j : Job) (end : Ended) → GoesOn j old mid [] → HasRunJob mid new j end → HasRunJob old new j end
+pub then_ended : {inodes : ℕ} → (old mid new : SessionValue) (j : Job) (end : Ended) → GoesOn j old mid [] → HasRunJob inodes mid new j end → HasRunJob inodes old new j end
 then_ended old mid new j end before job = record { granted = job.granted; goes = then_on j old mid new job.granted before job.goes; of = job.of; own = job.own }
 
 -- ---- several operations
@@ -234,7 +234,7 @@ undone ops i place op error layer at lowers now low next is same before why =
     }
 
 -- so the job's, on its snapshot as it was prepared
-pub failed_so : (tape : List Entry) (j : Job) (a : ActiveValue) (stop : Stop) (place : ℕ) (error : RunError) → IsFresh tape j a → stop ≡ Failed place error → IsStopOf j.ops a.layer a.lowers stop → IsFailed j place error
+pub failed_so : {inodes : ℕ} → (tape : List Entry) (j : Job) (a : ActiveValue) (stop : Stop) (place : ℕ) (error : RunError) → IsFresh inodes tape j a → stop ≡ Failed place error → IsStopOf j.ops a.layer a.lowers stop → IsFailed inodes j place error
 failed_so tape j a stop place error fresh is why = record {
   lowers = a.lowers;
   base = fresh.base;

@@ -38,13 +38,13 @@ all_there P (y ∷ ys) zero x all there = subst P (cc) all.0
 all_there P (y ∷ ys) (suc i) x all there = all_there P ys i x all.1 there
 
 -- each session of the workers has calls that take nothing away
-kept_with : (jobs : List Job) (es : List Ended) (o : Option SessionValue) (rest : List SessionValue) → HaveWorked jobs es o → AllByRecursion (λ s. AreKeeping s.tape) rest → AllByRecursion (λ s. AreKeeping s.tape) (with_session o rest)
-kept_with jobs es None rest worked all = all
-kept_with jobs es (Some s) rest worked all = (tape_keeps jobs es s worked, all)
+kept_with : (inodes : ℕ) → (jobs : List Job) (es : List Ended) (o : Option SessionValue) (rest : List SessionValue) → HaveWorked inodes jobs es o → AllByRecursion (λ s. AreKeeping s.tape) rest → AllByRecursion (λ s. AreKeeping s.tape) (with_session o rest)
+kept_with inodes jobs es None rest worked all = all
+kept_with inodes jobs es (Some s) rest worked all = (tape_keeps jobs es s worked, all)
 
-sessions_keep : (jobs : List Job) (n m : ℕ) (ws : List Worked) → Each (λ k w. IsWorked jobs (k + 1) n w) m ws → AllByRecursion (λ s. AreKeeping s.tape) (sessions_of ws)
-sessions_keep jobs n m [] each = tt
-sessions_keep jobs n m (w ∷ ws) each = kept_with (every n (m + 1 - 1) jobs) w.ends w.session (sessions_of ws) each.0.session (sessions_keep jobs n (m + 1) ws each.1)
+sessions_keep : (inodes : ℕ) → (jobs : List Job) (n m : ℕ) (ws : List Worked) → Each (λ k w. IsWorked inodes jobs (k + 1) n w) m ws → AllByRecursion (λ s. AreKeeping s.tape) (sessions_of ws)
+sessions_keep inodes jobs n m [] each = tt
+sessions_keep inodes jobs n m (w ∷ ws) each = kept_with inodes (every n (m + 1 - 1) jobs) w.ends w.session (sessions_of ws) each.0.session (sessions_keep inodes jobs n (m + 1) ws each.1)
 
 -- ---- so the whole journal
 
@@ -103,52 +103,52 @@ by_workers h origin journal (w ∷ ws) are = omega (
   sum_first (length ws) (λ k. total h (lists_at origin (w ∷ ws) k)),
 )
 
-stored_here : (origin : ℕ → Origin) (journal : List Entry) (jobs : List Job) (es : List Ended) (o : Option SessionValue) (rest : List SessionValue) → AreOrigins origin journal → AllByRecursion (IsOwn journal) (with_session o rest) → HaveWorked jobs es o → AllZip IsStoredOf (done jobs es) (stored_by origin o)
-stored_here origin journal jobs es None rest are own_are (inl is) = subst (λ l. AllZip IsStoredOf l []) (sym (ap (done jobs) is ∙ done_unprepared ended.NoThread (λ j others. refl) jobs jobs)) tt
-stored_here origin journal jobs es None rest are own_are (inr (why, is)) = subst (λ l. AllZip IsStoredOf l []) (sym (ap (done jobs) is ∙ done_unprepared (ended.NotPrepared why) (λ j others. refl) jobs jobs)) tt
-stored_here origin journal jobs es (Some s) rest are own_are worked = stored_all origin jobs es s (subst (AreOrigins origin) (sym own_are.0) (own_origins origin journal are s.number)) worked
+stored_here : (inodes : ℕ) → (origin : ℕ → Origin) (journal : List Entry) (jobs : List Job) (es : List Ended) (o : Option SessionValue) (rest : List SessionValue) → AreOrigins origin journal → AllByRecursion (IsOwn journal) (with_session o rest) → HaveWorked inodes jobs es o → AllZip (IsStoredOf inodes) (done jobs es) (stored_by origin o)
+stored_here inodes origin journal jobs es None rest are own_are (inl is) = subst (λ l. AllZip (IsStoredOf inodes) l []) (sym (ap (done jobs) is ∙ done_unprepared ended.NoThread (λ j others. refl) jobs jobs)) tt
+stored_here inodes origin journal jobs es None rest are own_are (inr (why, is)) = subst (λ l. AllZip (IsStoredOf inodes) l []) (sym (ap (done jobs) is ∙ done_unprepared (ended.NotPrepared why) (λ j others. refl) jobs jobs)) tt
+stored_here inodes origin journal jobs es (Some s) rest are own_are worked = stored_all origin jobs es s (subst (AreOrigins origin) (sym own_are.0) (own_origins origin journal are s.number)) worked
 
-stored_at : (origin : ℕ → Origin) (journal : List Entry) (jobs : List Job) (n m k : ℕ) (ws : List Worked) → AreOrigins origin journal → AllByRecursion (IsOwn journal) (sessions_of ws) → Each (λ k w. IsWorked jobs (k + 1) n w) m ws → k < length ws → AllZip IsStoredOf (done (every n (m + k) jobs) (ends_at ws k)) (lists_at origin ws k)
-stored_at origin journal jobs n m k [] are own_are each low = absurd (omega (arith, low))
-stored_at origin journal jobs n m zero (w ∷ ws) are own_are each low =
+stored_at : (inodes : ℕ) → (origin : ℕ → Origin) (journal : List Entry) (jobs : List Job) (n m k : ℕ) (ws : List Worked) → AreOrigins origin journal → AllByRecursion (IsOwn journal) (sessions_of ws) → Each (λ k w. IsWorked inodes jobs (k + 1) n w) m ws → k < length ws → AllZip (IsStoredOf inodes) (done (every n (m + k) jobs) (ends_at ws k)) (lists_at origin ws k)
+stored_at inodes origin journal jobs n m k [] are own_are each low = absurd (omega (arith, low))
+stored_at inodes origin journal jobs n m zero (w ∷ ws) are own_are each low =
     let e : m + 1 - 1 ≡ m + 0 = omega arith in
-    subst (λ i. AllZip IsStoredOf (done (every n i jobs) w.ends) (stored_by origin w.session)) e (stored_here origin journal (every n (m + 1 - 1) jobs) w.ends w.session (sessions_of ws) are own_are each.0.session)
-stored_at origin journal jobs n m (suc k) (w ∷ ws) are own_are each low =
+    subst (λ i. AllZip (IsStoredOf inodes) (done (every n i jobs) w.ends) (stored_by origin w.session)) e (stored_here inodes origin journal (every n (m + 1 - 1) jobs) w.ends w.session (sessions_of ws) are own_are each.0.session)
+stored_at inodes origin journal jobs n m (suc k) (w ∷ ws) are own_are each low =
     let e : m + 1 + k ≡ m + suc k = omega arith in
-    subst (λ i. AllZip IsStoredOf (done (every n i jobs) (ends_at ws k)) (lists_at origin ws k)) e (stored_at origin journal jobs n (m + 1) k ws are (rest_own journal w.session (sessions_of ws) own_are) each.1 (omega (arith, low)))
+    subst (λ i. AllZip (IsStoredOf inodes) (done (every n i jobs) (ends_at ws k)) (lists_at origin ws k)) e (stored_at inodes origin journal jobs n (m + 1) k ws are (rest_own journal w.session (sessions_of ws) own_are) each.1 (omega (arith, low)))
 
 -- ---- the ends, worker by worker
 
-own_here : (jobs : List Job) (es : List Ended) (o : Option SessionValue) → HaveWorked jobs es o → AllZip IsEndOf jobs es
-own_here jobs es None (inl is) = subst (AllZip IsEndOf jobs) (sym is) (unprepared_own ended.NoThread (λ j. tt) jobs)
-own_here jobs es None (inr (why, is)) = subst (AllZip IsEndOf jobs) (sym is) (unprepared_own (ended.NotPrepared why) (λ j. tt) jobs)
-own_here jobs es (Some s) worked = worked.each
+own_here : (inodes : ℕ) → (jobs : List Job) (es : List Ended) (o : Option SessionValue) → HaveWorked inodes jobs es o → AllZip (IsEndOf inodes) jobs es
+own_here inodes jobs es None (inl is) = subst (AllZip (IsEndOf inodes) jobs) (sym is) (unprepared_own inodes ended.NoThread (λ j. tt) jobs)
+own_here inodes jobs es None (inr (why, is)) = subst (AllZip (IsEndOf inodes) jobs) (sym is) (unprepared_own inodes (ended.NotPrepared why) (λ j. tt) jobs)
+own_here inodes jobs es (Some s) worked = worked.each
 
-own_at : (jobs : List Job) (n m k : ℕ) (ws : List Worked) → Each (λ k w. IsWorked jobs (k + 1) n w) m ws → k < length ws → AllZip IsEndOf (every n (m + k) jobs) (ends_at ws k)
-own_at jobs n m k [] each low = absurd (omega (arith, low))
-own_at jobs n m zero (w ∷ ws) each low =
+own_at : (inodes : ℕ) → (jobs : List Job) (n m k : ℕ) (ws : List Worked) → Each (λ k w. IsWorked inodes jobs (k + 1) n w) m ws → k < length ws → AllZip (IsEndOf inodes) (every n (m + k) jobs) (ends_at ws k)
+own_at inodes jobs n m k [] each low = absurd (omega (arith, low))
+own_at inodes jobs n m zero (w ∷ ws) each low =
     let e : m + 1 - 1 ≡ m + 0 = omega arith in
-    subst (λ i. AllZip IsEndOf (every n i jobs) w.ends) e (own_here (every n (m + 1 - 1) jobs) w.ends w.session each.0.session)
-own_at jobs n m (suc k) (w ∷ ws) each low =
+    subst (λ i. AllZip (IsEndOf inodes) (every n i jobs) w.ends) e (own_here inodes (every n (m + 1 - 1) jobs) w.ends w.session each.0.session)
+own_at inodes jobs n m (suc k) (w ∷ ws) each low =
     let e : m + 1 + k ≡ m + suc k = omega arith in
-    subst (λ i. AllZip IsEndOf (every n i jobs) (ends_at ws k)) e (own_at jobs n (m + 1) k ws each.1 (omega (arith, low)))
+    subst (λ i. AllZip (IsEndOf inodes) (every n i jobs) (ends_at ws k)) e (own_at inodes jobs n (m + 1) k ws each.1 (omega (arith, low)))
 
 -- ---- all of it
 
-pub record Stores (jobs : List Job) (ends : List Ended) (b : BookValue) : Type 0 where
-  pub each : AllZip IsEndOf jobs ends
+pub record Stores (inodes : ℕ) (jobs : List Job) (ends : List Ended) (b : BookValue) : Type 0 where
+  pub each : AllZip (IsEndOf inodes) jobs ends
   pub stored : List Stored
-  pub of : AllZip IsStoredOf (done jobs ends) stored
+  pub of : AllZip (IsStoredOf inodes) (done jobs ends) stored
   pub committed : (h : Stored → ℕ) → worth h b.state ≡ worth h b.opening + total h stored
 
-pub stores : (jobs : List Job) (workers : ℕ) (ws : List Worked) (ends : List Ended) (r : Round) (b : BookValue) → 1 ≤ workers → AreWorked jobs workers ws → AreInOrder jobs workers ws ends → IsClosed r b (sessions_of ws) → Stores jobs ends b
-stores jobs workers ws ends r b some worked order closed = record { each = each_own; stored = all.stored; of = all.of; committed = law }
+pub stores : {inodes : ℕ} → (jobs : List Job) (workers : ℕ) (ws : List Worked) (ends : List Ended) (r : Round) (b : BookValue) → 1 ≤ workers → AreWorked inodes jobs workers ws → AreInOrder jobs workers ws ends → IsClosed r b (sessions_of ws) → Stores inodes jobs ends b
+stores {inodes = inodes} jobs workers ws ends r b some worked order closed = record { each = each_own; stored = all.stored; of = all.of; committed = law }
   where
     own_are : AllByRecursion (IsOwn b.journal) (sessions_of ws)
     own_are = all_rec (IsOwn b.journal) (sessions_of ws) closed.sessions.tapes
 
     keeps : AreKeeping b.journal
-    keeps = journal_keeps r b (sessions_of ws) closed (sessions_keep jobs workers 0 ws worked.each)
+    keeps = journal_keeps r b (sessions_of ws) closed (sessions_keep inodes jobs workers 0 ws worked.each)
 
     origin : ℕ → Origin
     origin = origin_in b.journal
@@ -162,23 +162,23 @@ stores jobs workers ws ends r b some worked order closed = record { each = each_
     size : workers ≡ suc (workers - 1)
     size = omega (arith, some)
 
-    each : (k : ℕ) → k < workers → AllZip IsStoredOf (done (every workers k jobs) (every workers k ends)) (lists k)
+    each : (k : ℕ) → k < workers → AllZip (IsStoredOf inodes) (done (every workers k jobs) (every workers k ends)) (lists k)
     each k low =
         let e : 0 + k ≡ k = omega arith in
-        let here = stored_at origin b.journal jobs workers 0 k ws are own_are worked.each (omega (arith, low, worked.count)) in
-        subst (λ l. AllZip IsStoredOf (done (every workers k jobs) l) (lists k)) (sym (order.each k low)) (subst (λ i. AllZip IsStoredOf (done (every workers i jobs) (ends_at ws k)) (lists k)) e here)
+        let here = stored_at inodes origin b.journal jobs workers 0 k ws are own_are worked.each (omega (arith, low, worked.count)) in
+        subst (λ l. AllZip (IsStoredOf inodes) (done (every workers k jobs) l) (lists k)) (sym (order.each k low)) (subst (λ i. AllZip (IsStoredOf inodes) (done (every workers i jobs) (ends_at ws k)) (lists k)) e here)
 
-    workers_own : (k : ℕ) → k < workers → AllZip IsEndOf (every workers k jobs) (every workers k ends)
+    workers_own : (k : ℕ) → k < workers → AllZip (IsEndOf inodes) (every workers k jobs) (every workers k ends)
     workers_own k low =
         let e : 0 + k ≡ k = omega arith in
-        let here = own_at jobs workers 0 k ws worked.each (omega (arith, low, worked.count)) in
-        subst (AllZip IsEndOf (every workers k jobs)) (sym (order.each k low)) (subst (λ i. AllZip IsEndOf (every workers i jobs) (ends_at ws k)) e here)
+        let here = own_at inodes jobs workers 0 k ws worked.each (omega (arith, low, worked.count)) in
+        subst (AllZip (IsEndOf inodes) (every workers k jobs)) (sym (order.each k low)) (subst (λ i. AllZip (IsEndOf inodes) (every workers i jobs) (ends_at ws k)) e here)
 
-    each_own : AllZip IsEndOf jobs ends
-    each_own = own_woven (workers - 1) jobs ends order.count (subst (λ n. (k : ℕ) → k < n → AllZip IsEndOf (every n k jobs) (every n k ends)) size workers_own)
+    each_own : AllZip (IsEndOf inodes) jobs ends
+    each_own = own_woven inodes (workers - 1) jobs ends order.count (subst (λ n. (k : ℕ) → k < n → AllZip (IsEndOf inodes) (every n k jobs) (every n k ends)) size workers_own)
 
-    all : Woven workers jobs ends lists
-    all = subst (λ n. Woven n jobs ends lists) (sym size) (woven (workers - 1) jobs ends lists order.count (subst (λ n. (k : ℕ) → k < n → AllZip IsStoredOf (done (every n k jobs) (every n k ends)) (lists k)) size each))
+    all : Woven inodes workers jobs ends lists
+    all = subst (λ n. Woven inodes n jobs ends lists) (sym size) (woven (workers - 1) jobs ends lists order.count (subst (λ n. (k : ℕ) → k < n → AllZip (IsStoredOf inodes) (done (every n k jobs) (every n k ends)) (lists k)) size each))
 
     law : (h : Stored → ℕ) → worth h b.state ≡ worth h b.opening + total h all.stored
     law h = omega (

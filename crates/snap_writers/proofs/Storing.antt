@@ -45,7 +45,7 @@ origin_is origin tape j id are (k, e, low, at, (session, slot, chain, is)) =
     subst (λ (x : Entry). IsOrigin origin x.call x.reply) is
     (subst (λ (x : Entry). IsOrigin origin x.call x.reply) at (all_at (λ (x : Entry). IsOrigin origin x.call x.reply) tape k e are low))
 
-stored_is : (origin : ℕ → Origin) (tape : List Entry) → AreOrigins origin tape → (d : Done) (g : Granted) → IsCommitOf tape d g → IsStoredOf d (stored_of origin g)
+stored_is : {inodes : ℕ} → (origin : ℕ → Origin) (tape : List Entry) → AreOrigins origin tape → (d : Done) (g : Granted) → IsCommitOf inodes tape d g → IsStoredOf inodes d (stored_of origin g)
 stored_is origin tape are d g is =
     let from = origin_is origin tape d.job g.id are is.prepared in
     record { namespace = ap (λ (o : Origin). o.namespace) from; name = ap name_of is.end; parent = ap (λ (o : Origin). o.parent) from; id = is.id; made = is.made; count = is.count }
@@ -57,8 +57,8 @@ zip_map R S f by (x ∷ xs) [] p = absurd p
 zip_map R S f by (x ∷ xs) (y ∷ ys) p = (by x y p.0, zip_map R S f by xs ys p.1)
 
 -- what a worker's session stored is its jobs'
-pub stored_all : (origin : ℕ → Origin) (jobs : List Job) (es : List Ended) (s : SessionValue) → AreOrigins origin s.tape → HasWorked jobs es s → AllZip IsStoredOf (done jobs es) (map (stored_of origin) (commits s.tape))
-stored_all origin jobs es s are worked = zip_map (IsCommitOf s.tape) IsStoredOf (stored_of origin) (stored_is origin s.tape are) (done jobs es) (commits s.tape) worked.commits
+pub stored_all : {inodes : ℕ} → (origin : ℕ → Origin) (jobs : List Job) (es : List Ended) (s : SessionValue) → AreOrigins origin s.tape → HasWorked inodes jobs es s → AllZip (IsStoredOf inodes) (done jobs es) (map (stored_of origin) (commits s.tape))
+stored_all {inodes = inodes} origin jobs es s are worked = zip_map (IsCommitOf inodes s.tape) (IsStoredOf inodes) (stored_of origin) (stored_is origin s.tape are) (done jobs es) (commits s.tape) worked.commits
 
 -- ---- a worker's calls take nothing committed away
 
@@ -73,5 +73,5 @@ all_keep : (jobs : List Job) (es : List Entry) → AllByRecursion (λ e. IsWork 
 all_keep jobs [] work = tt
 all_keep jobs (e ∷ es) ((k, j, low, at, work), rest) = (work_keeps j e.call work, all_keep jobs es rest)
 
-pub tape_keeps : (jobs : List Job) (es : List Ended) (s : SessionValue) → HasWorked jobs es s → AreKeeping s.tape
+pub tape_keeps : {inodes : ℕ} → (jobs : List Job) (es : List Ended) (s : SessionValue) → HasWorked inodes jobs es s → AreKeeping s.tape
 tape_keeps jobs es s worked = subst AreKeeping (sym worked.tape) (tt, all_keep jobs worked.rest worked.calls)

@@ -12,24 +12,24 @@ use Rattle.snap_writers.specs.Jobs.{Done, IsEndOf, IsStoredOf, done, every, tota
 use Rattle.snap_writers.proofs.Sums.{sum_first}
 
 -- what is stored for one job, and for those after it
-record Parts (j : Job) (e : Ended) (rest : List Done) (stored : List Stored) : Type 0 where
+record Parts (inodes : ℕ) (j : Job) (e : Ended) (rest : List Done) (stored : List Stored) : Type 0 where
   front : List Stored
   back : List Stored
   both : stored ≡ front ++ back
-  first : AllZip IsStoredOf (with_end j e []) front
-  others : AllZip IsStoredOf rest back
+  first : AllZip (IsStoredOf inodes) (with_end j e []) front
+  others : AllZip (IsStoredOf inodes) rest back
 
-parts : (j : Job) (e : Ended) (rest : List Done) (stored : List Stored) → AllZip IsStoredOf (with_end j e rest) stored → Parts j e rest stored
+parts : {inodes : ℕ} → (j : Job) (e : Ended) (rest : List Done) (stored : List Stored) → AllZip (IsStoredOf inodes) (with_end j e rest) stored → Parts inodes j e rest stored
 parts j (ended.Committed id usage) rest [] p = absurd p
 parts j (ended.Committed id usage) rest (s ∷ ss) p = record { front = s ∷ []; back = ss; both = refl; first = (p.0, tt); others = p.1 }
 parts j e rest stored p = record { front = []; back = stored; both = refl; first = tt; others = p }
 
-put_first : (j : Job) (e : Ended) (rest : List Done) (front back : List Stored) → AllZip IsStoredOf (with_end j e []) front → AllZip IsStoredOf rest back → AllZip IsStoredOf (with_end j e rest) (front ++ back)
-put_first j (ended.Committed id usage) rest [] back p q = absurd p
-put_first j (ended.Committed id usage) rest (s ∷ []) back p q = (p.0, q)
-put_first j (ended.Committed id usage) rest (s ∷ t ∷ ss) back p q = absurd p.1
-put_first j e rest [] back p q = q
-put_first j e rest (s ∷ ss) back p q = absurd p
+put_first : (inodes : ℕ) → (j : Job) (e : Ended) (rest : List Done) (front back : List Stored) → AllZip (IsStoredOf inodes) (with_end j e []) front → AllZip (IsStoredOf inodes) rest back → AllZip (IsStoredOf inodes) (with_end j e rest) (front ++ back)
+put_first inodes j (ended.Committed id usage) rest [] back p q = absurd p
+put_first inodes j (ended.Committed id usage) rest (s ∷ []) back p q = (p.0, q)
+put_first inodes j (ended.Committed id usage) rest (s ∷ t ∷ ss) back p q = absurd p.1
+put_first inodes j e rest [] back p q = q
+put_first inodes j e rest (s ∷ ss) back p q = absurd p
 
 total_append : (h : Stored → ℕ) (xs ys : List Stored) → total h (xs ++ ys) ≡ total h xs + total h ys
 total_append h [] ys = omega arith
@@ -50,28 +50,28 @@ turned_other m last lists k low = by (k == m) refl
     by false e = refl
 
 -- ends that have a list of what each of n workers stored have one of all that was stored
-pub record Woven (n : ℕ) (jobs : List Job) (ends : List Ended) (lists : ℕ → List Stored) : Type 0 where
+pub record Woven (inodes : ℕ) (n : ℕ) (jobs : List Job) (ends : List Ended) (lists : ℕ → List Stored) : Type 0 where
   pub stored : List Stored
-  pub of : AllZip IsStoredOf (done jobs ends) stored
+  pub of : AllZip (IsStoredOf inodes) (done jobs ends) stored
   pub total : (h : Stored → ℕ) → total h stored ≡ sum_below n (λ k. total h (lists k))
 
-empty_zip : (stored : List Stored) → AllZip IsStoredOf [] stored → stored ≡ []
-empty_zip [] p = refl
-empty_zip (s ∷ ss) p = absurd p
+empty_zip : (inodes : ℕ) → (stored : List Stored) → AllZip (IsStoredOf inodes) [] stored → stored ≡ []
+empty_zip inodes [] p = refl
+empty_zip inodes (s ∷ ss) p = absurd p
 
 other : (k m : ℕ) → (k == m) ≡ false → k ≡ m → ⊥
 other k m e same = true≢false (sym (eq-eqb k m same) ∙ e)
 
 -- what the workers have of the jobs after the first
-moved : (m : ℕ) (j : Job) (js : List Job) (e : Ended) (es : List Ended) (lists : ℕ → List Stored) (first : Parts j e (done (every (suc m) m js) (every (suc m) m es)) (lists 0)) → ((k : ℕ) → k < suc m → AllZip IsStoredOf (done (every (suc m) k (j ∷ js)) (every (suc m) k (e ∷ es))) (lists k))
-    → (k : ℕ) → k < suc m → (b : Bool) → (k == m) ≡ b → AllZip IsStoredOf (done (every (suc m) k js) (every (suc m) k es)) (cond b first.back (lists (suc k)))
-moved m j js e es lists first each k low true is = subst (λ i. AllZip IsStoredOf (done (every (suc m) i js) (every (suc m) i es)) first.back) (sym (eqb-true k m is)) first.others
+moved : {inodes : ℕ} → (m : ℕ) (j : Job) (js : List Job) (e : Ended) (es : List Ended) (lists : ℕ → List Stored) (first : Parts inodes j e (done (every (suc m) m js) (every (suc m) m es)) (lists 0)) → ((k : ℕ) → k < suc m → AllZip (IsStoredOf inodes) (done (every (suc m) k (j ∷ js)) (every (suc m) k (e ∷ es))) (lists k))
+    → (k : ℕ) → k < suc m → (b : Bool) → (k == m) ≡ b → AllZip (IsStoredOf inodes) (done (every (suc m) k js) (every (suc m) k es)) (cond b first.back (lists (suc k)))
+moved {inodes = inodes} m j js e es lists first each k low true is = subst (λ i. AllZip (IsStoredOf inodes) (done (every (suc m) i js) (every (suc m) i es)) first.back) (sym (eqb-true k m is)) first.others
 moved m j js e es lists first each k low false is = each (suc k) (omega (arith, low, other k m is))
 
-weave : (m : ℕ) (j : Job) (js : List Job) (e : Ended) (es : List Ended) (lists : ℕ → List Stored) (first : Parts j e (done (every (suc m) m js) (every (suc m) m es)) (lists 0)) → Woven (suc m) js es (turned m first.back lists) → Woven (suc m) (j ∷ js) (e ∷ es) lists
-weave m j js e es lists first rest = record {
+weave : {inodes : ℕ} → (m : ℕ) (j : Job) (js : List Job) (e : Ended) (es : List Ended) (lists : ℕ → List Stored) (first : Parts inodes j e (done (every (suc m) m js) (every (suc m) m es)) (lists 0)) → Woven inodes (suc m) js es (turned m first.back lists) → Woven inodes (suc m) (j ∷ js) (e ∷ es) lists
+weave {inodes = inodes} m j js e es lists first rest = record {
   stored = first.front ++ rest.stored;
-  of = put_first j e (done js es) first.front rest.stored first.first rest.of;
+  of = put_first inodes j e (done js es) first.front rest.stored first.first rest.of;
   total = λ h. total_append h first.front rest.stored ∙ sums h;
 }
   where
@@ -86,14 +86,14 @@ weave m j js e es lists first rest = record {
     )
 
 -- the first job is the first worker's
-first_of : (m : ℕ) (j : Job) (js : List Job) (e : Ended) (es : List Ended) (stored : List Stored) → AllZip IsStoredOf (done (every (suc m) 0 (j ∷ js)) (every (suc m) 0 (e ∷ es))) stored → Parts j e (done (every (suc m) m js) (every (suc m) m es)) stored
-first_of m j js e es stored all = let one : suc m - 1 ≡ m = omega arith in parts j e (done (every (suc m) m js) (every (suc m) m es)) stored (subst (λ i. AllZip IsStoredOf (with_end j e (done (every (suc m) i js) (every (suc m) i es))) stored) one all)
+first_of : {inodes : ℕ} → (m : ℕ) (j : Job) (js : List Job) (e : Ended) (es : List Ended) (stored : List Stored) → AllZip (IsStoredOf inodes) (done (every (suc m) 0 (j ∷ js)) (every (suc m) 0 (e ∷ es))) stored → Parts inodes j e (done (every (suc m) m js) (every (suc m) m es)) stored
+first_of {inodes = inodes} m j js e es stored all = let one : suc m - 1 ≡ m = omega arith in parts j e (done (every (suc m) m js) (every (suc m) m es)) stored (subst (λ i. AllZip (IsStoredOf inodes) (with_end j e (done (every (suc m) i js) (every (suc m) i es))) stored) one all)
 
-pub woven : (m : ℕ) (jobs : List Job) (ends : List Ended) (lists : ℕ → List Stored) → length ends ≡ length jobs → ((k : ℕ) → k < suc m → AllZip IsStoredOf (done (every (suc m) k jobs) (every (suc m) k ends)) (lists k)) → Woven (suc m) jobs ends lists
-woven m [] [] lists size each = record {
+pub woven : {inodes : ℕ} → (m : ℕ) (jobs : List Job) (ends : List Ended) (lists : ℕ → List Stored) → length ends ≡ length jobs → ((k : ℕ) → k < suc m → AllZip (IsStoredOf inodes) (done (every (suc m) k jobs) (every (suc m) k ends)) (lists k)) → Woven inodes (suc m) jobs ends lists
+woven {inodes = inodes} m [] [] lists size each = record {
   stored = [];
   of = tt;
-  total = λ h. sym (sum_same (suc m) (λ k. total h (lists k)) (λ k. 0) (λ k low. ap (total h) (empty_zip (lists k) (each k low))) ∙ nothing (suc m));
+  total = λ h. sym (sum_same (suc m) (λ k. total h (lists k)) (λ k. 0) (λ k low. ap (total h) (empty_zip inodes (lists k) (each k low))) ∙ nothing (suc m));
 }
 woven m [] (e ∷ es) lists size each = absurd (omega (arith, size))
 woven m (j ∷ js) [] lists size each = absurd (omega (arith, size))
@@ -103,15 +103,15 @@ woven m (j ∷ js) (e ∷ es) lists size each =
 
 -- ---- ends that owe something each
 
-own_moved : (m : ℕ) (j : Job) (js : List Job) (e : Ended) (es : List Ended) → ((k : ℕ) → k < suc m → AllZip IsEndOf (every (suc m) k (j ∷ js)) (every (suc m) k (e ∷ es))) → (k : ℕ) → k < suc m → (b : Bool) → (k == m) ≡ b → AllZip IsEndOf (every (suc m) k js) (every (suc m) k es)
-own_moved m j js e es each k low true is =
+own_moved : {inodes : ℕ} → (m : ℕ) (j : Job) (js : List Job) (e : Ended) (es : List Ended) → ((k : ℕ) → k < suc m → AllZip (IsEndOf inodes) (every (suc m) k (j ∷ js)) (every (suc m) k (e ∷ es))) → (k : ℕ) → k < suc m → (b : Bool) → (k == m) ≡ b → AllZip (IsEndOf inodes) (every (suc m) k js) (every (suc m) k es)
+own_moved {inodes = inodes} m j js e es each k low true is =
     let last : suc m - 1 ≡ k = omega (arith, eqb-true k m is) in
-    subst (λ i. AllZip IsEndOf (every (suc m) i js) (every (suc m) i es)) last (each 0 (omega arith)).1
+    subst (λ i. AllZip (IsEndOf inodes) (every (suc m) i js) (every (suc m) i es)) last (each 0 (omega arith)).1
 own_moved m j js e es each k low false is = each (suc k) (omega (arith, low, other k m is))
 
 -- where each of n workers' ends are its jobs', so are all
-pub own_woven : (m : ℕ) (jobs : List Job) (ends : List Ended) → length ends ≡ length jobs → ((k : ℕ) → k < suc m → AllZip IsEndOf (every (suc m) k jobs) (every (suc m) k ends)) → AllZip IsEndOf jobs ends
-own_woven m [] [] size each = tt
-own_woven m [] (e ∷ es) size each = absurd (omega (arith, size))
-own_woven m (j ∷ js) [] size each = absurd (omega (arith, size))
-own_woven m (j ∷ js) (e ∷ es) size each = ((each 0 (omega arith)).0, own_woven m js es (omega (arith, size)) (λ k low. own_moved m j js e es each k low (k == m) refl))
+pub own_woven : (inodes : ℕ) → (m : ℕ) (jobs : List Job) (ends : List Ended) → length ends ≡ length jobs → ((k : ℕ) → k < suc m → AllZip (IsEndOf inodes) (every (suc m) k jobs) (every (suc m) k ends)) → AllZip (IsEndOf inodes) jobs ends
+own_woven inodes m [] [] size each = tt
+own_woven inodes m [] (e ∷ es) size each = absurd (omega (arith, size))
+own_woven inodes m (j ∷ js) [] size each = absurd (omega (arith, size))
+own_woven inodes m (j ∷ js) (e ∷ es) size each = ((each 0 (omega arith)).0, own_woven inodes m js es (omega (arith, size)) (λ k low. own_moved m j js e es each k low (k == m) refl))

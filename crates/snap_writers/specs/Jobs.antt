@@ -3,7 +3,6 @@
 use Rattle.std.specs.Prelude.{◌≡◌, ◌⊎◌, ◌≤◌, ℕ, zero, suc, ◌+◌, ◌-◌, List, [], ◌∷◌, length, map, take, slice_get, Any, Option, None, Some, Ok, Err}
 use Rattle.std.specs.List.{AllByRecursion, AllZip}
 use Rattle.snap_path.specs.Memory.{no_memory}
-use Rattle.snap_layer.specs.Edits.{root_only}
 use Rattle.snap_layer.specs.Tree.{Tree}
 use Rattle.snap_usage.specs.Counted.{count_of}
 use Rattle.snap_usage.specs.declared.usage.Usage.{Usage}
@@ -21,7 +20,7 @@ use Rattle.snap_call.specs.declared.refusal.Refusal.TheVariants as refusals
 use Rattle.snap_call.specs.declared.reply.Reply.{Reply}
 use Rattle.snap_call.specs.declared.reply.Reply.TheVariants as replies
 use Rattle.snap_call.specs.Journal.{entry}
-use Rattle.snap_book.specs.Active.{root_mode}
+use Rattle.snap_book.specs.Active.{fresh}
 use Rattle.snap_book.specs.Book.{BookValue}
 use Rattle.snap_book.specs.Wanted.{wanted}
 use Rattle.snap_tape.specs.Tapes.{SessionValue}
@@ -121,10 +120,10 @@ all_after [] layer lowers = Ok layer
 all_after (op ∷ ops) layer lowers = then_after (after op layer lowers) (λ next. all_after ops next lowers)
 
 -- the layer is what the job's operations make of a root alone, over some lower layers, and over none without a parent
-pub record IsMadeBy (j : Job) (layer : Tree) : Type 0 where
+pub record IsMadeBy (inodes : ℕ) (j : Job) (layer : Tree) : Type 0 where
   pub lowers : List Tree
   pub base : j.parent ≡ [] → lowers ≡ []
-  pub made : all_after j.ops (root_only (root_mode lowers) 1) lowers ≡ Ok layer
+  pub made : all_after j.ops (fresh inodes lowers) lowers ≡ Ok layer
 
 -- ---- where a job's operations end
 
@@ -143,48 +142,48 @@ pub record IsUndone (ops : List Op) (place : ℕ) (error : RunError) (layer : Tr
   pub why : IsErrorOf error op at lowers
 
 -- so it is of the job's operations on a root alone, over some lower layers, and over none without a parent
-pub record IsFailed (j : Job) (place : ℕ) (error : RunError) : Type 0 where
+pub record IsFailed (inodes : ℕ) (j : Job) (place : ℕ) (error : RunError) : Type 0 where
   pub lowers : List Tree
   pub base : j.parent ≡ [] → lowers ≡ []
-  pub undone : IsUndone j.ops place error (root_only (root_mode lowers) 1) lowers
+  pub undone : IsUndone j.ops place error (fresh inodes lowers) lowers
 
 -- what is owed for an end by itself: where an operation was not done, its place and its error are those that are told
-abbrev pub IsEndOf : Job → Ended → Type 0
-IsEndOf j (ended.Failed place error) = IsFailed j place error
-IsEndOf j end = Unit {0}
+abbrev pub IsEndOf : ℕ → Job → Ended → Type 0
+IsEndOf inodes j (ended.Failed place error) = IsFailed inodes j place error
+IsEndOf inodes j end = Unit {0}
 
 -- ---- what a worker owes
 
 -- the granted Commit is the job's: under its name and in its lease; of an id that a Prepare of the tape was granted for the job, and that the job's end tells; with the layer that the job's operations make; and the usage, which the job's end tells too, is the count over it
-pub record IsCommitOf (tape : List Entry) (d : Done) (g : Granted) : Type 0 where
+pub record IsCommitOf (inodes : ℕ) (tape : List Entry) (d : Done) (g : Granted) : Type 0 where
   pub end : d.job.end ≡ ends.Commit g.name g.lease
   pub id : g.id ≡ d.id
   pub prepared : Any (IsPrepareOf d.job g.id) tape
-  pub made : IsMadeBy d.job g.layer
+  pub made : IsMadeBy inodes d.job g.layer
   pub usage : g.usage ≡ d.usage
   pub count : d.usage ≡ count_of g.layer
 
 -- a worker's session: its tape begins with its own opening, and has calls for its jobs alone after it; its granted Commits are, in order, those of the jobs that ended Committed; and each end is its job's
-pub record HasWorked (jobs : List Job) (es : List Ended) (s : SessionValue) : Type 0 where
+pub record HasWorked (inodes : ℕ) (jobs : List Job) (es : List Ended) (s : SessionValue) : Type 0 where
   pub rest : List Entry
   pub tape : s.tape ≡ entry s.number calls.Session Nothing replies.Opened ∷ rest
   pub calls : AllByRecursion (λ e. IsWork jobs e.call) rest
-  pub commits : AllZip (IsCommitOf s.tape) (done jobs es) (commits s.tape)
-  pub each : AllZip IsEndOf jobs es
+  pub commits : AllZip (IsCommitOf inodes s.tape) (done jobs es) (commits s.tape)
+  pub each : AllZip (IsEndOf inodes) jobs es
 
 -- no job was prepared, and each has this end
 abbrev pub unprepared : {X : Type 0} → Ended → List X → List Ended
 unprepared end js = map (λ _. end) js
 
 -- a worker without a session has prepared no job: it got no thread, or its session was refused for one reason
-abbrev pub HaveWorked : List Job → List Ended → Option SessionValue → Type 0
-HaveWorked jobs es None = (es ≡ unprepared ended.NoThread jobs) ⊎ ((why : Refusal) × (es ≡ unprepared (ended.NotPrepared why) jobs))
-HaveWorked jobs es (Some s) = HasWorked jobs es s
+abbrev pub HaveWorked : ℕ → List Job → List Ended → Option SessionValue → Type 0
+HaveWorked inodes jobs es None = (es ≡ unprepared ended.NoThread jobs) ⊎ ((why : Refusal) × (es ≡ unprepared (ended.NotPrepared why) jobs))
+HaveWorked inodes jobs es (Some s) = HasWorked inodes jobs es s
 
 -- what a worker gives back: one end for each job of its own, and its session
-pub record IsWorked (jobs : List Job) (worker workers : ℕ) (w : Worked) : Type 0 where
+pub record IsWorked (inodes : ℕ) (jobs : List Job) (worker workers : ℕ) (w : Worked) : Type 0 where
   pub ends : length w.ends ≡ length (jobs_of jobs worker workers)
-  pub session : HaveWorked (jobs_of jobs worker workers) w.ends w.session
+  pub session : HaveWorked inodes (jobs_of jobs worker workers) w.ends w.session
 
 -- ---- what a run of all workers owes
 
@@ -194,12 +193,12 @@ name_of (ends.Commit name lease) = Some name
 name_of ends.Discard = None
 
 -- the committed snapshot is the job's: of its namespace, under its name and over its parent, of the id that its end tells, with the layer that the job's operations make; and the usage that its end tells is the count over it
-pub record IsStoredOf (d : Done) (s : Stored) : Type 0 where
+pub record IsStoredOf (inodes : ℕ) (d : Done) (s : Stored) : Type 0 where
   pub namespace : s.namespace ≡ d.job.namespace
   pub name : name_of d.job.end ≡ Some s.name
   pub parent : s.parent ≡ d.job.parent
   pub id : s.id ≡ d.id
-  pub made : IsMadeBy d.job s.layer
+  pub made : IsMadeBy inodes d.job s.layer
   pub count : d.usage ≡ count_of s.layer
 
 -- the weights of the snapshots, added up
@@ -210,9 +209,9 @@ total h (s ∷ ss) = h s + total h ss
 -- of a store of this round: one end for each job, in order, that is the job's; all of it once it is closed; and, however snapshots are weighed, its committed ones are those that the round began with and one for each job that ended Committed
 pub record IsReport (r : Round) (jobs : List Job) (es : List Ended) (b : BookValue) : Type 0 where
   pub count : length es ≡ length jobs
-  pub each : AllZip IsEndOf jobs es
+  pub each : AllZip (IsEndOf r.opening.layer_inodes) jobs es
   pub sessions : List SessionValue
   pub closed : IsClosed r b sessions
   pub stored : List Stored
-  pub of : AllZip IsStoredOf (done jobs es) stored
+  pub of : AllZip (IsStoredOf r.opening.layer_inodes) (done jobs es) stored
   pub committed : (h : Stored → ℕ) → worth h b.state ≡ worth h b.opening + total h stored

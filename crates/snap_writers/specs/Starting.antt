@@ -32,18 +32,18 @@ pub record AreAssigned (jobs : List Job) (workers : ℕ) (all : List Assignment)
   pub each : Each (λ k a. IsAssigned jobs (k + 1) workers a) 0 all
 
 -- the thread's promise is of this worker; where there is no thread, the worker gave back what it owes
-abbrev pub IsStarted : List Job → ℕ → ℕ → Started → Type 0
-IsStarted jobs worker workers (There h) = (h.promise.jobs.now ≡ jobs) × (h.promise.worker ≡ worker) × (h.promise.workers ≡ workers)
-IsStarted jobs worker workers (Threadless w) = IsWorked jobs worker workers w
+abbrev pub IsStarted : ℕ → List Job → ℕ → ℕ → Started → Type 0
+IsStarted inodes jobs worker workers (There h) = (h.promise.layer_inodes ≡ inodes) × (h.promise.jobs.now ≡ jobs) × (h.promise.worker ≡ worker) × (h.promise.workers ≡ workers)
+IsStarted inodes jobs worker workers (Threadless w) = IsWorked inodes jobs worker workers w
 
-pub record AreStarted (jobs : List Job) (workers : ℕ) (all : List Started) : Type 0 where
+pub record AreStarted (inodes : ℕ) (jobs : List Job) (workers : ℕ) (all : List Started) : Type 0 where
   pub count : length all ≡ workers
-  pub each : Each (λ k s. IsStarted jobs (k + 1) workers s) 0 all
+  pub each : Each (λ k s. IsStarted inodes jobs (k + 1) workers s) 0 all
 
 -- each worker gave back what it owes
-pub record AreWorked (jobs : List Job) (workers : ℕ) (all : List Worked) : Type 0 where
+pub record AreWorked (inodes : ℕ) (jobs : List Job) (workers : ℕ) (all : List Worked) : Type 0 where
   pub count : length all ≡ workers
-  pub each : Each (λ k w. IsWorked jobs (k + 1) workers w) 0 all
+  pub each : Each (λ k w. IsWorked inodes jobs (k + 1) workers w) 0 all
 
 -- the ends of the worker at this place, from 0
 abbrev pub ends_at : List Worked → ℕ → List Ended
@@ -72,14 +72,14 @@ abbrev pub IsCount : ℕ → Type 0
 IsCount workers = (1 ≤ workers) × (workers ≤ 16)
 
 -- the sessions are all that the workers got, each with what its worker did
-pub record AreBack (jobs : List Job) (workers : ℕ) (sessions : List SessionValue) : Type 0 where
+pub record AreBack (inodes : ℕ) (jobs : List Job) (workers : ℕ) (sessions : List SessionValue) : Type 0 where
   pub all : List Worked
-  pub worked : AreWorked jobs workers all
+  pub worked : AreWorked inodes jobs workers all
   pub are : sessions ≡ sessions_of all
 
--- there are not 1 to 16 workers; or there are, and: nothing was run; or the gate stopped a worker, and this is the report; or the sessions of all workers are back, and the close of the store failed for the cause. A store that comes back is of the round that it was of
+-- there are not 1 to 16 workers; or there are, and: memory was refused, of which nothing more is said; or the gate stopped a worker, and this is the report; or the sessions of all workers are back, and the close of the store failed for the cause. A store that comes back is of the round that it was of
 abbrev pub IsFault : {N : Type 0} → Round → List Job → ℕ → RunFault N → Type 0
 IsFault r jobs workers (faults.BadWorkers store) = (store ≡ r) × ((workers ≡ 0) ⊎ (16 < workers))
 IsFault r jobs workers (faults.OutOfMemory store want) = (store ≡ r) × IsCount workers
 IsFault r jobs workers (faults.GateClosed worker report) = IsCount workers × IsReport r jobs report.ends report.closed × (1 ≤ worker) × (worker ≤ workers)
-IsFault r jobs workers (faults.NotClosed back) = IsCount workers × AreBack jobs workers back.sessions.items × (back.store ≡ r) × HasCause r back.sessions.items back.cause
+IsFault r jobs workers (faults.NotClosed back) = IsCount workers × AreBack r.opening.layer_inodes jobs workers back.sessions.items × (back.store ≡ r) × HasCause r back.sessions.items back.cause

@@ -81,10 +81,11 @@ pub(crate) struct Works<'a> {
     pub(crate) jobs: &'a [Job],
     pub(crate) worker: u32,
     pub(crate) workers: u32,
+    pub(crate) layer_inodes: u64,
 }
 
 impl<'a> Promise<Worked> for Works<'a> {
-    ghost kept_by = { λ p w. IsWorked p.jobs.now p.worker p.workers w };
+    ghost kept_by = { λ p w. IsWorked p.layer_inodes p.jobs.now p.worker p.workers w };
 }
 
 /// What came of all jobs.

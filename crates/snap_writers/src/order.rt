@@ -1,5 +1,5 @@
 // The ends of all jobs in their order, and the workers' sessions.
-ghost use Rattle.std.specs.Prelude.{◌≡◌, ◌≤◌, [], length, IfSome, vec_len, vec_capacity};
+ghost use Rattle.std.specs.Prelude.{◌≡◌, ◌≤◌, ℕ, [], length, IfSome, vec_len, vec_capacity};
 ghost use Rattle.snap_writers.specs.Starting.{AreInOrder, AreWorked, sessions_of};
 
 use crate::job::{Ended, Ends, Job, Worked};
@@ -8,7 +8,7 @@ use snap_store::Session;
 // The ends of all jobs, in the order of the jobs. The list has room.
 pub(crate) fn in_order(jobs: &[Job], workers: u32, all: &[Worked], ends: Vec<Ended>) -> Ends
     requires workers { 1 ≤ workers }
-    requires worked { AreWorked jobs.now workers all.now }
+    requires worked { (inodes : ℕ) × AreWorked inodes jobs.now workers all.now }
     requires room { (ends.items ≡ []) × (length jobs.now ≤ vec_capacity ends) }
     ensures { AreInOrder jobs.now workers all.now result }
 {

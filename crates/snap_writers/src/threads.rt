@@ -1,5 +1,5 @@
 // The workers, each on a thread of its own.
-ghost use Rattle.std.specs.Prelude.{◌≡◌, ◌≤◌, [], IfOk, vec_len, vec_capacity};
+ghost use Rattle.std.specs.Prelude.{◌≡◌, ◌≤◌, ℕ, [], IfOk, vec_len, vec_capacity};
 ghost use Rattle.snap_writers.specs.declared.job.Ended.TheVariants.{NoThread};
 ghost use Rattle.snap_writers.specs.Jobs.{IsWorked, jobs_of, unprepared};
 ghost use Rattle.snap_writers.specs.Going.{none_run};
@@ -24,7 +24,7 @@ enum Started<'a> {
 // What a worker gives back that got no thread.
 fn without_thread(jobs: &[Job], worker: u32, workers: u32, ends: Ends) -> Worked
     requires { ends ≡ unprepared NoThread (jobs_of jobs.now worker workers) }
-    ensures { IsWorked jobs.now worker workers result }
+    ensures { (inodes : ℕ) → IsWorked inodes jobs.now worker workers result }
 {
     Worked {
         session: None,
@@ -38,12 +38,13 @@ fn joined<R: Threads>(
     rt: &R,
     jobs: &[Job],
     workers: u32,
+    layer_inodes: u64,
     started: Vec<Started>,
     all: Vec<Worked>,
 ) -> Vec<Worked>
-    requires started { AreStarted jobs.now workers started.items }
+    requires started { AreStarted layer_inodes jobs.now workers started.items }
     requires all { (all.items ≡ []) × (workers ≤ vec_capacity all) }
-    ensures { AreWorked jobs.now workers result.items }
+    ensures { AreWorked layer_inodes jobs.now workers result.items }
 {
     let mut all = all;
     for one in started {
@@ -67,8 +68,9 @@ pub(crate) fn all_worked<N: RoundName + Send + Sync, R: Threads + Wait + Sync, G
     assignments: Vec<Assignment>,
 ) -> Result<Vec<Worked>, AllocError>
     requires { AreAssigned jobs.now workers assignments.items }
-    ensures { IfOk result (λ all. AreWorked jobs.now workers all.items) }
+    ensures { IfOk result (λ all. AreWorked store.now.opening.layer_inodes jobs.now workers all.items) }
 {
+    let layer_inodes = store.layer_inodes();
     let mut all = Vec::with_capacity(alloc, assignments.len())?;
     let mut started = Vec::with_capacity(alloc, assignments.len())?;
     Ok(thread::scope(
@@ -78,7 +80,8 @@ pub(crate) fn all_worked<N: RoundName + Send + Sync, R: Threads + Wait + Sync, G
             requires assigned { AreAssigned jobs.now workers assignments.items }
             requires all { (all.items ≡ []) × (vec_len assignments ≤ vec_capacity all) }
             requires started { (started.items ≡ []) × (vec_len assignments ≤ vec_capacity started) }
-            ensures { AreWorked jobs.entry.now workers result.items }
+            requires layers { layer_inodes ≡ store.now.opening.layer_inodes }
+            ensures { AreWorked layer_inodes jobs.entry.now workers result.items }
         {
             for assignment in assignments {
                 let Assignment {
@@ -90,13 +93,14 @@ pub(crate) fn all_worked<N: RoundName + Send + Sync, R: Threads + Wait + Sync, G
                     jobs,
                     worker,
                     workers,
+                    layer_inodes,
                 };
                 let one = match scope.spawn_with(
                     promise,
                     move || -> Worked
                         requires worker { (1 ≤ worker) × (worker ≤ workers) }
                         requires ends { ends ≡ none_run (jobs_of jobs.now worker workers) }
-                        ensures { IsWorked jobs.entry.now worker workers result }
+                        ensures { IsWorked store.entry.now.opening.layer_inodes jobs.entry.now worker workers result }
                     { run_worker(rt, alloc, store, jobs, worker, workers, gate, ends) },
                 ) {
                     Ok(handle) => {
@@ -109,7 +113,7 @@ pub(crate) fn all_worked<N: RoundName + Send + Sync, R: Threads + Wait + Sync, G
                 };
                 started.push_reserved(one);
             }
-            joined(rt, jobs, workers, started, all)
+            joined(rt, jobs, workers, layer_inodes, started, all)
         },
     ))
 }

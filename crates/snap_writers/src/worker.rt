@@ -48,6 +48,7 @@ impl<'a, N: RoundName, R: Wait, G: Gate> Worker<'a, N, R, G> {
     fn passes(&mut self) -> bool
         ensures same { self.new.session ≡ self.old.session }
         ensures may { self.new.may_step ≡ result }
+        ensures store { self.new.store ≡ self.old.store }
     {
         self.steps = self.steps.saturating_add(1);
         self.may_step = self.gate.pass(self.number, self.steps);
@@ -57,7 +58,8 @@ impl<'a, N: RoundName, R: Wait, G: Gate> Worker<'a, N, R, G> {
     // Prepares the job's snapshot, with room on the tape for its discard.
     fn prepare(&mut self, job: &Job) -> Result<Active<N>, Refusal>
         requires may { self.old.may_step ≡ true }
-        ensures fresh { IfOk result (λ a. IsFresh self.new.session.tape job.now a) }
+        ensures fresh { IfOk result (λ a. IsFresh self.old.store.now.opening.layer_inodes self.new.session.tape job.now a) }
+        ensures store { self.new.store ≡ self.old.store }
         ensures goes { GoesOn job.now self.old.session self.new.session [] }
         ensures room { OnOk result (0 < self.new.session.spare) }
     {
@@ -82,6 +84,7 @@ impl<'a, N: RoundName, R: Wait, G: Gate> Worker<'a, N, R, G> {
         ensures same { IsSameSnapshot active.old active.new }
         ensures goes { GoesOn job.now self.old.session self.new.session [] }
         ensures room { 0 < self.new.session.spare }
+        ensures store { self.new.store ≡ self.old.store }
     {
         self.may_step = false;
         if let Err(refused) = self.session.reserve(2) {
@@ -105,6 +108,7 @@ impl<'a, N: RoundName, R: Wait, G: Gate> Worker<'a, N, R, G> {
         ensures same { IsSameSnapshot active.old active.new }
         ensures goes { GoesOn job.now self.old.session self.new.session [] }
         ensures room { 0 < self.new.session.spare }
+        ensures store { self.new.store ≡ self.old.store }
     {
         let mut place = 0;
         for op in job.ops.as_slice() {
@@ -123,7 +127,8 @@ impl<'a, N: RoundName, R: Wait, G: Gate> Worker<'a, N, R, G> {
     // Ends the snapshot without a commit, for whichever job it is of.
     fn discard(&mut self, held: Held<N>)
         requires { 0 < self.old.session.spare }
-        ensures { (j : JobValue) → GoesOn j self.old.session self.new.session [] }
+        ensures goes { (j : JobValue) → GoesOn j self.old.session self.new.session [] }
+        ensures store { self.new.store ≡ self.old.store }
     {
         self.store.discard(self.rt, &mut self.session, held);
     }
@@ -141,6 +146,7 @@ impl<'a, N: RoundName, R: Wait, G: Gate> Worker<'a, N, R, G> {
         ensures granted { IfOk result (λ usage. GoesOn job.now self.old.session self.new.session (granted active name.now lease.now ∷ [])) }
         ensures count { IfOk result (λ usage. usage ≡ count_of active.layer) }
         ensures refused { IfErr result (λ _. GoesOn job.now self.old.session self.new.session []) }
+        ensures store { self.new.store ≡ self.old.store }
     {
         let sealed = match active.seal() {
             Ok(sealed) => sealed,
@@ -169,8 +175,9 @@ impl<'a, N: RoundName, R: Wait, G: Gate> Worker<'a, N, R, G> {
     fn end(&mut self, active: Active<N>, job: &Job) -> Ended
         requires room { 0 < self.old.session.spare }
         requires may { self.old.may_step ≡ true }
-        requires ready { IsReady self.old.session.tape job.now active }
-        ensures { HasRunJob self.old.session self.new.session job.now result }
+        requires ready { IsReady self.old.store.now.opening.layer_inodes self.old.session.tape job.now active }
+        ensures run { HasRunJob self.old.store.now.opening.layer_inodes self.old.session self.new.session job.now result }
+        ensures store { self.new.store ≡ self.old.store }
     {
         self.may_step = false;
         match &job.end {
@@ -191,8 +198,9 @@ impl<'a, N: RoundName, R: Wait, G: Gate> Worker<'a, N, R, G> {
     // Does the operations on the job's snapshot and gives it its end; nothing where the gate stops it.
     fn work(&mut self, active: Active<N>, job: &Job) -> Option<Ended>
         requires room { 0 < self.old.session.spare }
-        requires fresh { IsFresh self.old.session.tape job.now active }
-        ensures { HasRunJob self.old.session self.new.session job.now (end_or result) }
+        requires fresh { IsFresh self.old.store.now.opening.layer_inodes self.old.session.tape job.now active }
+        ensures run { HasRunJob self.old.store.now.opening.layer_inodes self.old.session self.new.session job.now (end_or result) }
+        ensures store { self.new.store ≡ self.old.store }
     {
         let mut active = active;
         match self.operate_all(&mut active, job) {
@@ -215,7 +223,8 @@ impl<'a, N: RoundName, R: Wait, G: Gate> Worker<'a, N, R, G> {
 
     // Goes through a job, and tells how it ended; nothing where the gate stops it.
     pub(crate) fn run_job(&mut self, job: &Job) -> Option<Ended>
-        ensures { HasRunJob self.old.session self.new.session job.now (end_or result) }
+        ensures run { HasRunJob self.old.store.now.opening.layer_inodes self.old.session self.new.session job.now (end_or result) }
+        ensures store { self.new.store ≡ self.old.store }
     {
         if !self.passes() {
             return None;
@@ -231,7 +240,7 @@ impl<'a, N: RoundName, R: Wait, G: Gate> Worker<'a, N, R, G> {
         requires worker { (1 ≤ worker) × (worker ≤ workers) }
         requires ends { ends ≡ none_run (jobs_of jobs.now worker workers) }
         requires session { self.session.tape ≡ entry self.session.number calls.Session Nothing replies.Opened ∷ [] }
-        ensures { IsWorked jobs.now worker workers result }
+        ensures { IsWorked self.entry.store.now.opening.layer_inodes jobs.now worker workers result }
     {
         let mut this = self;
         let mut ends = ends;
@@ -297,7 +306,7 @@ pub fn run_worker<N: RoundName, R: Wait, G: Gate>(
 ) -> Worked
     requires worker { (1 ≤ worker) × (worker ≤ workers) }
     requires ends { ends ≡ none_run (jobs_of jobs.now worker workers) }
-    ensures { IsWorked jobs.now worker workers result }
+    ensures { IsWorked store.now.opening.layer_inodes jobs.now worker workers result }
 {
     match store.session(rt) {
         Ok(session) => {

@@ -30,7 +30,7 @@ fn both_halves_move_alike<N: StoreName>(charge: &mut Charge<N>)
 fn each_slot_is_issued_twice<N: StoreName, R: Abort>(rt: &R, alloc: Global, table: NewTable)
     requires { table ≡ N.table }
 {
-    let mut row = Charge::<N>::row(alloc, table).expect(rt, "memory for charges");
+    let mut row = Charge::<N>::row(alloc, table, 64).expect(rt, "memory for charges");
     let slots = row.len();
     prove!(slots == 64);
     for charge in &mut row {

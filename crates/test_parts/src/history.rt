@@ -8,6 +8,7 @@ ghost use Rattle.test_parts.specs.Worked.{small_round, usage};
 use crate::setup::{equal, text, usage};
 use snap_call::Given::{Count, Nothing};
 use snap_call::Reply::{Charged, Discarded, Opened, Refused, Removed, Trimmed};
+use snap_call::limits::DEFAULT_SLOTS;
 use snap_call::{Call, Entry, Given, Refusal, Reply, SharedEntry};
 use snap_history::{CallKind, EntryInfo, Shares, history};
 use snap_record::{Labels, Sequence, Text};
@@ -82,7 +83,7 @@ fn first_page(alloc: Global) -> Result<Sequence<EntryInfo>, AllocError>
         &entries,
         3,
         "a",
-        &Shares::none(alloc)?,
+        &Shares::none(alloc, DEFAULT_SLOTS)?,
         usage(4, 3),
         1,
         1,
@@ -149,7 +150,7 @@ fn the_charge_after_each_entry(rt: HostRuntime) {
     let page = first_page(alloc).expect(&rt, "memory for a page");
     are(&rt, alloc, &page, &[(2, CallKind::Prepare, usage(1, 1))]);
     let entries = round(&rt, alloc);
-    let held = Shares::none(alloc).expect(&rt, "memory for shares");
+    let held = Shares::none(alloc, DEFAULT_SLOTS).expect(&rt, "memory for shares");
     assert_eq!(rt; entries.len(), 9);
     let rows = [
         (102, CallKind::Prepare, usage(11, 11)),

@@ -36,6 +36,8 @@ fn nothing_is_there(rt: HostRuntime) {
     prove!(matches!(&walked, Err(FsError::NotFound)));
     let read = stack.read(&Path::root(rt.alloc()));
     prove!(matches!(&read, Err(FsError::IsDir)));
+    let taken = stack.taken(rt.alloc(), &path(&rt, rt.alloc(), "/no/x"));
+    prove!(matches!(&taken, Err(FsError::NotFound)));
 }
 
 #[test]
@@ -50,6 +52,15 @@ fn the_root_is_empty(rt: HostRuntime) {
     let place = place.expect(&rt, "memory for a path");
     let place = place.as_str();
     prove!(place == "/");
+}
+
+#[test]
+#[tactic(auto, using(crate::proofs::Counted::root_taken))]
+fn the_root_takes_one_of_both(rt: HostRuntime) {
+    let layer = layer(&rt, rt.alloc(), DEFAULT_MODE);
+    let taken = Stack::over(&layer, &[]).taken(rt.alloc(), &Path::root(rt.alloc()));
+    let taken = taken.expect(&rt, "memory for what is found");
+    prove!(taken.blocks == 1 && taken.inodes == 1);
 }
 
 #[test]

@@ -87,6 +87,7 @@ fn looked_up(
         Lookup::Read => Ok(read(alloc, stack.read(path)?)?),
         Lookup::Part { offset, most } => Ok(part(alloc, stack.read(path)?, offset, most)?),
         Lookup::Resolve => Ok(Answer::Path(stack.resolve(alloc, path)?)),
+        Lookup::Usage => Ok(Answer::Taken(stack.taken(alloc, path)?)),
     }
 }
 

@@ -49,6 +49,7 @@ impl<'a, N: RoundName, R: Wait> Round<'a, N, R> {
                 key,
                 lookup,
                 path,
+                peek: _,
             } => self.lookup(namespace.as_str(), key.as_str(), *lookup, path),
             // `answer` takes the others, and no line of an open store opens one.
             _ => Err(Refused::Book(Refusal::BadArgument)),
@@ -69,7 +70,8 @@ impl<'a, N: RoundName, R: Wait> Round<'a, N, R> {
                     return Ok(None);
                 }
             }
-            Command::TrySweep { .. }
+            Command::Lookup { peek: true, .. }
+            | Command::TrySweep { .. }
             | Command::ChainUsage { .. }
             | Command::Quota { .. }
             | Command::Tree { .. }

@@ -1,6 +1,7 @@
 // What the tests share. Where memory is missing, or an answer that a test only builds on, the test ends.
 ghost use Rattle.std.specs.Prelude.{◌≡◌, [], ◌∷◌, codes};
 
+use snap_call::limits::DEFAULT_SLOTS;
 use snap_call::{Config, Namespace};
 use snap_ledger::NewTable;
 use snap_path::Path;
@@ -39,7 +40,7 @@ pub fn path<R: Abort>(rt: &R, alloc: Global, text: &str) -> Path {
 
 /// The namespace a with the limit, and a journal of so many entries.
 pub fn config<R: Abort>(rt: &R, alloc: Global, limit: Usage, journal: u64) -> Config
-    ensures { result ≡ record { root = codes "/r"; namespaces = record { name = codes "a"; limit = limit } ∷ []; journal = journal; first_id = 1 } }
+    ensures { result ≡ record { root = codes "/r"; namespaces = record { name = codes "a"; limit = limit } ∷ []; slots = 64; journal = journal; first_id = 1; layer_inodes = 65536 } }
 {
     let mut namespaces = Sequence::new(alloc);
     let name = text(rt, alloc, "a");
@@ -48,8 +49,10 @@ pub fn config<R: Abort>(rt: &R, alloc: Global, limit: Usage, journal: u64) -> Co
     Config {
         root: text(rt, alloc, "/r"),
         namespaces,
+        slots: DEFAULT_SLOTS,
         journal,
         first_id: 1,
+        layer_inodes: 65_536,
     }
 }
 

@@ -8,11 +8,11 @@ use Rattle.snap_writers.proofs.order.in_order.Goals.{then-turn-all, else-turn-al
 
 pub loop-init : goal.loop-init
 loop-init c = record {
-  turns = rw c.requires.room.0 (turns_begin _ _ _ c.requires.worked.count c.requires.worked.each);
+  turns = rw c.requires.room.0 (turns_begin c.requires.worked.0 _ _ _ c.requires.worked.1.count c.requires.worked.1.each);
   turn = omega (arith, c.requires.workers);
   round = omega arith;
   count = rw c.requires.room.0 refl;
-  all = c.requires.worked.count;
+  all = c.requires.worked.1.count;
   room = c.requires.room.1;
 }
 

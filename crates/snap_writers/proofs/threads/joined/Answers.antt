@@ -23,10 +23,10 @@ loop-one-preserved g c =
     let was = c.loop-one.invariant in
     let e : into_iter_items c.loop-one.one-iterator ≡ c.in-Some.one ∷ into_iter_items c.next.new.self = search rules in
     let p = c.push_reserved.ensures.items in
-    let started = subst (λ xs. Each (λ k s. IsStarted c.args.jobs.now (k + 1) c.args.workers s) (length c.loop-one.all.items) xs) e was.started in
-    let one : IsWorked c.args.jobs.now (length c.loop-one.all.items + 1) c.args.workers c.match-one.push_reserved = elim c.match-one.branch [
-      | in-There w ↦ (let h = subst (λ x. IsStarted c.args.jobs.now (length c.loop-one.all.items + 1) c.args.workers x) w.in-There.is started.0 in rw w.push_reserved-is (owed _ _ _ _ _ _ _ h.0 h.1 h.2 w.join.ensures))
-      | in-Threadless w ↦ rw w.push_reserved-is (subst (λ x. IsStarted c.args.jobs.now (length c.loop-one.all.items + 1) c.args.workers x) w.in-Threadless.is started.0)
+    let started = subst (λ xs. Each (λ k s. IsStarted c.args.layer_inodes c.args.jobs.now (k + 1) c.args.workers s) (length c.loop-one.all.items) xs) e was.started in
+    let one : IsWorked c.args.layer_inodes c.args.jobs.now (length c.loop-one.all.items + 1) c.args.workers c.match-one.push_reserved = elim c.match-one.branch [
+      | in-There w ↦ (let h = subst (λ x. IsStarted c.args.layer_inodes c.args.jobs.now (length c.loop-one.all.items + 1) c.args.workers x) w.in-There.is started.0 in rw w.push_reserved-is (owed _ _ _ _ _ _ _ h.1 h.2 h.3 (subst (λ i. IsWorked i w.in-There.handle.promise.jobs.now w.in-There.handle.promise.worker w.in-There.handle.promise.workers w.join.result) h.0 w.join.ensures)))
+      | in-Threadless w ↦ rw w.push_reserved-is (subst (λ x. IsStarted c.args.layer_inodes c.args.jobs.now (length c.loop-one.all.items + 1) c.args.workers x) w.in-Threadless.is started.0)
     ] in
     let more : length c.push_reserved.new.self.items ≡ length c.loop-one.all.items + 1 = rw p (length-append _ _) in
     record {

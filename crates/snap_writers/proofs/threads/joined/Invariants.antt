@@ -8,7 +8,7 @@ use Rattle.snap_writers.proofs.threads.joined.Given as goal
 abbrev pub invariant-loop-one : goal.invariant-loop-one
 invariant-loop-one g l = record {
   count : length l.all.items + length (into_iter_items l.one-iterator) ≡ l.workers;
-  started : Each (λ k s. IsStarted l.jobs (k + 1) l.workers s) (length l.all.items) (into_iter_items l.one-iterator);
-  each : Each (λ k w. IsWorked l.jobs (k + 1) l.workers w) 0 l.all.items;
+  started : Each (λ k s. IsStarted l.layer_inodes l.jobs (k + 1) l.workers s) (length l.all.items) (into_iter_items l.one-iterator);
+  each : Each (λ k w. IsWorked l.layer_inodes l.jobs (k + 1) l.workers w) 0 l.all.items;
   room : l.workers ≤ vec_capacity l.all;
 }

@@ -32,7 +32,7 @@ overflow_add-self-3 g c =
 pub issue-requires-clause-free : goal.issue-requires-clause-free
 issue-requires-clause-free g c =
     let s = c.self.inside.state in
-    charge_in-free s c.self.inside.totals c.self.inside.slots c.self.inside.opened c.args.vacancy.slot c.self.invariant c.requires.vacant.low
+    charge_in-free s c.self.inside.totals c.self.inside.slots c.self.inside.opened c.args.vacancy.slot c.self.invariant c.requires.vacant.few
     (ap (λ (u : State). active_at c.args.vacancy.slot u.records) c.self.view_is ∙ c.requires.vacant.free)
 
 pub invariant_of-self-2 : goal.invariant_of-self-2
@@ -53,7 +53,8 @@ invariant_of-self-2 g c =
     (ap (λ (u : State). has_key place key u.records) view ∙ c.requires.vacant.site.new)
     (ap (λ (u : State). is_base place parent u.records) view ∙ c.requires.vacant.site.base)
     (ap (λ (u : State). is_too_deep place parent u.records) view ∙ c.requires.vacant.site.deep)
-    c.requires.vacant.low
+    (subst (λ (u : State). slot < u.slots) (sym view) c.requires.vacant.low)
+    c.requires.vacant.few
     (ap (λ (u : State). active_at slot u.records) view ∙ c.requires.vacant.free)
     (ap (λ (u : State). covers (limit_at place u.namespaces) (plus (charge_of place u.records) one)) view ∙ c.requires.vacant.fits)
     is

@@ -8,6 +8,7 @@ use Rattle.snap_ledger.specs.States.{ChargeState, free_row}
 use Rattle.snap_call.specs.declared.config.Config.{Config}
 use Rattle.snap_call.specs.declared.state.State.{State}
 use Rattle.snap_call.specs.Forms.{is_config}
+use Rattle.snap_call.specs.Records.{max_slots}
 use Rattle.snap_call.specs.State.{opening}
 use Rattle.snap_call.proofs.Kept.{good_opening}
 use Rattle.snap_accounts.specs.Accounts.{AreAccounts}
@@ -21,12 +22,12 @@ zeros n k lt =
     slice_get-get_or (replicate n no_usage) k no_usage inside ∙ ap (λ (u : Usage). Some u) (get_or-replicate n k no_usage no_usage lt)
 
 -- nothing is charged, and every slot is free
-accounts_opened : (config : Config) (us : List Usage) (cs : List ChargeState) → is_config config ≡ true → us ≡ replicate (length config.namespaces) no_usage → cs ≡ free_row 64 → AreAccounts (opening config) us cs 0
+accounts_opened : (config : Config) (us : List Usage) (cs : List ChargeState) → is_config config ≡ true → us ≡ replicate (length config.namespaces) no_usage → cs ≡ free_row max_slots → AreAccounts (opening config) us cs 0
 accounts_opened config us cs formed is_us is_cs = record {
   good = good_opening config formed;
   count = ap length is_us ∙ length-replicate (length config.namespaces) no_usage;
   totals_are = λ place lt. ap (λ (l : List Usage). slice_get l place) is_us ∙ zeros (length config.namespaces) place lt;
-  charges_are = λ slot lt. ap (λ (l : List ChargeState). slice_get l slot) is_cs ∙ free_row-get 64 slot lt;
+  charges_are = λ slot lt. ap (λ (l : List ChargeState). slice_get l slot) is_cs ∙ free_row-get max_slots slot lt;
   open_are = refl;
 }
 

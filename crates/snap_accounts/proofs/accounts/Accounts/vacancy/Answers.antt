@@ -12,4 +12,4 @@ slot_for-requires g c =
 
 pub returns-clause-vacant : goal.returns-clause-vacant
 returns-clause-vacant g c =
-    vacant c.args.self.now c.args.namespace.now c.args.key.now c.args.parent.now c.args.labels.now c.in_ok-place.place c.in_ok-slot.slot c.in_ok-place.ensures.ok c.in_ok-slot.ensures.ok
+    vacant c.args.self.now c.args.namespace.now c.args.key.now c.args.parent.now c.args.labels.now c.in_ok-place.place c.in_ok-slot.slot c.in_ok-slot.ensures.few c.in_ok-place.ensures.ok c.in_ok-slot.ensures.ok

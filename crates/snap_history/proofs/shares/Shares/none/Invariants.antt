@@ -6,5 +6,5 @@ abbrev pub invariant-loop : goal.invariant-loop
 invariant-loop l = record {
   items : l.list.items ≡ replicate l.counter None;
   len : vec_len l.list ≡ l.counter;
-  room : 64 ≤ vec_capacity l.list;
+  room : l.slots ≤ vec_capacity l.list;
 }

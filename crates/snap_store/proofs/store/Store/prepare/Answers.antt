@@ -7,6 +7,8 @@ use Rattle.snap_book.specs.Book.{Recorded}
 use Rattle.snap_tape.specs.Tapes.{SessionValue, Taped}
 use Rattle.snap_round.specs.Rounds.{inner}
 use Rattle.snap_round.specs.declared.rule.Round.{Round}
+use Rattle.snap_book.specs.Active.{fresh}
+use Rattle.snap_store.specs.Rounds.{HasLayers}
 use Rattle.snap_store.proofs.Rounds.{refused_round}
 use Rattle.snap_store.proofs.Handed.{no_base, one_for_each}
 use Rattle.snap_store.proofs.Noted.{taped}
@@ -20,18 +22,19 @@ returns-in-Ok-clause-granted g c =
     let parent = c.args.parent.now in
     let call = calls.Prepare c.args.namespace.now c.args.key.now parent c.args.labels.now in
     let reply = Prepared a.share.id a.share.slot (ids_of (ancestors a.namespace parent b.state.records)) in
-    let recorded = subst (λ (n : ℕ). Recorded b c.prepare.new.self n call Nothing reply) c.number.ensures e.granted in
+    let recorded = subst (λ (n : ℕ). Recorded b c.prepare_within.new.self n call Nothing reply) c.number-n.ensures e.granted in
     let copied = c.take_entry.ensures.entry in
+    let layers : HasLayers c.self.inside.tie.round c.self.inside.layer_inodes = c.self.invariant.2 in
     record {
       met = b.state;
       place = e.namespace;
       taped = subst (λ (s : SessionValue). Taped c.args.session.now s call Nothing reply) (sym c.note.ensures.entry)
-          (taped c.args.session.now c.reserve.new.self b c.prepare.new.self call Nothing reply c.take_entry.result c.reserve.ensures.same c.in_ok-reserve.ensures.room recorded copied);
+          (taped c.args.session.now c.reserve.new.self b c.prepare_within.new.self call Nothing reply c.take_entry.result c.reserve.ensures.same c.in_ok-reserve.ensures.room recorded copied);
       key = e.key;
       lowers = e.lowers;
       each = ap length e.lowers ∙ one_for_each a.namespace parent b.state.records;
       base = λ none. e.lowers ∙ no_base a.namespace parent b.state.records none;
-      layer = e.layer;
+      layer = e.layer ∙ ap (λ n. fresh n a.lowers) (layers.0 ∙ ap (λ (r : Round). r.opening.layer_inodes) c.self.view_is);
       usage = e.usage;
     }
 

@@ -1,4 +1,4 @@
-use Rattle.std.proofs.Common.{◌<◌, ◌∙◌, ap, sym, arith}
+use Rattle.std.proofs.Common.{◌<◌, length, ◌∙◌, ap, sym, arith}
 use Rattle.snap_usage.specs.declared.usage.Usage.{Usage}
 use Rattle.snap_ledger.specs.States.{plus}
 use Rattle.snap_world.specs.Sums.{share_in, sum_below}
@@ -17,7 +17,7 @@ loop-slot-preserved g c =
 
 pub plus-sum-requires-clause-blocks : goal.plus-sum-requires-clause-blocks
 plus-sum-requires-clause-blocks g c =
-    let low : c.loop-slot.slot < 64 = omega arith in
+    let low : c.loop-slot.slot < length c.args.self.now = omega (arith, c.len-slot-end.ensures) in
     let within = (sum_within share_in c.args.place c.args.self.now c.loop-slot.slot low).blocks in
     let sum = ap (λ (u : Usage). u.blocks) c.loop-slot.invariant in
     let own = ap (λ (u : Usage). u.blocks) c.share_in.ensures in
@@ -26,7 +26,7 @@ plus-sum-requires-clause-blocks g c =
 
 pub plus-sum-requires-clause-inodes : goal.plus-sum-requires-clause-inodes
 plus-sum-requires-clause-inodes g c =
-    let low : c.loop-slot.slot < 64 = omega arith in
+    let low : c.loop-slot.slot < length c.args.self.now = omega (arith, c.len-slot-end.ensures) in
     let within = (sum_within share_in c.args.place c.args.self.now c.loop-slot.slot low).inodes in
     let sum = ap (λ (u : Usage). u.inodes) c.loop-slot.invariant in
     let own = ap (λ (u : Usage). u.inodes) c.share_in.ensures in

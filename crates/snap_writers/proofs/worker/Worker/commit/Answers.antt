@@ -24,13 +24,13 @@ returns-in-Err-commit-clause-refused g c =
     let sealed = c.in-Ok.sealed in
     then_on j old mid end [] (untaped j old mid c.reserve.ensures.same)
     (then_on j mid new end []
-    (refused j mid new (calls.Commit sealed.share.slot sealed.share.id c.as_str.result.now c.args.lease.now) (Layer sealed.layer) c.in-Err-commit.why c.in-Err-commit.ensures.refused (commits_as j c.args.name.now c.as_str.result.now c.args.lease.now c.requires.end c.as_str.ensures)) (c.discard-in-Err-commit.ensures j))
+    (refused j mid new (calls.Commit sealed.share.slot sealed.share.id c.as_str.result.now c.args.lease.now) (Layer sealed.layer) c.in-Err-commit.why c.in-Err-commit.ensures.refused (commits_as j c.args.name.now c.as_str.result.now c.args.lease.now c.requires.end c.as_str.ensures)) (c.discard-in-Err-commit.ensures.goes j))
 
 pub returns-in-Err-clause-refused : goal.returns-in-Err-clause-refused
-returns-in-Err-clause-refused g c = c.discard.ensures c.args.job.now
+returns-in-Err-clause-refused g c = c.discard.ensures.goes c.args.job.now
 
 pub returns-in-Err-reserve-clause-refused : goal.returns-in-Err-reserve-clause-refused
 returns-in-Err-reserve-clause-refused g c =
     let old = c.args.self.now.session in
     let j = c.args.job.now in
-    then_on j old c.reserve.new.self c.discard-in-Err-reserve.new.self.session [] (untaped j old c.reserve.new.self c.reserve.ensures.same) (c.discard-in-Err-reserve.ensures j)
+    then_on j old c.reserve.new.self c.discard-in-Err-reserve.new.self.session [] (untaped j old c.reserve.new.self c.reserve.ensures.same) (c.discard-in-Err-reserve.ensures.goes j)

@@ -30,4 +30,11 @@ loop-op-preserved g c =
       place = omega (arith, was.place);
       goes = then_on c.args.job.now old mid new [] was.goes (then_on c.args.job.now mid asked new [] (stays c.args.job.now mid asked c.passes.ensures.same) c.in-Ok.ensures.goes);
       room = c.in-Ok.ensures.room;
+      store = c.in-Ok.ensures.store ∙ (c.passes.ensures.store ∙ was.store);
     }
+
+pub returns-then-not-passes-clause-store : goal.returns-then-not-passes-clause-store
+returns-then-not-passes-clause-store g c = c.passes.ensures.store ∙ c.loop-op.invariant.store
+
+pub returns-in-Err-clause-store : goal.returns-in-Err-clause-store
+returns-in-Err-clause-store g c = c.in-Err.ensures.store ∙ (c.passes.ensures.store ∙ c.loop-op.invariant.store)

@@ -12,4 +12,5 @@ invariant-loop-op g l = record {
   place : l.place ≡ l.op-index;
   goes : GoesOn l.job l.initial.self.session l.self.session [];
   room : 0 < l.self.session.spare;
+  store : l.self.store ≡ l.initial.self.store;
 }

@@ -1,8 +1,9 @@
-use Rattle.std.proofs.Common.{◌≡◌, ◌∷◌, ◌+◌, ◌-◌, List, length, arith, ap, sym, subst, ◌∙◌}
+use Rattle.std.proofs.Common.{◌≡◌, ◌∷◌, ◌+◌, ◌-◌, List, length, arith, refl, ap, sym, subst, ◌∙◌}
 use Rattle.std.specs.Prelude.{drop}
 use Rattle.snap_writers.specs.declared.job.Job.{Job}
+use Rattle.snap_writers.specs.declared.job.Ended.TheVariants.{NotRun}
 use Rattle.snap_writers.specs.Jobs.{every, jobs_of}
-use Rattle.snap_writers.specs.Going.{IsGoing}
+use Rattle.snap_writers.specs.Going.{HasRunJob, IsGoing}
 use Rattle.snap_writers.proofs.Every.{taken_up}
 use Rattle.snap_writers.proofs.Walking.{begins, goes, stops}
 use Rattle.snap_writers.proofs.worker.Worker.run_all.Goals as goal
@@ -15,8 +16,9 @@ returns-in-None g c =
     let t = c.run_job.new.self.session in
     let next : every c.args.workers c.loop-job.skip (drop c.loop-job.job-index c.args.jobs.now) ≡ c.job-item.result ∷ left =
     taken_up c.args.workers c.loop-job.skip c.loop-job.job-index c.args.jobs.now c.job-item.result c.loop-job-test.true (omega (arith, c.if-skip-gt0.false)) ∙ ap (λ (j : Job). j ∷ left) (sym c.job-item.is) in
-    let was = subst (λ (l : List Job). IsGoing all l s c.loop-job.ends c.loop-job.place) next c.loop-job.invariant.going in
-    let end = stops all left c.job-item.result s t c.loop-job.ends c.loop-job.place was c.in-None.ensures in
+    let was = subst (λ (l : List Job). IsGoing c.args.self.store.now.opening.layer_inodes all l s c.loop-job.ends c.loop-job.place) next c.loop-job.invariant.going in
+    let run = subst (λ x. HasRunJob x.now.opening.layer_inodes s t c.job-item.result NotRun) c.loop-job.invariant.store c.in-None.ensures.run in
+    let end = stops all left c.job-item.result s t c.loop-job.ends c.loop-job.place was run in
     record {
       ends = ap length c.give_back.ensures.ends ∙ end.0;
       session = rw (c.give_back.ensures.session, c.give_back.ensures.ends) end.1;
@@ -25,6 +27,7 @@ returns-in-None g c =
 pub loop-job-init : goal.loop-job-init
 loop-job-init g c = record {
   skip = omega (arith, c.requires.worker.0, c.requires.worker.1);
+  store = refl;
   going = begins (jobs_of c.args.jobs.now c.args.worker c.args.workers) c.args.self.session c.args.ends c.requires.ends c.requires.session;
 }
 
@@ -36,8 +39,10 @@ loop-job-preserved g c =
     let t = c.run_job.new.self.session in
     let next : every c.args.workers c.loop-job.skip (drop c.loop-job.job-index c.args.jobs.now) ≡ c.job-item.result ∷ left =
     taken_up c.args.workers c.loop-job.skip c.loop-job.job-index c.args.jobs.now c.job-item.result c.loop-job-test.true (omega (arith, c.if-skip-gt0.false)) ∙ ap (λ (j : Job). j ∷ left) (sym c.job-item.is) in
-    let was = subst (λ (l : List Job). IsGoing all l s c.loop-job.ends c.loop-job.place) next c.loop-job.invariant.going in
+    let was = subst (λ (l : List Job). IsGoing c.args.self.store.now.opening.layer_inodes all l s c.loop-job.ends c.loop-job.place) next c.loop-job.invariant.going in
+    let run = subst (λ x. HasRunJob x.now.opening.layer_inodes s t c.job-item.result c.in-Some.end) c.loop-job.invariant.store c.in-Some.ensures.run in
     record {
       skip = omega (arith, c.requires.worker.0, c.requires.worker.1);
-      going = rw c.set.ensures (goes all left c.job-item.result s t c.loop-job.ends c.loop-job.place c.in-Some.end was c.in-Some.ensures);
+      store = c.in-Some.ensures.store ∙ c.loop-job.invariant.store;
+      going = rw c.set.ensures (goes all left c.job-item.result s t c.loop-job.ends c.loop-job.place c.in-Some.end was run);
     }

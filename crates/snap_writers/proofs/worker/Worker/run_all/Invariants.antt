@@ -1,4 +1,4 @@
-use Rattle.std.proofs.Common.{◌<◌}
+use Rattle.std.proofs.Common.{◌≡◌, ◌<◌}
 use Rattle.std.specs.Prelude.{drop}
 use Rattle.snap_writers.specs.Jobs.{every, jobs_of}
 use Rattle.snap_writers.specs.Going.{IsGoing}
@@ -7,5 +7,6 @@ use Rattle.snap_writers.proofs.worker.Worker.run_all.Given as goal
 abbrev pub invariant-loop-job : goal.invariant-loop-job
 invariant-loop-job g l = record {
   skip : l.skip < l.workers;
-  going : IsGoing (jobs_of l.jobs l.worker l.workers) (every l.workers l.skip (drop l.job-index l.jobs)) l.this.session l.ends l.place;
+  store : l.this.store ≡ l.fn.self.store;
+  going : IsGoing l.fn.self.store.now.opening.layer_inodes (jobs_of l.jobs l.worker l.workers) (every l.workers l.skip (drop l.job-index l.jobs)) l.this.session l.ends l.place;
 }

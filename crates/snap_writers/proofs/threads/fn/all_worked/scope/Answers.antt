@@ -23,9 +23,9 @@ loop-assignment-preserved g c =
     let e : into_iter_items c.loop-assignment.assignment-iterator ≡ c.in-Some.assignment ∷ into_iter_items c.next.new.self = search rules in
     let p = c.push_reserved.ensures.items in
     let assigned = subst (λ xs. Each (λ k a. IsAssigned c.captures.jobs.now (k + 1) c.captures.workers a) (length c.loop-assignment.started.items) xs) e was.assigned in
-    let one : IsStarted c.captures.jobs.now (length c.loop-assignment.started.items + 1) c.captures.workers c.match-spawn_with.one = elim c.match-spawn_with.branch [
-      | in-Ok w ↦ (let q = w.in-Ok.ensures.ok in rw w.one-is (ap (λ x. x.jobs.now) q, ap (λ x. x.worker) q ∙ assigned.0.number, ap (λ x. x.workers) q))
-      | in-Err w ↦ rw w.one-is (subst (λ k. IsWorked c.captures.jobs.now k c.captures.workers w.without_thread.result) assigned.0.number w.without_thread.ensures)
+    let one : IsStarted c.captures.layer_inodes c.captures.jobs.now (length c.loop-assignment.started.items + 1) c.captures.workers c.match-spawn_with.one = elim c.match-spawn_with.branch [
+      | in-Ok w ↦ (let q = w.in-Ok.ensures.ok in rw w.one-is (ap (λ x. x.layer_inodes) q, ap (λ x. x.jobs.now) q, ap (λ x. x.worker) q ∙ assigned.0.number, ap (λ x. x.workers) q))
+      | in-Err w ↦ rw w.one-is (subst (λ k. IsWorked c.captures.layer_inodes c.captures.jobs.now k c.captures.workers w.without_thread.result) assigned.0.number (w.without_thread.ensures c.captures.layer_inodes))
     ] in
     let more : length c.push_reserved.new.self.items ≡ length c.loop-assignment.started.items + 1 = rw p (length-append _ _) in
     record {

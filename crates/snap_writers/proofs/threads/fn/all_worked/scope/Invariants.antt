@@ -8,6 +8,6 @@ abbrev pub invariant-loop-assignment : goal.invariant-loop-assignment
 invariant-loop-assignment g l = record {
   count : length l.started.items + length (into_iter_items l.assignment-iterator) ≡ l.workers;
   assigned : Each (λ k a. IsAssigned l.jobs.now (k + 1) l.workers a) (length l.started.items) (into_iter_items l.assignment-iterator);
-  started : Each (λ k s. IsStarted l.jobs.now (k + 1) l.workers s) 0 l.started.items;
+  started : Each (λ k s. IsStarted l.layer_inodes l.jobs.now (k + 1) l.workers s) 0 l.started.items;
   room : l.workers ≤ vec_capacity l.started;
 }

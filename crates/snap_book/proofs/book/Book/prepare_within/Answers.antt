@@ -16,7 +16,7 @@ use Rattle.snap_accounts.specs.Vacant.{IsVacant}
 use Rattle.snap_book.specs.Active.{ActiveValue}
 use Rattle.snap_book.specs.Book.{BookValue, Recorded, prepare_reply}
 use Rattle.snap_book.proofs.Keeping.{kept_push, recorded_push}
-use Rattle.snap_book.proofs.book.Book.prepare_with_reply.Goals as goal
+use Rattle.snap_book.proofs.book.Book.prepare_within.Goals as goal
 
 -- where it is granted, the chain leaves room, and there is an id
 has_chain : (s : State) (key parent : Bytes) (found : Result Vacancy Refusal) → IfOk found (λ v. IsVacant s v key parent) → IfOk found (λ v. (is_too_deep v.place parent s.records ≡ false) × (s.next_id ≤ 4294967295))
