@@ -30,10 +30,11 @@ class Program:
         """The processor time so far, of the program and of the system for it (clock_getcpuclockid(3))."""
         return time.clock_gettime(~self.process.pid << 3 | 2)
 
-    def resident_bytes(self):
+    def resident_bytes(self, field="VmRSS"):
+        """The resident size, or the greatest so far where the field is `VmHWM` (proc(5))."""
         with open(f"/proc/{self.process.pid}/status", encoding="ascii") as status:
             for line in status:
-                if line.startswith("VmRSS:"):
+                if line.startswith(f"{field}:"):
                     return int(line.split()[1]) * 1024
         raise RuntimeError(f"{self.words}: no resident size")
 
@@ -78,6 +79,7 @@ class Pair:
     def __init__(self, ours, plain):
         self.ours = Program(ours)
         self.plain = Program(plain)
+        self.answers = b""
         processors = os.sched_getaffinity(0)
         for program in (self.ours, self.plain):
             os.sched_setaffinity(program.process.pid, {max(processors)})
@@ -93,13 +95,14 @@ class Pair:
         """The processor time of both for these lines, which have so many answers."""
         ours, ours_seconds = self.ours.ask(lines, count)
         plain, plain_seconds = self.plain.ask(lines, count)
+        self.answers = ours
         if ours != plain:
             differ = next((pair for pair in zip(ours.split(b"\n"), plain.split(b"\n")) if pair[0] != pair[1]), None)
             raise RuntimeError(f"the answers differ: {differ}")
         return ours_seconds, plain_seconds
 
-    def resident_bytes(self):
-        return self.ours.resident_bytes(), self.plain.resident_bytes()
+    def resident_bytes(self, field="VmRSS"):
+        return self.ours.resident_bytes(field), self.plain.resident_bytes(field)
 
 
 def least(measured):

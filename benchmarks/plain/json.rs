@@ -12,9 +12,13 @@ pub enum Value {
 
 pub type Object = BTreeMap<String, Value>;
 
-/// The object that the line is.
+/// The object that the line is. Of another value nothing is kept.
 pub fn parse(line: &str) -> Option<Object> {
     let mut rest = Rest(line.trim());
+    if !rest.0.starts_with('{') {
+        rest.skip()?;
+        return None;
+    }
     match rest.value()? {
         Value::Object(object) if rest.0.is_empty() => Some(object),
         _ => None,
@@ -52,6 +56,30 @@ impl Rest<'_> {
         let (digits, rest) = text.split_at(end);
         self.0 = rest;
         digits.parse().ok().map(Value::Number)
+    }
+
+    /// Goes past a value.
+    fn skip(&mut self) -> Option<()> {
+        let is_object = self.takes('{');
+        if !is_object && !self.takes('[') {
+            return self.value().map(drop);
+        }
+        let end = if is_object { '}' } else { ']' };
+        if self.takes(end) {
+            return Some(());
+        }
+        loop {
+            if is_object {
+                self.takes('"').then_some(())?;
+                self.text()?;
+                self.takes(':').then_some(())?;
+            }
+            self.skip()?;
+            if self.takes(end) {
+                return Some(());
+            }
+            self.takes(',').then_some(())?;
+        }
     }
 
     /// The string after its opening quotation mark.

@@ -26,6 +26,20 @@ impl Path {
         self.0.starts_with(&front.0)
     }
 
+    /// Its text.
+    pub fn text(&self) -> String {
+        let mut text = String::with_capacity(self.bytes());
+        for name in &self.0 {
+            text.push('/');
+            text.push_str(name);
+        }
+        if text.is_empty() {
+            "/".to_owned()
+        } else {
+            text
+        }
+    }
+
     /// The bytes of its text.
     pub fn bytes(&self) -> usize {
         self.0.iter().map(|name| 1 + name.len()).sum()
@@ -272,6 +286,21 @@ impl<'a> Merged<'a> {
         Ok(())
     }
 
+    /// The names that are seen, in order: of each name the nearest layer's node decides.
+    pub fn names(&self) -> Vec<&'a str> {
+        let mut seen = BTreeMap::new();
+        for dir in self.upper.iter().chain(&self.lowers) {
+            for (name, node) in &dir.entries {
+                seen.entry(name.as_str())
+                    .or_insert(!matches!(node, Node::Whiteout));
+            }
+        }
+        seen.into_iter()
+            .filter(|(_, is_seen)| *is_seen)
+            .map(|(name, _)| name)
+            .collect()
+    }
+
     /// What is seen under the name.
     pub fn seen(&self, name: &str) -> Option<&'a Node> {
         match self.upper.and_then(|dir| dir.entries.get(name)) {
@@ -293,6 +322,15 @@ impl<'a> Merged<'a> {
             found => found,
         }
     }
+}
+
+/// The names that the directory at the path shows.
+pub fn list<'a>(
+    upper: &'a Layer,
+    lowers: &'a [Arc<Layer>],
+    path: &Path,
+) -> Result<Vec<&'a str>, FsError> {
+    Ok(Merged::walk(upper, lowers, &path.0)?.names())
 }
 
 /// What is seen at a path.

@@ -4,7 +4,7 @@
 //! `plain layers` carries out lists of lookups and edits (`edits.rs`), and `plain script` the lines of a script
 //! that the benchmark uses (`script.rs`). Both read standard input. Of a list each answer is out before the next line
 //! is read; of a script all answers are out before the program waits for more input, as the product does it. It has no
-//! symlinks, hard links, leases, views or sessions.
+//! symlinks, hard links, views or sessions, and no lease ends by time.
 
 mod edits;
 mod json;

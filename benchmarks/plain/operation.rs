@@ -17,6 +17,16 @@ pub enum Operation {
         path: Path,
         bytes: Vec<u8>,
     },
+    /// Puts the bytes into the file at the offset, with zeros where it is shorter.
+    WriteAt {
+        path: Path,
+        offset: usize,
+        bytes: Vec<u8>,
+    },
+    Truncate {
+        path: Path,
+        size: usize,
+    },
     SetMode {
         path: Path,
         mode: u32,
@@ -36,7 +46,23 @@ impl Operation {
         match self {
             Operation::Mkdir { path, mode } => mkdir(upper, lowers, path, *mode),
             Operation::Create { path, mode } => create(upper, lowers, path, *mode),
-            Operation::Write { path, bytes } => write(upper, lowers, path, bytes),
+            Operation::Write { path, bytes } => {
+                write(upper, lowers, path, |old| *old = bytes.clone())
+            }
+            Operation::WriteAt {
+                path,
+                offset,
+                bytes,
+            } => write(upper, lowers, path, |old| {
+                let end = offset + bytes.len();
+                if old.len() < end {
+                    old.resize(end, 0);
+                }
+                old[*offset..end].copy_from_slice(bytes);
+            }),
+            Operation::Truncate { path, size } => {
+                write(upper, lowers, path, |old| old.resize(*size, 0))
+            }
             Operation::SetMode { path, mode } => set_mode(upper, lowers, path, *mode),
             Operation::Unlink { path } => unlink(upper, lowers, path),
             Operation::Rename { from, to } => rename(upper, lowers, from, to),
@@ -68,22 +94,29 @@ fn create(upper: &mut Layer, lowers: &[Arc<Layer>], path: &Path, mode: u32) -> R
     Ok(())
 }
 
-fn write(upper: &mut Layer, lowers: &[Arc<Layer>], path: &Path, new: &[u8]) -> Result<(), FsError> {
+/// Changes the bytes of a file, which is copied up where the upper layer has none.
+fn write(
+    upper: &mut Layer,
+    lowers: &[Arc<Layer>],
+    path: &Path,
+    change: impl FnOnce(&mut Vec<u8>),
+) -> Result<(), FsError> {
     let (name, parents) = path.split_last().ok_or(FsError::IsDir)?;
     let merged = Merged::walk(upper, lowers, parents)?;
-    let mode = match merged.seen(name) {
-        Some(Node::File { mode, .. }) => *mode,
+    let (mode, old) = match merged.seen(name) {
+        Some(Node::File { mode, bytes }) => (*mode, bytes),
         Some(_) => return Err(FsError::IsDir),
         None => return Err(FsError::NotFound),
     };
-    let bytes = new.to_owned();
     if merged.is_own(name) {
         upper.change(parents, name, |node| {
-            if let Node::File { bytes: old, .. } = node {
-                *old = bytes;
+            if let Node::File { bytes, .. } = node {
+                change(bytes);
             }
         });
     } else {
+        let mut bytes = old.clone();
+        change(&mut bytes);
         let missing = merged.missing;
         upper.put(parents, &missing, name, Node::File { mode, bytes });
     }

@@ -1,9 +1,9 @@
 //! The lines of a script: a JSON object a line, and an answer a line.
 
-use crate::json::{Object, Value, parse};
-use crate::layer::{FsError, Path, Seen, Usage, look};
+use crate::json::{Object, Quoted, Value, parse};
+use crate::layer::{FsError, Path, Seen, Usage, list, look};
 use crate::operation::Operation;
-use crate::store::{Content, Namespace, Refused, Store};
+use crate::store::{Content, Joined, Namespace, Refused, Store};
 use std::collections::BTreeMap;
 use std::error::Error;
 use std::io::{self, BufRead, BufReader, BufWriter, Read, Write};
@@ -17,7 +17,7 @@ pub fn run(input: impl Read) -> Result<(), Box<dyn Error>> {
         let line = line.trim_end_matches('\n');
         match &mut store {
             Some(store) => {
-                let answer = answer(store, line).ok_or_else(|| format!("no such line: {line}"))?;
+                let answer = answer(store, line).ok_or("no such line")?;
                 writeln!(output, "{answer}")?;
             }
             None => {
@@ -30,7 +30,11 @@ pub fn run(input: impl Read) -> Result<(), Box<dyn Error>> {
 }
 
 /// Reads a line, and answers whether there was one. Before it waits for input, it writes all answers so far.
-fn next_line(input: &mut BufReader<impl Read>, output: &mut impl Write, line: &mut String) -> io::Result<bool> {
+fn next_line(
+    input: &mut BufReader<impl Read>,
+    output: &mut impl Write,
+    line: &mut String,
+) -> io::Result<bool> {
     if !input.buffer().contains(&b'\n') {
         output.flush()?;
     }
@@ -63,6 +67,7 @@ fn open(line: &str) -> Option<Store> {
             },
             total: Usage::default(),
             snapshots: BTreeMap::new(),
+            leases: BTreeMap::new(),
         };
         namespaces.insert(name.clone(), namespace);
     }
@@ -81,6 +86,20 @@ fn answer(store: &mut Store, line: &str) -> Option<String> {
         "stat" => store.stat(field("ns")?, field("key")?),
         "walk" => store.walk(field("ns")?, field("after")?, 64),
         "charge" => charge(store, field("ns")?, field("key")?, pair(&object, "need")?),
+        "usage" => store.usage(field("ns")?, field("key")?),
+        "update" => {
+            let (label, value) = label(&object)?;
+            store.update(field("ns")?, field("key")?, label, value)
+        }
+        "limit" => {
+            let (blocks, inodes) = (number(&object, "blocks")?, number(&object, "inodes")?);
+            store.limit(field("ns")?, Usage { blocks, inodes })
+        }
+        "lease_create" => store.lease_create(field("ns")?, field("lease")?),
+        "lease_add" => store.lease_add(field("ns")?, field("lease")?, field("name")?),
+        "lease_release" => store.lease_release(field("ns")?, field("lease")?),
+        "sweep" => store.sweep(field("ns")?),
+        "tree" => return Some(said(store.tree(field("ns")?))),
         "report" => return Some(store.report()),
         "reopen" => {
             store.reopen();
@@ -89,6 +108,16 @@ fn answer(store: &mut Store, line: &str) -> Option<String> {
         "look" => {
             let path = Path::parse(field("path")?)?;
             return Some(said(seen(store, field("ns")?, field("key")?, &path)));
+        }
+        "list" | "resolve" => {
+            let path = Path::parse(field("path")?)?;
+            return Some(said(shown(
+                store,
+                field("ns")?,
+                field("key")?,
+                command,
+                &path,
+            )));
         }
         _ => {
             let operation = operation(command, &object)?;
@@ -117,14 +146,46 @@ fn text<'a>(object: &'a Object, name: &str) -> Option<&'a str> {
     }
 }
 
+fn number(object: &Object, name: &str) -> Option<u64> {
+    match object.get(name)? {
+        Value::Number(number) => Some(*number),
+        _ => None,
+    }
+}
+
+/// The one label that the line gives.
+fn label(object: &Object) -> Option<(&str, &str)> {
+    let Value::Object(labels) = object.get("labels")? else {
+        return None;
+    };
+    let (label, Value::Text(value)) = labels.first_key_value()? else {
+        return None;
+    };
+    Some((label, value))
+}
+
+/// What a `write` puts into its file: a text, or a byte so many times.
+fn bytes(object: &Object) -> Option<Vec<u8>> {
+    if let Some(text) = text(object, "text") {
+        return Some(text.into());
+    }
+    let (byte, count) = numbers(object, "fill")?;
+    Some(vec![u8::try_from(byte).ok()?; usize::try_from(count).ok()?])
+}
+
 fn pair(object: &Object, name: &str) -> Option<Usage> {
+    let (blocks, inodes) = numbers(object, name)?;
+    Some(Usage { blocks, inodes })
+}
+
+fn numbers(object: &Object, name: &str) -> Option<(u64, u64)> {
     let Value::List(parts) = object.get(name)? else {
         return None;
     };
-    let [Value::Number(blocks), Value::Number(inodes)] = parts[..] else {
+    let [Value::Number(first), Value::Number(second)] = parts[..] else {
         return None;
     };
-    Some(Usage { blocks, inodes })
+    Some((first, second))
 }
 
 fn operation(command: &str, object: &Object) -> Option<Operation> {
@@ -137,6 +198,15 @@ fn operation(command: &str, object: &Object) -> Option<Operation> {
         "create" => Operation::Create {
             path: path("path")?,
             mode: 0o644,
+        },
+        "write" => Operation::WriteAt {
+            path: path("path")?,
+            offset: number(object, "offset").unwrap_or(0) as usize,
+            bytes: bytes(object)?,
+        },
+        "truncate" => Operation::Truncate {
+            path: path("path")?,
+            size: number(object, "size")? as usize,
         },
         "setmode" => Operation::SetMode {
             path: path("path")?,
@@ -199,4 +269,25 @@ fn seen(store: &mut Store, ns: &str, key: &str, path: &Path) -> Result<String, R
         Some(Seen::Dir { mode }) => format!(r#"{{"seen":{{"dir":{mode}}}}}"#),
         Some(Seen::File { mode, size }) => format!(r#"{{"seen":{{"file":{mode},"size":{size}}}}}"#),
     })
+}
+
+/// The names in a directory, or the path of what is seen there, since no layer has a symlink.
+fn shown(
+    store: &mut Store,
+    ns: &str,
+    key: &str,
+    command: &str,
+    path: &Path,
+) -> Result<String, Refused> {
+    let snapshot = store.snapshot(ns, key)?;
+    let Content::Active { upper, lowers, .. } = &snapshot.content else {
+        return Err("NotActive");
+    };
+    if command == "resolve" {
+        look(upper, lowers, path).ok_or("NotFound")?;
+        return Ok(format!(r#"{{"path":{}}}"#, Quoted(&path.text())));
+    }
+    let names = list(upper, lowers, path).map_err(FsError::name)?;
+    let names: Vec<_> = names.into_iter().map(Quoted).collect();
+    Ok(format!(r#"{{"names":[{}]}}"#, Joined(&names)))
 }

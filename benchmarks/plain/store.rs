@@ -2,6 +2,7 @@
 
 use crate::json::Quoted;
 use crate::layer::{Layer, Usage};
+use std::collections::btree_map::Entry;
 use std::collections::{BTreeMap, BTreeSet};
 use std::fmt::{self, Display, Write};
 use std::ops::Bound;
@@ -35,6 +36,8 @@ pub struct Namespace {
     pub limit: Usage,
     pub total: Usage,
     pub snapshots: BTreeMap<String, Snapshot>,
+    /// The names that each lease has. No lease ends by time.
+    pub leases: BTreeMap<String, BTreeSet<String>>,
 }
 
 pub struct Store {
@@ -49,6 +52,8 @@ pub struct Store {
 
 /// Why a call is refused, in the words of an answer.
 pub type Refused = &'static str;
+
+const DONE: &str = r#"{"ok":true}"#;
 
 const ROOT: Usage = Usage {
     blocks: 1,
@@ -181,6 +186,91 @@ impl Store {
         Ok(format!(r#"{{"infos":[{}]}}"#, Joined(&infos)))
     }
 
+    pub fn usage(&mut self, ns: &str, key: &str) -> Result<String, Refused> {
+        Ok(format!(r#"{{"usage":{}}}"#, self.snapshot(ns, key)?.charge))
+    }
+
+    /// Sets one label.
+    pub fn update(
+        &mut self,
+        ns: &str,
+        key: &str,
+        label: &str,
+        value: &str,
+    ) -> Result<String, Refused> {
+        let number = self.number + 1;
+        let snapshot = self.snapshot(ns, key)?;
+        snapshot.labels.insert(label.to_owned(), value.to_owned());
+        snapshot.updated = number;
+        Ok(format!(r#"{{"info":{}}}"#, Info(key, snapshot)))
+    }
+
+    pub fn limit(&mut self, ns: &str, limit: Usage) -> Result<String, Refused> {
+        let namespace = self.namespace(ns)?;
+        if namespace.total.blocks > limit.blocks || namespace.total.inodes > limit.inodes {
+            return Err("BelowCharge");
+        }
+        namespace.limit = limit;
+        Ok(DONE.to_owned())
+    }
+
+    pub fn lease_create(&mut self, ns: &str, lease: &str) -> Result<String, Refused> {
+        match self.namespace(ns)?.leases.entry(lease.to_owned()) {
+            Entry::Occupied(_) => Err("AlreadyExists"),
+            Entry::Vacant(place) => {
+                place.insert(BTreeSet::new());
+                Ok(DONE.to_owned())
+            }
+        }
+    }
+
+    pub fn lease_add(&mut self, ns: &str, lease: &str, name: &str) -> Result<String, Refused> {
+        let namespace = self.namespace(ns)?;
+        let names = namespace.leases.get_mut(lease).ok_or("NoLease")?;
+        if !namespace.snapshots.contains_key(name) {
+            return Err("NotFound");
+        }
+        names.insert(name.to_owned());
+        Ok(DONE.to_owned())
+    }
+
+    pub fn lease_release(&mut self, ns: &str, lease: &str) -> Result<String, Refused> {
+        self.namespace(ns)?.leases.remove(lease).ok_or("NoLease")?;
+        Ok(DONE.to_owned())
+    }
+
+    /// Removes the committed snapshots that no lease and no active snapshot needs.
+    pub fn sweep(&mut self, ns: &str) -> Result<String, Refused> {
+        let namespace = self.namespace(ns)?;
+        let kept = namespace.needed();
+        let (mut removed, mut freed) = (Vec::new(), Usage::default());
+        for (key, snapshot) in &namespace.snapshots {
+            if !kept.contains(key.as_str()) {
+                removed.push(key.clone());
+                freed += snapshot.charge;
+            }
+        }
+        for key in &removed {
+            namespace.take(key);
+        }
+        namespace.total -= freed;
+        let names: Vec<_> = removed.iter().map(|name| Quoted(name)).collect();
+        Ok(format!(
+            r#"{{"freed":{freed},"leases":0,"removed":[{}]}}"#,
+            Joined(&names)
+        ))
+    }
+
+    pub fn tree(&self, ns: &str) -> Result<String, Refused> {
+        let namespace = self.namespaces.get(ns).ok_or("NoNamespace")?;
+        let branches: Vec<_> = namespace
+            .snapshots
+            .iter()
+            .map(|(key, it)| Branch(key, it))
+            .collect();
+        Ok(format!(r#"{{"tree":[{}]}}"#, Joined(&branches)))
+    }
+
     pub fn report(&self) -> String {
         let totals: Vec<_> = self
             .namespaces
@@ -198,6 +288,36 @@ impl Store {
 }
 
 impl Namespace {
+    /// The active snapshots, those under a lease, and all ancestors of these.
+    fn needed(&self) -> BTreeSet<&str> {
+        let actives = self
+            .snapshots
+            .iter()
+            .filter(|(_, it)| matches!(it.content, Content::Active { .. }));
+        let leased = self.leases.values().flatten();
+        let mut kept = BTreeSet::new();
+        for first in actives.map(|(key, _)| key).chain(leased) {
+            let mut next = Some(first.as_str());
+            while let Some(snapshot) = next.and_then(|key| self.snapshots.get_key_value(key)) {
+                let (key, snapshot) = snapshot;
+                if !kept.insert(key.as_str()) {
+                    break;
+                }
+                next = Some(snapshot.parent.as_str());
+            }
+        }
+        kept
+    }
+
+    /// Takes a record out, and counts it no more among its parent's children.
+    fn take(&mut self, key: &str) {
+        if let Some(snapshot) = self.snapshots.remove(key)
+            && let Some(parent) = self.snapshots.get_mut(&snapshot.parent)
+        {
+            parent.children -= 1;
+        }
+    }
+
     /// The layers of the parent and of its ancestors, the nearest first, and their ids.
     fn ancestors(&self, parent: &str) -> Result<(Vec<Arc<Layer>>, Vec<u32>), Refused> {
         let (mut layers, mut ids) = (Vec::new(), Vec::new());
@@ -233,13 +353,38 @@ impl Namespace {
 /// A snapshot with its key, as `stat` and `walk` answer it.
 struct Info<'a>(&'a str, &'a Snapshot);
 
+/// A snapshot with its key, as `tree` answers it.
+struct Branch<'a>(&'a str, &'a Snapshot);
+
+impl Display for Branch<'_> {
+    fn fmt(&self, f: &mut fmt::Formatter<'_>) -> fmt::Result {
+        let Branch(key, snapshot) = self;
+        write!(
+            f,
+            r#"{{"children":{},"id":{},"key":{},"kind":"{}","parent":{},"usage":{}}}"#,
+            snapshot.children,
+            snapshot.id,
+            Quoted(key),
+            snapshot.kind(),
+            Quoted(&snapshot.parent),
+            snapshot.charge,
+        )
+    }
+}
+
+impl Snapshot {
+    fn kind(&self) -> &'static str {
+        match self.content {
+            Content::Active { .. } => "Active",
+            Content::Committed { .. } => "Committed",
+        }
+    }
+}
+
 impl Display for Info<'_> {
     fn fmt(&self, f: &mut fmt::Formatter<'_>) -> fmt::Result {
         let Info(key, snapshot) = self;
-        let kind = match snapshot.content {
-            Content::Active { .. } => "Active",
-            Content::Committed { .. } => "Committed",
-        };
+        let kind = snapshot.kind();
         let labels: Vec<_> = snapshot
             .labels
             .iter()
