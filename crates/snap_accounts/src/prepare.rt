@@ -112,9 +112,9 @@ impl<N: StoreName> Accounts<N> {
     /// or for more than 64 labels; `NoNamespace`; `NotFound` where the namespace has no snapshot of the
     /// parent's name; `AlreadyExists` where it has one of the key; `NotCommitted` where the parent is not
     /// committed; `TooDeep` where the snapshot would have more than 64 committed ancestors;
-    /// `TooManyActives` where all slots of the store are open, whatever namespaces have them; `OverLimit` with what is free, where 1/1 does not
-    /// fit; `NumbersSpent` after the id 4,294,967,295. Takes no memory. The cost grows with the number of
-    /// slots, of which 64 open ones are one step, with the
+    /// `TooManyActives` where all slots of the store are open, whatever namespaces have them; `OverLimit`
+    /// with what is free, where 1/1 does not fit; `NumbersSpent` after the id 4,294,967,295. Takes no
+    /// memory. The cost grows with the number of slots, of which 64 open ones are one step, with the
     /// logarithm of the number of records, once for each ancestor, and with the number of labels.
     pub fn vacancy(
         &self,

@@ -17,7 +17,6 @@ mod Marks
 pub mod Gathered
 mod Equal
 mod Indexed
-mod Marked
 mod Referred
 mod Committing
 pub mod Leasing

@@ -1,11 +1,12 @@
 -- The grammar's loops, a turn at a time, under the conversion to data.
-use Rattle.std.proofs.Common.{◌≡◌, ℕ, zero, suc, ◌-◌, ◌<◌, ◌≤◌, List, [], ◌∷◌, ◌++◌, length, Option, Some, None, option_map, option_and_then, refl, ap, ◌∙◌}
+use Rattle.std.proofs.Common.{◌≡◌, ◌≢◌, ℕ, zero, suc, ◌-◌, ◌<◌, ◌≤◌, List, [], ◌∷◌, ◌++◌, length, Option, Some, None, option_map, option_and_then, Result, Ok, Err, OnErr, refl, sym, ap, ◌∙◌}
 use Rattle.json.specs.Token.{Token}
 use Rattle.json.specs.Json as json
-use Rattle.json.specs.Json.{Parse, parse_map, after_end_array, read_key, items_step, items, members, if_last}
-use Rattle.json.proofs.Grammar.{items_end, items_more, members_end, members_no_key, members_more}
-use Rattle.serde_json.specs.Data.{Data, array, object, Items, no_items, item, Members, no_members, put}
-use Rattle.serde_json.specs.Read.{of_json, of_items, of_members, converted}
+use Rattle.json.specs.Json.{Parse, parse_map, after_end_array, read_key, items_step, items, members, value_with, value, if_last}
+use Rattle.json.proofs.Grammar.{items_end, items_more, members_end, members_no_key, members_more, value_is}
+use Rattle.serde_json.specs.Data.{Data, Num, number, array, object, Items, no_items, item, Members, no_members, put}
+use Rattle.serde_json.specs.Read.{number_of, of_json, of_items, of_members, converted}
+use Rattle.snap_json.specs.Objects.{object_read, rest_of}
 use Rattle.snap_json.specs.View.{view, items_view}
 use Rattle.snap_json.specs.declared.value.Value.{Value}
 
@@ -131,3 +132,45 @@ pub whole_refused : (o : Option (json.Json × List Token)) → converted of_json
 whole_refused None e = refl
 whole_refused (Some (j, [])) e = refused [] (of_json j) e
 whole_refused (Some (j, t ∷ r)) e = refl
+
+-- ---- what is checked and not kept
+
+pub parse_map-twice : {A B C : Type 0} (f : B → C) (g : A → B) (r : Option (A × List Token)) → parse_map f (parse_map g r) ≡ parse_map (λ a. f (g a)) r
+parse_map-twice f g None = refl
+parse_map-twice f g (Some p) = refl
+
+pub on_err : {T E P : Type 0} (r : Result T E) → P → OnErr r P
+on_err (Ok t) p = tt
+on_err (Err e) p = p
+
+abbrev left_alone : Option (List Token) → Option (Option Data × List Token)
+left_alone o = option_map {U = Option Data × List Token} (λ r. (None, r)) o
+
+-- no array is kept, and no number
+no_array : (r : List Token) (x : Option (Items × List Token)) → rest_of (parse_map array x) ≡ Some r → object_read (parse_map array x) ≡ Some (None, r)
+no_array r None e = absurd (cc)
+no_array r (Some p) e = ap left_alone e
+
+no_number : (ts r : List Token) (x : Option Num) → rest_of (option_map {U = Data × List Token} (λ d. (d, ts)) (option_map number x)) ≡ Some r
+    → object_read (option_map {U = Data × List Token} (λ d. (d, ts)) (option_map number x)) ≡ Some (None, r)
+no_number ts r None e = absurd (cc)
+no_number ts r (Some n) e = ap left_alone e
+
+other_value : (a : Parse json.Items) (o : Parse json.Members) (t : Token) (ts r : List Token) → t ≢ Token.begin_object → rest_of (converted of_json (value_with a o (t ∷ ts))) ≡ Some r
+    → object_read (converted of_json (value_with a o (t ∷ ts))) ≡ Some (None, r)
+other_value a o Token.begin_object ts r other e = absurd (other refl)
+other_value a o Token.end_object ts r other e = absurd (cc)
+other_value a o Token.begin_array ts r other e = ap object_read (converted-array (a ts)) ∙ no_array r (converted of_items (a ts)) (sym (ap rest_of (converted-array (a ts))) ∙ e)
+other_value a o Token.end_array ts r other e = absurd (cc)
+other_value a o (Token.key s) ts r other e = absurd (cc)
+other_value a o (Token.string s) ts r other e = ap left_alone e
+other_value a o (Token.number s) ts r other e = no_number ts r (number_of s) e
+other_value a o (Token.boolean b) ts r other e = ap left_alone e
+other_value a o Token.null ts r other e = ap left_alone e
+other_value a o Token.bad ts r other e = absurd (cc)
+
+-- a value that begins with another token is no object
+pub no_object : (depth : ℕ) (t : Token) (ts r : List Token) → t ≢ Token.begin_object → rest_of (converted of_json (value depth (t ∷ ts))) ≡ Some r → object_read (converted of_json (value depth (t ∷ ts))) ≡ Some (None, r)
+no_object depth t ts r other e =
+    let is = value_is depth (t ∷ ts) in
+    ap (λ o. object_read (converted of_json o)) is ∙ other_value _ _ t ts r other (sym (ap (λ o. rest_of (converted of_json o)) is) ∙ e)

@@ -1,3 +1,4 @@
 pub mod Writer
 pub mod Tokens
 pub mod View
+pub mod Objects

@@ -1,14 +1,16 @@
 // From text to a value, in one pass over the tokens.
-ghost use Rattle.std.specs.Prelude.{◌≡◌, ◌<◌, length, Some, None, Err, IfOk, OnOk};
+ghost use Rattle.std.specs.Prelude.{◌≡◌, ◌<◌, ◌≤◌, ◌∷◌, length, Some, None, Err, IfOk, OnOk, OnErr, option_map};
 ghost use Rattle.json.specs.Json.{value, items, members};
+ghost use Rattle.json.specs.Reads.{token_of};
 ghost use Rattle.serde_json.specs.Data.{no_members};
 ghost use Rattle.serde_json.specs.Read.{of_json, of_items, of_members, converted, read as read_text};
+ghost use Rattle.snap_json.specs.Objects.{object_alone, object_read, rest_of};
 ghost use Rattle.snap_json.specs.View.{view, items_view, members_view};
 
 use crate::number::number;
 use crate::unreadable::Unreadable;
 use crate::value::{Member, Value};
-use json::{Reader, Scratch, Token};
+use json::{Invalid, Reader, Scratch, Token};
 use std::alloc::Global;
 
 /// So deep arrays and objects nest at most.
@@ -16,26 +18,115 @@ const MAX_DEPTH: usize = 127;
 
 impl<'a> Value<'a> {
     /// Reads a text as `serde_json` reads it: arrays and objects nest at most 127 deep, and each number is in the
-    /// range of a float.
+    /// range of a float. A value that is no object is checked, and not kept: `None`.
     ///
     /// `NotJson` where the text is no such value. `OutOfMemory` where memory was refused: for the scratch, which
-    /// grows to the length of the text and lends the texts that have escapes, or for the items of an array or the
-    /// members of an object. A text without escapes is lent by the line. The memory and the cost grow with the text.
-    pub fn read(
+    /// grows to the length of the text and lends the texts that have escapes, or for the members of an object and
+    /// what is in them. A text without escapes is lent by the line. The cost grows with the text, and so does the
+    /// memory of an object.
+    pub fn read_object(
         alloc: Global,
         text: &'a str,
         scratch: &'a mut Scratch,
-    ) -> Result<Value<'a>, Unreadable>
-        ensures ok { IfOk result (λ v. read_text text.now ≡ Some (view v)) }
+    ) -> Result<Option<Value<'a>>, Unreadable>
+        ensures ok { IfOk result (λ o. option_map object_alone (read_text text.now) ≡ Some (option_map view o)) }
         ensures not_json { result ≡ Err Unreadable.NotJson → read_text text.now ≡ None }
     {
         let mut reader = Reader::new(text, scratch)?;
-        let value = read(alloc, &mut reader, MAX_DEPTH)?;
+        let object = read_alone(alloc, &mut reader)?;
         if reader.next().is_some() {
             return Err(Unreadable::NotJson);
         }
-        Ok(value)
+        Ok(object)
     }
+}
+
+/// Reads an object, or checks another value.
+fn read_alone<'a>(alloc: Global, reader: &mut Reader<'a>) -> Result<Option<Value<'a>>, Unreadable>
+    ensures ok { IfOk result (λ o. object_read (converted of_json (value 127 reader.old)) ≡ Some (option_map view o, reader.new)) }
+    ensures not_json { result ≡ Err Unreadable.NotJson
+        → converted of_json (value 127 reader.old) ≡ None }
+{
+    let token = reader.next().ok_or(Unreadable::NotJson)?;
+    match token {
+        Token::BeginObject => {
+            let members = read_members(alloc, reader, MAX_DEPTH - 1)?;
+            Ok(Some(Value::Object(members)))
+        }
+        Token::BeginArray
+        | Token::EndArray
+        | Token::EndObject
+        | Token::Key(_)
+        | Token::String(_)
+        | Token::Number(_)
+        | Token::Bool(_)
+        | Token::Null
+        | Token::Bad => {
+            check(token, reader, MAX_DEPTH)?;
+            Ok(None)
+        }
+    }
+}
+
+/// Checks the value that begins with the token.
+#[cycle(check)]
+fn check(token: Token<'_>, reader: &mut Reader<'_>, depth: usize) -> Result<(), Invalid>
+    ensures ok { OnOk result (rest_of (converted of_json (value depth (token_of token.entry ∷ reader.old))) ≡ Some reader.new) }
+    ensures shorter { OnOk result (length reader.new ≤ length reader.old) }
+    ensures not_json { OnErr result (converted of_json (value depth (token_of token.entry ∷ reader.old)) ≡ None) }
+{
+    match token {
+        Token::String(_) | Token::Bool(_) | Token::Null => Ok(()),
+        Token::Number(text) => match number(text) {
+            Some(_) => Ok(()),
+            None => Err(Invalid),
+        },
+        Token::EndObject | Token::EndArray | Token::Key(_) | Token::Bad => Err(Invalid),
+        Token::BeginArray => {
+            if depth == 0 {
+                return Err(Invalid);
+            }
+            check_items(reader, depth - 1)
+        }
+        Token::BeginObject => {
+            if depth == 0 {
+                return Err(Invalid);
+            }
+            check_members(reader, depth - 1)
+        }
+    }
+}
+
+#[cycle(check)]
+fn check_items(reader: &mut Reader<'_>, depth: usize) -> Result<(), Invalid>
+    ensures ok { OnOk result
+        (rest_of (converted of_items (items (value depth) (length reader.old) reader.old)) ≡ Some reader.new) }
+    ensures shorter { OnOk result (length reader.new < length reader.old) }
+    ensures not_json { OnErr result
+        (converted of_items (items (value depth) (length reader.old) reader.old) ≡ None) }
+{
+    'items: while !reader.take_end_array() {
+        let token = reader.next().ok_or(Invalid)?;
+        check(token, reader, depth)?;
+    }
+    Ok(())
+}
+
+#[cycle(check)]
+fn check_members(reader: &mut Reader<'_>, depth: usize) -> Result<(), Invalid>
+    ensures ok { OnOk result
+        (rest_of (converted (λ ms. of_members ms no_members)
+        (members (value depth) (length reader.old) reader.old)) ≡ Some reader.new) }
+    ensures shorter { OnOk result (length reader.new < length reader.old) }
+    ensures not_json { OnErr result
+        (converted (λ ms. of_members ms no_members)
+        (members (value depth) (length reader.old) reader.old) ≡ None) }
+{
+    'members: while let Some(_) = reader.next_key()? {
+        let token = reader.next().ok_or(Invalid)?;
+        check(token, reader, depth)?;
+    }
+    Ok(())
 }
 
 #[cycle(read)]

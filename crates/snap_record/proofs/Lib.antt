@@ -1,2 +1,3 @@
 pub mod UpdateLemmas
+mod LabelLemmas
 mod Examples

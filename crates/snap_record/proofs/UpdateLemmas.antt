@@ -11,10 +11,10 @@ use Rattle.std.proofs.lemmas.Map.Made.{is_some-lookup}
 use Rattle.snap_record.specs.Labels.{Bytes, Label, is_among, value_of, with_label, without_label, HasDistinctKeys}
 use Rattle.snap_record.specs.Updates.{named_key, names_key, named_keys, given_label, label_after, new_keys, with_named}
 
-same : (x y : Bytes) → bytes_eq x y ≡ true → x ≡ y
+pub same : (x y : Bytes) → bytes_eq x y ≡ true → x ≡ y
 same x y h = (bytes_eq-Decides x y).0 h
 
-flip : (x y : Bytes) → bytes_eq x y ≡ bytes_eq y x
+pub flip : (x y : Bytes) → bytes_eq x y ≡ bytes_eq y x
 flip x y = nat_list_eq_equiv.symm x y
 
 or_false : (a b : Bool) → (a || b) ≡ false → (a ≡ false) × (b ≡ false)

@@ -1,9 +1,8 @@
 -- Labels as a list of pairs with distinct keys.
 -- Cited by `Record::matches`, `matches`, `Labels::insert` and others.
-use Rattle.std.specs.Prelude.{ℕ, ◌+◌, Bool, ◌&&◌, nat_le, nat_lt, List, length, Option, bytes_eq}
+use Rattle.std.specs.Prelude.{ℕ, ◌+◌, Bool, ◌&&◌, nat_le, nat_lt, if◌then◌else◌, List, [], ◌∷◌, length, Option, bytes_eq}
 use Rattle.std.specs.List.{list_all, list_any, IsDistinct}
 use Rattle.std.specs.Map.{lookup, keys_of, remove_entry}
-use Rattle.indexmap.specs.IndexMap.{insert_entry}
 
 -- a key or a value, as its bytes
 abbrev pub Bytes : Type 0
@@ -23,7 +22,8 @@ value_of labels key = lookup (bytes_eq key) labels
 
 -- the labels with this one: a key that is there keeps its place, a new one goes last
 abbrev pub with_label : List Label → Bytes → Bytes → List Label
-with_label labels key value = insert_entry bytes_eq labels key value
+with_label [] key value = (key, value) ∷ []
+with_label (label ∷ labels) key value = if bytes_eq key label.0 then (label.0, value) ∷ labels else label ∷ with_label labels key value
 
 -- the labels without that of the key
 abbrev pub without_label : List Label → Bytes → List Label

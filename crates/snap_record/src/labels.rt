@@ -1,11 +1,8 @@
-ghost use Rattle.std.specs.Prelude.{◌≡◌, [], ℕ, List, length, option_copied, IsTrue, ◌↔◌, OnOk, OnErr, IfOk, ◌<◌, ◌^◌};
+ghost use Rattle.std.specs.Prelude.{◌≡◌, ◌<◌, ◌^◌, ◌↔◌, [], ℕ, List, length, position, option_copied, bytes_eq, IsTrue, OnOk, OnErr, IfOk};
 ghost use Rattle.std.specs.List.{list_all};
-ghost use Rattle.std.specs.Map.Iter.{ShowsInOrder, ShowsValuesInOrder, deref_pair};
 ghost use Rattle.snap_record.specs.Labels.{value_of, with_label, without_label, is_label, are_labels, HasDistinctKeys};
 
 use crate::text::Text;
-use indexmap::IndexMap;
-use indexmap::map::Iter;
 use std::alloc::{AllocError, Global};
 use std::marker::Model;
 
@@ -16,24 +13,29 @@ pub const MAX_LABELS: usize = 64;
 pub const MAX_LABEL_BYTES: usize = 4096;
 
 /// Labels: values of distinct keys, in the order in which the keys were first inserted. It keeps
-/// its allocator.
+/// its allocator. They are a plain list, since there are few: without labels it takes no memory.
 ///
 /// Contracts see the list of pairs. Labels are equal where these lists are.
 #[derive(Debug)]
 pub struct Labels {
-    map: IndexMap<Text, Text>,
+    list: Vec<(Text, Text)>,
 }
 
 impl Drop for Labels {
     fn drop(self) {
-        let Labels { map: _ } = self;
+        let Labels { list: _ } = self;
     }
 }
 
 impl Model for Labels {
+    ghost use Rattle.std.specs.Prelude.{List, ℕ};
+    ghost use Rattle.snap_record.specs.Labels.{HasDistinctKeys};
+
     ghost Value = { List (List ℕ × List ℕ) };
 
-    ghost view = { λ l. l.map.entries };
+    ghost view = { λ l. l.list.items };
+
+    ghost invariant = { λ l. HasDistinctKeys l.list.items };
 }
 
 impl Labels {
@@ -42,20 +44,30 @@ impl Labels {
         ensures { result ≡ [] }
     {
         Labels {
-            map: IndexMap::new(alloc),
+            list: Vec::new(alloc),
         }
+    }
+
+    /// The place of a key, if it is there.
+    fn place(&self, key: &Text) -> Option<usize>
+        ensures { result ≡ position (λ label. bytes_eq key.now label.0) self.now }
+    {
+        self.list.iter().position(|(own, _)| key == own)
     }
 
     /// Gives the key this value: a key that is there keeps its place, a new one goes last.
     ///
-    /// Where memory is wanting, the labels are as they were. Costs the same for any number of
-    /// labels, on average.
+    /// Where memory is wanting, the labels are as they were. Takes memory for a new key alone. Its cost
+    /// grows with the number of labels.
     pub fn insert(&mut self, key: Text, value: Text) -> Result<(), AllocError>
         ensures ok { OnOk result (self.new ≡ with_label self.old key value) }
         ensures err { OnErr result (self.new ≡ self.old) }
         ensures distinct { HasDistinctKeys self.new }
     {
-        self.map.insert(key, value)?;
+        match self.place(&key) {
+            Some(place) => self.list[place] = (key, value),
+            None => self.list.push((key, value))?,
+        }
         Ok(())
     }
 
@@ -65,15 +77,20 @@ impl Labels {
         ensures removed { self.new ≡ without_label self.old key.now }
         ensures distinct { HasDistinctKeys self.new }
     {
-        self.map.shift_remove(key);
+        if let Some(place) = self.place(key) {
+            drop(self.list.remove(place));
+        }
     }
 
-    /// The value of a key, or nothing where it has none. Takes no memory. Costs the same for any
-    /// number of labels, on average.
+    /// The value of a key, or nothing where it has none. Takes no memory. Its cost grows with the number
+    /// of labels.
     pub fn get(&self, key: &Text) -> Option<&Text>
         ensures { option_copied result ≡ value_of self.now key.now }
     {
-        self.map.get(key)
+        match self.place(key) {
+            Some(place) => Some(&self.list[place].1),
+            None => None,
+        }
     }
 
     /// How many labels there are. Takes no memory. The cost is constant.
@@ -82,25 +99,22 @@ impl Labels {
         ensures small { result < 2 ^ 63 }
         ensures distinct { HasDistinctKeys self.now }
     {
-        self.map.len()
+        self.list.len()
     }
 
     /// Whether there are no labels. Takes no memory. The cost is constant.
     pub fn is_empty(&self) -> bool
         ensures { IsTrue result ↔ (self.now ≡ []) }
     {
-        self.map.is_empty()
+        self.list.is_empty()
     }
 
-    /// The labels, in their order. Takes no memory. The cost is that of going over them.
-    pub fn iter(&self) -> Iter<'_, Text, Text>
-        ensures rest { result ≡ self.now }
-        ensures runs { ShowsInOrder (deref_pair {K = List ℕ} {X = List ℕ}) }
-        ensures values_run { ShowsValuesInOrder (deref_pair {K = List ℕ} {X = List ℕ}) }
-        ensures fits { length self.now < 2 ^ 63 }
+    /// The labels, in their order. Takes no memory. The cost is constant.
+    pub fn as_slice(&self) -> &[(Text, Text)]
+        ensures labels { result.now ≡ self.now }
         ensures distinct { HasDistinctKeys self.now }
     {
-        self.map.iter()
+        self.list.as_slice()
     }
 
     /// Whether these can be a snapshot's labels: at most 64, each with a key of at least 1 byte,
@@ -117,7 +131,7 @@ impl Labels {
     pub(crate) fn have_form(&self) -> bool
         ensures { result ≡ list_all is_label self.now }
     {
-        self.map.iter().all(|(key, value)| is_label(key, value))
+        self.list.iter().all(|(key, value)| is_label(key, value))
     }
 
     /// A copy with room for so many more labels.
@@ -125,13 +139,13 @@ impl Labels {
         ensures copied { IfOk result (λ copy. copy ≡ self.now) }
         ensures distinct { IfOk result HasDistinctKeys }
     {
-        let mut map = self.map.clone()?;
-        map.reserve(more)?;
-        Ok(Labels { map })
+        let mut list = self.list.clone()?;
+        list.reserve(more)?;
+        Ok(Labels { list })
     }
 
     pub(crate) fn allocator(&self) -> Global {
-        *self.map.allocator()
+        *self.list.allocator()
     }
 }
 
@@ -150,7 +164,7 @@ impl Clone for Labels {
 
     fn clone(&self) -> Result<Labels, AllocError> {
         Ok(Labels {
-            map: self.map.clone()?,
+            list: self.list.clone()?,
         })
     }
 }
@@ -165,7 +179,7 @@ impl PartialEq for Labels {
     ghost laws = { lists_per (and_per (on_per (λ p. p.0) (partial_equiv_from_equiv nat_list_eq_equiv)) (on_per (λ p. p.1) (partial_equiv_from_equiv nat_list_eq_equiv))) };
 
     fn eq(&self, other: &Labels) -> bool {
-        self.map.as_slice() == other.map.as_slice()
+        self.list == other.list
     }
 }
 

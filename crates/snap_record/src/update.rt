@@ -128,6 +128,7 @@ fn kept_len(labels: &Labels, given: &Labels, paths: &[Text]) -> usize
         || is_some (value_of given.now l.0)) labels.now }
 {
     labels
+        .as_slice()
         .iter()
         .filter(|(key, _)| !is_named(paths, key) || given.get(key).is_some())
         .count()
@@ -139,6 +140,7 @@ fn added_len(labels: &Labels, given: &Labels, paths: &[Text]) -> usize
     ensures distinct { HasDistinctKeys given.now }
 {
     given
+        .as_slice()
         .iter()
         .filter(|(key, _)| is_named(paths, key) && labels.get(key).is_none())
         .count()

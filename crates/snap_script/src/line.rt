@@ -1,6 +1,6 @@
 ghost use Rattle.std.specs.Prelude.{◌≡◌};
 ghost use Rattle.snap_json.specs.View.{view};
-ghost use Rattle.snap_script.specs.Lines.{is_empty, json_of, object_in, allowed, command_in, command_line, opening_of, line_of};
+ghost use Rattle.snap_script.specs.Lines.{is_empty, object_in, allowed, command_in, command_line, opening_of, line_of};
 ghost use Rattle.snap_script.specs.Gives.{Gives};
 
 use crate::command::Command;
@@ -38,31 +38,12 @@ pub fn is_empty(bytes: &[u8]) -> bool
     true
 }
 
-/// The value that a line is.
-#[tactic(auto, using(crate::proofs::LineValues::not_utf8, crate::proofs::LineValues::not_json, crate::proofs::LineValues::is_json))]
-fn value_of<'a>(
-    alloc: Global,
-    bytes: &'a [u8],
-    scratch: &'a mut Scratch,
-) -> Result<Value<'a>, ReadError>
-    ensures { Gives view result (json_of bytes.now) }
-{
-    let Ok(text) = str::from_utf8(bytes) else {
-        return Err(ReadError::Fault(Fault::NotJson));
-    };
-    match Value::read(alloc, text, scratch) {
-        Ok(value) => Ok(value),
-        Err(Unreadable::NotJson) => Err(ReadError::Fault(Fault::NotJson)),
-        Err(Unreadable::OutOfMemory(no_memory)) => Err(no_memory.into()),
-    }
-}
-
 /// The object that a line is, without its line feed, whatever its length. The line lends its texts, and those with
 /// escapes the scratch.
 ///
-/// `NotJson`, then `NotAnObject`; `OutOfMemory` where memory for the scratch or the value was refused. The memory
-/// and the cost grow with the line.
-#[tactic(auto, unfolding(crate::specs::Lines::object_in))]
+/// `NotJson`, then `NotAnObject`; `OutOfMemory` where memory for the scratch or the object was refused. The cost
+/// grows with the line, and so does the memory, where the line is an object; else it is that of the scratch.
+#[tactic(auto, using(crate::proofs::LineValues::not_utf8, crate::proofs::LineValues::not_json, crate::proofs::LineValues::is_object, crate::proofs::LineValues::no_object))]
 pub fn read_object<'a>(
     alloc: Global,
     bytes: &'a [u8],
@@ -70,11 +51,14 @@ pub fn read_object<'a>(
 ) -> Result<Value<'a>, ReadError>
     ensures { Gives view result (object_in bytes.now) }
 {
-    let value = value_of(alloc, bytes, scratch)?;
-    if value.is_object() {
-        Ok(value)
-    } else {
-        Err(ReadError::Fault(Fault::NotAnObject))
+    let Ok(text) = str::from_utf8(bytes) else {
+        return Err(ReadError::Fault(Fault::NotJson));
+    };
+    match Value::read_object(alloc, text, scratch) {
+        Ok(Some(object)) => Ok(object),
+        Ok(None) => Err(ReadError::Fault(Fault::NotAnObject)),
+        Err(Unreadable::NotJson) => Err(ReadError::Fault(Fault::NotJson)),
+        Err(Unreadable::OutOfMemory(no_memory)) => Err(no_memory.into()),
     }
 }
 

@@ -139,7 +139,8 @@ impl ToJson for Labels {
     #[tactic(auto, using(crate::proofs::Maps::members_of_insert_entry))]
     fn write(&self, alloc: Global, out: &mut Writer) -> Result<(), AllocError> {
         let mut members = BTreeMap::new(alloc);
-        for (key, value) in self.iter() {
+        let labels = self.as_slice();
+        for (key, value) in labels {
             members.insert(key.as_str(), value.as_str())?;
         }
         members.write(alloc, out)

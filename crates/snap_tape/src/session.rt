@@ -57,8 +57,8 @@ impl Session {
         self.tape.capacity() - self.tape.len()
     }
 
-    /// Makes room on the tape for so many entries more, as a discard needs for one. Where memory is refused the tape is as it was. The cost is that of moving the tape, if it
-    /// has to grow.
+    /// Makes room on the tape for so many entries more, as a discard needs for one. Where memory is
+    /// refused the tape is as it was. The cost is that of moving the tape, if it has to grow.
     pub fn reserve(&mut self, entries: usize) -> Result<(), AllocError>
         ensures same { Untaped self.old self.new }
         ensures room { OnOk result (entries ≤ self.new.spare) }

@@ -1,0 +1,44 @@
+use Rattle.std.proofs.Common.{◌≡◌, Some, None, position, bytes_eq, sym, subst, arith}
+use Rattle.snap_record.specs.Labels.{with_label, HasDistinctKeys}
+use Rattle.snap_record.proofs.LabelLemmas.{label_set, label_pushed, distinct-with_label}
+use Rattle.snap_record.proofs.labels.Labels.insert.Goals as goal
+
+pub invariant_of-self : goal.invariant_of-self
+invariant_of-self c =
+    let ls = c.self.inside.list.items in
+    let there : position (λ l. bytes_eq c.args.key l.0) ls ≡ Some c.in-Some.place = grind arith in
+    subst HasDistinctKeys (sym (label_set c.args.key c.args.value ls c.in-Some.place there)) (distinct-with_label c.args.key c.args.value ls c.self.invariant)
+
+pub invariant_of-self-in-Continue-1 : goal.invariant_of-self-in-Continue-1
+invariant_of-self-in-Continue-1 c =
+    let ls = c.self.inside.list.items in
+    let none : position (λ l. bytes_eq c.args.key l.0) ls ≡ None = grind arith in
+    let last = label_pushed c.args.key c.args.value ls none in
+    let now : c.push.new.self.items ≡ with_label ls c.args.key c.args.value = grind (arith, last) in
+    subst HasDistinctKeys (sym now) (distinct-with_label c.args.key c.args.value ls c.self.invariant)
+
+pub returns-in-Some-clause-ok : goal.returns-in-Some-clause-ok
+returns-in-Some-clause-ok c =
+    let there : position (λ l. bytes_eq c.args.key l.0) c.self.inside.list.items ≡ Some c.in-Some.place = grind arith in
+    let set = label_set c.args.key c.args.value c.self.inside.list.items c.in-Some.place there in
+    grind (arith, set)
+
+pub returns-in-Some-clause-distinct : goal.returns-in-Some-clause-distinct
+returns-in-Some-clause-distinct c =
+    let ls = c.self.inside.list.items in
+    let there : position (λ l. bytes_eq c.args.key l.0) ls ≡ Some c.in-Some.place = grind arith in
+    subst HasDistinctKeys (sym (label_set c.args.key c.args.value ls c.in-Some.place there)) (distinct-with_label c.args.key c.args.value ls c.self.invariant)
+
+pub returns-in_ok-push-in-None-clause-ok : goal.returns-in_ok-push-in-None-clause-ok
+returns-in_ok-push-in-None-clause-ok c =
+    let none : position (λ l. bytes_eq c.args.key l.0) c.self.inside.list.items ≡ None = grind arith in
+    let last = label_pushed c.args.key c.args.value c.self.inside.list.items none in
+    grind (arith, last)
+
+pub returns-in_ok-push-in-None-clause-distinct : goal.returns-in_ok-push-in-None-clause-distinct
+returns-in_ok-push-in-None-clause-distinct c =
+    let ls = c.self.inside.list.items in
+    let none : position (λ l. bytes_eq c.args.key l.0) ls ≡ None = grind arith in
+    let last = label_pushed c.args.key c.args.value ls none in
+    let now : c.push.new.self.items ≡ with_label ls c.args.key c.args.value = grind (arith, last) in
+    subst HasDistinctKeys (sym now) (distinct-with_label c.args.key c.args.value ls c.self.invariant)
