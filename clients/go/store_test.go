@@ -379,7 +379,7 @@ func TestFaults(t *testing.T) {
 		given map[string]any
 		words string
 	}{
-		{"mkdir", map[string]any{"ns": "a", "key": "k", "path": "/d", "mode": "x"}, "bad field mode"},
+		{"mkdir", map[string]any{"ns": "a", "key": "k", "path": "/d", "mode": "x"}, "bad field mode: a number is wanted, a text is there"},
 		{"prepear", nil, "no such command"},
 		{"open", map[string]any{"root": "/r", "namespaces": []any{}}, "open twice"},
 	} {

@@ -415,11 +415,11 @@ class Lines(unittest.TestCase):
         with open_store() as store:
             store.request(prepare)
             faults: list[tuple[int, str, dict[str, object]]] = [
-                (3, "bad field mode", {"do": "mkdir", "ns": "a", "key": "k", "path": "/d", "mode": "x"}),
+                (3, "bad field mode: a number is wanted, a text is there", {"do": "mkdir", "ns": "a", "key": "k", "path": "/d", "mode": "x"}),
                 (4, "no such command", {"do": "prepear"}),
-                (5, "bad field do", {"do": []}),
+                (5, "bad field do: the word of a command, in a job that of a file command, is wanted, an array is there", {"do": []}),
                 (6, "open twice", {"do": "open", "root": "/r", "namespaces": []}),
-                (7, "bad field fill", {"do": "write", "ns": "a", "key": "k", "path": "/f"}),
+                (7, "bad field fill: [byte, number up to 1048576] is wanted, nothing is there", {"do": "write", "ns": "a", "key": "k", "path": "/f"}),
             ]
             for line, fault, command in faults:
                 with self.subTest(fault):
@@ -434,7 +434,7 @@ class Lines(unittest.TestCase):
         with open_store() as store:
             with self.assertRaises(Fault) as caught:
                 store.request(command)
-            self.assertEqual((caught.exception.fault, caught.exception.line), ("unknown field lables", 2))
+            self.assertEqual((caught.exception.fault, caught.exception.line), ("unknown field lables: labels?", 2))
             self.assertEqual(store.report().records, 0)
 
     def test_each_line_has_one_answer(self) -> None:

@@ -1,11 +1,12 @@
 -- What the line of a job is; cited by the public clause of `JobLines::take_line` through Lines.antt. The fields are
 -- tested in the order in which they stand.
 -- Cited by `JobLines as TakeLine`, `write_jobs_within`, `write_jobs`.
-use Rattle.std.specs.Prelude.{ℕ, if◌then◌else◌, List, Result, Ok, Err, codes}
+use Rattle.std.specs.Prelude.{ℕ, if◌then◌else◌, List, Some, Result, Ok, Err, codes}
 use Rattle.std.specs.Str.{bytes_eq}
 use Rattle.serde_json.specs.Data.{Data}
 use Rattle.serde_json.specs.Find.{as_str}
 use Rattle.snap_script.specs.declared.fault.Field.TheVariants as fields
+use Rattle.snap_script.specs.declared.fault.Found.TheVariants.{Text}
 use Rattle.snap_script.specs.declared.fault.Fault.{Fault}
 use Rattle.snap_script.specs.declared.fault.Fault.TheVariants.{BadField}
 use Rattle.snap_script.specs.Fields.{text, optional, given, as_usage}
@@ -24,7 +25,7 @@ commit_of line = do Ok (ends.Commit (← text fields.Name line) (← given as_st
 abbrev pub end_by : List ℕ → Data → Result End Fault
 end_by word line =
     if bytes_eq word (codes "commit") then commit_of line
-    else (if bytes_eq word (codes "discard") then Ok ends.Discard else Err (BadField fields.End))
+    else (if bytes_eq word (codes "discard") then Ok ends.Discard else Err (BadField fields.End (Some Text)))
 
 -- a job's end
 unfoldable pub end_of : Data → Result End Fault

@@ -7,8 +7,10 @@ use Rattle.snap_call.specs.State.{opening}
 use Rattle.snap_call.specs.declared.config.Config.{Config}
 use Rattle.snap_round.specs.declared.rule.Round.{Round}
 use Rattle.snap_script.specs.declared.fault.Field.TheVariants.{Open}
+use Rattle.snap_script.specs.declared.fault.Found.TheVariants.{Object}
 use Rattle.snap_script.specs.declared.fault.Fault.{Fault}
 use Rattle.snap_script.specs.declared.fault.Fault.TheVariants.{TooLong, BadField}
+use Rattle.snap_script.specs.Faults.{briefly}
 use Rattle.snap_script.specs.Lines.{is_empty, object_in, opening_of}
 use Rattle.snap_script.specs.Results.{◌>>=◌}
 use Rattle.snap_writers.specs.declared.job.Job.{Job}
@@ -24,7 +26,7 @@ pub record ReadValue : Type 0 where
 
 -- a store of the configuration, where this has its form, and no job
 abbrev pub opened_as : Config → Result ReadValue Fault
-opened_as config = if is_config config then Ok (record { round = record { opening = opening config; limit = config.journal }; names = map (λ n. n.name) config.namespaces; jobs = [] }) else Err (BadField Open)
+opened_as config = if is_config config then Ok (record { round = record { opening = opening config; limit = config.journal }; names = map (λ n. n.name) config.namespaces; jobs = [] }) else Err (BadField Open (Some Object))
 
 -- one job more
 abbrev pub with_job : ReadValue → Job → ReadValue
@@ -41,7 +43,7 @@ there reading = do Ok (Some (← reading))
 
 -- the same of any line; an empty one says nothing
 unfoldable pub taken : Option ReadValue → List ℕ → Result (Option ReadValue) Fault
-taken read bytes = if is_empty bytes then Ok read else there (read_with read bytes)
+taken read bytes = if is_empty bytes then Ok read else there (briefly (read_with read bytes))
 
 -- what a line does: nothing is written for it
 unfoldable pub jobs_effect : Effects (Option ReadValue)

@@ -5,7 +5,7 @@ ghost use Rattle.snap_jobs.specs.Jobs.{end_of, job_of};
 
 use snap_json::Value;
 use snap_script::fields::{lent_text, optional_text, text, usage_or};
-use snap_script::{Fault, Field, ReadError, named, operations};
+use snap_script::{Fault, Field, Found, ReadError, named, operations};
 use snap_usage::Usage;
 use snap_writers::{End, Job};
 use std::alloc::Global;
@@ -20,7 +20,7 @@ fn end_of(alloc: Global, line: &Value<'_>) -> Result<End, ReadError>
             lease: optional_text(alloc, Field::Lease, line)?,
         }),
         "discard" => Ok(End::Discard),
-        _ => Err(ReadError::Fault(Fault::BadField(Field::End))),
+        _ => Err(ReadError::Fault(Fault::BadField(Field::End, Some(Found::Text)))),
     }
 }
 

@@ -10,7 +10,7 @@ use snap_json::Scratch;
 use snap_lines::TakeLine;
 use snap_path::NoMemory;
 use snap_record::{Sequence, Text};
-use snap_script::{Fault, Field, ReadError, is_empty, names_of, read_object, read_open};
+use snap_script::{Fault, Field, Found, ReadError, is_empty, names_of, read_object, read_open};
 use snap_store::{NewStore, RoundName, Store};
 use snap_writers::Job;
 use std::alloc::Global;
@@ -78,7 +78,7 @@ impl<N: RoundName> JobLines<N> {
         ensures { Gives (λ _. self.new) result (there (opened_as config)) }
     {
         if !config.is_valid() {
-            return Err(ReadError::Fault(Fault::BadField(Field::Open)));
+            return Err(ReadError::Fault(Fault::BadField(Field::Open, Some(Found::Object))));
         }
         let names = names_of(alloc, config.namespaces.as_slice())?;
         if let Some(no_memory) = self.refused {
@@ -143,9 +143,9 @@ impl<N: RoundName> Read<N> {
 
 /// Takes the lines of a script of jobs. None has an answer: the jobs are run once all lines are read.
 ///
-/// The first line that isn't empty has the faults of `open`, and last `BadField(Open)` where the store is
+/// The first line that isn't empty has the faults of `open`, and last `BadField` of `Open` where the store is
 /// refused. The line of a job has `TooLong` where 65,536 jobs were read; then `NotJson`, `NotAnObject`, and
-/// `BadField` with the first of its fields. `OutOfMemory` where memory was refused.
+/// `BadField` with the first of its fields. Each fault is brief. `OutOfMemory` where memory was refused.
 ///
 /// The memory and the cost grow with the line, and a `fill` takes as many bytes as it asks for.
 impl<N: RoundName> TakeLine for JobLines<N> {
@@ -158,10 +158,14 @@ impl<N: RoundName> TakeLine for JobLines<N> {
         if is_empty(line) {
             return Ok(None);
         }
-        match &mut self.read {
-            None => self.read_first(alloc, line)?,
-            Some(read) => read.take_job(alloc, line)?,
+        let read = match &mut self.read {
+            None => self.read_first(alloc, line),
+            Some(read) => read.take_job(alloc, line),
+        };
+        match read {
+            Ok(()) => Ok(None),
+            Err(ReadError::Fault(fault)) => Err(ReadError::Fault(fault.brief())),
+            Err(ReadError::OutOfMemory(shortage)) => Err(ReadError::OutOfMemory(shortage)),
         }
-        Ok(None)
     }
 }

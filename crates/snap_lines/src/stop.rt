@@ -61,9 +61,9 @@ fn fault_status(fault: &Fault) -> u8
         | Fault::NotAnObject
         | Fault::FirstLineMustBeOpen
         | Fault::OpenTwice
-        | Fault::NoSuchCommand
-        | Fault::UnknownField(_)
-        | Fault::BadField(_) => 2,
+        | Fault::NoSuchCommand(_)
+        | Fault::UnknownField(_, _)
+        | Fault::BadField(_, _) => 2,
     }
 }
 

@@ -1,8 +1,10 @@
 -- What a line's faults are called; cited by the public clauses of `Field` and `Fault`.
 -- Cited by `Field::name`, `Fault as Display`, `read_open` and others.
-use Rattle.std.specs.Prelude.{ℕ, List, ◌++◌, codes}
+use Rattle.std.specs.Prelude.{ℕ, List, ◌++◌, Some, None, Result, Ok, Err, codes}
 use Rattle.snap_script.specs.declared.fault.Field.{Field}
 use Rattle.snap_script.specs.declared.fault.Field.TheVariants as fields
+use Rattle.snap_script.specs.declared.fault.Found.{Found}
+use Rattle.snap_script.specs.declared.fault.Found.TheVariants.{Nothing, Null, Truth, Number, Text, Array, Object}
 use Rattle.snap_script.specs.declared.fault.Fault.{Fault}
 use Rattle.snap_script.specs.declared.fault.Fault.TheVariants as faults
 use Rattle.snap_script.specs.Refusals.{refused_name}
@@ -52,6 +54,56 @@ field_name fields.Ops = codes "ops"
 field_name fields.End = codes "end"
 field_name fields.Open = codes "open"
 
+-- what a field has to be: the kind of its value, and the words for it
+abbrev pub wanted : Field → Found × List ℕ
+wanted fields.Session = (Number, codes "a number")
+wanted fields.Journal = (Number, codes "a number")
+wanted fields.Slots = (Number, codes "a number")
+wanted fields.LayerInodes = (Number, codes "a number")
+wanted fields.Most = (Number, codes "a number")
+wanted fields.Until = (Number, codes "a number")
+wanted fields.Moment = (Number, codes "a number")
+wanted fields.Blocks = (Number, codes "a number")
+wanted fields.Inodes = (Number, codes "a number")
+wanted fields.Mode = (Number, codes "a number")
+wanted fields.Offset = (Number, codes "a number")
+wanted fields.Size = (Number, codes "a number")
+wanted fields.Try = (Truth, codes "true or false")
+wanted fields.Chain = (Truth, codes "true or false")
+wanted fields.Full = (Truth, codes "true or false")
+wanted fields.Peek = (Truth, codes "true or false")
+wanted fields.Do = (Text, codes "the word of a command, in a job that of a file command,")
+wanted fields.After = (Text, codes "a text in a walk, a number of digits alone below 2^64 in a journal")
+wanted fields.Kind = (Text, codes "View, Active or Committed")
+wanted fields.Path = (Text, codes "a path")
+wanted fields.From = (Text, codes "a path")
+wanted fields.To = (Text, codes "a path")
+wanted fields.End = (Text, codes "commit or discard")
+wanted fields.Namespaces = (Array, codes "an array of [name, blocks, inodes]")
+wanted fields.Paths = (Array, codes "an array of texts")
+wanted fields.Need = (Array, codes "[blocks, inodes]")
+wanted fields.Want = (Array, codes "[blocks, inodes]")
+wanted fields.Extra = (Array, codes "[blocks, inodes]")
+wanted fields.Fill = (Array, codes "[byte, number up to 1048576]")
+wanted fields.Ops = (Array, codes "an array of objects")
+wanted fields.Labels = (Object, codes "an object of texts, in a walk also of nulls,")
+wanted fields.Open = (Object, codes "an object that opens a store")
+wanted field = (Text, codes "a text")
+
+-- the words for what is there, where a value of a kind is wanted
+abbrev pub found_words : Found → Found → List ℕ
+found_words Nothing kind = codes "nothing"
+found_words Null kind = codes "null"
+found_words Truth kind = codes "a truth value"
+found_words Number Number = codes "one that is not of digits alone below 2^64"
+found_words Number kind = codes "a number"
+found_words Text Text = codes "another text"
+found_words Text kind = codes "a text"
+found_words Array Array = codes "another array"
+found_words Array kind = codes "an array"
+found_words Object Object = codes "another object"
+found_words Object kind = codes "an object"
+
 -- the words for a fault
 abbrev pub fault_words : Fault → List ℕ
 fault_words faults.TooLong = codes "too long"
@@ -59,7 +111,22 @@ fault_words faults.NotJson = codes "not JSON"
 fault_words faults.NotAnObject = codes "not an object"
 fault_words faults.FirstLineMustBeOpen = codes "first line must be open"
 fault_words faults.OpenTwice = codes "open twice"
-fault_words faults.NoSuchCommand = codes "no such command"
-fault_words (faults.UnknownField name) = codes "unknown field " ++ name
-fault_words (faults.BadField field) = codes "bad field " ++ field_name field
+fault_words (faults.NoSuchCommand None) = codes "no such command"
+fault_words (faults.NoSuchCommand (Some near)) = codes "no such command: " ++ (near ++ codes "?")
+fault_words (faults.UnknownField name None) = codes "unknown field " ++ name
+fault_words (faults.UnknownField name (Some near)) = codes "unknown field " ++ (name ++ (codes ": " ++ (field_name near ++ codes "?")))
+fault_words (faults.BadField field None) = codes "bad field " ++ field_name field
+fault_words (faults.BadField field (Some found)) = codes "bad field " ++ (field_name field ++ (codes ": " ++ ((wanted field).1 ++ (codes " is wanted, " ++ (found_words found (wanted field).0 ++ codes " is there")))))
 fault_words (faults.Refused why) = refused_name why
+
+-- the fault without what is wanted and what is there, and without what is near
+abbrev pub brief : Fault → Fault
+brief (faults.NoSuchCommand near) = faults.NoSuchCommand None
+brief (faults.UnknownField name near) = faults.UnknownField name None
+brief (faults.BadField field found) = faults.BadField field None
+brief fault = fault
+
+-- what was read, with a brief fault
+abbrev pub briefly : {A : Type 0} → Result A Fault → Result A Fault
+briefly (Ok a) = Ok a
+briefly (Err fault) = Err (brief fault)

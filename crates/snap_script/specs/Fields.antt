@@ -4,7 +4,7 @@
 use Rattle.std.specs.Prelude.{ℕ, min, ◌&&◌, nat_le, if◌then◌else◌, List, [], ◌∷◌, Option, Some, None, option_map, option_and_then, Result, Ok, Err, replicate, find}
 use Rattle.std.specs.Option.{ok_or, option_map_or, option_zip}
 use Rattle.std.specs.Str.{bytes_eq}
-use Rattle.serde_json.specs.Data.{Data, null, Items, no_items, item, Members, no_members, member}
+use Rattle.serde_json.specs.Data.{Data, null, boolean, number, string, array, object, Items, no_items, item, Members, no_members, member}
 use Rattle.serde_json.specs.Find.{get, as_number, as_u64, as_str, as_array, as_object}
 use Rattle.snap_usage.specs.declared.usage.Usage.{Usage}
 use Rattle.snap_record.specs.Labels.{Bytes, Label, with_label}
@@ -15,17 +15,36 @@ use Rattle.snap_record.specs.Kinds.{kind_word}
 use Rattle.snap_call.specs.declared.config.Namespace.{Namespace}
 use Rattle.snap_script.specs.declared.fault.Field.{Field}
 use Rattle.snap_script.specs.declared.fault.Field.TheVariants as fields
+use Rattle.snap_script.specs.declared.fault.Found.{Found}
+use Rattle.snap_script.specs.declared.fault.Found.TheVariants as founds
 use Rattle.snap_script.specs.declared.fault.Fault.{Fault}
 use Rattle.snap_script.specs.declared.fault.Fault.TheVariants.{BadField}
 use Rattle.snap_script.specs.Faults.{field_name}
 
+-- what a value is
+abbrev pub found_in : Data → Found
+found_in null = founds.Null
+found_in (boolean truth) = founds.Truth
+found_in (number n) = founds.Number
+found_in (string text) = founds.Text
+found_in (array ds) = founds.Array
+found_in (object ms) = founds.Object
+
+-- the fault of a field that the value doesn't fit
+abbrev pub misfit : Field → Data → Fault
+misfit field d = BadField field (Some (found_in d))
+
+-- the fault of a field that must be there
+abbrev pub missing : Field → Fault
+missing field = BadField field (Some founds.Nothing)
+
 -- a field of a kind, or what it is where it is absent; one that is null is there
 abbrev pub optional : {A : Type 0} → (Data → Option A) → Field → Result A Fault → Data → Result A Fault
-optional kind field absent line = option_map_or (λ d. ok_or (kind d) (BadField field)) (get (field_name field) line) absent
+optional kind field absent line = option_map_or (λ d. ok_or (kind d) (misfit field d)) (get (field_name field) line) absent
 
 -- a field of a kind that must be there
 abbrev pub required : {A : Type 0} → (Data → Option A) → Field → Data → Result A Fault
-required kind field line = optional kind field (Err (BadField field)) line
+required kind field line = optional kind field (Err (missing field)) line
 
 -- a field of a kind, or nothing where it is absent
 abbrev pub given : {A : Type 0} → (Data → Option A) → Field → Data → Result (Option A) Fault

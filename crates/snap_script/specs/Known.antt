@@ -1,7 +1,7 @@
 -- The fields that a line may have, where unknown ones are faults; cited by the public clauses of `read_line` and
 -- `read_request` through Lines.antt.
 -- Cited by `read_line`, `read_request`, `Runner::new` and others.
-use Rattle.std.specs.Prelude.{ℕ, Bool, ◌||◌, if◌then◌else◌, List, [], ◌∷◌, Option, Some, None, option_and_then, Result, Ok, Err}
+use Rattle.std.specs.Prelude.{ℕ, Bool, ◌||◌, if◌then◌else◌, List, [], ◌∷◌, Option, Some, None, find, option_and_then, Result, Ok, Err}
 use Rattle.std.specs.List.{list_any}
 use Rattle.std.specs.Str.{bytes_eq}
 use Rattle.serde_json.specs.Data.{Data, Members, no_members, member}
@@ -19,6 +19,7 @@ use Rattle.snap_script.specs.declared.verb.FileVerb.TheVariants as file_verbs
 use Rattle.snap_script.specs.declared.verb.PathVerb.TheVariants as path_verbs
 use Rattle.snap_script.specs.declared.verb.LookupVerb.TheVariants as lookup_verbs
 use Rattle.snap_script.specs.Faults.{field_name}
+use Rattle.snap_script.specs.Near.{is_near}
 
 -- the fields that each command has, with and without a default
 abbrev pub fields_of : Verb → List Field
@@ -85,13 +86,17 @@ abbrev pub unknown_among : List Field → List Field → Members → Option (Lis
 unknown_among common own no_members = None
 unknown_among common own (member name d ms) = if is_known common own name then unknown_among common own ms else Some name
 
--- a field that isn't known is a fault
-abbrev pub unless_unknown : Option (List ℕ) → Result Unit Fault
-unless_unknown None = Ok tt
-unless_unknown (Some name) = Err (UnknownField name)
+-- the first of the fields whose name is near the name
+abbrev pub near_field : List Field → List ℕ → Option Field
+near_field those name = find (λ field. is_near (field_name field) name) those
+
+-- a field that isn't known is a fault, with the command's own field that may be meant
+abbrev pub unless_unknown : List Field → Option (List ℕ) → Result Unit Fault
+unless_unknown own None = Ok tt
+unless_unknown own (Some name) = Err (UnknownField name (near_field own name))
 
 -- the line of a command has no field but those that it may have
 unfoldable pub known_fields : FieldRule → Verb → Data → Result Unit Fault
 known_fields rules.Any verb line = Ok tt
-known_fields rules.Known verb line = unless_unknown (option_and_then (unknown_among (common_fields rules.Known) (fields_of verb)) (as_object line))
-known_fields rules.KnownAndId verb line = unless_unknown (option_and_then (unknown_among (common_fields rules.KnownAndId) (fields_of verb)) (as_object line))
+known_fields rules.Known verb line = unless_unknown (fields_of verb) (option_and_then (unknown_among (common_fields rules.Known) (fields_of verb)) (as_object line))
+known_fields rules.KnownAndId verb line = unless_unknown (fields_of verb) (option_and_then (unknown_among (common_fields rules.KnownAndId) (fields_of verb)) (as_object line))

@@ -1,6 +1,7 @@
 pub mod Faults
 pub mod Results
 pub mod Fields
+pub mod Near
 pub mod Words
 pub mod Operations
 pub mod Commands

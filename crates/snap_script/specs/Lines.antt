@@ -14,10 +14,12 @@ use Rattle.snap_script.specs.declared.fault.Fault.TheVariants.{TooLong, NotJson,
 use Rattle.snap_script.specs.declared.line.Line.{Line}
 use Rattle.snap_script.specs.declared.line.Line.TheVariants as lines
 use Rattle.snap_script.specs.declared.unknown.FieldRule.{FieldRule}
+use Rattle.snap_script.specs.declared.unknown.FieldRule.TheVariants as rules
 use Rattle.snap_script.specs.declared.verb.Verb.{Verb}
 use Rattle.snap_script.specs.declared.verb.Verb.TheVariants.{Open}
+use Rattle.snap_script.specs.Faults.{briefly}
 use Rattle.snap_script.specs.Fields.{text, optional, as_natural}
-use Rattle.snap_script.specs.Words.{verb_of}
+use Rattle.snap_script.specs.Words.{near_command, verb_of}
 use Rattle.snap_script.specs.Commands.{config_of, command_of}
 use Rattle.snap_script.specs.Known.{known_fields}
 use Rattle.snap_script.specs.Results.{◌>>=◌}
@@ -39,29 +41,39 @@ unfoldable pub object_in : List ℕ → Result Data Fault
 object_in bytes = do object_of (← json_of bytes)
 
 -- the first command is open, and no other is
-unfoldable pub allowed : Bool → Option Verb → Result Verb Fault
-allowed false (Some Open) = Ok Open
-allowed false verb = Err FirstLineMustBeOpen
-allowed true (Some Open) = Err OpenTwice
-allowed true (Some verb) = Ok verb
-allowed true None = Err NoSuchCommand
+abbrev pub allowed_by : Bool → Option Verb → List ℕ → Result Verb Fault
+allowed_by false (Some Open) word = Ok Open
+allowed_by false verb word = Err FirstLineMustBeOpen
+allowed_by true (Some Open) word = Err OpenTwice
+allowed_by true (Some verb) word = Ok verb
+allowed_by true None word = Err (NoSuchCommand (near_command word))
+
+-- the same by the command's word
+unfoldable pub allowed : Bool → List ℕ → Result Verb Fault
+allowed opened word = allowed_by opened (verb_of word) word
 
 -- the command of an object, with its session, 0 where none is named
 unfoldable pub command_in : FieldRule → Bool → Data → Result Line Fault
 command_in rule opened line = do
-  verb ← allowed opened (verb_of (← text fields.Do line))
+  verb ← allowed opened (← text fields.Do line)
   known ← known_fields rule verb line
   session ← optional as_natural fields.Session (Ok 0) line
   Ok (lines.Command session (← command_of verb line))
 
+-- what was read, as the rule tells it: where any field may stand, a fault is brief
+abbrev pub told : {A : Type 0} → FieldRule → Result A Fault → Result A Fault
+told rules.Any reading = briefly reading
+told rules.Known reading = reading
+told rules.KnownAndId reading = reading
+
 -- the command of a line that isn't empty
 unfoldable pub command_line : FieldRule → Bool → List ℕ → Result Line Fault
-command_line rule opened bytes = do command_in rule opened (← object_in bytes)
+command_line rule opened bytes = do told rule (command_in rule opened (← object_in bytes))
 
 -- the store that a first line opens, where no session is named
 unfoldable pub opening_of : Data → Result Config Fault
 opening_of line = do
-  verb ← allowed false (verb_of (← text fields.Do line))
+  verb ← allowed false (← text fields.Do line)
   config_of line
 
 -- a line, without its line feed, by the fields that it may have: at most 16 MiB

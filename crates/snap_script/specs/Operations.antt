@@ -10,6 +10,7 @@ use Rattle.snap_upper.specs.declared.op.Op.{Op}
 use Rattle.snap_upper.specs.declared.op.Op.TheVariants as ops
 use Rattle.snap_script.specs.declared.fault.Field.{Field}
 use Rattle.snap_script.specs.declared.fault.Field.TheVariants as fields
+use Rattle.snap_script.specs.declared.fault.Found.TheVariants.{Text, Array}
 use Rattle.snap_script.specs.declared.fault.Fault.{Fault}
 use Rattle.snap_script.specs.declared.fault.Fault.TheVariants.{BadField}
 use Rattle.snap_script.specs.declared.verb.Verb.{Verb}
@@ -32,7 +33,7 @@ path_in field line = do Ok (path_of (← text field line))
 
 -- a path that must be there
 unfoldable pub path : Field → Data → Result Names Fault
-path field line = do ok_or (← path_in field line) (BadField field)
+path field line = do ok_or (← path_in field line) (BadField field (Some Text))
 
 -- the operation of the verb at a path, with the line's other fields; the mode of a new directory is octal 755 and that of a new file octal 644 where it is absent
 unfoldable pub operation_at : PathVerb → Names → Data → Result Op Fault
@@ -72,7 +73,7 @@ abbrev pub operation_by : Option Verb → Data → Result Op Fault
 operation_by (Some (verbs.File (file_verbs.At verb))) line = do operation_at verb (← path fields.Path line) line
 operation_by (Some (verbs.File file_verbs.Link)) line = do Ok (ops.Link (← path fields.From line) (← path fields.To line))
 operation_by (Some (verbs.File file_verbs.Rename)) line = do Ok (ops.Rename (← path fields.From line) (← path fields.To line))
-operation_by verb line = Err (BadField fields.Do)
+operation_by verb line = Err (BadField fields.Do (Some Text))
 
 -- the operation that an object is
 abbrev pub operation_in : Data → Result Op Fault
@@ -80,7 +81,7 @@ operation_in line = do operation_by (verb_of (← text fields.Do line)) line
 
 -- an operation: an object
 unfoldable pub operation : Data → Result Op Fault
-operation line = if is_some (as_object line) then operation_in line else Err (BadField fields.Ops)
+operation line = if is_some (as_object line) then operation_in line else Err (BadField fields.Ops (Some Array))
 
 -- each item an operation
 abbrev pub operations_in : Items → Result (List Op) Fault

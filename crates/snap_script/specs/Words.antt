@@ -1,13 +1,14 @@
 -- The words of the commands; cited by the public clauses of `read_line` and `operations` through Lines.antt and
 -- Operations.antt.
 -- Cited by `read_open`, `read_line`, `operations` and others.
-use Rattle.std.specs.Prelude.{List, ℕ, [], ◌∷◌, Option, option_map, codes, map}
+use Rattle.std.specs.Prelude.{List, ℕ, [], ◌∷◌, Option, option_map, codes, find, map}
 use Rattle.std.specs.Option.{option_or}
 use Rattle.std.specs.Map.{lookup}
 use Rattle.std.specs.Str.{bytes_eq}
 use Rattle.snap_history.specs.declared.kind.CallKind.{CallKind}
 use Rattle.snap_history.specs.declared.kind.CallKind.TheVariants as kinds
 use Rattle.snap_history.specs.Entries.{call_word}
+use Rattle.snap_script.specs.Near.{is_near}
 use Rattle.snap_script.specs.declared.verb.Verb.{Verb}
 use Rattle.snap_script.specs.declared.verb.Verb.TheVariants as verbs
 use Rattle.snap_script.specs.declared.verb.FileVerb.TheVariants as file_verbs
@@ -59,3 +60,7 @@ words =
 -- the verb of a word
 unfoldable pub verb_of : List ℕ → Option Verb
 verb_of word = option_or (option_map verbs.Call (call_of_word word)) (lookup (bytes_eq word) words)
+
+-- the first word of a command that is near the word
+unfoldable pub near_command : List ℕ → Option (List ℕ)
+near_command word = option_or (find (λ known. is_near known word) (map call_word calls)) (find (λ known. is_near known word) (map (λ p. p.0) words))

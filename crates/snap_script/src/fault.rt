@@ -1,6 +1,6 @@
 ghost use Rattle.std.specs.Prelude.{◌≡◌, Some};
 ghost use Rattle.snap_path.specs.Memory.{no_memory};
-ghost use Rattle.snap_script.specs.Faults.{field_name, fault_words};
+ghost use Rattle.snap_script.specs.Faults.{brief, fault_words, field_name, found_words, wanted};
 ghost use Rattle.snap_script.specs.declared.fault.ReadError.TheVariants as errors;
 ghost use Rattle.snap_script.specs.declared.fault.Shortage.TheVariants.{Allocator};
 
@@ -74,6 +74,20 @@ pub enum Field {
     Open,
 }
 
+/// What stands where a field has to be.
+#[derive(Clone, Copy, Debug, PartialEq, Eq)]
+pub enum Found {
+    /// The line has no such field.
+    Nothing,
+    Null,
+    /// `true` or `false`.
+    Truth,
+    Number,
+    Text,
+    Array,
+    Object,
+}
+
 /// Why a line is no command, or why its command ends the run. Of several faults, the line has the first in the order
 /// below; of several unknown fields, the first in byte order; of several bad ones, the first in the order of the
 /// command's definition.
@@ -88,12 +102,15 @@ pub enum Fault {
     FirstLineMustBeOpen,
     /// A store was opened, and the command is `open`.
     OpenTwice,
-    NoSuchCommand,
-    /// The line has a field of this name, and its command has none, where unknown fields are faults.
-    UnknownField(Text),
-    /// The field is missing and has no default, or its value is of a wrong kind. `BadField(Do)` comes
-    /// before `FirstLineMustBeOpen`.
-    BadField(Field),
+    /// No command has the line's word; and the first word of a command that is one edit away from it, where there is
+    /// one and it is told.
+    NoSuchCommand(Option<Text>),
+    /// The line has a field of this name, and its command has none, where unknown fields are faults; and the first field
+    /// of the command whose name is one edit away.
+    UnknownField(Text, Option<Field>),
+    /// The field is missing and has no default, or its value is of a wrong kind; and what stands there, where that is
+    /// told. `BadField(Do, _)` comes before `FirstLineMustBeOpen`.
+    BadField(Field, Option<Found>),
     /// The command was refused, where a run ends at that.
     Refused(Refused),
 }
@@ -164,6 +181,95 @@ impl Field {
             Field::Open => "open",
         }
     }
+
+    /// What the field has to be: the kind of its value, and the words for it.
+    fn wanted(self) -> (Found, &'static str)
+        ensures { (result.0 ≡ (wanted self).0) × (result.1.now ≡ (wanted self).1) }
+    {
+        match self {
+            Field::Session
+            | Field::Journal
+            | Field::Slots
+            | Field::LayerInodes
+            | Field::Most
+            | Field::Until
+            | Field::Moment
+            | Field::Blocks
+            | Field::Inodes
+            | Field::Mode
+            | Field::Offset
+            | Field::Size => (Found::Number, "a number"),
+            Field::Try | Field::Chain | Field::Full | Field::Peek => {
+                (Found::Truth, "true or false")
+            }
+            Field::Do => (
+                Found::Text,
+                "the word of a command, in a job that of a file command,",
+            ),
+            Field::After => (
+                Found::Text,
+                "a text in a walk, a number of digits alone below 2^64 in a journal",
+            ),
+            Field::Kind => (Found::Text, "View, Active or Committed"),
+            Field::Path | Field::From | Field::To => (Found::Text, "a path"),
+            Field::End => (Found::Text, "commit or discard"),
+            Field::Id
+            | Field::Root
+            | Field::Namespace
+            | Field::Key
+            | Field::Parent
+            | Field::Name
+            | Field::Lease
+            | Field::Digest
+            | Field::Target
+            | Field::Text => (Found::Text, "a text"),
+            Field::Namespaces => (Found::Array, "an array of [name, blocks, inodes]"),
+            Field::Paths => (Found::Array, "an array of texts"),
+            Field::Need | Field::Want | Field::Extra => (Found::Array, "[blocks, inodes]"),
+            Field::Fill => (Found::Array, "[byte, number up to 1048576]"),
+            Field::Ops => (Found::Array, "an array of objects"),
+            Field::Labels => (
+                Found::Object,
+                "an object of texts, in a walk also of nulls,",
+            ),
+            Field::Open => (Found::Object, "an object that opens a store"),
+        }
+    }
+}
+
+impl Found {
+    /// The words for what is there, where a value of this kind is wanted.
+    fn words(self, wanted: Found) -> &'static str
+        ensures { result.now ≡ found_words self wanted }
+    {
+        match (self, wanted) {
+            (Found::Nothing, _) => "nothing",
+            (Found::Null, _) => "null",
+            (Found::Truth, _) => "a truth value",
+            (Found::Number, Found::Number) => "one that is not of digits alone below 2^64",
+            (Found::Number, _) => "a number",
+            (Found::Text, Found::Text) => "another text",
+            (Found::Text, _) => "a text",
+            (Found::Array, Found::Array) => "another array",
+            (Found::Array, _) => "an array",
+            (Found::Object, Found::Object) => "another object",
+            (Found::Object, _) => "an object",
+        }
+    }
+}
+
+impl Fault {
+    /// The fault without what is wanted and what is there, and without what is near. Takes no memory.
+    pub fn brief(self) -> Fault
+        ensures { result ≡ brief self }
+    {
+        match self {
+            Fault::NoSuchCommand(_) => Fault::NoSuchCommand(None),
+            Fault::UnknownField(name, _) => Fault::UnknownField(name, None),
+            Fault::BadField(field, _) => Fault::BadField(field, None),
+            other => other,
+        }
+    }
 }
 
 /// The fault's words; a width or a precision has no effect.
@@ -177,11 +283,22 @@ impl fmt::Display for Fault {
             Fault::NotAnObject => f.write_str("not an object"),
             Fault::FirstLineMustBeOpen => f.write_str("first line must be open"),
             Fault::OpenTwice => f.write_str("open twice"),
-            Fault::NoSuchCommand => f.write_str("no such command"),
-            Fault::UnknownField(name) => write!(f, "unknown field {name}"),
-            Fault::BadField(field) => {
+            Fault::NoSuchCommand(None) => f.write_str("no such command"),
+            Fault::NoSuchCommand(Some(near)) => write!(f, "no such command: {near}?"),
+            Fault::UnknownField(name, None) => write!(f, "unknown field {name}"),
+            Fault::UnknownField(name, Some(near)) => {
+                let near = near.name();
+                write!(f, "unknown field {name}: {near}?")
+            }
+            Fault::BadField(field, None) => {
                 let name = field.name();
                 write!(f, "bad field {name}")
+            }
+            Fault::BadField(field, Some(found)) => {
+                let name = field.name();
+                let (kind, wanted) = field.wanted();
+                let there = found.words(kind);
+                write!(f, "bad field {name}: {wanted} is wanted, {there} is there")
             }
             Fault::Refused(why) => f.write_str(why.name()),
         }

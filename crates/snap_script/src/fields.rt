@@ -4,10 +4,10 @@ ghost use Rattle.serde_json.specs.Find.{get, as_bool, as_str};
 ghost use Rattle.snap_json.specs.View.{view, items_view, members_of};
 ghost use Rattle.snap_script.specs.declared.fault.Field.TheVariants as fields;
 ghost use Rattle.snap_script.specs.Faults.{field_name};
-ghost use Rattle.snap_script.specs.Fields.{text, required, optional, given, as_natural, as_mode, pair_in, as_pair, as_usage, each_item, as_texts, kind_named, as_kind, labels_with, as_labels, label_filter, label_filters_in, as_label_filters, as_namespace, as_namespaces, as_fill, content_of};
+ghost use Rattle.snap_script.specs.Fields.{found_in, misfit, missing, text, required, optional, given, as_natural, as_mode, pair_in, as_pair, as_usage, each_item, as_texts, kind_named, as_kind, labels_with, as_labels, label_filter, label_filters_in, as_label_filters, as_namespace, as_namespaces, as_fill, content_of};
 ghost use Rattle.snap_script.specs.Gives.{Gives, GivesAll};
 
-use crate::fault::{Fault, Field, ReadError};
+use crate::fault::{Fault, Field, Found, ReadError};
 use snap_call::Namespace;
 use snap_json::{Value, by_name};
 use snap_layer::Bytes;
@@ -22,6 +22,33 @@ pub(crate) fn find<'v, 'a>(field: Field, line: &'v Value<'a>) -> Option<&'v Valu
     ensures { option_map (λ v. view v.now) result ≡ get (field_name field) (view line.now) }
 {
     line.get(field.name())
+}
+
+fn found_in(value: &Value<'_>) -> Found
+    ensures { result ≡ found_in (view value.now) }
+{
+    match value {
+        Value::Null => Found::Null,
+        Value::Bool(_) => Found::Truth,
+        Value::Number(_) => Found::Number,
+        Value::String(_) => Found::Text,
+        Value::Array(_) => Found::Array,
+        Value::Object(_) => Found::Object,
+    }
+}
+
+/// The fault of a field that this value doesn't fit.
+pub(crate) fn misfit(field: Field, value: &Value<'_>) -> Fault
+    ensures { result ≡ misfit field (view value.now) }
+{
+    Fault::BadField(field, Some(found_in(value)))
+}
+
+/// The fault of a field that must be there.
+pub(crate) fn missing(field: Field) -> Fault
+    ensures { result ≡ missing field }
+{
+    Fault::BadField(field, Some(Found::Nothing))
 }
 
 fn truth(value: &Value<'_>) -> Option<bool>
@@ -39,7 +66,7 @@ pub(crate) fn is_true(field: Field, line: &Value<'_>) -> Result<bool, Fault>
     ensures { result ≡ optional as_bool field (Ok false) (view line.now) }
 {
     match find(field, line) {
-        Some(value) => truth(value).ok_or(Fault::BadField(field)),
+        Some(value) => truth(value).ok_or(misfit(field, value)),
         None => Ok(false),
     }
 }
@@ -49,7 +76,7 @@ pub(crate) fn number_or(default: u64, field: Field, line: &Value<'_>) -> Result<
     ensures { result ≡ optional as_natural field (Ok default) (view line.now) }
 {
     match find(field, line) {
-        Some(value) => value.as_u64().ok_or(Fault::BadField(field)),
+        Some(value) => value.as_u64().ok_or(misfit(field, value)),
         None => Ok(default),
     }
 }
@@ -59,7 +86,7 @@ pub(crate) fn optional_number(field: Field, line: &Value<'_>) -> Result<Option<u
     ensures { result ≡ given as_natural field (view line.now) }
 {
     match find(field, line) {
-        Some(value) => Ok(Some(value.as_u64().ok_or(Fault::BadField(field))?)),
+        Some(value) => Ok(Some(value.as_u64().ok_or(misfit(field, value))?)),
         None => Ok(None),
     }
 }
@@ -69,8 +96,8 @@ pub(crate) fn required_number(field: Field, line: &Value<'_>) -> Result<u64, Fau
     ensures { result ≡ required as_natural field (view line.now) }
 {
     match find(field, line) {
-        Some(value) => value.as_u64().ok_or(Fault::BadField(field)),
-        None => Err(Fault::BadField(field)),
+        Some(value) => value.as_u64().ok_or(misfit(field, value)),
+        None => Err(missing(field)),
     }
 }
 
@@ -89,7 +116,7 @@ pub(crate) fn mode_or(default: u32, line: &Value<'_>) -> Result<u32, Fault>
     ensures { result ≡ optional as_mode fields.Mode (Ok default) (view line.now) }
 {
     match find(Field::Mode, line) {
-        Some(value) => mode(value).ok_or(Fault::BadField(Field::Mode)),
+        Some(value) => mode(value).ok_or(misfit(Field::Mode, value)),
         None => Ok(default),
     }
 }
@@ -99,8 +126,8 @@ pub(crate) fn required_mode(line: &Value<'_>) -> Result<u32, Fault>
     ensures { result ≡ required as_mode fields.Mode (view line.now) }
 {
     match find(Field::Mode, line) {
-        Some(value) => mode(value).ok_or(Fault::BadField(Field::Mode)),
-        None => Err(Fault::BadField(Field::Mode)),
+        Some(value) => mode(value).ok_or(misfit(Field::Mode, value)),
+        None => Err(missing(Field::Mode)),
     }
 }
 
@@ -109,8 +136,8 @@ pub fn lent_text<'a>(field: Field, line: &Value<'a>) -> Result<&'a str, Fault>
     ensures { GivesAll (λ s. s.now) result (text field (view line.now)) }
 {
     match find(field, line) {
-        Some(value) => value.as_str().ok_or(Fault::BadField(field)),
-        None => Err(Fault::BadField(field)),
+        Some(value) => value.as_str().ok_or(misfit(field, value)),
+        None => Err(missing(field)),
     }
 }
 
@@ -132,7 +159,7 @@ pub fn optional_text(
 {
     match find(field, line) {
         Some(value) => {
-            let text = value.as_str().ok_or(Fault::BadField(field))?;
+            let text = value.as_str().ok_or(misfit(field, value))?;
             Ok(Some(Text::copy_of(alloc, text)?))
         }
         None => Ok(None),
@@ -175,10 +202,10 @@ pub(crate) fn paths(alloc: Global, line: &Value<'_>) -> Result<Sequence<Text>, R
         return Ok(Sequence::new(alloc));
     };
     let Some(values) = value.as_array() else {
-        return Err(ReadError::Fault(Fault::BadField(Field::Paths)));
+        return Err(ReadError::Fault(misfit(Field::Paths, value)));
     };
     let paths = texts_in(alloc, values)?;
-    Ok(paths.ok_or(Fault::BadField(Field::Paths))?)
+    Ok(paths.ok_or(misfit(Field::Paths, value))?)
 }
 
 /// The kind that has the word.
@@ -199,8 +226,8 @@ pub(crate) fn optional_kind(line: &Value<'_>) -> Result<Option<Kind>, Fault>
 {
     match find(Field::Kind, line) {
         Some(value) => {
-            let word = value.as_str().ok_or(Fault::BadField(Field::Kind))?;
-            Ok(Some(kind_named(word).ok_or(Fault::BadField(Field::Kind))?))
+            let word = value.as_str().ok_or(misfit(Field::Kind, value))?;
+            Ok(Some(kind_named(word).ok_or(misfit(Field::Kind, value))?))
         }
         None => Ok(None),
     }
@@ -236,8 +263,8 @@ pub(crate) fn required_usage(field: Field, line: &Value<'_>) -> Result<Usage, Fa
     ensures { result ≡ required as_usage field (view line.now) }
 {
     match find(field, line) {
-        Some(value) => usage(value).ok_or(Fault::BadField(field)),
-        None => Err(Fault::BadField(field)),
+        Some(value) => usage(value).ok_or(misfit(field, value)),
+        None => Err(missing(field)),
     }
 }
 
@@ -246,7 +273,7 @@ pub fn usage_or(default: Usage, field: Field, line: &Value<'_>) -> Result<Usage,
     ensures { result ≡ optional as_usage field (Ok default) (view line.now) }
 {
     match find(field, line) {
-        Some(value) => usage(value).ok_or(Fault::BadField(field)),
+        Some(value) => usage(value).ok_or(misfit(field, value)),
         None => Ok(default),
     }
 }
@@ -274,14 +301,12 @@ fn labels_in(
 pub(crate) fn required_labels(alloc: Global, line: &Value<'_>) -> Result<Labels, ReadError>
     ensures { Gives (λ labels. labels) result (required as_labels fields.Labels (view line.now)) }
 {
-    let Some(found) = find(Field::Labels, line) else {
-        return Err(ReadError::Fault(Fault::BadField(Field::Labels)));
-    };
-    let Some(members) = found.as_object() else {
-        return Err(ReadError::Fault(Fault::BadField(Field::Labels)));
+    let value = find(Field::Labels, line).ok_or(missing(Field::Labels))?;
+    let Some(members) = value.as_object() else {
+        return Err(ReadError::Fault(misfit(Field::Labels, value)));
     };
     let labels = labels_in(alloc, &by_name(alloc, members)?)?;
-    Ok(labels.ok_or(Fault::BadField(Field::Labels))?)
+    Ok(labels.ok_or(misfit(Field::Labels, value))?)
 }
 
 /// Labels, none where the line has no such field.
@@ -339,10 +364,10 @@ pub(crate) fn label_filters(
         return Ok(Sequence::new(alloc));
     };
     let Some(members) = value.as_object() else {
-        return Err(ReadError::Fault(Fault::BadField(Field::Labels)));
+        return Err(ReadError::Fault(misfit(Field::Labels, value)));
     };
     let filters = label_filters_in(alloc, &by_name(alloc, members)?)?;
-    Ok(filters.ok_or(Fault::BadField(Field::Labels))?)
+    Ok(filters.ok_or(misfit(Field::Labels, value))?)
 }
 
 /// A namespace: a name, blocks and inodes.
@@ -385,24 +410,22 @@ fn namespaces_in(
 pub(crate) fn namespaces(alloc: Global, line: &Value<'_>) -> Result<Sequence<Namespace>, ReadError>
     ensures { Gives (λ namespaces. namespaces) result (required as_namespaces fields.Namespaces (view line.now)) }
 {
-    let Some(found) = find(Field::Namespaces, line) else {
-        return Err(ReadError::Fault(Fault::BadField(Field::Namespaces)));
-    };
-    let Some(values) = found.as_array() else {
-        return Err(ReadError::Fault(Fault::BadField(Field::Namespaces)));
+    let value = find(Field::Namespaces, line).ok_or(missing(Field::Namespaces))?;
+    let Some(values) = value.as_array() else {
+        return Err(ReadError::Fault(misfit(Field::Namespaces, value)));
     };
     let namespaces = namespaces_in(alloc, values)?;
-    Ok(namespaces.ok_or(Fault::BadField(Field::Namespaces))?)
+    Ok(namespaces.ok_or(misfit(Field::Namespaces, value))?)
 }
 
 /// The bytes of a fill.
 fn fill(alloc: Global, line: &Value<'_>) -> Result<Bytes, ReadError>
     ensures { Gives (λ bytes. bytes) result (required as_fill fields.Fill (view line.now)) }
 {
-    let value = find(Field::Fill, line).ok_or(Fault::BadField(Field::Fill))?;
-    let (byte, number) = pair(value).ok_or(Fault::BadField(Field::Fill))?;
+    let value = find(Field::Fill, line).ok_or(missing(Field::Fill))?;
+    let (byte, number) = pair(value).ok_or(misfit(Field::Fill, value))?;
     if byte > 255 || number > MAX_FILE_BYTES {
-        return Err(ReadError::Fault(Fault::BadField(Field::Fill)));
+        return Err(ReadError::Fault(misfit(Field::Fill, value)));
     }
     Ok(Bytes::new(vec![in alloc; byte as u8; number as usize]?))
 }
@@ -414,7 +437,7 @@ pub(crate) fn content(alloc: Global, line: &Value<'_>) -> Result<Bytes, ReadErro
     let Some(value) = find(Field::Text, line) else {
         return fill(alloc, line);
     };
-    let text = value.as_str().ok_or(Fault::BadField(Field::Text))?;
+    let text = value.as_str().ok_or(misfit(Field::Text, value))?;
     Ok(Bytes::copy_of(alloc, text.as_bytes())?)
 }
 
@@ -425,7 +448,7 @@ pub(crate) fn digest(alloc: Global, line: &Value) -> Result<Option<Bytes>, ReadE
     let Some(value) = find(Field::Digest, line) else {
         return Ok(None);
     };
-    let text = value.as_str().ok_or(Fault::BadField(Field::Digest))?;
+    let text = value.as_str().ok_or(misfit(Field::Digest, value))?;
     Ok(Some(Bytes::copy_of(alloc, text.as_bytes())?))
 }
 

@@ -1,17 +1,22 @@
-ghost use Rattle.std.specs.Prelude.{◌≡◌};
+ghost use Rattle.std.specs.Prelude.{◌≡◌, IfOk};
 ghost use Rattle.snap_json.specs.View.{view};
 ghost use Rattle.snap_script.specs.Lines.{is_empty, object_in, allowed, command_in, command_line, opening_of, line_of};
 ghost use Rattle.snap_script.specs.Gives.{Gives};
+ghost use Rattle.snap_script.specs.Words.{near_command};
+ghost use Rattle.snap_script.specs.declared.fault.Fault.TheVariants.{NoSuchCommand};
+ghost use Rattle.snap_script.specs.Faults.{briefly};
+ghost use Rattle.snap_script.specs.declared.unknown.FieldRule.TheVariants.{Any};
 
 use crate::command::Command;
 use crate::fault::{Fault, Field, ReadError};
 use crate::fields::{lent_text, number_or};
 use crate::parse::{command_of, config_of};
 use crate::unknown::{FieldRule, known_fields};
-use crate::verb::{Verb, verb_of};
+use crate::verb::{Verb, near_command, verb_of};
 use snap_call::Config;
 use snap_json::{Scratch, Unreadable, Value};
-use std::alloc::Global;
+use snap_record::Text;
+use std::alloc::{AllocError, Global};
 
 /// A line has at most so many bytes, without its line feed.
 pub const MAX_LINE_BYTES: usize = 16_777_216;
@@ -62,17 +67,27 @@ pub fn read_object<'a>(
     }
 }
 
-/// The verb, where a command of it may stand here.
-#[tactic(auto, unfolding(crate::specs::Lines::allowed))]
-fn allowed(opened: bool, verb: Option<Verb>) -> Result<Verb, Fault>
-    ensures { result ≡ allowed opened verb }
+/// The fault of a word that no command has.
+fn no_such_command(alloc: Global, word: &str) -> Result<Fault, AllocError>
+    ensures { IfOk result (λ fault. fault ≡ NoSuchCommand (near_command word.now)) }
 {
-    match (opened, verb) {
+    match near_command(word) {
+        Some(near) => Ok(Fault::NoSuchCommand(Some(Text::copy_of(alloc, near)?))),
+        None => Ok(Fault::NoSuchCommand(None)),
+    }
+}
+
+/// The verb of a word, where a command of it may stand here. Memory is taken only where no command has the word.
+#[tactic(auto, unfolding(crate::specs::Lines::allowed))]
+fn allowed(alloc: Global, opened: bool, word: &str) -> Result<Verb, ReadError>
+    ensures { Gives (λ verb. verb) result (allowed opened word.now) }
+{
+    match (opened, verb_of(word)) {
         (false, Some(Verb::Open)) => Ok(Verb::Open),
-        (false, _) => Err(Fault::FirstLineMustBeOpen),
-        (true, Some(Verb::Open)) => Err(Fault::OpenTwice),
+        (false, _) => Err(ReadError::Fault(Fault::FirstLineMustBeOpen)),
+        (true, Some(Verb::Open)) => Err(ReadError::Fault(Fault::OpenTwice)),
         (true, Some(verb)) => Ok(verb),
-        (true, None) => Err(Fault::NoSuchCommand),
+        (true, None) => Err(ReadError::Fault(no_such_command(alloc, word)?)),
     }
 }
 
@@ -87,11 +102,22 @@ pub(crate) fn command_in(
     ensures { Gives (λ line. line) result (command_in rule opened (view line.now)) }
 {
     let word = lent_text(Field::Do, line)?;
-    let verb = allowed(opened, verb_of(word))?;
+    let verb = allowed(alloc, opened, word)?;
     known_fields(alloc, rule, verb, line)?;
     let session = number_or(0, Field::Session, line)?;
     let command = command_of(alloc, verb, line)?;
     Ok(Line::Command { session, command })
+}
+
+/// The same where any field may stand: a fault is brief.
+fn command_by_any(alloc: Global, opened: bool, line: &Value<'_>) -> Result<Line, ReadError>
+    ensures { Gives (λ line. line) result (briefly (command_in Any opened (view line.now))) }
+{
+    match command_in(alloc, FieldRule::Any, opened, line) {
+        Ok(line) => Ok(line),
+        Err(ReadError::Fault(fault)) => Err(ReadError::Fault(fault.brief())),
+        Err(ReadError::OutOfMemory(shortage)) => Err(ReadError::OutOfMemory(shortage)),
+    }
 }
 
 #[tactic(auto, unfolding(crate::specs::Lines::command_line))]
@@ -105,12 +131,15 @@ fn command_line(
     ensures { Gives (λ line. line) result (command_line rule opened bytes.now) }
 {
     let line = read_object(alloc, bytes, scratch)?;
-    command_in(alloc, rule, opened, &line)
+    match rule {
+        FieldRule::Any => command_by_any(alloc, opened, &line),
+        FieldRule::Known | FieldRule::KnownAndId => command_in(alloc, rule, opened, &line),
+    }
 }
 
 /// The store that a first line opens, where no session is named: the field `s` isn't looked at.
 ///
-/// `BadField(Do)`, then `FirstLineMustBeOpen`, then the fields of `open` in their order. The configuration
+/// `BadField` of `do`, then `FirstLineMustBeOpen`, then the fields of `open` in their order. The configuration
 /// need not have its form. `OutOfMemory` where memory for it was refused. The memory and the cost grow with
 /// the line.
 #[tactic(auto, unfolding(crate::specs::Lines::opening_of))]
@@ -118,12 +147,14 @@ pub fn read_open(alloc: Global, line: &Value<'_>) -> Result<Config, ReadError>
     ensures { Gives (λ config. config) result (opening_of (view line.now)) }
 {
     let word = lent_text(Field::Do, line)?;
-    allowed(false, verb_of(word))?;
+    allowed(alloc, false, word)?;
     config_of(alloc, line)
 }
 
 /// Reads a line, which stands here without its line feed. `rule` says which fields it may have, and `opened` whether a
 /// store was opened.
+///
+/// Where any field may stand, a fault is [brief](Fault::brief).
 ///
 /// `OutOfMemory` where memory for the line's value or for the command was refused. The memory and the
 /// cost grow with the line, and a `fill` takes as many bytes as it asks for. The scratch keeps what it took for the

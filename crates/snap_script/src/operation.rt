@@ -3,9 +3,10 @@ ghost use Rattle.snap_json.specs.View.{view, items_view};
 ghost use Rattle.snap_script.specs.Operations.{path_in, path, operation_at, file_operation, operation, operations_in, operations};
 ghost use Rattle.snap_script.specs.Gives.{Gives};
 
-use crate::fault::{Fault, Field, ReadError};
+use crate::fault::{Fault, Field, Found, ReadError};
 use crate::fields::{
-    content, digest, find, lent_text, mode_or, number_or, required_mode, required_number, target,
+    content, digest, find, lent_text, misfit, missing, mode_or, number_or, required_mode,
+    required_number, target,
 };
 use crate::verb::{FileVerb, PathVerb, Verb, verb_of};
 use snap_json::Value;
@@ -41,7 +42,7 @@ fn path(alloc: Global, field: Field, line: &Value<'_>) -> Result<Path, ReadError
     ensures { Gives (λ path. path) result (path field (view line.now)) }
 {
     let path = path_in(alloc, field, line)?;
-    Ok(path.ok_or(Fault::BadField(field))?)
+    Ok(path.ok_or(Fault::BadField(field, Some(Found::Text)))?)
 }
 
 /// The operation of a verb at a path, with the line's other fields.
@@ -141,7 +142,7 @@ fn operation(alloc: Global, value: &Value<'_>) -> Result<Op, ReadError>
     ensures { Gives (λ op. op) result (operation (view value.now)) }
 {
     if !value.is_object() {
-        return Err(ReadError::Fault(Fault::BadField(Field::Ops)));
+        return Err(ReadError::Fault(Fault::BadField(Field::Ops, Some(Found::Array))));
     }
     let word = lent_text(Field::Do, value)?;
     match verb_of(word) {
@@ -157,7 +158,7 @@ fn operation(alloc: Global, value: &Value<'_>) -> Result<Op, ReadError>
             from: path(alloc, Field::From, value)?,
             to: path(alloc, Field::To, value)?,
         }),
-        _ => Err(ReadError::Fault(Fault::BadField(Field::Do))),
+        _ => Err(ReadError::Fault(Fault::BadField(Field::Do, Some(Found::Text)))),
     }
 }
 
@@ -175,19 +176,17 @@ fn operations_in(alloc: Global, values: &[Value<'_>]) -> Result<Sequence<Op>, Re
 /// The operations of a job (`ops`): an array of objects, each with its word in `do` and the fields of that file
 /// command, but for its snapshot and its extra amount.
 ///
-/// `BadField(Ops)` where the field is absent, or no array. Then, operation by operation: `BadField(Ops)` where
-/// it is no object, `BadField(Do)` where its word is none of a file command, and the first of its fields that
+/// `BadField` of `ops` where the field is absent, or no array. Then, operation by operation: of `ops` where
+/// it is no object, of `do` where its word is none of a file command, and the first of its fields that
 /// is absent without a default, of a wrong kind, or a path's text that is no path. `OutOfMemory` where memory
 /// was refused. The memory and the cost grow with the line, and a `fill` takes as many bytes as it asks for.
 #[tactic(auto, unfolding(crate::specs::Operations::operations))]
 pub fn operations(alloc: Global, line: &Value<'_>) -> Result<Sequence<Op>, ReadError>
     ensures { Gives (λ ops. ops) result (operations (view line.now)) }
 {
-    let Some(found) = find(Field::Ops, line) else {
-        return Err(ReadError::Fault(Fault::BadField(Field::Ops)));
-    };
+    let found = find(Field::Ops, line).ok_or(missing(Field::Ops))?;
     let Some(values) = found.as_array() else {
-        return Err(ReadError::Fault(Fault::BadField(Field::Ops)));
+        return Err(ReadError::Fault(misfit(Field::Ops, found)));
     };
     operations_in(alloc, values)
 }

@@ -14,7 +14,7 @@ use std::alloc::{AllocError, Global};
 pub enum Response {
     /// The answer of a command.
     Answer(Answer),
-    /// The line, by its number from 1, is no command: `{"fault":"bad field mode","line":3}`.
+    /// The line, by its number from 1, is no command: `{"fault":"not JSON","line":3}`.
     Fault { fault: Fault, line: u64 },
     /// The line is empty: `{"empty":true}`.
     Empty,

@@ -4,12 +4,13 @@ ghost use Rattle.std.specs.List.{list_all};
 ghost use Rattle.serde_json.specs.Find.{as_object};
 ghost use Rattle.snap_json.specs.View.{view, members_of};
 ghost use Rattle.snap_history.specs.declared.kind.CallKind.TheVariants as kinds;
-ghost use Rattle.snap_script.specs.Known.{common_fields, fields_of, is_among, is_known, known_fields, unknown_among};
+ghost use Rattle.snap_script.specs.Known.{common_fields, fields_of, is_among, is_known, known_fields, near_field, unknown_among};
 ghost use Rattle.snap_script.specs.Gives.{Gives};
 ghost use Rattle.snap_script.specs.declared.verb.Verb.TheVariants as verbs;
 ghost use Rattle.snap_script.specs.declared.verb.FileVerb.TheVariants as file_verbs;
 
 use crate::fault::{Fault, Field, ReadError};
+use crate::near::is_near;
 use crate::verb::{FileVerb, LookupVerb, PathVerb, Verb};
 use snap_history::CallKind;
 use snap_json::{Member, Value, by_name};
@@ -20,7 +21,7 @@ use std::collections::BTreeMap;
 /// Which fields a line may have.
 #[derive(Clone, Copy, Debug, PartialEq, Eq)]
 pub enum FieldRule {
-    /// Any: those that its command doesn't have aren't looked at.
+    /// Any: those that its command doesn't have aren't looked at. A fault is [brief](Fault::brief).
     Any,
     /// `do`, `s` and those of its command.
     Known,
@@ -228,6 +229,19 @@ fn unknown_in(
     }
 }
 
+/// The first of the fields whose name is near.
+fn near_field(mut fields: &[Field], name: &str) -> Option<Field>
+    ensures { result ≡ near_field fields.entry.now name.now }
+{
+    while let [field, rest @ ..] = fields {
+        if is_near(field.name().as_bytes(), name.as_bytes()) {
+            return Some(*field);
+        }
+        fields = rest;
+    }
+    None
+}
+
 /// That the line has no field but those that it may have. The cost grows with the members.
 #[tactic(auto, unfolding(crate::specs::Known::known_fields))]
 pub(crate) fn known_fields(
@@ -241,8 +255,12 @@ pub(crate) fn known_fields(
     if rule == FieldRule::Any {
         return Ok(());
     }
-    match unknown_in(alloc, common_fields(rule), fields_of(verb), line)? {
-        Some(name) => Err(ReadError::Fault(Fault::UnknownField(name))),
+    let own = fields_of(verb);
+    match unknown_in(alloc, common_fields(rule), own, line)? {
+        Some(name) => {
+            let near = near_field(own, name.as_str());
+            Err(ReadError::Fault(Fault::UnknownField(name, near)))
+        }
         None => Ok(()),
     }
 }

@@ -1,9 +1,11 @@
-ghost use Rattle.std.specs.Prelude.{◌≡◌, map};
+ghost use Rattle.std.specs.Prelude.{◌≡◌, find, map, option_map};
 ghost use Rattle.std.specs.Map.{lookup};
 ghost use Rattle.std.specs.Str.{bytes_eq};
 ghost use Rattle.snap_history.specs.Entries.{call_word};
-ghost use Rattle.snap_script.specs.Words.{verb_of};
+ghost use Rattle.snap_script.specs.Near.{is_near};
+ghost use Rattle.snap_script.specs.Words.{near_command, verb_of};
 
+use crate::near::is_near;
 use snap_history::CallKind;
 
 /// The commands by their words.
@@ -142,5 +144,43 @@ pub(crate) fn verb_of(word: &str) -> Option<Verb>
     match call_in(&CALLS, word) {
         Some(call) => Some(Verb::Call(call)),
         None => verb_in(&WORDS, word),
+    }
+}
+
+/// The first word of these calls that is near.
+fn near_call(mut calls: &[CallKind], word: &str) -> Option<&'static str>
+    ensures { option_map (λ known. known.now) result ≡ find (λ known. is_near known word.now) (map call_word calls.entry.now) }
+{
+    while let [call, rest @ ..] = calls {
+        let known = call.as_str();
+        if is_near(known.as_bytes(), word.as_bytes()) {
+            return Some(known);
+        }
+        calls = rest;
+    }
+    None
+}
+
+/// The first word of a table that is near.
+fn near_entry(mut table: &[(&'static str, Verb)], word: &str) -> Option<&'static str>
+    ensures { option_map (λ known. known.now) result ≡ find (λ known. is_near known word.now) (map (λ p. p.0.now) table.entry.now) }
+{
+    while let [entry, rest @ ..] = table {
+        if is_near(entry.0.as_bytes(), word.as_bytes()) {
+            return Some(entry.0);
+        }
+        table = rest;
+    }
+    None
+}
+
+/// The first word of a command that is near this one.
+#[tactic(auto, unfolding(crate::specs::Words::near_command))]
+pub(crate) fn near_command(word: &str) -> Option<&'static str>
+    ensures { option_map (λ known. known.now) result ≡ near_command word.now }
+{
+    match near_call(&CALLS, word) {
+        Some(known) => Some(known),
+        None => near_entry(&WORDS, word),
     }
 }

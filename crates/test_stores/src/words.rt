@@ -37,7 +37,7 @@ fn errors_are_printed(rt: HostRuntime) {
     }
     let fault = LineFault {
         line: 12,
-        cause: Fault::BadField(Field::Namespace),
+        cause: Fault::BadField(Field::Namespace, None),
     };
     says(&rt, alloc, &Stop::Line(fault), "line 12: bad field ns");
     says(
