@@ -228,6 +228,15 @@ type Quota struct {
 	Free Usage `json:"free"`
 }
 
+// Lease is a lease of a namespace.
+type Lease struct {
+	Name string `json:"lease"`
+	// Names are the snapshots that it names, in the order in which it got them.
+	Names []string `json:"names"`
+	// Until is its last moment, or nil where it has none.
+	Until *uint64 `json:"until"`
+}
+
 // Node is a snapshot in a tree.
 type Node struct {
 	Key    string `json:"key"`
@@ -238,6 +247,13 @@ type Node struct {
 	Usage Usage `json:"usage"`
 	// Children is how many snapshots stand on it.
 	Children int `json:"children"`
+}
+
+// Change is what a snapshot's layer changes at a path.
+type Change struct {
+	// Change is "added", "changed" or "removed".
+	Change string `json:"change"`
+	Path   string `json:"path"`
 }
 
 // Entry is an entry of the journal.

@@ -192,6 +192,11 @@ func (s *Store) LeaseAdd(ctx context.Context, namespace, lease, name string, opt
 	return s.call(ctx, "lease_add", fields{"ns": namespace, "lease": lease, "name": name}, options, nil)
 }
 
+// LeaseDrop takes one name out of a lease. It is ErrNotFound where the lease doesn't have the name.
+func (s *Store) LeaseDrop(ctx context.Context, namespace, lease, name string, options ...Option) error {
+	return s.call(ctx, "lease_drop", fields{"ns": namespace, "lease": lease, "name": name}, options, nil)
+}
+
 // LeaseRelease takes a lease away.
 func (s *Store) LeaseRelease(ctx context.Context, namespace, lease string, options ...Option) error {
 	return s.call(ctx, "lease_release", fields{"ns": namespace, "lease": lease}, options, nil)
@@ -362,11 +367,43 @@ func (s *Store) quotas(ctx context.Context, given fields) (map[string]Quota, err
 	return answer.Quota, err
 }
 
+// Leases tells the leases of a namespace, in the order in which they were created.
+func (s *Store) Leases(ctx context.Context, namespace string) ([]Lease, error) {
+	return s.leases(ctx, fields{"ns": namespace})
+}
+
+// Lease tells one lease.
+func (s *Store) Lease(ctx context.Context, namespace, lease string) (Lease, error) {
+	leases, err := s.leases(ctx, fields{"ns": namespace, "lease": lease})
+	if err != nil {
+		return Lease{}, err
+	}
+	return leases[0], nil
+}
+
+func (s *Store) leases(ctx context.Context, given fields) ([]Lease, error) {
+	var answer struct{ Leases []Lease }
+	err := s.call(ctx, "leases", given, nil, &answer)
+	return answer.Leases, err
+}
+
 // Tree tells all snapshots of a namespace, in byte order of their keys.
 func (s *Store) Tree(ctx context.Context, namespace string) ([]Node, error) {
 	var answer struct{ Tree []Node }
 	err := s.call(ctx, "tree", fields{"ns": namespace}, nil, &answer)
 	return answer.Tree, err
+}
+
+// Diff tells a page of what a snapshot's layer changes, in order of the paths: of those after a path, or of all where
+// it is empty, the first max, 1 to 64, or 64 where it is 0.
+func (s *Store) Diff(ctx context.Context, namespace, key, after string, max int) ([]Change, error) {
+	given := fields{"ns": namespace, "key": key, "after": after}
+	if max != 0 {
+		given["max"] = max
+	}
+	var answer struct{ Changes []Change }
+	err := s.call(ctx, "diff", given, nil, &answer)
+	return answer.Changes, err
 }
 
 // Journal tells a page of the entries of a namespace, in order: those after a number, and of these the first max,

@@ -26,7 +26,8 @@ const (
 	ErrBadArgument Reason = "BadArgument"
 	// ErrNoNamespace: the store was opened without this namespace.
 	ErrNoNamespace Reason = "NoNamespace"
-	// ErrNotFound: there is no such snapshot or parent; of a file, nothing is seen at a path (ENOENT).
+	// ErrNotFound: there is no such snapshot or parent, or no such name in a lease; of a file, nothing is seen at a
+	// path (ENOENT).
 	ErrNotFound Reason = "NotFound"
 	// ErrAlreadyExists: the key or name is taken.
 	ErrAlreadyExists Reason = "AlreadyExists"

@@ -31,8 +31,8 @@ type log struct {
 
 // Commands that change nothing and make no entry in the journal. A log does without them.
 var isLookup = map[string]bool{
-	"look": true, "list": true, "read": true, "resolve": true, "du": true, "quota": true, "tree": true, "journal": true,
-	"report": true,
+	"look": true, "list": true, "read": true, "resolve": true, "du": true, "quota": true, "leases": true, "tree": true,
+	"diff": true, "journal": true, "report": true,
 }
 
 // Whether a command changes nothing and makes no entry: a lookup, a sweep that is tried, or the usage of a chain.

@@ -207,10 +207,16 @@ func TestSnapshots(t *testing.T) {
 	quota := Quota{Limit: Usage{100, 100}, Charged: Usage{1, 1}, Committed: Usage{1, 1}, Free: Usage{99, 99}}
 	equal(t, must[Quota](t)(store.Quota(ctx, "a")), quota)
 	equal(t, must[map[string]Quota](t)(store.Quotas(ctx)), map[string]Quota{"a": quota})
+	until := uint64(5)
+	lease := Lease{"lease", []string{"base"}, &until}
+	equal(t, must[Lease](t)(store.Lease(ctx, "a", "lease")), lease)
+	equal(t, must[[]Lease](t)(store.Leases(ctx, "a")), []Lease{lease})
 	equal(t, must[[]Node](t)(store.Tree(ctx, "a")), []Node{
 		{"base", "", KindCommitted, 1, Usage{1, 1}, 1},
 		{"v", "base", KindView, 2, Usage{}, 0},
 	})
+	equal(t, must[[]Change](t)(store.Diff(ctx, "a", "base", "", 1)), []Change{{"added", "/"}})
+	equal(t, must[[]Change](t)(store.Diff(ctx, "a", "v", "/", 0)), []Change{})
 	equal(t, must[[]Entry](t)(store.Journal(ctx, "a", 6, 3)), []Entry{
 		{7, 0, "commit", Usage{1, 1}, "base", 1, "", ""},
 		{8, 0, "view", Usage{1, 1}, "v", 2, "", ""},
@@ -271,6 +277,8 @@ func TestRefusals(t *testing.T) {
 		_, err := store.Mkdir(ctx, "a", key, path, options...)
 		return err
 	}
+	equal(t, must[[]Lease](t)(store.Leases(ctx, "a")), []Lease{{"lease", []string{"child"}, nil}})
+	_, noLease := store.Lease(ctx, "a", "none")
 	_, notActive := store.Commit(ctx, "a", "base", "x")
 	_, noSession := store.Stat(ctx, "a", "k", WithSession(7))
 	_, notEmpty := store.Rmdir(ctx, "a", "k", "/d")
@@ -293,7 +301,9 @@ func TestRefusals(t *testing.T) {
 		{remove("base"), ErrHasChildren, "book"},
 		{remove("k"), ErrInUse, "book"},
 		{remove("child"), ErrLeased, "book"},
+		{store.LeaseDrop(ctx, "a", "lease", "base"), ErrNotFound, "book"},
 		{store.LeaseRelease(ctx, "a", "none"), ErrNoLease, "book"},
+		{noLease, ErrNoLease, "book"},
 		{store.LeaseCreate(ctx, "a", "lease"), ErrLeaseExists, "book"},
 		{store.Limit(ctx, "a", Usage{1, 100}), ErrBelowCharge, "book"},
 		{noSession, ErrNoSession, "world"},

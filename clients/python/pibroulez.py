@@ -32,7 +32,7 @@ from typing import Any, Iterator, Mapping, NamedTuple, Sequence, Tuple, Type, Ty
 PROGRAM = Path(__file__).resolve().parents[2] / "crates/snap_replay/out/snap_replay"
 
 # Commands that change nothing and make no entry in the journal. A log does without them.
-_LOOKUPS = frozenset({"look", "list", "read", "resolve", "du", "quota", "tree", "journal", "report"})
+_LOOKUPS = frozenset({"look", "list", "read", "resolve", "du", "quota", "leases", "tree", "diff", "journal", "report"})
 # Fields by which a command that makes an entry becomes one that makes none.
 _TRIES = ("try", "chain")
 # Commands that change nothing and make an entry. A log has them, since entries are numbered, but need not
@@ -200,6 +200,15 @@ class Quota:
 
 
 @dataclass(frozen=True)
+class Lease:
+    """A lease: the snapshots that it names, in the order in which it got them, and its last moment, if it has one."""
+
+    lease: str
+    names: tuple[str, ...]
+    until: int | None = None
+
+
+@dataclass(frozen=True)
 class Node:
     """A snapshot in a tree: what is charged for it alone, and how many snapshots stand on it."""
 
@@ -209,6 +218,14 @@ class Node:
     id: int
     usage: Usage
     children: int
+
+
+@dataclass(frozen=True)
+class Change:
+    """What a snapshot's layer changes at a path: it is `added`, `changed` or `removed`."""
+
+    change: str
+    path: str
 
 
 @dataclass(frozen=True)
@@ -260,7 +277,7 @@ class NoNamespace(Refused):
 
 
 class NotFound(Refused):
-    """There is no such snapshot or parent; of a file, nothing is seen at a path (ENOENT)."""
+    """There is no such snapshot or parent, or no such name in a lease; of a file, nothing is seen (ENOENT)."""
 
 
 class AlreadyExists(Refused):
@@ -857,6 +874,10 @@ class Store:
         """Lets a lease name a committed snapshot."""
         self._call("lease_add", session, ns=namespace, lease=lease, name=name)
 
+    def lease_drop(self, namespace: str, lease: str, name: str, *, session: int | None = None) -> None:
+        """Takes one name out of a lease; NotFound where the lease doesn't have it."""
+        self._call("lease_drop", session, ns=namespace, lease=lease, name=name)
+
     def lease_release(self, namespace: str, lease: str, *, session: int | None = None) -> None:
         """Takes a lease away."""
         self._call("lease_release", session, ns=namespace, lease=lease)
@@ -1086,10 +1107,20 @@ class Store:
         quotas = self._call("quota", ns=namespace)["quota"]
         return {name: Quota(**{it: Usage(*amount) for it, amount in found.items()}) for name, found in quotas.items()}
 
+    def leases(self, namespace: str, lease: str | None = None) -> tuple[Lease, ...]:
+        """The leases of a namespace, in the order in which they were created, or the one of a name."""
+        found = self._call("leases", ns=namespace, lease=lease)["leases"]
+        return tuple(Lease(it["lease"], tuple(it["names"]), it.get("until")) for it in found)
+
     def tree(self, namespace: str) -> tuple[Node, ...]:
         """All snapshots of a namespace, in byte order of their keys."""
         nodes = self._call("tree", ns=namespace)["tree"]
         return tuple(_of_kind(Node, {**it, "usage": Usage(*it["usage"])}) for it in nodes)
+
+    def diff(self, namespace: str, key: str, after: str | None = None, max: int | None = None) -> tuple[Change, ...]:
+        """A page of what a snapshot's layer changes, in order of the paths, from the path `after` on."""
+        changes = self._call("diff", ns=namespace, key=key, after=after, max=max)["changes"]
+        return tuple(Change(**it) for it in changes)
 
     def journal(
         self, namespace: str, after: int | None = None, max: int | None = None, full: bool = False

@@ -26,6 +26,7 @@ from typing import Callable, Iterator, Type
 import example
 import pibroulez
 from pibroulez import (
+    Change,
     Changed,
     Committed,
     Content,
@@ -36,6 +37,7 @@ from pibroulez import (
     File,
     Info,
     Kind,
+    Lease,
     Mount,
     Node,
     Part,
@@ -222,6 +224,9 @@ class Commands(unittest.TestCase):
         quota = Quota(Usage(100, 100), Usage(4, 4), Usage(4, 4), nothing, nothing, Usage(96, 96))
         self.assertEqual(store.quota("a"), quota)
         self.assertEqual(store.quotas(), {"a": quota})
+        leases = (Lease("lease", ("base",), 5),)
+        self.assertEqual(store.leases("a"), leases)
+        self.assertEqual(store.leases("a", "lease"), leases)
         self.assertEqual(
             store.tree("a"),
             (
@@ -229,6 +234,8 @@ class Commands(unittest.TestCase):
                 Node("v", "base", Kind.VIEW, 2, Usage(0, 0), 0),
             ),
         )
+        self.assertEqual(store.diff("a", "base", max=1), (Change("added", "/"),))
+        self.assertEqual(store.diff("a", "v", after="/"), ())
         self.assertEqual(
             store.journal("a", after=16, max=3),
             (
@@ -333,14 +340,19 @@ class Refusals(unittest.TestCase):
                 (pibroulez.HasChildren, lambda: store.remove("a", "base")),
                 (pibroulez.InUse, lambda: store.remove("a", "k")),
                 (pibroulez.NoLease, lambda: store.lease_add("a", "lease", "base")),
+                (pibroulez.NoLease, lambda: store.leases("a", "lease")),
                 (pibroulez.BelowCharge, lambda: store.limit("a", 2, 100)),
             ):
                 with self.subTest(error.__name__):
                     self.assert_refused(error, "book", call)
             store.lease_create("a", "lease")
             store.lease_add("a", "lease", "child")
+            self.assertEqual(store.leases("a"), (Lease("lease", ("child",)),))
             self.assert_refused(pibroulez.LeaseExists, "book", lambda: store.lease_create("a", "lease"))
             self.assert_refused(pibroulez.Leased, "book", lambda: store.remove("a", "child"))
+            store.lease_drop("a", "lease", "child")
+            self.assert_refused(pibroulez.NotFound, "book", lambda: store.lease_drop("a", "lease", "child"))
+            self.assertEqual(store.remove("a", "child"), Usage(1, 1))
 
     def test_open(self) -> None:
         self.assert_refused(

@@ -1,6 +1,6 @@
 -- What is kept beside the state, after a plain call.
 use Rattle.std.proofs.Common.{◌≡◌, ℕ, ◌+◌, ◌<◌, Bool, true, false, true≢false, List, [], ◌∷◌, ◌++◌, length, set, Option, None, Some, IsSome, refl, sym, ap, ◌∙◌, subst, arith}
-use Rattle.std.specs.Prelude.{◌==◌, ◌↔◌, bytes_eq, if◌then◌else◌, IsSomeAnd, IsErrOf, IsOkUnless, OnOk, Result, Ok, Err}
+use Rattle.std.specs.Prelude.{◌==◌, ◌↔◌, bytes_eq, if◌then◌else◌, IsSomeAnd, IsErrOf, IsOk, IsOkUnless, IsTrue, OnOk, Result, Ok, Err}
 use Rattle.std.specs.Option.{option_map_or}
 use Rattle.std.proofs.lemmas.Bool.{and_parts, eqb-true}
 use Rattle.snap_layer.specs.Tree.{Tree}
@@ -8,9 +8,10 @@ use Rattle.snap_usage.specs.declared.usage.Usage.{Usage}
 use Rattle.snap_usage.specs.Counted.{Covers, no_usage}
 use Rattle.snap_ledger.specs.States.{ChargeState, plus, minus}
 use Rattle.snap_lease.specs.Lease.{Lease, empty_lease}
-use Rattle.snap_lease.specs.Leases.{with_name_added, without_lease}
+use Rattle.snap_lease.specs.Leases.{with_name_added, with_name_dropped, without_lease}
 use Rattle.snap_lease.specs.declared.error.LeaseError.{LeaseError}
 use Rattle.snap_lease.specs.declared.error.LeaseError.TheVariants as errors
+use Rattle.snap_lease.specs.declared.error.LeaseNameError.{LeaseNameError}
 use Rattle.snap_record.specs.Labels.{Bytes, Label}
 use Rattle.snap_record.specs.Records.{usage_of}
 use Rattle.snap_record.specs.declared.record.Content.TheVariants.{View}
@@ -24,7 +25,7 @@ use Rattle.snap_call.specs.Step.{added, leasing, limited_at, removed_at, relabel
 use Rattle.snap_call.proofs.Alike.{bare-relabelled, alike-charge_of, alike-charge_at, alike-open_count}
 use Rattle.snap_call.proofs.Counts.{open_count-with_record, open_count-without_idle}
 use Rattle.snap_call.proofs.Keeping.{good_relabelled, good_removed, good_view_added, place_of-below, removed_others, removed_total}
-use Rattle.snap_call.proofs.Leasing.{good_created, good_limited, good_named, good_released, length-limited}
+use Rattle.snap_call.proofs.Leasing.{good_created, good_dropped, good_limited, good_named, good_released, length-limited}
 use Rattle.snap_call.proofs.Lists.{record_at-is_named, active_one}
 use Rattle.snap_call.proofs.Slots.{charge_at-with_record_other, charge_at-without_idle}
 use Rattle.snap_call.proofs.Sums.{plus-none, charge_of-covers, charge_of-with_record}
@@ -138,6 +139,14 @@ accounts_named s us cs n namespace lease name accounts is = by (place_of namespa
     by : (o : Option ℕ) → place_of namespace s.namespaces ≡ o → IsSomeAnd o (λ place. IsSome (committed_at place name s.records)) → AreAccounts (leasing s (with_name_added s.leases namespace lease name)) us cs n
     by None e h = absurd h
     by (Some place) e h = leases_kept s us cs n _ accounts (good_named s namespace lease name place accounts.good e h)
+
+pub accounts_dropped : (s : State) (us : List Usage) (cs : List ChargeState) (n : ℕ) (namespace lease name : Bytes) → AreAccounts s us cs n → AreAccounts (leasing s (with_name_dropped s.leases namespace lease name)) us cs n
+accounts_dropped s us cs n namespace lease name accounts = leases_kept s us cs n _ accounts (good_dropped s namespace lease name accounts.good)
+
+-- a name that a lease has is taken out of it
+pub dropped-ok : (r : Result (Unit {0}) LeaseNameError) (P : Type 0) (has : Bool) → has ≡ true → (IsOk r ↔ IsTrue has) → OnOk r P → P
+dropped-ok (Ok tt) P has is named ok = ok
+dropped-ok (Err e) P has is named ok = absurd (true≢false (sym (named.1 is)))
 
 pub accounts_released : (s : State) (us : List Usage) (cs : List ChargeState) (n : ℕ) (namespace lease : Bytes) → AreAccounts s us cs n → AreAccounts (leasing s (without_lease s.leases namespace lease)) us cs n
 accounts_released s us cs n namespace lease accounts = leases_kept s us cs n _ accounts (good_released s namespace lease accounts.good)

@@ -4,7 +4,7 @@ use Rattle.std.specs.Prelude.{◌≡◌, ℕ, ◌<◌, true, false, List, [], �
 use Rattle.snap_usage.specs.declared.usage.Usage.{Usage}
 use Rattle.snap_usage.specs.Counted.{Covers}
 use Rattle.snap_lease.specs.Lease.{empty_lease}
-use Rattle.snap_lease.specs.Leases.{has_lease, is_guarded, with_name_added, without_lease}
+use Rattle.snap_lease.specs.Leases.{has_lease, is_guarded, lease_names, with_name_added, with_name_dropped, without_lease}
 use Rattle.snap_record.specs.Labels.{Bytes}
 use Rattle.snap_record.specs.declared.record.Content.TheVariants as contents
 use Rattle.snap_record.specs.declared.record.Record.{Record}
@@ -16,7 +16,7 @@ use Rattle.snap_call.specs.Reached.{swept as swept_records, swept_keys}
 use Rattle.snap_call.specs.State.{name_at, place_of, shown_layers}
 use Rattle.snap_call.specs.Step.{added, counted, leasing, limited_at, removed_at, relabelled_at, swept_at}
 use Rattle.snap_accounts.specs.declared.change.Change.{Change}
-use Rattle.snap_accounts.specs.declared.change.Change.TheVariants.{Nothing, View, Removal, Labels, Limit, Lease, LeaseName, LeaseEnd, Sweep}
+use Rattle.snap_accounts.specs.declared.change.Change.TheVariants.{Nothing, View, Removal, Labels, Limit, Lease, LeaseName, LeaseNameEnd, LeaseEnd, Sweep}
 use Rattle.snap_accounts.specs.Vacant.{IsSite}
 
 -- the state after the change, with one entry more
@@ -28,6 +28,7 @@ changed s (Labels place key labels) = relabelled_at s place key labels
 changed s (Limit place n) = limited_at s place n.limit
 changed s (Lease namespace lease until) = leasing s (s.leases ++ empty_lease namespace lease until ∷ [])
 changed s (LeaseName namespace lease name) = leasing s (with_name_added s.leases namespace lease name)
+changed s (LeaseNameEnd namespace lease name) = leasing s (with_name_dropped s.leases namespace lease name)
 changed s (LeaseEnd namespace lease) = leasing s (without_lease s.leases namespace lease)
 changed s (Sweep place namespace moment keys freed) = swept_at s namespace place moment
 
@@ -67,13 +68,14 @@ pub record IsSweep (s : State) (place : ℕ) (namespace : Bytes) (moment : ℕ) 
   pub swept : keys ≡ swept_keys s namespace place moment
   pub charged : freed ≡ charge_of place (swept_records s namespace place moment)
 
--- the change can be made: a view can be added, a snapshot can go, the limit covers the charge, the namespace has no such lease yet, the lease can be given the name, there is a lease to go, a sweep takes these away
+-- the change can be made: a view can be added, a snapshot can go, the limit covers the charge, the namespace has no such lease yet, the lease can be given the name or has it to lose, there is a lease to go, a sweep takes these away
 abbrev pub CanChange : State → Change → Type 0
 CanChange s (View r) = IsNewView s r
 CanChange s (Removal place key) = IsUnused s place key
 CanChange s (Limit place n) = IsLimitFor s place n
 CanChange s (Lease namespace lease until) = IsSpace s namespace × (has_lease s.leases namespace lease ≡ false)
 CanChange s (LeaseName namespace lease name) = IsName s namespace lease name
+CanChange s (LeaseNameEnd namespace lease name) = lease_names s.leases namespace lease name ≡ true
 CanChange s (LeaseEnd namespace lease) = has_lease s.leases namespace lease ≡ true
 CanChange s (Sweep place namespace moment keys freed) = IsSweep s place namespace moment keys freed
 CanChange s change = Unit {0}

@@ -42,6 +42,7 @@ IsPlain (calls.Walk namespace after most asked) = Unit {0}
 IsPlain (calls.SetLimit namespace limit) = Unit {0}
 IsPlain (calls.LeaseCreate namespace lease until) = Unit {0}
 IsPlain (calls.LeaseAdd namespace lease name) = Unit {0}
+IsPlain (calls.LeaseDrop namespace lease name) = Unit {0}
 IsPlain (calls.LeaseRelease namespace lease) = Unit {0}
 IsPlain (calls.Sweep namespace moment) = Unit {0}
 IsPlain call = ⊥

@@ -59,6 +59,12 @@ pub enum Change {
         lease: Text,
         name: Text,
     },
+    /// A name less in a lease.
+    LeaseNameEnd {
+        namespace: Text,
+        lease: Text,
+        name: Text,
+    },
     /// A lease goes, with its names.
     LeaseEnd {
         namespace: Text,
@@ -86,6 +92,7 @@ fn removals(change: &Change) -> usize {
         | Change::Limit { .. }
         | Change::Lease { .. }
         | Change::LeaseName { .. }
+        | Change::LeaseNameEnd { .. }
         | Change::LeaseEnd { .. } => 0,
     }
 }
@@ -340,6 +347,7 @@ impl<N: StoreName> Accounts<N> {
             | Call::SetLimit { .. }
             | Call::LeaseCreate { .. }
             | Call::LeaseAdd { .. }
+            | Call::LeaseDrop { .. }
             | Call::LeaseRelease { .. }
             | Call::Sweep { .. } => unreachable!(),
         };
@@ -390,6 +398,11 @@ impl<N: StoreName> Accounts<N> {
                 lease,
                 name,
             } => self.plan_lease_name(namespace, lease, name),
+            Call::LeaseDrop {
+                namespace,
+                lease,
+                name,
+            } => self.plan_lease_name_end(namespace, lease, name),
             Call::LeaseRelease { namespace, lease } => self.plan_lease_end(namespace, lease),
             Call::Sweep { namespace, moment } => self.plan_sweep(alloc, namespace, *moment),
             Call::Stat { .. } | Call::Usage { .. } | Call::Mounts { .. } | Call::Walk { .. } => {
@@ -451,9 +464,9 @@ impl<N: StoreName> Accounts<N> {
     /// Takes memory for the place of a view, for a lease, for a name that is new to its lease, and for a list of the
     /// records that it takes away; where that is refused, nothing changes. The cost grows with the logarithm
     /// of the number of records; that of a call on a lease with the logarithms of the number of leases and of the
-    /// number of names that the namespace's leases have, for a release once for each name of the lease; that of a
-    /// sweep with the leases and their names, for each ended lease with the logarithm of the number of leases, and with
-    /// the records times the logarithm of their number.
+    /// number of names that the namespace's leases have, for a release once for each name of the lease, and for the drop
+    /// of a name also with the number of the lease's names; that of a sweep with the leases and their names, for each
+    /// ended lease with the logarithm of the number of leases, and with the records times the logarithm of their number.
     pub fn carry_out(&mut self, alloc: Global, change: Change) -> Result<Removed, AllocError>
         requires possible { CanChange self.old change }
         requires entries { self.old.entries < 2 ^ 63 }
@@ -478,6 +491,11 @@ impl<N: StoreName> Accounts<N> {
                 lease,
                 name,
             } => self.add_lease_name(namespace.as_str(), lease.as_str(), name.as_str())?,
+            Change::LeaseNameEnd {
+                namespace,
+                lease,
+                name,
+            } => self.end_lease_name(namespace.as_str(), lease.as_str(), name.as_str()),
             Change::LeaseEnd { namespace, lease } => {
                 self.end_lease(namespace.as_str(), lease.as_str());
             }

@@ -1,9 +1,9 @@
 // Limits of namespaces, and leases.
 ghost use Rattle.std.specs.Prelude.{◌≡◌, ◌<◌, ◌^◌, ◌+◌, ◌++◌, ◌∷◌, [], IfOk, IfErr, OnOk, OnErr, Option, ℕ, true, false};
 ghost use Rattle.snap_lease.specs.Lease.{empty_lease};
-ghost use Rattle.snap_lease.specs.Leases.{has_lease, with_name_added, without_lease};
+ghost use Rattle.snap_lease.specs.Leases.{has_lease, lease_names, with_name_added, with_name_dropped, without_lease};
 ghost use Rattle.snap_call.specs.Records.{open_count};
-ghost use Rattle.snap_call.specs.Step.{lease_add, lease_create, lease_release, leasing, limited_at, refused, set_limit};
+ghost use Rattle.snap_call.specs.Step.{lease_add, lease_create, lease_drop, lease_release, leasing, limited_at, refused, set_limit};
 ghost use Rattle.snap_call.specs.declared.reply.Reply.TheVariants.{Done};
 ghost use Rattle.snap_accounts.specs.Changes.{CanChange, IsLimitFor, IsName, IsSpace, changed};
 ghost use Rattle.snap_accounts.specs.Entries.{IsInEntry, IsRecorded};
@@ -11,7 +11,7 @@ ghost use Rattle.snap_accounts.specs.Entries.{IsInEntry, IsRecorded};
 use crate::accounts::Accounts;
 use crate::change::Change;
 use snap_call::{Namespace, Refusal, Reply, is_committed, is_key, is_limit};
-use snap_lease::LeaseError;
+use snap_lease::{LeaseError, LeaseNameError};
 use snap_ledger::StoreName;
 use snap_record::Text;
 use snap_usage::Usage;
@@ -159,6 +159,55 @@ impl<N: StoreName> Accounts<N> {
         }
     }
 
+    // Whether the lease has the name, so that it can lose it, or why it can't.
+    fn check_lease_name_end(&self, namespace: &str, lease: &str, name: &str) -> Result<(), Refusal>
+        ensures ok { OnOk result (lease_drop self.now namespace.now lease.now name.now ≡ (leasing self.now (with_name_dropped self.now.leases namespace.now lease.now name.now), Done)) }
+        ensures named { OnOk result (lease_names self.now.leases namespace.now lease.now name.now ≡ true) }
+        ensures recorded { IfErr result IsRecorded }
+        ensures refused { IfErr result (λ why. lease_drop self.now namespace.now lease.now name.now ≡ refused self.now why) }
+    {
+        if !(is_key(lease) && is_key(name)) {
+            return Err(Refusal::BadArgument);
+        }
+        if self.state.place_of(namespace).is_none() {
+            return Err(Refusal::NoNamespace);
+        }
+        match self.state.leases.find_name(namespace, lease, name) {
+            Ok(()) => Ok(()),
+            Err(LeaseNameError::NoLease) => Err(Refusal::NoLease),
+            Err(LeaseNameError::NoName) => Err(Refusal::NotFound),
+        }
+    }
+
+    // A name less in a lease, or why it stays.
+    pub(crate) fn plan_lease_name_end(
+        &self,
+        namespace: &Text,
+        lease: &Text,
+        name: &Text,
+    ) -> Result<(Reply, Change), AllocError>
+        ensures reply { IfOk result (λ p. lease_drop self.now namespace.now lease.now name.now ≡ (changed self.now p.1, p.0)) }
+        ensures recorded { IfOk result (λ p. IsInEntry p.0) }
+        ensures possible { IfOk result (λ p. CanChange self.now p.1) }
+    {
+        match self.check_lease_name_end(namespace.as_str(), lease.as_str(), name.as_str()) {
+            Ok(()) => {
+                let namespace = namespace.clone()?;
+                let lease = lease.clone()?;
+                let name = name.clone()?;
+                Ok((
+                    Reply::Done,
+                    Change::LeaseNameEnd {
+                        namespace,
+                        lease,
+                        name,
+                    },
+                ))
+            }
+            Err(why) => Ok((Reply::Refused(why), Change::Nothing)),
+        }
+    }
+
     // Whether the namespace has the lease, so that it can go, or why it can't.
     fn check_lease_end(&self, namespace: &str, lease: &str) -> Result<(), Refusal>
         ensures ok { OnOk result (lease_release self.now namespace.now lease.now ≡ (leasing self.now (without_lease self.now.leases namespace.now lease.now), Done)) }
@@ -254,6 +303,17 @@ impl<N: StoreName> Accounts<N> {
             Err(LeaseError::OutOfMemory(no_memory)) => Err(no_memory.into()),
             Err(LeaseError::NoLease | LeaseError::LeaseExists) => unreachable!(),
         }
+    }
+
+    // The lease has a name less.
+    pub(crate) fn end_lease_name(&mut self, namespace: &str, lease: &str, name: &str)
+        requires named { lease_names self.old.leases namespace.now lease.now name.now ≡ true }
+        requires entries { self.old.entries < 2 ^ 63 }
+        ensures done { self.new ≡ leasing self.old (with_name_dropped self.old.leases namespace.now lease.now name.now) }
+        ensures open { open_count self.new.records ≡ open_count self.old.records }
+    {
+        let _ = self.state.leases.drop_name(namespace, lease, name);
+        self.state.entries += 1;
     }
 
     // There is a lease less.

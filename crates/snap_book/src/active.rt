@@ -129,6 +129,13 @@ impl<N: StoreName> Active<N> {
         self.share.held()
     }
 
+    /// Its layer, lent. Takes no memory. The cost is constant.
+    pub fn layer(&self) -> &Layer
+        ensures { result.now ≡ self.now.layer }
+    {
+        &self.layer
+    }
+
     /// What its layer takes: at least 1/1, for the root. Takes no memory. The cost is constant.
     #[tactic(auto, using(crate::proofs::Rooted::count_covers_one))]
     pub fn count(&self) -> Usage

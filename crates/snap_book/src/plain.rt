@@ -78,8 +78,8 @@ impl<N: StoreName> Book<N> {
 
     /// Does a call that takes no snapshot out of its writer's hands and puts none into them: `View`,
     /// `Remove`, `Update`, `Stat`, `Usage`, `Mounts` or `Walk`, as containerd's `snapshots.Snapshotter`
-    /// has them, `LeaseCreate`, `LeaseAdd` or `LeaseRelease`, as its `leases.Manager` has them, `SetLimit`
-    /// or `Sweep`.
+    /// has them, `LeaseCreate`, `LeaseAdd`, `LeaseDrop` or `LeaseRelease`, as its `leases.Manager` has them,
+    /// `SetLimit` or `Sweep`.
     ///
     /// A view is a new snapshot without a slot and without a charge; its reply has its id and those of
     /// its ancestors. `Remove` takes a view or a committed snapshot away and answers what its namespace
@@ -88,10 +88,11 @@ impl<N: StoreName> Book<N> {
     /// it is charged, `Mounts` the mounts that show it, `Walk` the infos of the snapshots of a namespace
     /// that come after a key and match a filter, at most 64 of them. `SetLimit` gives a namespace another
     /// limit. A lease keeps the committed snapshots that it names from being removed, until it is released
-    /// or a sweep takes it; `LeaseAdd` of a name that is there already changes nothing. `Sweep` takes the
-    /// namespace's leases away that have ended at the moment, and those of its committed snapshots that
-    /// neither an active snapshot, a view nor a live lease reaches; it answers their names in byte order,
-    /// the number of leases that went, and what the namespace is no longer charged.
+    /// or a sweep takes it; `LeaseAdd` of a name that is there already changes nothing, and `LeaseDrop` takes
+    /// one name out of a lease. `Sweep` takes the namespace's leases away that have ended at the moment, and
+    /// those of its committed snapshots that neither an active snapshot, a view nor a live lease reaches; it
+    /// answers their names in byte order, the number of leases that went, and what the namespace is no longer
+    /// charged.
     ///
     /// `JournalFull` where each further entry is kept for an open snapshot's end, and then
     /// `OutOfMemory` where memory for the reply, the change or the entry is refused; these two are not
@@ -108,16 +109,17 @@ impl<N: StoreName> Book<N> {
     /// `SetLimit`: `BadArgument` above 2^40 of a quantity, `NoNamespace`, `BelowCharge` where the limit
     /// does not cover what the namespace is charged. The calls on a lease: `BadArgument` for a lease or a
     /// name that has not its form, `NoNamespace`; then `LeaseCreate` `LeaseExists`, `LeaseAdd` `NotFound`,
-    /// `NotCommitted` and `NoLease`, `LeaseRelease` `NoLease`. `Sweep`: `NoNamespace` alone.
+    /// `NotCommitted` and `NoLease`, `LeaseDrop` `NoLease` and, where the lease doesn't have the name,
+    /// `NotFound`, `LeaseRelease` `NoLease`. `Sweep`: `NoNamespace` alone.
     ///
     /// Its cost grows with the logarithm of the number of records, and with the texts and labels of those
     /// that are found; that of mounts and of a view with that logarithm times the ancestors, that of a walk
     /// with the records that it passes over, that of a removal with the logarithm of the number of names that the
     /// namespace's leases have too, that of a limit with the namespaces, that of a call on a lease with the
     /// namespaces and the logarithm of the number of leases, for a release also, for each name of the lease, with the
-    /// logarithm of the number of names that the namespace's leases have; that of a sweep with the leases and their
-    /// names, for each ended lease with the logarithm of the number of leases, and with the records times the
-    /// logarithm of their number.
+    /// logarithm of the number of names that the namespace's leases have, for a drop once with that logarithm and with
+    /// the number of the lease's names; that of a sweep with the leases and their names, for each ended lease with the
+    /// logarithm of the number of leases, and with the records times the logarithm of their number.
     pub fn do_call(&mut self, session: u64, call: Call) -> Reply
         requires { IsPlain call }
         ensures answered { AnsweredBy self.old self.new session call Nothing result }

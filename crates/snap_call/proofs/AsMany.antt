@@ -5,7 +5,7 @@ use Rattle.std.specs.Prelude.{◌&&◌, not, nat_le, nat_lt, if◌then◌else◌
 use Rattle.snap_layer.specs.Tree.{Tree}
 use Rattle.snap_usage.specs.declared.usage.Usage.{Usage}
 use Rattle.snap_usage.specs.Counted.{covers}
-use Rattle.snap_lease.specs.Leases.{is_guarded, has_lease}
+use Rattle.snap_lease.specs.Leases.{is_guarded, has_lease, lease_names}
 use Rattle.snap_record.specs.Labels.{Bytes, Label}
 use Rattle.snap_record.specs.Records.{usage_of, info_of}
 use Rattle.snap_record.specs.Updates.{is_granted, is_well_formed}
@@ -24,7 +24,7 @@ use Rattle.snap_call.specs.declared.state.State.{State}
 use Rattle.snap_call.specs.Forms.{is_key, is_limit, is_page, is_start}
 use Rattle.snap_call.specs.Records.{record_at, has_key, has_children, is_active, is_committed, active_at, charge_of}
 use Rattle.snap_call.specs.State.{place_of}
-use Rattle.snap_call.specs.Step.{refused, prepared, prepare_at, prepare, granted, charge_to, charge, trim, commit_as, commit, discard, ask, step, place_for, slot_for, unless_refused, mounts, view_at, view, remove_record, remove, update_record, update, walk, in_namespace, has_named, set_limit_at, set_limit, lease_create, lease_add_record, lease_add, lease_release, sweep_at, at_record}
+use Rattle.snap_call.specs.Step.{refused, prepared, prepare_at, prepare, granted, charge_to, charge, trim, commit_as, commit, discard, ask, step, place_for, slot_for, unless_refused, mounts, view_at, view, remove_record, remove, update_record, update, walk, in_namespace, has_named, set_limit_at, set_limit, lease_create, lease_add_record, lease_add, lease_drop, lease_drop_at, lease_release, sweep_at, at_record}
 use Rattle.snap_call.specs.Journal.{Replays}
 
 -- the store has as many slots
@@ -130,6 +130,12 @@ adding_record s namespace lease name r = either s (not (is_committed r.content))
 adding : (s : State) (namespace lease name : Bytes) → IsNext s (lease_add s namespace lease name).0
 adding s namespace lease name = either s (is_key lease && is_key name) _ _ (on_record s namespace name _ (λ place. adding_record s namespace lease name)) refl
 
+dropping_at : (s : State) (namespace lease name : Bytes) → IsNext s (lease_drop_at s namespace lease name).0
+dropping_at s namespace lease name = either s (not (has_lease s.leases namespace lease)) _ _ refl (either s (not (lease_names s.leases namespace lease name)) _ _ refl refl)
+
+dropping : (s : State) (namespace lease name : Bytes) → IsNext s (lease_drop s namespace lease name).0
+dropping s namespace lease name = either s (is_key lease && is_key name) _ _ (in_place s namespace _ (λ place. dropping_at s namespace lease name)) refl
+
 releasing : (s : State) (namespace lease : Bytes) → IsNext s (lease_release s namespace lease).0
 releasing s namespace lease = either s (is_key lease) _ _ (in_place s namespace _ (λ place. either s (has_lease s.leases namespace lease) _ _ refl refl)) refl
 
@@ -151,6 +157,7 @@ step-slots s (calls.Walk namespace after most asked) given = walking s namespace
 step-slots s (calls.SetLimit namespace limit) given = limiting s namespace limit
 step-slots s (calls.LeaseCreate namespace lease until) given = creating s namespace lease until
 step-slots s (calls.LeaseAdd namespace lease name) given = adding s namespace lease name
+step-slots s (calls.LeaseDrop namespace lease name) given = dropping s namespace lease name
 step-slots s (calls.LeaseRelease namespace lease) given = releasing s namespace lease
 step-slots s (calls.Sweep namespace moment) given = in_place s namespace (sweep_at s namespace moment) (λ place. refl)
 

@@ -9,7 +9,7 @@ use Rattle.std.proofs.lemmas.Bool.Decides.{nat_tests}
 use Rattle.snap_layer.specs.Tree.{Tree}
 use Rattle.snap_usage.specs.declared.usage.Usage.{Usage}
 use Rattle.snap_usage.specs.Counted.{count_of, covers}
-use Rattle.snap_lease.specs.Leases.{is_guarded, has_lease}
+use Rattle.snap_lease.specs.Leases.{is_guarded, has_lease, lease_names}
 use Rattle.snap_record.specs.Labels.{Bytes, Label}
 use Rattle.snap_record.specs.Records.{usage_of}
 use Rattle.snap_record.specs.Updates.{is_granted, is_well_formed, updated as labels_after}
@@ -31,9 +31,9 @@ use Rattle.snap_call.specs.Forms.{is_limit, is_layer_limit, is_namespace, is_slo
 use Rattle.snap_call.specs.Records.{charge_of, has_key, has_children, is_active, is_committed, record_at, active_at, max_slots}
 use Rattle.snap_call.specs.State.{opening, place_of, limit_at}
 use Rattle.snap_call.specs.Good.{Good}
-use Rattle.snap_call.specs.Step.{refused, session, prepared, prepare_at, prepare, greater, fits, charge_to, charge, trim, commit_as, commit, discard, ask, step, IsCovered, IsAllowed, place_for, slot_for, unless_refused, view_at, view, remove_record, remove, update_record, update, walk, in_namespace, has_named, set_limit_at, set_limit, lease_create, lease_add_record, lease_add, lease_release, at_record}
+use Rattle.snap_call.specs.Step.{refused, session, prepared, prepare_at, prepare, greater, fits, charge_to, charge, trim, commit_as, commit, discard, ask, step, IsCovered, IsAllowed, place_for, slot_for, unless_refused, view_at, view, remove_record, remove, update_record, update, walk, in_namespace, has_named, set_limit_at, set_limit, lease_create, lease_add_record, lease_add, lease_drop, lease_drop_at, lease_release, at_record}
 use Rattle.snap_call.specs.Journal.{Replays}
-use Rattle.snap_call.proofs.Leasing.{good_limited, good_created, good_named, good_released}
+use Rattle.snap_call.proofs.Leasing.{good_limited, good_created, good_dropped, good_named, good_released}
 use Rattle.snap_call.proofs.Lists.{committed-from}
 use Rattle.snap_call.proofs.Sweeping.{good_sweep}
 use Rattle.snap_call.proofs.Lowest.{lowest_free-Some}
@@ -180,6 +180,17 @@ good_lease_add s namespace lease name good =
     (λ formed. good_at_record s namespace name _ good (λ place r e f. good_lease_add_record s namespace lease name place good e r f))
     (λ bad. good_counted s good)
 
+good_lease_drop_at : (s : State) (namespace lease name : Bytes) → Good s → Good (lease_drop_at s namespace lease name).0
+good_lease_drop_at s namespace lease name good =
+    either (not (has_lease s.leases namespace lease)) _ _ (λ none. good_counted s good)
+    (λ there. either (not (lease_names s.leases namespace lease name)) _ _ (λ other. good_counted s good) (λ named. good_dropped s namespace lease name good))
+
+pub good_lease_drop : (s : State) (namespace lease name : Bytes) → Good s → Good (lease_drop s namespace lease name).0
+good_lease_drop s namespace lease name good =
+    either (is_key lease && is_key name) _ _
+    (λ formed. good_in_namespace s namespace _ good (λ place e. good_lease_drop_at s namespace lease name good))
+    (λ bad. good_counted s good)
+
 pub good_lease_release : (s : State) (namespace lease : Bytes) → Good s → Good (lease_release s namespace lease).0
 good_lease_release s namespace lease good =
     either (is_key lease) _ _
@@ -204,6 +215,7 @@ good_step s (calls.Walk namespace after most asked) given good h = good_walk s n
 good_step s (calls.SetLimit namespace limit) given good h = good_set_limit s namespace limit good
 good_step s (calls.LeaseCreate namespace lease until) given good h = good_lease_create s namespace lease until good
 good_step s (calls.LeaseAdd namespace lease name) given good h = good_lease_add s namespace lease name good
+good_step s (calls.LeaseDrop namespace lease name) given good h = good_lease_drop s namespace lease name good
 good_step s (calls.LeaseRelease namespace lease) given good h = good_lease_release s namespace lease good
 good_step s (calls.Sweep namespace moment) given good h = good_sweep s namespace moment good
 

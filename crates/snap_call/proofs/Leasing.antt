@@ -1,15 +1,16 @@
--- What is true of the state after a limit is set, and after leases are made, added to and released.
+-- What is true of the state after a limit is set, and after leases are made, added to, taken from and released.
 use Rattle.std.proofs.Common.{◌≡◌, ◌≢◌, ℕ, zero, suc, ◌<◌, Bool, true, false, true≢false, List, [], ◌∷◌, ◌++◌, length, Option, Some, None, IsSome, refl, sym, ap, ◌∙◌, subst, inl, inr, arith}
 use Rattle.std.specs.List.{AllByRecursion, list_any, position_or_len}
 use Rattle.std.specs.Option.{option_map}
-use Rattle.std.specs.Prelude.{if◌then◌else◌, ◌&&◌, bytes_eq, not, nat_lt, position, cond, slice_set, ◌||◌}
+use Rattle.std.specs.Prelude.{if◌then◌else◌, ◌&&◌, bytes_eq, filter, not, nat_lt, position, cond, slice_set, ◌||◌}
 use Rattle.std.proofs.lemmas.Bool.{and_parts, cases_eq, false_from_ne_true, not-true, lt-ltb}
 use Rattle.std.proofs.lemmas.Bool.Decides.{nat_tests}
 use Rattle.std.proofs.lemmas.Slice.Eq.{bytes_eq-Decides}
 use Rattle.snap_usage.specs.declared.usage.Usage.{Usage}
 use Rattle.snap_usage.specs.Counted.{Covers}
-use Rattle.snap_lease.specs.Lease.{Lease, NamesOnce, does_name, is_lease, empty_lease, with_lease_name}
-use Rattle.snap_lease.specs.Leases.{with_name_added, without_lease}
+use Rattle.snap_lease.specs.Lease.{Lease, NamesOnce, does_name, is_lease, empty_lease, with_lease_name, without_lease_name}
+use Rattle.snap_lease.specs.Leases.{with_name_added, with_name_dropped, without_lease}
+use Rattle.snap_lease.proofs.DropLemmas.{NamesOnce-with_name_dropped}
 use Rattle.snap_lease.proofs.ListLemmas.{is_lease-parts, all-push, all-filter, NamesOnce-empty, NamesOnce-with_name_added}
 use Rattle.snap_record.specs.Labels.{Bytes}
 use Rattle.snap_record.specs.declared.record.Record.{Record}
@@ -214,6 +215,23 @@ module _ (ns : List Namespace) (rs : List Record) (namespace name : Bytes) (plac
 pub good_named : (s : State) (namespace lease name : Bytes) (place : ℕ) → Good s → place_of namespace s.namespaces ≡ Some place → IsSome (committed_at place name s.records) → Good (leasing s (with_name_added s.leases namespace lease name))
 good_named s namespace lease name place good spaced there =
     good_leasing s _ good (guarding-with_name s.namespaces s.records namespace name place spaced there lease s.leases good.leased) (NamesOnce-with_name_added namespace lease name s.leases good.named_once)
+
+-- a name less
+names_fewer : (rs : List Record) (o : Option ℕ) (p : Bytes → Bool) (names : List Bytes) → NamesStand rs o names → NamesStand rs o (filter p names)
+names_fewer rs None p names h = absurd h
+names_fewer rs (Some place) p names h = all-filter (λ n. IsSome (committed_at place n rs)) p names h
+
+guarding-without_name : (ns : List Namespace) (rs : List Record) (namespace lease name : Bytes) (ls : List Lease) → AllByRecursion (IsGuarding ns rs) ls → AllByRecursion (IsGuarding ns rs) (with_name_dropped ls namespace lease name)
+guarding-without_name ns rs namespace lease name [] all = tt
+guarding-without_name ns rs namespace lease name (l ∷ ls) all = (by (is_lease namespace lease l), guarding-without_name ns rs namespace lease name ls all.1)
+  where
+    by : (b : Bool) → IsGuarding ns rs (if b then without_lease_name name l else l)
+    by true = names_fewer rs (place_of l.namespace ns) (λ n. not (bytes_eq name n)) l.names all.0
+    by false = all.0
+
+pub good_dropped : (s : State) (namespace lease name : Bytes) → Good s → Good (leasing s (with_name_dropped s.leases namespace lease name))
+good_dropped s namespace lease name good =
+    good_leasing s _ good (guarding-without_name s.namespaces s.records namespace lease name s.leases good.leased) (NamesOnce-with_name_dropped namespace lease name s.leases good.named_once)
 
 -- a lease less
 pub good_released : (s : State) (namespace lease : Bytes) → Good s → Good (leasing s (without_lease s.leases namespace lease))

@@ -7,7 +7,7 @@ use Rattle.snap_usage.specs.declared.usage.Usage.{Usage}
 use Rattle.snap_usage.specs.Counted.{count_of, Covers, covers}
 use Rattle.snap_ledger.specs.States.{plus, minus}
 use Rattle.snap_lease.specs.Lease.{Lease, empty_lease}
-use Rattle.snap_lease.specs.Leases.{is_guarded, has_lease, has_ended, with_name_added, without_lease, without_ended}
+use Rattle.snap_lease.specs.Leases.{is_guarded, has_lease, has_ended, lease_names, with_name_added, with_name_dropped, without_lease, without_ended}
 use Rattle.snap_record.specs.Labels.{Bytes, Label, are_labels}
 use Rattle.snap_record.specs.Records.{usage_of, info_of, kind_of}
 use Rattle.snap_record.specs.Updates.{is_granted, is_well_formed, updated as labels_after}
@@ -239,6 +239,16 @@ lease_add_record s namespace lease name r =
 abbrev pub lease_add : State → Bytes → Bytes → Bytes → State × Reply
 lease_add s namespace lease name = if is_key lease && is_key name then at_record s namespace name (λ place. lease_add_record s namespace lease name) else refused s BadArgument
 
+-- LeaseDrop: the lease names the snapshot no longer (containerd's leases.Manager.DeleteResource)
+abbrev pub lease_drop_at : State → Bytes → Bytes → Bytes → State × Reply
+lease_drop_at s namespace lease name =
+    if not (has_lease s.leases namespace lease) then refused s NoLease else
+    if not (lease_names s.leases namespace lease name) then refused s NotFound else
+    (leasing s (with_name_dropped s.leases namespace lease name), Done)
+
+abbrev pub lease_drop : State → Bytes → Bytes → Bytes → State × Reply
+lease_drop s namespace lease name = if is_key lease && is_key name then in_namespace s namespace (λ place. lease_drop_at s namespace lease name) else refused s BadArgument
+
 -- LeaseRelease: the lease goes with its names, and no snapshot does (containerd's leases.Manager.Delete)
 abbrev pub lease_release_at : State → Bytes → Bytes → State × Reply
 lease_release_at s namespace lease = if has_lease s.leases namespace lease then (leasing s (without_lease s.leases namespace lease), Done) else refused s NoLease
@@ -277,6 +287,7 @@ step s (calls.Walk namespace after most asked) given = walk s namespace after mo
 step s (calls.SetLimit namespace limit) given = set_limit s namespace limit
 step s (calls.LeaseCreate namespace lease until) given = lease_create s namespace lease until
 step s (calls.LeaseAdd namespace lease name) given = lease_add s namespace lease name
+step s (calls.LeaseDrop namespace lease name) given = lease_drop s namespace lease name
 step s (calls.LeaseRelease namespace lease) given = lease_release s namespace lease
 step s (calls.Sweep namespace moment) given = sweep s namespace moment
 

@@ -98,6 +98,12 @@ pub enum Call {
         lease: Text,
         name: Text,
     },
+    /// Takes one name out of a lease (containerd's `leases.Manager.DeleteResource`).
+    LeaseDrop {
+        namespace: Text,
+        lease: Text,
+        name: Text,
+    },
     /// Takes a lease away with its names (containerd's `leases.Manager.Delete`).
     LeaseRelease {
         namespace: Text,
@@ -189,6 +195,11 @@ impl Drop for Call {
                 until: _,
             } => {}
             Call::LeaseAdd {
+                namespace: _,
+                lease: _,
+                name: _,
+            } => {}
+            Call::LeaseDrop {
                 namespace: _,
                 lease: _,
                 name: _,

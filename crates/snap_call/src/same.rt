@@ -145,6 +145,11 @@ pub(crate) fn is_same_call(a: &Call, b: &Call) -> bool
             lease,
             name,
         } => is_lease_add(b, namespace, lease, name),
+        Call::LeaseDrop {
+            namespace,
+            lease,
+            name,
+        } => is_lease_drop(b, namespace, lease, name),
         Call::LeaseRelease { namespace, lease } => is_lease_release(b, namespace, lease),
         Call::Sweep { namespace, moment } => is_sweep(b, namespace, *moment),
     }
@@ -345,6 +350,19 @@ fn is_lease_add(call: &Call, namespace: &Text, lease: &Text, name: &Text) -> boo
 {
     match call {
         Call::LeaseAdd {
+            namespace: n,
+            lease: l,
+            name: k,
+        } => *namespace == *n && *lease == *l && *name == *k,
+        _ => false,
+    }
+}
+
+fn is_lease_drop(call: &Call, namespace: &Text, lease: &Text, name: &Text) -> bool
+    ensures { IsTrue result ↔ (calls.LeaseDrop namespace.now lease.now name.now ≡ call.now) }
+{
+    match call {
+        Call::LeaseDrop {
             namespace: n,
             lease: l,
             name: k,

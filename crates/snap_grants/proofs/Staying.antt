@@ -5,7 +5,7 @@ use Rattle.std.specs.Prelude.{if◌then◌else◌, ◌&&◌, not, nat_le, nat_lt
 use Rattle.snap_usage.specs.declared.usage.Usage.{Usage}
 use Rattle.snap_usage.specs.Counted.{covers}
 use Rattle.snap_lease.specs.Lease.{Lease}
-use Rattle.snap_lease.specs.Leases.{has_lease}
+use Rattle.snap_lease.specs.Leases.{has_lease, lease_names}
 use Rattle.snap_record.specs.Labels.{Bytes, Label}
 use Rattle.snap_record.specs.Records.{usage_of, info_of}
 use Rattle.snap_record.specs.Updates.{is_granted, is_well_formed, updated as labels_after}
@@ -24,7 +24,7 @@ use Rattle.snap_call.specs.declared.state.State.{State}
 use Rattle.snap_call.specs.Forms.{is_key, is_limit, is_page, is_start}
 use Rattle.snap_call.specs.Records.{record_at, is_slot, is_committed, active_at, charge_of, recharged}
 use Rattle.snap_call.specs.State.{place_of, shown_layers}
-use Rattle.snap_call.specs.Step.{counted, refused, session, unless_refused, place_for, granted, charge_to, charge, trim, discard, ask, mounts, viewed, view_at, view, update_record, update, walk, in_namespace, limited_at, set_limit_at, set_limit, lease_create, lease_add_record, lease_add, lease_release, step, at_record, new_record, relabelled_at}
+use Rattle.snap_call.specs.Step.{counted, refused, session, unless_refused, place_for, granted, charge_to, charge, trim, discard, ask, mounts, viewed, view_at, view, update_record, update, walk, in_namespace, limited_at, set_limit_at, set_limit, lease_create, lease_add_record, lease_add, lease_drop, lease_drop_at, lease_release, step, at_record, new_record, relabelled_at}
 use Rattle.snap_call.proofs.Lists.{all-with_record, all-without}
 use Rattle.snap_grants.specs.Grants.{Stored, Origin, worth}
 use Rattle.snap_grants.proofs.Weights.{Comes, AllCome, weights-with_record, weights-without_slot, weights-recharged, weights-relabelled, weights-limited, comes-recharged, comes-relabelled, comes-limited}
@@ -161,6 +161,12 @@ module _ (s : State) where
   stays_add : (namespace lease name : Bytes) → P (lease_add s namespace lease name)
   stays_add namespace lease name = either P (is_key lease && is_key name) _ _ (on_record namespace name _ (λ place. stays_add_record namespace lease name)) counts
 
+  stays_drop_at : (namespace lease name : Bytes) → P (lease_drop_at s namespace lease name)
+  stays_drop_at namespace lease name = either P (not (has_lease s.leases namespace lease)) _ _ counts (either P (not (lease_names s.leases namespace lease name)) _ _ counts (leased _))
+
+  stays_drop : (namespace lease name : Bytes) → P (lease_drop s namespace lease name)
+  stays_drop namespace lease name = either P (is_key lease && is_key name) _ _ (in_place namespace _ (λ place. stays_drop_at namespace lease name)) counts
+
   stays_release : (namespace lease : Bytes) → P (lease_release s namespace lease)
   stays_release namespace lease = either P (is_key lease) _ _ (in_place namespace _ (λ place. either P (has_lease s.leases namespace lease) _ _ (leased _) counts)) counts
 
@@ -178,5 +184,6 @@ module _ (s : State) where
   stays (calls.SetLimit namespace limit) given plain = stays_set_limit namespace limit
   stays (calls.LeaseCreate namespace lease until) given plain = stays_create namespace lease until
   stays (calls.LeaseAdd namespace lease name) given plain = stays_add namespace lease name
+  stays (calls.LeaseDrop namespace lease name) given plain = stays_drop namespace lease name
   stays (calls.LeaseRelease namespace lease) given plain = stays_release namespace lease
   stays call given plain = absurd plain

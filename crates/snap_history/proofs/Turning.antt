@@ -11,7 +11,7 @@ use Rattle.snap_layer.specs.Tree.{Tree}
 use Rattle.snap_usage.specs.declared.usage.Usage.{Usage}
 use Rattle.snap_usage.specs.Counted.{count_of, covers, no_usage}
 use Rattle.snap_ledger.specs.States.{plus}
-use Rattle.snap_lease.specs.Leases.{is_guarded, has_lease}
+use Rattle.snap_lease.specs.Leases.{is_guarded, has_lease, lease_names}
 use Rattle.snap_record.specs.Labels.{Bytes, Label}
 use Rattle.snap_record.specs.Records.{usage_of, info_of}
 use Rattle.snap_record.specs.Updates.{is_granted, is_well_formed, updated as labels_after}
@@ -32,7 +32,7 @@ use Rattle.snap_call.specs.Good.{Good}
 use Rattle.snap_call.specs.Reached.{swept, unswept}
 use Rattle.snap_call.specs.Records.{active_at, charge_of, committed_as, has_children, has_key, is_active, is_committed, is_named, is_slot, record_at, recharged, relabelled, with_record, without_key, without_slot, HasLowSlot}
 use Rattle.snap_call.specs.State.{place_of, shown_layers}
-use Rattle.snap_call.specs.Step.{IsAllowed, IsCovered, IsOpen, ask, charge, charge_to, counted, commit_as, committed as committed_state, discard, has_named, in_namespace, lease_add, lease_add_record, lease_create, lease_release, mounts, one, place_for, prepare, prepare_at, prepared as prepared_state, refused, remove, remove_record, removed_at, session, set_limit, set_limit_at, slot_for, step, sweep, sweep_at, trim, unless_refused, update, update_record, view, view_at, walk, at_record, new_record}
+use Rattle.snap_call.specs.Step.{IsAllowed, IsCovered, IsOpen, ask, charge, charge_to, counted, commit_as, committed as committed_state, discard, has_named, in_namespace, lease_add, lease_add_record, lease_create, lease_drop, lease_drop_at, lease_release, mounts, one, place_for, prepare, prepare_at, prepared as prepared_state, refused, remove, remove_record, removed_at, session, set_limit, set_limit_at, slot_for, step, sweep, sweep_at, trim, unless_refused, update, update_record, view, view_at, walk, at_record, new_record}
 use Rattle.snap_call.proofs.Alike.{AreAlike, bare-relabelled, alike-active_at, alike-active_at_None, alike-charge_of}
 use Rattle.snap_call.proofs.Keeping.{same_name}
 use Rattle.snap_call.proofs.Leasing.{place_of-limited}
@@ -226,6 +226,17 @@ module _ (name : Bytes) (place : ℕ) (s : State) (shares : List (Option Usage))
   even_lease_add namespace lease key =
       cases_if Evenly (is_key lease && is_key key) _ _
       (λ formed. even_at_record namespace key _ (λ at. even_lease_add_record namespace lease key))
+      (λ bad. even_refused _)
+
+  even_lease_drop_at : (namespace lease key : Bytes) → Evenly (lease_drop_at s namespace lease key)
+  even_lease_drop_at namespace lease key =
+      cases_if Evenly (not (has_lease s.leases namespace lease)) _ _ (λ none. even_refused _)
+      (λ there. cases_if Evenly (not (lease_names s.leases namespace lease key)) _ _ (λ other. even_refused _) (λ named. even_same _ replies.Done refl refl refl tt))
+
+  even_lease_drop : (namespace lease key : Bytes) → Evenly (lease_drop s namespace lease key)
+  even_lease_drop namespace lease key =
+      cases_if Evenly (is_key lease && is_key key) _ _
+      (λ formed. in_its_namespace Evenly namespace _ (even_refused NoNamespace) (λ at e. even_lease_drop_at namespace lease key))
       (λ bad. even_refused _)
 
   even_lease_release : (namespace lease : Bytes) → Evenly (lease_release s namespace lease)
@@ -512,6 +523,7 @@ module _ (name : Bytes) (place : ℕ) (s : State) (shares : List (Option Usage))
   turns (calls.SetLimit namespace limit) given h = even_named (bytes_eq namespace name) (step s (calls.SetLimit namespace limit) given) (even_set_limit namespace limit)
   turns (calls.LeaseCreate namespace lease until) given h = even_named (bytes_eq namespace name) (step s (calls.LeaseCreate namespace lease until) given) (even_lease_create namespace lease until)
   turns (calls.LeaseAdd namespace lease key) given h = even_named (bytes_eq namespace name) (step s (calls.LeaseAdd namespace lease key) given) (even_lease_add namespace lease key)
+  turns (calls.LeaseDrop namespace lease key) given h = even_named (bytes_eq namespace name) (step s (calls.LeaseDrop namespace lease key) given) (even_lease_drop namespace lease key)
   turns (calls.LeaseRelease namespace lease) given h = even_named (bytes_eq namespace name) (step s (calls.LeaseRelease namespace lease) given) (even_lease_release namespace lease)
   turns (calls.Sweep namespace moment) given h = turns_sweep namespace moment
 
@@ -553,5 +565,6 @@ module _ (name : Bytes) (place : ℕ) (s : State) (shares : List (Option Usage))
   own (calls.SetLimit namespace limit) given h = own_named namespace
   own (calls.LeaseCreate namespace lease until) given h = own_named namespace
   own (calls.LeaseAdd namespace lease key) given h = own_named namespace
+  own (calls.LeaseDrop namespace lease key) given h = own_named namespace
   own (calls.LeaseRelease namespace lease) given h = own_named namespace
   own (calls.Sweep namespace moment) given h = own_named namespace

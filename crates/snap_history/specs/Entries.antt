@@ -32,6 +32,7 @@ call_kind (calls.Walk namespace after most asked) = kinds.Walk
 call_kind (calls.SetLimit namespace limit) = kinds.Limit
 call_kind (calls.LeaseCreate namespace lease until) = kinds.LeaseCreate
 call_kind (calls.LeaseAdd namespace lease name) = kinds.LeaseAdd
+call_kind (calls.LeaseDrop namespace lease name) = kinds.LeaseDrop
 call_kind (calls.LeaseRelease namespace lease) = kinds.LeaseRelease
 call_kind (calls.Sweep namespace moment) = kinds.Sweep
 
@@ -53,6 +54,7 @@ call_word kinds.Walk = codes "walk"
 call_word kinds.Limit = codes "limit"
 call_word kinds.LeaseCreate = codes "lease_create"
 call_word kinds.LeaseAdd = codes "lease_add"
+call_word kinds.LeaseDrop = codes "lease_drop"
 call_word kinds.LeaseRelease = codes "lease_release"
 call_word kinds.Sweep = codes "sweep"
 
@@ -67,6 +69,7 @@ key_in (calls.View namespace key parent labels) = Some key
 key_in (calls.Remove namespace key) = Some key
 key_in (calls.Update namespace key labels paths) = Some key
 key_in (calls.LeaseAdd namespace lease name) = Some name
+key_in (calls.LeaseDrop namespace lease name) = Some name
 key_in call = None
 
 -- the id that the call names

@@ -26,6 +26,7 @@ namespace_in (calls.Walk namespace after most asked) = Some namespace
 namespace_in (calls.SetLimit namespace limit) = Some namespace
 namespace_in (calls.LeaseCreate namespace lease until) = Some namespace
 namespace_in (calls.LeaseAdd namespace lease name) = Some namespace
+namespace_in (calls.LeaseDrop namespace lease name) = Some namespace
 namespace_in (calls.LeaseRelease namespace lease) = Some namespace
 namespace_in (calls.Sweep namespace moment) = Some namespace
 namespace_in call = None

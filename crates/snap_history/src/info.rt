@@ -40,6 +40,7 @@ fn key_in(call: &Call) -> Option<&Text>
         Call::Remove { key, .. } => Some(key),
         Call::Update { key, .. } => Some(key),
         Call::LeaseAdd { name, .. } => Some(name),
+        Call::LeaseDrop { name, .. } => Some(name),
         _ => None,
     }
 }

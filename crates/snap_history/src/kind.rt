@@ -22,6 +22,7 @@ pub enum CallKind {
     Limit,
     LeaseCreate,
     LeaseAdd,
+    LeaseDrop,
     LeaseRelease,
     Sweep,
 }
@@ -47,6 +48,7 @@ pub fn call_kind(call: &Call) -> CallKind
         Call::SetLimit { .. } => CallKind::Limit,
         Call::LeaseCreate { .. } => CallKind::LeaseCreate,
         Call::LeaseAdd { .. } => CallKind::LeaseAdd,
+        Call::LeaseDrop { .. } => CallKind::LeaseDrop,
         Call::LeaseRelease { .. } => CallKind::LeaseRelease,
         Call::Sweep { .. } => CallKind::Sweep,
     }
@@ -74,6 +76,7 @@ impl CallKind {
             CallKind::Limit => "limit",
             CallKind::LeaseCreate => "lease_create",
             CallKind::LeaseAdd => "lease_add",
+            CallKind::LeaseDrop => "lease_drop",
             CallKind::LeaseRelease => "lease_release",
             CallKind::Sweep => "sweep",
         }

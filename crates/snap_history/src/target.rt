@@ -26,6 +26,7 @@ pub(crate) fn namespace_in(call: &Call) -> Option<&Text>
         Call::SetLimit { namespace, .. } => Some(namespace),
         Call::LeaseCreate { namespace, .. } => Some(namespace),
         Call::LeaseAdd { namespace, .. } => Some(namespace),
+        Call::LeaseDrop { namespace, .. } => Some(namespace),
         Call::LeaseRelease { namespace, .. } => Some(namespace),
         Call::Sweep { namespace, .. } => Some(namespace),
     }

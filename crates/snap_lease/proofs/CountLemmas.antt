@@ -82,7 +82,7 @@ bytes_eq-other xs ys differ = by (bytes_eq xs ys) refl
     by false e = e
 
 -- a lease of the namespace is of no other
-is_of-other : (space namespace : List ℕ) → space ≢ namespace → (l : Lease) → is_of namespace l ≡ true → is_of space l ≡ false
+pub is_of-other : (space namespace : List ℕ) → space ≢ namespace → (l : Lease) → is_of namespace l ≡ true → is_of space l ≡ false
 is_of-other space namespace differ l is = ap (bytes_eq space) (sym ((bytes_eq-Decides namespace l.namespace).0 is)) ∙ bytes_eq-other space namespace differ
 
 -- what a filter of one namespace keeps of another one
@@ -110,7 +110,7 @@ CountsLive-without_ended ls namespace now = record {
       ∙ count_by-agree _ (guards space name) (λ l. kept_elsewhere (is_of namespace l) (is_of space l) (does_name name l) (not (is_live now l)) (is_of-other space namespace differ l)) ls;
 }
 
-is_of-is_lease : (namespace lease : List ℕ) (l : Lease) → is_lease namespace lease l ≡ true → is_of namespace l ≡ true
+pub is_of-is_lease : (namespace lease : List ℕ) (l : Lease) → is_lease namespace lease l ≡ true → is_of namespace l ≡ true
 is_of-is_lease namespace lease l is = (bytes_eq-Decides namespace l.namespace).1 (is_lease-parts namespace lease l is).0
 
 or_false : (b : Bool) → (b || false) ≡ b
@@ -122,7 +122,7 @@ or_true true = refl
 or_true false = refl
 
 -- no lease of that name names anything where there is none
-lease_names-none : (ls : List Lease) (namespace lease name : List ℕ) → has_lease ls namespace lease ≡ false → lease_names ls namespace lease name ≡ false
+pub lease_names-none : (ls : List Lease) (namespace lease name : List ℕ) → has_lease ls namespace lease ≡ false → lease_names ls namespace lease name ≡ false
 lease_names-none [] namespace lease name none = refl
 lease_names-none (l ∷ ls) namespace lease name none =
     let both = list_any-tail (is_lease namespace lease) l ls none in

@@ -1,6 +1,6 @@
 -- What a lease is, and what is asked of one lease. Texts are their bytes.
 -- Cited by `Leases::has`, `Leases::create`, `Leases::add` and others.
-use Rattle.std.specs.Prelude.{ℕ, Bool, true, List, [], ◌∷◌, ◌++◌, Option, nat_le, ◌&&◌, if◌then◌else◌}
+use Rattle.std.specs.Prelude.{ℕ, Bool, true, not, List, [], ◌∷◌, ◌++◌, filter, Option, nat_le, ◌&&◌, if◌then◌else◌}
 use Rattle.std.specs.List.{list_any, IsDistinct}
 use Rattle.std.specs.Option.{option_map_or}
 use Rattle.std.specs.Str.{bytes_eq}
@@ -39,3 +39,7 @@ empty_lease namespace lease until = record { namespace = namespace; name = lease
 -- the lease with the name as its last, and as it is where it has that name
 abbrev pub with_lease_name : List ℕ → Lease → Lease
 with_lease_name name l = if does_name name l then l else record l { names = l.names ++ name ∷ [] }
+
+-- the lease without the name; its other names stay in order
+abbrev pub without_lease_name : List ℕ → Lease → Lease
+without_lease_name name l = record l { names = filter (λ n. not (bytes_eq name n)) l.names }

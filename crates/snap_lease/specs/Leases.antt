@@ -3,7 +3,7 @@
 use Rattle.std.specs.Prelude.{◌≡◌, ◌≢◌, ℕ, ◌+◌, Bool, false, not, List, [], ◌∷◌, Option, map, filter, find, count_by, ◌&&◌, if◌then◌else◌}
 use Rattle.std.specs.List.{list_any}
 use Rattle.std.specs.Option.{option_map}
-use Rattle.snap_lease.specs.Lease.{Lease, is_of, is_lease, does_name, is_live, with_lease_name}
+use Rattle.snap_lease.specs.Lease.{Lease, is_of, is_lease, does_name, is_live, with_lease_name, without_lease_name}
 
 -- whether the namespace has a lease of this name
 abbrev pub has_lease : List Lease → List ℕ → List ℕ → Bool
@@ -42,6 +42,10 @@ has_ended namespace now l = is_of namespace l && not (is_live now l)
 abbrev pub with_name_added : List Lease → List ℕ → List ℕ → List ℕ → List Lease
 with_name_added ls namespace lease name = map (λ l. if is_lease namespace lease l then with_lease_name name l else l) ls
 
+-- the namespace's lease of this name loses the name
+abbrev pub with_name_dropped : List Lease → List ℕ → List ℕ → List ℕ → List Lease
+with_name_dropped ls namespace lease name = map (λ l. if is_lease namespace lease l then without_lease_name name l else l) ls
+
 -- the leases without the namespace's lease of this name
 abbrev pub without_lease : List Lease → List ℕ → List ℕ → List Lease
 without_lease ls namespace lease = filter (λ l. not (is_lease namespace lease l)) ls
@@ -57,6 +61,12 @@ lease_names ls namespace lease name = list_any (λ l. is_lease namespace lease l
 -- the count of the name in the namespace grows by one where the lease lacked the name, and every other count stays
 pub record CountsAdded (old new : List Lease) (namespace lease name : List ℕ) : Type 0 where
   pub named : naming_count new namespace name ≡ naming_count old namespace name + (if lease_names old namespace lease name then 0 else 1)
+  pub other_names : (space other : List ℕ) → other ≢ name → naming_count new space other ≡ naming_count old space other
+  pub other_namespaces : (space other : List ℕ) → space ≢ namespace → naming_count new space other ≡ naming_count old space other
+
+-- the count of the name in the namespace falls by one, and every other count stays
+pub record CountsDropped (old new : List Lease) (namespace name : List ℕ) : Type 0 where
+  pub named : naming_count new namespace name + 1 ≡ naming_count old namespace name
   pub other_names : (space other : List ℕ) → other ≢ name → naming_count new space other ≡ naming_count old space other
   pub other_namespaces : (space other : List ℕ) → space ≢ namespace → naming_count new space other ≡ naming_count old space other
 

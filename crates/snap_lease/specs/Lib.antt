@@ -5,3 +5,4 @@ pub mod Live
 pub mod Marks
 pub mod Numbers
 pub mod Reach
+pub mod Told

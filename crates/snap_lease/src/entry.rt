@@ -1,13 +1,15 @@
 //! One lease, over texts that it owns.
 ghost use Rattle.std.specs.Prelude.{◌≡◌, ◌<◌, ◌+◌, ◌^◌, ◌||◌, false, List, ℕ, None, map, string_bytes, IsTrue, IsOk, IfOk, OnOk, OnErr, if◌then◌else◌};
 ghost use Rattle.snap_counts.specs.Counts.{count_within};
-ghost use Rattle.snap_lease.specs.Lease.{is_of, is_lease, does_name, is_live, empty_lease, with_lease_name, NamesOnce};
+ghost use Rattle.snap_lease.specs.Lease.{is_of, is_lease, does_name, is_live, empty_lease, with_lease_name, without_lease_name, NamesOnce};
 ghost use Rattle.snap_lease.specs.Index.{IsSame, IsRecounted, IsUncounted};
 ghost use Rattle.snap_lease.specs.Live.{is_among};
 ghost use Rattle.snap_lease.specs.Numbers.{number_in};
+ghost use Rattle.snap_lease.specs.Told.{told};
 
 use crate::live::LiveNames;
 use crate::numbers::LeaseNumbers;
+use crate::told::LeaseInfo;
 use indexmap::IndexMap;
 use snap_counts::NamespaceCounts;
 use std::alloc::{AllocError, Global};
@@ -57,6 +59,17 @@ impl LeaseEntry {
             name: String::from_str(alloc, lease)?,
             until,
             names: IndexMap::new(alloc),
+        })
+    }
+
+    /// A copy of what is told of it.
+    pub(crate) fn info(&self, alloc: Global) -> Result<LeaseInfo, AllocError>
+        ensures { IfOk result (λ info. info ≡ told self.now) }
+    {
+        Ok(LeaseInfo {
+            name: self.name.clone()?,
+            until: self.until,
+            names: self.copy_names(alloc)?,
         })
     }
 
@@ -118,6 +131,30 @@ impl LeaseEntry {
             return Err(refused);
         }
         Ok(())
+    }
+
+    // Takes the name away, and says whether it was there.
+    fn take(&mut self, name: &str) -> bool
+        requires { NamesOnce self.old }
+        ensures there { result ≡ does_name name.now self.old }
+        ensures left { self.new ≡ without_lease_name name.now self.old }
+    {
+        self.names.shift_remove(name).is_some()
+    }
+
+    /// Names the snapshot no longer, and takes one count of the name in its namespace back. Says whether it named it.
+    pub(crate) fn drop_name(&mut self, name: &str, counts: &mut NamespaceCounts) -> bool
+        requires once { NamesOnce self.old }
+        requires counted { IsTrue (does_name name.now self.old) → 0 < count_within self.old.namespace name.now counts.old }
+        ensures there { result ≡ does_name name.now self.old }
+        ensures left { self.new ≡ without_lease_name name.now self.old }
+        ensures counted { IsRecounted self.old self.new counts.old counts.new }
+    {
+        let is_there = self.take(name);
+        if is_there {
+            counts.take(self.namespace.as_str(), name);
+        }
+        is_there
     }
 
     /// Takes one count of each of its names back.

@@ -21,6 +21,17 @@ pub enum LeaseError {
     OutOfMemory(NoMemory),
 }
 
+/// Why a lease doesn't name a snapshot.
+#[derive(Clone, Copy, Debug, PartialEq, Eq, Error)]
+pub enum LeaseNameError {
+    /// The namespace has no lease of this name.
+    #[error("no such lease")]
+    NoLease,
+    /// The lease doesn't name the snapshot.
+    #[error("no such name in the lease")]
+    NoName,
+}
+
 impl From<AllocError> for LeaseError {
     ghost from_gives = { λ _ e. e ≡ OutOfMemory no_memory };
 

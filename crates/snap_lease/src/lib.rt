@@ -15,8 +15,10 @@ mod list;
 mod live;
 mod numbers;
 mod sweep;
+mod told;
 
-pub use error::LeaseError;
+pub use error::{LeaseError, LeaseNameError};
 pub use list::Leases;
 pub use live::LiveNames;
 pub use sweep::sweep_set;
+pub use told::LeaseInfo;

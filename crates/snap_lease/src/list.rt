@@ -1,18 +1,18 @@
 //! The leases of all namespaces.
-ghost use Rattle.std.specs.Prelude.{◌≡◌, ◌≢◌, ◌↔◌, ◌<◌, ℕ, List, [], ◌∷◌, ◌++◌, map, false, count_by, string_bytes, Some, IsTrue, IfOk, OnOk, OnErr, IsErrOf, IsOkUnless};
+ghost use Rattle.std.specs.Prelude.{◌≡◌, ◌≢◌, ◌↔◌, ◌<◌, ℕ, List, [], ◌∷◌, ◌++◌, map, false, count_by, string_bytes, Some, IsTrue, IsOk, IfOk, OnOk, OnErr, IsErrOf, IsOkUnless};
 ghost use Rattle.std.specs.List.{AllByRecursion};
 ghost use Rattle.std.specs.Map.{keys_of, values_of};
 ghost use Rattle.snap_path.specs.Memory.{no_memory};
 ghost use Rattle.snap_lease.specs.Lease.{empty_lease, NamesOnce};
-ghost use Rattle.snap_lease.specs.Leases.{AreDistinct, has_lease, names_in_lease, lease_names, naming_count, is_guarded, is_guarded_at, has_ended, with_name_added, without_lease, without_ended, CountsAdded, CountsReleased, CountsLive};
+ghost use Rattle.snap_lease.specs.Leases.{AreDistinct, has_lease, names_in_lease, lease_names, naming_count, is_guarded, is_guarded_at, has_ended, with_name_added, with_name_dropped, without_lease, without_ended, CountsAdded, CountsDropped, CountsReleased, CountsLive};
 ghost use Rattle.snap_lease.specs.Index.{AreUncounted};
 ghost use Rattle.snap_lease.specs.Live.{is_among};
 ghost use Rattle.snap_lease.specs.Numbers.{AreUnnumbered};
 
-use crate::LeaseError;
 use crate::entry::LeaseEntry;
 use crate::live::LiveNames;
 use crate::numbers::LeaseNumbers;
+use crate::{LeaseError, LeaseNameError};
 use snap_counts::NamespaceCounts;
 use snap_path::NoMemory;
 use std::alloc::{AllocError, Global};
@@ -22,15 +22,15 @@ use std::marker::Model;
 /// The leases of all namespaces.
 ///
 /// Contracts see them as a list of records, in the order in which the leases were created; a release and a sweep leave the
-/// others in their order. The names of a lease are in the order in which they were added, each once. No two leases of one
-/// namespace have the same name. Beside them stand the number of each lease by its namespace and name, so a lease is found
-/// without passing over others, and how many leases of each namespace name a snapshot, so [`Leases::holds`] and
-/// [`Leases::count`] pass over no lease.
+/// others in their order. The names of a lease are in the order in which they were added, each once; one that is dropped
+/// leaves the others in their order. No two leases of one namespace have the same name. Beside them stand the number of
+/// each lease by its namespace and name, so a lease is found without passing over others, and how many leases of each
+/// namespace name a snapshot, so [`Leases::holds`] and [`Leases::count`] pass over no lease.
 #[derive(Drop)]
 pub struct Leases {
-    alloc: Global,
-    list: BTreeMap<usize, LeaseEntry>,
-    numbers: LeaseNumbers,
+    pub(crate) alloc: Global,
+    pub(crate) list: BTreeMap<usize, LeaseEntry>,
+    pub(crate) numbers: LeaseNumbers,
     counts: NamespaceCounts,
 }
 
@@ -135,6 +135,58 @@ impl Leases {
         };
         entry.add(self.alloc, name, &mut self.counts)?;
         Ok(())
+    }
+
+    /// Whether the lease names the snapshot, live or ended: Ok where it does.
+    ///
+    /// `NoLease` where the namespace has no lease of this name, `NoName` where the lease doesn't name the snapshot. Takes no
+    /// memory. Its cost grows with the logarithm of the number of leases.
+    pub fn find_name(&self, namespace: &str, lease: &str, name: &str) -> Result<(), LeaseNameError>
+        ensures named { IsOk result ↔ IsTrue (lease_names self.now namespace.now lease.now name.now) }
+        ensures no_lease { IsErrOf result LeaseNameError.NoLease ↔ (has_lease self.now namespace.now lease.now ≡ false) }
+    {
+        let Some(number) = self.numbers.get(namespace, lease) else {
+            return Err(LeaseNameError::NoLease);
+        };
+        if self.list[&number].does_name(name) {
+            Ok(())
+        } else {
+            Err(LeaseNameError::NoName)
+        }
+    }
+
+    /// Takes the name out of the lease, as containerd's `leases.Manager.DeleteResource` does. The lease's other names keep their
+    /// order, and the lease stays, also without a name.
+    ///
+    /// `NoLease` where the namespace has no lease of this name, `NoName` where the lease doesn't name the snapshot; after
+    /// either the leases are as they were. Takes no memory. Its cost grows with the number of the lease's names, and with the
+    /// logarithms of the number of leases and of the number of names that the namespace's leases have.
+    pub fn drop_name(
+        &mut self,
+        namespace: &str,
+        lease: &str,
+        name: &str,
+    ) -> Result<(), LeaseNameError>
+        // The lease has every other name, and every other lease stays.
+        ensures ok { OnOk result (self.new ≡ with_name_dropped self.old namespace.now lease.now name.now) }
+        ensures counts { OnOk result (CountsDropped self.old self.new namespace.now name.now) }
+
+        // It is refused exactly where no lease of this name has the name, with `NoLease` exactly where there is no such lease.
+        ensures named { IsOk result ↔ IsTrue (lease_names self.old namespace.now lease.now name.now) }
+        ensures no_lease { IsErrOf result LeaseNameError.NoLease ↔ (has_lease self.old namespace.now lease.now ≡ false) }
+        ensures err { OnErr result (self.new ≡ self.old) }
+    {
+        let Some(number) = self.numbers.get(namespace, lease) else {
+            return Err(LeaseNameError::NoLease);
+        };
+        let Some(entry) = self.list.get_mut(&number) else {
+            unreachable!()
+        };
+        if entry.drop_name(name, &mut self.counts) {
+            Ok(())
+        } else {
+            Err(LeaseNameError::NoName)
+        }
     }
 
     /// Takes the lease away with its names, as containerd's `leases.Manager.Delete` does.

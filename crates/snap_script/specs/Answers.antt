@@ -9,6 +9,7 @@ use Rattle.serde_json.specs.View.{items_of}
 use Rattle.serde_json.specs.Written.{compact_text}
 use Rattle.snap_path.specs.Text.{text_of}
 use Rattle.snap_usage.specs.declared.usage.Usage.{Usage}
+use Rattle.snap_lease.specs.Told.{ToldLease}
 use Rattle.snap_record.specs.Labels.{Bytes}
 use Rattle.snap_record.specs.Kinds.{kind_word}
 use Rattle.snap_record.specs.declared.info.Info.{Info}
@@ -19,6 +20,8 @@ use Rattle.snap_call.specs.declared.refusal.Refusal.TheVariants as refusals
 use Rattle.snap_call.specs.declared.reply.Reply.{Reply}
 use Rattle.snap_call.specs.declared.reply.Reply.TheVariants as replies
 use Rattle.snap_history.specs.Entries.{call_word}
+use Rattle.snap_diff.specs.Changes.{change_word}
+use Rattle.snap_diff.specs.declared.change.Change.{Change}
 use Rattle.snap_merge.specs.declared.error.FsError.{FsError}
 use Rattle.snap_merge.specs.declared.error.FsError.TheVariants as errors
 use Rattle.snap_script.specs.declared.answer.Shown.{Shown}
@@ -138,6 +141,10 @@ node_data node = object
     (member (codes "parent") (string node.parent)
     (only (codes "usage") (usage_data node.usage)))))))
 
+-- what a layer changes at a path
+abbrev pub change_data : Change → Data
+change_data change = object (member (codes "change") (string (change_word change.kind)) (only (codes "path") (string (text_of change.path))))
+
 -- what a namespace may take and what it takes
 abbrev pub quota_data : QuotaInfo → Data
 quota_data quota = object
@@ -151,6 +158,13 @@ quota_data quota = object
 -- a member that may be absent, before the others
 abbrev pub maybe : List ℕ → Option Data → Members → Members
 maybe key value rest = option_map_or (λ it. member key it rest) value rest
+
+-- a lease with the names in their order, without a last moment where it has none
+abbrev pub lease_data : ToldLease → Data
+lease_data lease = object
+    (member (codes "lease") (string lease.name)
+    (member (codes "names") (array (items_of (map string lease.names)))
+    (maybe (codes "until") (option_map number_data lease.until) no_members)))
 
 -- an entry of a namespace, with the word of its call: without an id, a key or a refusal where it has none, and with a line where that is told
 abbrev pub entry_data : JournalEntry → Data
@@ -209,7 +223,9 @@ answer_data (answers.Known size digest) = object (member (codes "digest") (diges
 answer_data (answers.Path path) = object (only (codes "path") (string (text_of path)))
 answer_data (answers.Taken taken) = object (member (codes "blocks") (number_data taken.blocks) (only (codes "inodes") (number_data taken.inodes)))
 answer_data (answers.Quota quotas) = object (only (codes "quota") (object (members_with quota_data quotas no_members)))
+answer_data (answers.Leases leases) = object (only (codes "leases") (array (items_of (map lease_data leases))))
 answer_data (answers.Tree nodes) = object (only (codes "tree") (array (items_of (map node_data nodes))))
+answer_data (answers.Diff changes) = object (only (codes "changes") (array (items_of (map change_data changes))))
 answer_data (answers.Journal entries) = object (only (codes "journal") (array (items_of (map entry_data entries))))
 answer_data (answers.Report entries actives records totals) = object
     (member (codes "entries") (number_data entries)

@@ -99,6 +99,8 @@ call_data own session held (calls.LeaseCreate namespace lease until) = object
     (maybe (codes "until") (option_map number_data until) no_members)))))
 call_data own session held (calls.LeaseAdd namespace lease name) = object
     (member (codes "do") (word_data kinds.LeaseAdd) (member (codes "lease") (string lease) (member (codes "name") (string name) (ends namespace session))))
+call_data own session held (calls.LeaseDrop namespace lease name) = object
+    (member (codes "do") (word_data kinds.LeaseDrop) (member (codes "lease") (string lease) (member (codes "name") (string name) (ends namespace session))))
 call_data own session held (calls.LeaseRelease namespace lease) = object
     (member (codes "do") (word_data kinds.LeaseRelease) (member (codes "lease") (string lease) (ends namespace session)))
 call_data own session held (calls.Sweep namespace moment) = object

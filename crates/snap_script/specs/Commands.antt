@@ -82,6 +82,7 @@ call_of kinds.Walk line = do Ok (commands.Call (calls.Walk (← text fields.Name
 call_of kinds.Limit line = do Ok (commands.Call (calls.SetLimit (← text fields.Namespace line) (← limit_of line)))
 call_of kinds.LeaseCreate line = do Ok (commands.Call (calls.LeaseCreate (← text fields.Namespace line) (← text fields.Lease line) (← given as_natural fields.Until line)))
 call_of kinds.LeaseAdd line = do Ok (commands.Call (calls.LeaseAdd (← text fields.Namespace line) (← text fields.Lease line) (← text fields.Name line)))
+call_of kinds.LeaseDrop line = do Ok (commands.Call (calls.LeaseDrop (← text fields.Namespace line) (← text fields.Lease line) (← text fields.Name line)))
 call_of kinds.LeaseRelease line = do Ok (commands.Call (calls.LeaseRelease (← text fields.Namespace line) (← text fields.Lease line)))
 call_of kinds.Sweep line = do Ok (sweep_of (← text fields.Namespace line) (← required as_natural fields.Moment line) (← optional as_bool fields.Try (Ok false) line))
 
@@ -109,6 +110,8 @@ command_of (verbs.Call kind) line = call_of kind line
 command_of (verbs.File verb) line = do s ← named line; Ok (commands.File s.0 s.1 (← file_operation verb line) (← optional as_usage fields.Extra (Ok (record { blocks = 0; inodes = 0 })) line))
 command_of (verbs.Lookup verb) line = do s ← named line; path ← path_in fields.Path line; asked ← lookup_of verb line; Ok (commands.Lookup s.0 s.1 asked path (← optional as_bool fields.Peek (Ok false) line))
 command_of verbs.Quota line = do Ok (commands.Quota (← given as_str fields.Namespace line))
+command_of verbs.Leases line = do Ok (commands.Leases (← text fields.Namespace line) (← given as_str fields.Lease line))
 command_of verbs.Tree line = do Ok (commands.Tree (← text fields.Namespace line))
+command_of verbs.Diff line = do s ← named line; Ok (commands.Diff s.0 s.1 (← optional as_str fields.After (Ok []) line) (← optional as_natural fields.Most (Ok 64) line))
 command_of verbs.Journal line = do Ok (commands.Journal (← text fields.Namespace line) (← optional as_natural fields.After (Ok 0) line) (← optional as_natural fields.Most (Ok 64) line) (← optional as_bool fields.Full (Ok false) line))
 command_of verbs.Report line = Ok commands.Report

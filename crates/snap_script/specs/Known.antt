@@ -42,6 +42,7 @@ fields_of (verbs.Call kinds.Walk) = fields.Namespace ∷ fields.After ∷ fields
 fields_of (verbs.Call kinds.Limit) = fields.Namespace ∷ fields.Blocks ∷ fields.Inodes ∷ []
 fields_of (verbs.Call kinds.LeaseCreate) = fields.Namespace ∷ fields.Lease ∷ fields.Until ∷ []
 fields_of (verbs.Call kinds.LeaseAdd) = fields.Namespace ∷ fields.Lease ∷ fields.Name ∷ []
+fields_of (verbs.Call kinds.LeaseDrop) = fields.Namespace ∷ fields.Lease ∷ fields.Name ∷ []
 fields_of (verbs.Call kinds.LeaseRelease) = fields.Namespace ∷ fields.Lease ∷ []
 fields_of (verbs.Call kinds.Sweep) = fields.Namespace ∷ fields.Moment ∷ fields.Try ∷ []
 fields_of (verbs.File (file_verbs.At path_verbs.Mkdir)) = fields.Namespace ∷ fields.Key ∷ fields.Path ∷ fields.Mode ∷ fields.Extra ∷ []
@@ -63,7 +64,9 @@ fields_of (verbs.Lookup lookup_verbs.Read) = fields.Namespace ∷ fields.Key ∷
 fields_of (verbs.Lookup lookup_verbs.Resolve) = fields.Namespace ∷ fields.Key ∷ fields.Path ∷ fields.Peek ∷ []
 fields_of (verbs.Lookup lookup_verbs.Usage) = fields.Namespace ∷ fields.Key ∷ fields.Path ∷ fields.Peek ∷ []
 fields_of verbs.Quota = fields.Namespace ∷ []
+fields_of verbs.Leases = fields.Namespace ∷ fields.Lease ∷ []
 fields_of verbs.Tree = fields.Namespace ∷ []
+fields_of verbs.Diff = fields.Namespace ∷ fields.Key ∷ fields.After ∷ fields.Most ∷ []
 fields_of verbs.Journal = fields.Namespace ∷ fields.After ∷ fields.Most ∷ fields.Full ∷ []
 fields_of verbs.Report = []
 

@@ -20,7 +20,8 @@ abbrev pub calls : List CallKind
 calls =
     kinds.Session ∷ kinds.Prepare ∷ kinds.View ∷ kinds.Charge ∷ kinds.Trim ∷ kinds.Commit
     ∷ kinds.Discard ∷ kinds.Remove ∷ kinds.Stat ∷ kinds.Update ∷ kinds.Usage ∷ kinds.Mounts
-    ∷ kinds.Walk ∷ kinds.Limit ∷ kinds.LeaseCreate ∷ kinds.LeaseAdd ∷ kinds.LeaseRelease ∷ kinds.Sweep
+    ∷ kinds.Walk ∷ kinds.Limit ∷ kinds.LeaseCreate ∷ kinds.LeaseAdd ∷ kinds.LeaseDrop ∷ kinds.LeaseRelease
+    ∷ kinds.Sweep
     ∷ []
 
 -- the call that has the word, as a journal tells it
@@ -52,7 +53,9 @@ words =
     ∷ (codes "resolve", verbs.Lookup lookup_verbs.Resolve)
     ∷ (codes "du", verbs.Lookup lookup_verbs.Usage)
     ∷ (codes "quota", verbs.Quota)
+    ∷ (codes "leases", verbs.Leases)
     ∷ (codes "tree", verbs.Tree)
+    ∷ (codes "diff", verbs.Diff)
     ∷ (codes "journal", verbs.Journal)
     ∷ (codes "report", verbs.Report)
     ∷ []

@@ -1,14 +1,16 @@
 ghost use Rattle.std.specs.Prelude.{◌≡◌, IfOk, string_bytes};
 ghost use Rattle.snap_call.specs.declared.reply.Reply.TheVariants as replies;
-ghost use Rattle.snap_script.specs.Answers.{answer_data, answer_line, node_data, quota_data, shown_data};
+ghost use Rattle.snap_script.specs.Answers.{answer_data, answer_line, change_data, node_data, quota_data, shown_data};
 ghost use Rattle.snap_script.specs.declared.answer.Answer.TheVariants as answers;
 
 use crate::to_json::{ToJson, member, only, pair};
 use crate::values::{error, error_name, jobs, quotas, report, sized};
 use snap_call::{Refusal, Reply};
+use snap_diff::Change;
 use snap_history::EntryInfo;
 use snap_json::{Token, Writer};
 use snap_layer::Bytes;
+use snap_lease::LeaseInfo;
 use snap_merge::FsError;
 use snap_path::{Name, Path};
 use snap_record::{Kind, Sequence, Text};
@@ -80,6 +82,16 @@ impl ToJson for TreeNode {
         member(alloc, out, "parent", &self.parent)?;
         member(alloc, out, "usage", &self.usage)?;
         out.token(Token::EndObject)
+    }
+}
+
+/// What a snapshot's layer changes at a path.
+impl ToJson for Change {
+    ghost value = { change_data };
+
+    fn write(&self, alloc: Global, out: &mut Writer) -> Result<(), AllocError> {
+        let path = self.path.as_str();
+        pair(alloc, out, "change", &self.kind.as_str(), "path", &path)
     }
 }
 
@@ -179,9 +191,15 @@ pub enum Answer {
     /// What namespaces may take and what they take:
     /// `{"quota":{"a":{"charged":[5,4],"committed":[4,3],"free":[95,96],"limit":[100,100],"open":[1,1],"spare":[0,0]}}}`.
     Quota(Sequence<(Text, QuotaInfo)>),
+    /// The leases of a namespace, in the order in which they were created, or one of them, without `until` where it
+    /// has no last moment: `{"leases":[{"lease":"l","names":["c","d"],"until":7}]}`.
+    Leases(Sequence<LeaseInfo>),
     /// The snapshots of a namespace, in byte order of their keys:
     /// `{"tree":[{"children":0,"id":1,"key":"k","kind":"Active","parent":"","usage":[1,1]}]}`.
     Tree(Sequence<TreeNode>),
+    /// What a snapshot's layer changes, in order of the paths:
+    /// `{"changes":[{"change":"added","path":"/x"}]}`.
+    Diff(Sequence<Change>),
     /// The round's entries of a namespace, each with what the namespace is charged after it:
     /// `{"journal":[{"call":"prepare","charge":[1,1],"id":1,"key":"k","number":2,"session":0}]}`, where it was
     /// refused with the refusal's name, `"refused":"NotFound"`, and where all is asked for with the line that
@@ -228,7 +246,9 @@ impl Drop for Answer {
             Answer::Path(_) => {}
             Answer::Taken(_) => {}
             Answer::Quota(_) => {}
+            Answer::Leases(_) => {}
             Answer::Tree(_) => {}
+            Answer::Diff(_) => {}
             Answer::Journal(_) => {}
             Answer::Report {
                 entries: _,
@@ -297,7 +317,9 @@ impl ToJson for Answer {
                 pair(alloc, out, "blocks", blocks, "inodes", inodes)
             }
             Answer::Quota(found) => quotas(alloc, out, found.as_slice()),
+            Answer::Leases(leases) => only(alloc, out, "leases", leases),
             Answer::Tree(nodes) => only(alloc, out, "tree", nodes),
+            Answer::Diff(changes) => only(alloc, out, "changes", changes),
             Answer::Journal(entries) => only(alloc, out, "journal", entries),
             Answer::Report {
                 entries,

@@ -264,6 +264,23 @@ fn lease_add(
     end(alloc, out, namespace, session)
 }
 
+fn lease_drop(
+    alloc: Global,
+    out: &mut Writer,
+    namespace: &Text,
+    session: u64,
+    lease: &Text,
+    name: &Text,
+) -> Result<(), AllocError>
+    ensures { OnOk result (out.new ≡ with_value (call_data [] session None (calls.LeaseDrop namespace.now lease.now name.now)) out.old) }
+{
+    out.token(Token::BeginObject)?;
+    member(alloc, out, "do", &CallKind::LeaseDrop.as_str())?;
+    member(alloc, out, "lease", lease)?;
+    member(alloc, out, "name", name)?;
+    end(alloc, out, namespace, session)
+}
+
 fn lease_release(
     alloc: Global,
     out: &mut Writer,
@@ -368,6 +385,11 @@ fn write_call(
             lease,
             name,
         } => lease_add(alloc, out, namespace, n, lease, name),
+        Call::LeaseDrop {
+            namespace,
+            lease,
+            name,
+        } => lease_drop(alloc, out, namespace, n, lease, name),
         Call::LeaseRelease { namespace, lease } => lease_release(alloc, out, namespace, n, lease),
         Call::Sweep { namespace, moment } => sweep(alloc, out, namespace, n, *moment),
     }

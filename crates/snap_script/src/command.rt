@@ -84,9 +84,22 @@ pub enum Command {
     Quota {
         namespace: Option<Text>,
     },
+    /// Asks for the leases of a namespace, or for the one of a name.
+    Leases {
+        namespace: Text,
+        lease: Option<Text>,
+    },
     /// Asks for the snapshots of a namespace, as a forest by parent.
     Tree {
         namespace: Text,
+    },
+    /// Asks for what the snapshot's layer changes of what its ancestors show: of the changes after a path, or of all
+    /// where its text is empty, at most so many.
+    Diff {
+        namespace: Text,
+        key: Text,
+        after: Text,
+        most: u64,
     },
     /// Asks for the round's entries of a namespace, after the entry of a number, at most so many, and in full also
     /// for the lines that make their calls.

@@ -208,7 +208,7 @@ impl Field {
             ),
             Field::After => (
                 Found::Text,
-                "a text in a walk, a number of digits alone below 2^64 in a journal",
+                "a text in a walk or a diff, a number of digits alone below 2^64 in a journal",
             ),
             Field::Kind => (Found::Text, "View, Active or Committed"),
             Field::Path | Field::From | Field::To => (Found::Text, "a path"),

@@ -4,6 +4,7 @@ ghost use Rattle.snap_json.specs.View.{view};
 ghost use Rattle.snap_history.specs.declared.kind.CallKind.TheVariants as kinds;
 ghost use Rattle.snap_script.specs.Commands.{named, config_of, filter_of, call_of, read_asked, lookup_of, command_of};
 ghost use Rattle.snap_script.specs.Gives.{Gives};
+ghost use Rattle.snap_script.specs.declared.verb.Verb.TheVariants as verbs;
 
 use crate::command::{Command, Lookup};
 use crate::fault::{Fault, Field, ReadError};
@@ -26,7 +27,7 @@ use std::alloc::Global;
 /// The id of a store's first snapshot.
 const FIRST_ID: u32 = 1;
 
-/// How many snapshots a walk gives at most, and entries a journal, where the line doesn't say.
+/// How many snapshots a walk gives at most, entries a journal, and changes a diff, where the line doesn't say.
 const PAGE: u64 = 64;
 
 /// The namespace (`ns`) and the key of the snapshot that a line names, both texts. Neither has to have its
@@ -175,6 +176,17 @@ fn lease_add(alloc: Global, line: &Value<'_>) -> Result<Command, ReadError>
 }
 
 #[tactic(auto, unfolding(crate::specs::Commands::call_of))]
+fn lease_drop(alloc: Global, line: &Value<'_>) -> Result<Command, ReadError>
+    ensures { Gives (λ c. c) result (call_of kinds.LeaseDrop (view line.now)) }
+{
+    Ok(Command::Call(Call::LeaseDrop {
+        namespace: text(alloc, Field::Namespace, line)?,
+        lease: text(alloc, Field::Lease, line)?,
+        name: text(alloc, Field::Name, line)?,
+    }))
+}
+
+#[tactic(auto, unfolding(crate::specs::Commands::call_of))]
 fn sweep(alloc: Global, line: &Value<'_>) -> Result<Command, ReadError>
     ensures { Gives (λ c. c) result (call_of kinds.Sweep (view line.now)) }
 {
@@ -209,6 +221,20 @@ fn commit(alloc: Global, line: &Value<'_>) -> Result<Command, ReadError>
         key,
         name: text(alloc, Field::Name, line)?,
         lease: optional_text(alloc, Field::Lease, line)?,
+    })
+}
+
+/// The question for a snapshot's changes.
+#[tactic(auto, unfolding(crate::specs::Commands::command_of))]
+fn diff(alloc: Global, line: &Value<'_>) -> Result<Command, ReadError>
+    ensures { Gives (λ c. c) result (command_of verbs.Diff (view line.now)) }
+{
+    let (namespace, key) = named(alloc, line)?;
+    Ok(Command::Diff {
+        namespace,
+        key,
+        after: text_or_empty(alloc, Field::After, line)?,
+        most: number_or(PAGE, Field::Most, line)?,
     })
 }
 
@@ -249,6 +275,7 @@ fn call_of(alloc: Global, kind: CallKind, line: &Value<'_>) -> Result<Command, R
         CallKind::Limit => set_limit(alloc, line),
         CallKind::LeaseCreate => lease_create(alloc, line),
         CallKind::LeaseAdd => lease_add(alloc, line),
+        CallKind::LeaseDrop => lease_drop(alloc, line),
         CallKind::LeaseRelease => Ok(Command::Call(Call::LeaseRelease {
             namespace: text(alloc, Field::Namespace, line)?,
             lease: text(alloc, Field::Lease, line)?,
@@ -329,9 +356,14 @@ pub(crate) fn command_of(alloc: Global, verb: Verb, line: &Value<'_>) -> Result<
         Verb::Quota => Ok(Command::Quota {
             namespace: optional_text(alloc, Field::Namespace, line)?,
         }),
+        Verb::Leases => Ok(Command::Leases {
+            namespace: text(alloc, Field::Namespace, line)?,
+            lease: optional_text(alloc, Field::Lease, line)?,
+        }),
         Verb::Tree => Ok(Command::Tree {
             namespace: text(alloc, Field::Namespace, line)?,
         }),
+        Verb::Diff => diff(alloc, line),
         Verb::Journal => Ok(Command::Journal {
             namespace: text(alloc, Field::Namespace, line)?,
             after: number_or(0, Field::After, line)?,

@@ -59,7 +59,9 @@ impl Answer {
             | Answer::Path(_)
             | Answer::Taken(_)
             | Answer::Quota(_)
+            | Answer::Leases(_)
             | Answer::Tree(_)
+            | Answer::Diff(_)
             | Answer::Journal(_)
             | Answer::Report { .. }
             | Answer::Jobs { .. } => None,

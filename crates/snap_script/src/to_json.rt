@@ -1,5 +1,5 @@
 // What an answer has, written as JSON.
-ghost use Rattle.std.specs.Prelude.{◌≡◌, map, OnOk};
+ghost use Rattle.std.specs.Prelude.{◌≡◌, map, string_bytes, OnOk};
 ghost use Rattle.std.specs.Option.{option_map};
 ghost use Rattle.serde_json.specs.Data.{Data, array, boolean, member, object, no_members, string};
 ghost use Rattle.serde_json.specs.View.{items_of};
@@ -60,6 +60,19 @@ impl ToJson for Text {
 
     fn write(&self, _alloc: Global, out: &mut Writer) -> Result<(), AllocError> {
         out.token(Token::String(self.as_str()))
+    }
+}
+
+/// The texts, in their order.
+impl ToJson for &[String] {
+    ghost value = { λ texts. array (items_of (map string (map string_bytes texts.now))) };
+
+    fn write(&self, _alloc: Global, out: &mut Writer) -> Result<(), AllocError> {
+        out.token(Token::BeginArray)?;
+        for text in self.iter() {
+            out.token(Token::String(text.as_str()))?;
+        }
+        out.token(Token::EndArray)
     }
 }
 

@@ -66,7 +66,7 @@ fn call_fields(kind: CallKind) -> &'static [Field]
         ],
         CallKind::Limit => &[Field::Namespace, Field::Blocks, Field::Inodes],
         CallKind::LeaseCreate => &[Field::Namespace, Field::Lease, Field::Until],
-        CallKind::LeaseAdd => &[Field::Namespace, Field::Lease, Field::Name],
+        CallKind::LeaseAdd | CallKind::LeaseDrop => &[Field::Namespace, Field::Lease, Field::Name],
         CallKind::LeaseRelease => &[Field::Namespace, Field::Lease],
         CallKind::Sweep => &[Field::Namespace, Field::Moment, Field::Try],
     }
@@ -156,6 +156,8 @@ fn fields_of(verb: Verb) -> &'static [Field]
             Field::Most,
         ],
         Verb::Quota | Verb::Tree => &[Field::Namespace],
+        Verb::Leases => &[Field::Namespace, Field::Lease],
+        Verb::Diff => &[Field::Namespace, Field::Key, Field::After, Field::Most],
         Verb::Journal => &[Field::Namespace, Field::After, Field::Most, Field::Full],
         Verb::Report => &[],
     }

@@ -3,7 +3,7 @@ ghost use Rattle.std.specs.Prelude.{◌≡◌, OnOk};
 ghost use Rattle.serde_json.specs.Data.{string};
 ghost use Rattle.snap_call.specs.declared.reply.Reply.TheVariants as replies;
 ghost use Rattle.snap_json.specs.Tokens.{with_value};
-ghost use Rattle.snap_script.specs.Answers.{answer_data, entry_data, error_data, error_name, info_data, mount_data, refusal_name, reply_data, sized_data};
+ghost use Rattle.snap_script.specs.Answers.{answer_data, entry_data, error_data, error_name, info_data, lease_data, mount_data, refusal_name, reply_data, sized_data};
 ghost use Rattle.snap_script.specs.declared.answer.Answer.TheVariants as answers;
 
 use crate::answer::{JournalEntry, QuotaInfo};
@@ -11,6 +11,7 @@ use crate::to_json::{ToJson, by_name, maybe, member, only, pair};
 use snap_call::{Refusal, Reply};
 use snap_json::{Token, Writer};
 use snap_layer::Bytes;
+use snap_lease::LeaseInfo;
 use snap_merge::FsError;
 use snap_mount::Mount;
 use snap_record::{Info, Sequence, Text};
@@ -41,6 +42,19 @@ impl ToJson for Mount {
         member(alloc, out, "options", &self.options)?;
         member(alloc, out, "source", &self.source)?;
         member(alloc, out, "type", &self.kind.as_str())?;
+        out.token(Token::EndObject)
+    }
+}
+
+impl ToJson for LeaseInfo {
+    ghost value = { lease_data };
+
+    #[tactic(auto, using(crate::proofs::Maps::with_members_maybe))]
+    fn write(&self, alloc: Global, out: &mut Writer) -> Result<(), AllocError> {
+        out.token(Token::BeginObject)?;
+        member(alloc, out, "lease", &self.name())?;
+        member(alloc, out, "names", &self.names())?;
+        maybe(alloc, out, "until", &self.until())?;
         out.token(Token::EndObject)
     }
 }

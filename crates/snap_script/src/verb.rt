@@ -19,7 +19,9 @@ pub(crate) enum Verb {
     File(FileVerb),
     Lookup(LookupVerb),
     Quota,
+    Leases,
     Tree,
+    Diff,
     Journal,
     Report,
 }
@@ -60,7 +62,7 @@ pub(crate) enum LookupVerb {
 }
 
 /// The calls that are commands.
-const CALLS: [CallKind; 18] = [
+const CALLS: [CallKind; 19] = [
     CallKind::Session,
     CallKind::Prepare,
     CallKind::View,
@@ -77,12 +79,13 @@ const CALLS: [CallKind; 18] = [
     CallKind::Limit,
     CallKind::LeaseCreate,
     CallKind::LeaseAdd,
+    CallKind::LeaseDrop,
     CallKind::LeaseRelease,
     CallKind::Sweep,
 ];
 
 /// The words of the other commands.
-const WORDS: [(&str, Verb); 25] = [
+const WORDS: [(&str, Verb); 27] = [
     ("open", Verb::Open),
     ("reopen", Verb::Reopen),
     ("roll", Verb::Roll),
@@ -105,7 +108,9 @@ const WORDS: [(&str, Verb); 25] = [
     ("resolve", Verb::Lookup(LookupVerb::Resolve)),
     ("du", Verb::Lookup(LookupVerb::Usage)),
     ("quota", Verb::Quota),
+    ("leases", Verb::Leases),
     ("tree", Verb::Tree),
+    ("diff", Verb::Diff),
     ("journal", Verb::Journal),
     ("report", Verb::Report),
 ];

@@ -47,7 +47,9 @@ use Rattle.snap_script.specs.declared.command.Command.TheVariants as commands
 use Rattle.snap_script.specs.declared.command.Lookup.{Lookup}
 use Rattle.snap_script.specs.declared.command.Lookup.TheVariants as lookups
 use Rattle.snap_session.specs.Opened.{OpenedValue, new_world, share_at, count_at, totals_of}
+use Rattle.snap_session.specs.Diff.{diff}
 use Rattle.snap_session.specs.Journal.{journal_of}
+use Rattle.snap_session.specs.Leases.{leases}
 use Rattle.snap_session.specs.Quota.{quota_answer}
 use Rattle.snap_session.specs.Tree.{tree}
 
@@ -213,7 +215,9 @@ on_store s n (commands.Lookup namespace key asked path peek) = (s.world, lookup 
 on_store s n (commands.TrySweep namespace moment) = (s.world, answers.Reply (sweep s.world.state namespace moment).1)
 on_store s n (commands.ChainUsage namespace key) = (s.world, usage_answer (chain_usage s.world.state namespace key))
 on_store s n (commands.Quota namespace) = (s.world, quota_answer s namespace)
+on_store s n (commands.Leases namespace lease) = (s.world, leases s namespace lease)
 on_store s n (commands.Tree namespace) = (s.world, tree s namespace)
+on_store s n (commands.Diff namespace key after most) = (s.world, diff s.world namespace key after most)
 on_store s n (commands.Journal namespace after most full) = (s.world, journal_of s.world namespace after most full)
 on_store s n commands.Report = (s.world, report s)
 

@@ -1,7 +1,9 @@
+pub mod Leases
 pub mod Opened
 pub mod Tree
 pub mod Quota
 pub mod Journal
+pub mod Diff
 pub mod Commands
 pub mod Wanting
 pub mod Script

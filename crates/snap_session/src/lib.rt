@@ -7,8 +7,10 @@
 #![tactic(auto)]
 
 mod calls;
+mod diff;
 mod file_commands;
 mod journal;
+mod leases;
 mod lookups;
 mod opened;
 mod quota;

@@ -4,8 +4,10 @@ ghost use Rattle.snap_session.specs.Opened.{total_of, totals_of};
 ghost use Rattle.snap_session.specs.Commands.{kept, on_store, report};
 
 use crate::calls::{chain_usage, charge, commit, discard, session, trim, try_sweep};
+use crate::diff::diff;
 use crate::file_commands::file;
 use crate::journal::journal;
+use crate::leases::leases;
 use crate::lookups::lookup;
 use crate::quota::quota;
 use crate::round::{reopen, roll};
@@ -117,7 +119,14 @@ fn on_store<N: StoreName>(
         Command::TrySweep { namespace, moment } => try_sweep(world, namespace, moment),
         Command::ChainUsage { namespace, key } => Ok(chain_usage(world, namespace, key)),
         Command::Quota { namespace } => quota(alloc, world, names, namespace),
+        Command::Leases { namespace, lease } => leases(alloc, world, names, namespace, lease),
         Command::Tree { namespace } => tree(alloc, world, names, namespace),
+        Command::Diff {
+            namespace,
+            key,
+            after,
+            most,
+        } => diff(alloc, world, namespace, key, after, most),
         Command::Journal {
             namespace,
             after,

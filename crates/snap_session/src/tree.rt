@@ -44,7 +44,7 @@ fn forest(alloc: Global, records: &Records, place: usize) -> Result<Sequence<Tre
 }
 
 // The place of the namespace of this name.
-fn place_among(names: &[Text], namespace: &str) -> Option<usize>
+pub(crate) fn place_among(names: &[Text], namespace: &str) -> Option<usize>
     ensures { result ≡ place_among namespace.now names.now }
 {
     names.iter().position(|name| name.as_str() == namespace)

@@ -4,7 +4,7 @@ use Rattle.std.specs.Option.{option_map_or}
 use Rattle.std.proofs.Common.{ℕ, List, Option, None, Some, sym, subst}
 use Rattle.snap_record.specs.Labels.{Bytes, Label}
 use Rattle.snap_record.specs.Records.{info_of, usage_of}
-use Rattle.snap_lease.specs.Leases.{has_lease, is_guarded, with_name_added}
+use Rattle.snap_lease.specs.Leases.{has_lease, is_guarded, lease_names, with_name_added, with_name_dropped}
 use Rattle.snap_mount.specs.declared.mount.Mount.{Mount}
 use Rattle.snap_record.specs.declared.filter.Filter.{Filter}
 use Rattle.snap_record.specs.declared.info.Info.{Info}
@@ -21,7 +21,7 @@ use Rattle.snap_call.specs.declared.state.State.{State}
 use Rattle.snap_call.specs.Forms.{is_key}
 use Rattle.snap_call.specs.Records.{has_children, is_active, is_committed, record_at}
 use Rattle.snap_call.specs.State.{place_of}
-use Rattle.snap_call.specs.Step.{ask, lease_add, lease_add_record, lease_create, lease_release, leasing, mounts, refused, remove, remove_record, removed_at, set_limit, step, sweep, update, walk, at_record}
+use Rattle.snap_call.specs.Step.{ask, lease_add, lease_add_record, lease_create, lease_drop, lease_drop_at, lease_release, leasing, mounts, refused, remove, remove_record, removed_at, set_limit, step, sweep, update, walk, at_record}
 use Rattle.snap_accounts.specs.Entries.{IsPlain}
 use Rattle.snap_book.specs.Book.{AnsweredBy, BookValue}
 use Rattle.snap_store.specs.Replies.{AreMounts, IsDone, IsInfo, IsPage, IsRemoval, IsReplyTo, IsSweep, IsUsage}
@@ -100,6 +100,20 @@ of_lease_add : (P : Reply → Type 0) (s : State) (namespace lease name : Bytes)
 of_lease_add P s namespace lease name why other =
     either P _ _ _ (at_found P s namespace name _ why (λ place r. added_to P s namespace lease name r why other)) (why _)
 
+dropped_by : (P : Reply → Type 0) (s t : State) (a b : Bool) → ((why : Refusal) → P (replies.Refused why)) → P replies.Done
+    → P (if a then refused s NoLease else if b then refused s NotFound else (t, replies.Done)).1
+dropped_by P s t true b why other = why _
+dropped_by P s t false true why other = why _
+dropped_by P s t false false why other = other
+
+of_lease_drop_at : (P : Reply → Type 0) (s : State) (namespace lease name : Bytes) → ((why : Refusal) → P (replies.Refused why)) → P replies.Done → P (lease_drop_at s namespace lease name).1
+of_lease_drop_at P s namespace lease name why other =
+    dropped_by P s (leasing s (with_name_dropped s.leases namespace lease name)) (not (has_lease s.leases namespace lease)) (not (lease_names s.leases namespace lease name)) why other
+
+of_lease_drop : (P : Reply → Type 0) (s : State) (namespace lease name : Bytes) → ((why : Refusal) → P (replies.Refused why)) → P replies.Done → P (lease_drop s namespace lease name).1
+of_lease_drop P s namespace lease name why other =
+    either P _ _ _ (in_place P s (place_of namespace s.namespaces) _ _ (λ place. of_lease_drop_at P s namespace lease name why other) (why _)) (why _)
+
 of_lease_release : (P : Reply → Type 0) (s : State) (namespace lease : Bytes) → ((why : Refusal) → P (replies.Refused why)) → P replies.Done → P (lease_release s namespace lease).1
 of_lease_release P s namespace lease why other =
     either P _ _ _ (in_place P s (place_of namespace s.namespaces) _ _ (λ place. either P _ _ _ other (why _)) (why _)) (why _)
@@ -119,6 +133,7 @@ reply_of s (calls.Walk namespace after most asked) plain = of_walk IsPage s name
 reply_of s (calls.SetLimit namespace limit) plain = of_limit IsDone s namespace limit (λ why. tt) tt
 reply_of s (calls.LeaseCreate namespace lease until) plain = of_lease IsDone s namespace lease until (λ why. tt) tt
 reply_of s (calls.LeaseAdd namespace lease name) plain = of_lease_add IsDone s namespace lease name (λ why. tt) tt
+reply_of s (calls.LeaseDrop namespace lease name) plain = of_lease_drop IsDone s namespace lease name (λ why. tt) tt
 reply_of s (calls.LeaseRelease namespace lease) plain = of_lease_release IsDone s namespace lease (λ why. tt) tt
 reply_of s (calls.Sweep namespace moment) plain = of_sweep IsSweep s namespace moment (λ why. tt) (λ removed leases freed. tt)
 reply_of s (calls.View namespace key parent labels) plain = tt

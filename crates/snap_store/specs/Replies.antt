@@ -51,6 +51,7 @@ IsReplyTo (calls.Walk namespace after most asked) reply = IsPage reply
 IsReplyTo (calls.SetLimit namespace limit) reply = IsDone reply
 IsReplyTo (calls.LeaseCreate namespace lease until) reply = IsDone reply
 IsReplyTo (calls.LeaseAdd namespace lease name) reply = IsDone reply
+IsReplyTo (calls.LeaseDrop namespace lease name) reply = IsDone reply
 IsReplyTo (calls.LeaseRelease namespace lease) reply = IsDone reply
 IsReplyTo (calls.Sweep namespace moment) reply = IsSweep reply
 IsReplyTo call reply = Unit {0}

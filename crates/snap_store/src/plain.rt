@@ -378,6 +378,33 @@ impl<N: RoundName> Store<N> {
         done_of(self.ask(rt, session, call))
     }
 
+    /// Takes one name out of a lease, live or ended, and no snapshot (containerd's
+    /// `leases.Manager.DeleteResource`). The lease's other names keep their order.
+    ///
+    /// Refusals, after `JournalFull` and `OutOfMemory`: `BadArgument`, `NoNamespace`, `NoLease`, `NotFound`
+    /// where the lease doesn't have the name.
+    pub fn lease_drop<R: Wait>(
+        &self,
+        rt: &R,
+        session: &mut Session,
+        namespace: &str,
+        lease: &str,
+        name: &str,
+    ) -> Result<(), Refusal>
+        ensures granted { OnOk result (Taped session.old session.new (calls.LeaseDrop namespace.now lease.now name.now) Nothing replies.Done) }
+        ensures refused { IfErr result (λ why. RefusedOn session.old session.new (calls.LeaseDrop namespace.now lease.now name.now) Nothing why) }
+        ensures room { session.old.spare ≤ session.new.spare + 1 }
+    {
+        let (namespace, lease) = copies(self.alloc, namespace, lease)?;
+        let name = Text::copy_of(self.alloc, name)?;
+        let call = Call::LeaseDrop {
+            namespace,
+            lease,
+            name,
+        };
+        done_of(self.ask(rt, session, call))
+    }
+
     /// Takes a lease away with its names, and no snapshot (containerd's `leases.Manager.Delete`).
     ///
     /// Refusals, after `JournalFull` and `OutOfMemory`: `BadArgument`, `NoNamespace`, `NoLease`.

@@ -128,6 +128,9 @@ plain_does old new hands n call reply asks answered full = at call asks answered
     at (calls.LeaseAdd namespace lease name) a h =
         ⊎_elim (λ e. inl e) (λ e. inr (ap answers.Reply e.0, (e.1, ap (λ (b : BookValue). world_of b hands) e.2)))
         (admits old new hands hands hands 1 n (calls.LeaseAdd namespace lease name) Nothing (λ r. hands) reply (ends old new n (calls.LeaseAdd namespace lease name) Nothing reply h) full_here refl refl)
+    at (calls.LeaseDrop namespace lease name) a h =
+        ⊎_elim (λ e. inl e) (λ e. inr (ap answers.Reply e.0, (e.1, ap (λ (b : BookValue). world_of b hands) e.2)))
+        (admits old new hands hands hands 1 n (calls.LeaseDrop namespace lease name) Nothing (λ r. hands) reply (ends old new n (calls.LeaseDrop namespace lease name) Nothing reply h) full_here refl refl)
     at (calls.LeaseRelease namespace lease) a h =
         ⊎_elim (λ e. inl e) (λ e. inr (ap answers.Reply e.0, (e.1, ap (λ (b : BookValue). world_of b hands) e.2)))
         (admits old new hands hands hands 1 n (calls.LeaseRelease namespace lease) Nothing (λ r. hands) reply (ends old new n (calls.LeaseRelease namespace lease) Nothing reply h) full_here refl refl)

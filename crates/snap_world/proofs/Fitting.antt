@@ -8,6 +8,7 @@ use Rattle.std.proofs.lemmas.Bool.Decides.{eqb_tells}
 use Rattle.snap_layer.specs.Tree.{Tree}
 use Rattle.snap_usage.specs.declared.usage.Usage.{Usage}
 use Rattle.snap_usage.specs.Counted.{Covers, count_of, covers}
+use Rattle.snap_lease.specs.Leases.{has_lease, lease_names}
 use Rattle.snap_record.specs.Labels.{Bytes, Label}
 use Rattle.snap_record.specs.Records.{usage_of, info_of}
 use Rattle.snap_record.specs.Updates.{is_granted, is_well_formed, updated as labels_after}
@@ -29,7 +30,7 @@ use Rattle.snap_call.specs.Records.{active_at, charge_of, has_children, has_key,
 use Rattle.snap_call.specs.Forms.{is_key, is_limit, is_page, is_start}
 use Rattle.snap_call.specs.Reached.{unswept}
 use Rattle.snap_call.specs.State.{ancestors, layers_of, place_of, shown_layers}
-use Rattle.snap_call.specs.Step.{IsAllowed, IsCovered, IsOpen, has_named, in_namespace, lease_add, lease_add_record, lease_create, lease_release, set_limit, sweep, sweep_at, ask, charge, charge_to, commit_as, committed as committed_state, discard, greater, one, prepare_at, prepared as prepared_state, refused, session, step, trim, place_for, slot_for, unless_refused, mounts, view_at, view, remove_record, remove, update_record, update, walk, new_record, at_record}
+use Rattle.snap_call.specs.Step.{IsAllowed, IsCovered, IsOpen, has_named, in_namespace, lease_add, lease_add_record, lease_create, lease_drop, lease_drop_at, lease_release, set_limit, sweep, sweep_at, ask, charge, charge_to, commit_as, committed as committed_state, discard, greater, one, prepare_at, prepared as prepared_state, refused, session, step, trim, place_for, slot_for, unless_refused, mounts, view_at, view, remove_record, remove, update_record, update, walk, new_record, at_record}
 use Rattle.snap_call.proofs.Alike.{AreAlike, bare, bare-relabelled, alike-active_at, alike-active_at_None, alike-layers}
 use Rattle.snap_call.proofs.Chains.{chain, Every, OnParent, every, on_parent, IsOther, Keeps, Keeps-after, Keeps-recharged, Keeps-with_record, Keeps-without_slot, chain-found, keeps-ancestors, keeps-without_key, on_other}
 use Rattle.snap_call.proofs.Keeping.{covers-Covers}
@@ -320,6 +321,16 @@ left_lease_add s hands namespace lease name agree =
     cases_if (Left (λ reply. hands)) (is_key lease && is_key name) _ _
     (λ formed. left_at_record s hands namespace name _ agree (λ place r e. left_lease_add_record s hands namespace lease name r agree)) (λ bad. agree)
 
+left_lease_drop_at : (s : State) (hands : List (Option HandValue)) (namespace lease name : Bytes) → AgreeAll hands s.records → Left (λ reply. hands) (lease_drop_at s namespace lease name)
+left_lease_drop_at s hands namespace lease name agree =
+    cases_if (Left (λ reply. hands)) (not (has_lease s.leases namespace lease)) _ _ (λ none. agree)
+    (λ there. cases_if (Left (λ reply. hands)) (not (lease_names s.leases namespace lease name)) _ _ (λ other. agree) (λ named. agree))
+
+left_lease_drop : (s : State) (hands : List (Option HandValue)) (namespace lease name : Bytes) → AgreeAll hands s.records → Left (λ reply. hands) (lease_drop s namespace lease name)
+left_lease_drop s hands namespace lease name agree =
+    cases_if (Left (λ reply. hands)) (is_key lease && is_key name) _ _
+    (λ formed. left_in_namespace s hands namespace _ agree (λ place. left_lease_drop_at s hands namespace lease name agree)) (λ bad. agree)
+
 left_lease_release : (s : State) (hands : List (Option HandValue)) (namespace lease : Bytes) → AgreeAll hands s.records → Left (λ reply. hands) (lease_release s namespace lease)
 left_lease_release s hands namespace lease agree =
     cases_if (Left (λ reply. hands)) (is_key lease) _ _
@@ -483,6 +494,9 @@ fits_called w n (calls.LeaseCreate namespace lease until) fit =
 fits_called w n (calls.LeaseAdd namespace lease name) fit =
     fits_admitted w 1 w.hands _ fit
     (fits_recorded w n (calls.LeaseAdd namespace lease name) Nothing (λ reply. w.hands) fit tt (λ r. fit.places) (left_lease_add w.state w.hands namespace lease name fit.hands))
+fits_called w n (calls.LeaseDrop namespace lease name) fit =
+    fits_admitted w 1 w.hands _ fit
+    (fits_recorded w n (calls.LeaseDrop namespace lease name) Nothing (λ reply. w.hands) fit tt (λ r. fit.places) (left_lease_drop w.state w.hands namespace lease name fit.hands))
 fits_called w n (calls.LeaseRelease namespace lease) fit =
     fits_admitted w 1 w.hands _ fit
     (fits_recorded w n (calls.LeaseRelease namespace lease) Nothing (λ reply. w.hands) fit tt (λ r. fit.places) (left_lease_release w.state w.hands namespace lease fit.hands))

@@ -44,6 +44,21 @@ peeked_in rs (Ok r) = peeked_by rs r r.content
 abbrev pub peeked_of : WorldValue → Bytes → Bytes → Option (List Tree)
 peeked_of w namespace key = peeked_in w.state.records (found_of w.state namespace key)
 
+-- the layer of a snapshot: an active one's is that of its hand; a view has none of its own
+abbrev pub own_layer : List (Option HandValue) → Content → Option Tree
+own_layer hands (View layers) = None
+own_layer hands (Active slot charged) = option_map (λ h. h.snapshot.layer) (hand_at slot hands)
+own_layer hands (Committed layer usage) = Some layer
+
+-- the same of the record that was found, if there is one, with the layers of its ancestors, nearest first
+abbrev pub own_in : WorldValue → Result Record Refusal → Option (Tree × List Tree)
+own_in w (Err why) = None
+own_in w (Ok r) = option_map (λ layer. (layer, layers_of (ancestors r.namespace r.parent w.state.records))) (own_layer w.hands r.content)
+
+-- the layer of the snapshot of this key in the namespace, if it has one, and those of its ancestors
+abbrev pub own_of : WorldValue → Bytes → Bytes → Option (Tree × List Tree)
+own_of w namespace key = own_in w (found_of w.state namespace key)
+
 -- the layers of an active snapshot are one over those of its committed ancestors, nearest first; those of a view are the ancestors' alone, or one empty layer
 abbrev pub IsOverBy : List Record → List Tree → ℕ → Bytes → Content → Type 0
 IsOverBy rs layers place parent (View own) = layers ≡ shown_layers place parent rs

@@ -8,6 +8,7 @@ ghost use Rattle.snap_world.specs.Stacks.{layers_in};
 ghost use Rattle.snap_world.specs.Sums.{spare_in};
 
 use snap_book::{Active, Book, Held, Sealed};
+use snap_layer::Layer;
 use snap_ledger::StoreName;
 use snap_merge::Stack;
 use snap_path::NoMemory;
@@ -111,6 +112,16 @@ impl<N: StoreName> Hand<N> {
         match &self.held {
             Held::Active(active) => active.spare(),
             Held::Sealed(sealed) => difference(sealed.share(), sealed.usage()),
+        }
+    }
+
+    // Its layer.
+    pub(crate) fn layer(&self) -> &Layer
+        ensures { result.now ≡ self.now.snapshot.layer }
+    {
+        match &self.held {
+            Held::Active(active) => active.layer(),
+            Held::Sealed(sealed) => sealed.layer(),
         }
     }
 

@@ -21,6 +21,7 @@ use crate::step::{Answer, Step};
 use snap_book::Book;
 use snap_call::{Call, Config, Records, Refusal, SharedEntry};
 use snap_history::Shares;
+use snap_lease::Leases;
 use snap_ledger::{NewTable, StoreName};
 use snap_merge::Stack;
 use snap_path::NoMemory;
@@ -219,6 +220,14 @@ impl<N: StoreName> World<N> {
         ensures fits { Fits self.now }
     {
         self.book.records()
+    }
+
+    /// The leases of all namespaces, in the order in which they were created. Takes no memory. The cost is
+    /// constant.
+    pub fn leases(&self) -> &Leases
+        ensures { result.now ≡ self.now.state.leases }
+    {
+        &self.book.state().leases
     }
 
     /// The entries of the round. Takes no memory. The cost is constant.

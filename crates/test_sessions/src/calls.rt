@@ -144,6 +144,14 @@ impl<'a, N: RoundName, R: Wait> Round<'a, N, R> {
                 let (namespace, lease) = (namespace.as_str(), lease.as_str());
                 store.lease_add(rt, session, namespace, lease, name.as_str())?;
             }
+            Call::LeaseDrop {
+                namespace,
+                lease,
+                name,
+            } => {
+                let (namespace, lease) = (namespace.as_str(), lease.as_str());
+                store.lease_drop(rt, session, namespace, lease, name.as_str())?;
+            }
             Call::LeaseRelease { namespace, lease } => {
                 store.lease_release(rt, session, namespace.as_str(), lease.as_str())?;
             }

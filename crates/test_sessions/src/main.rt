@@ -3,8 +3,8 @@
 //! Without a word the program reads a script from standard input and carries it out on a `Store`, where the
 //! product's program carries it out on a `World`. Its answers are the same, so the scripts and outputs of
 //! `examples/` show the store's own surface: calls by sessions with their tapes, open snapshots that are held as
-//! values, operations through `run`, and the close. `report` is not answered, nor are `quota`, `tree`, `journal`, a
-//! sweep that is tried and the usage of a chain, since a store lends no records; nor is a command on a snapshot that
+//! values, operations through `run`, and the close. `report` is not answered, nor are `quota`, `leases`, `tree`,
+//! `journal`, a sweep that is tried and the usage of a chain, since a store lends no records; nor is a command on a snapshot that
 //! the script doesn't hold, since it would be no call. At the end of the input what is still held is discarded, the
 //! store is closed with all sessions, and the report of the closed store is written. Where memory is refused to a line
 //! of an open store, the line is carried out once more: so a run in which one allocation is refused there writes what

@@ -74,7 +74,9 @@ impl<'a, N: RoundName, R: Wait> Round<'a, N, R> {
             | Command::TrySweep { .. }
             | Command::ChainUsage { .. }
             | Command::Quota { .. }
+            | Command::Leases { .. }
             | Command::Tree { .. }
+            | Command::Diff { .. }
             | Command::Journal { .. }
             | Command::Report => return Ok(None),
             command => match self.do_command(n, command) {

@@ -1,0 +1,73 @@
+use Rattle.std.proofs.Common.{rules, arith, ◌≡◌, ◌-◌, ◌++◌, ◌∷◌, [], ℕ, List, Option, Err, length, sym, ap, ◌∙◌}
+use Rattle.std.specs.List.{flat_map}
+use Rattle.std.specs.Option.{option_copied, option_map}
+use Rattle.std.proofs.lemmas.Bool.{le-ltb}
+use Rattle.std.proofs.lemmas.Map.Iter.{rest_all}
+use Rattle.snap_path.specs.Text.{Names}
+use Rattle.snap_layer.specs.Tree.{Tree}
+use Rattle.snap_merge.specs.Objects.{object, seen}
+use Rattle.snap_diff.specs.declared.change.Change.{Change}
+use Rattle.snap_diff.specs.Changes.{changes_below, put_rows}
+use Rattle.snap_diff.proofs.Pages.{skipped}
+use Rattle.snap_diff.proofs.Walks.{none_deep, put_full, untouched, put_dir, put_other, no_changes, too_long, put_rows-append}
+use Rattle.snap_diff.proofs.walk.Walk.+put_below.Goals as goal
+
+pub put_below-returns-then-depth-eq0 : goal.put_below-returns-then-depth-eq0
+put_below-returns-then-depth-eq0 t c =
+    sym (ap (put_rows c.args.self.now.most (option_copied c.args.self.now.after) c.args.rows.now.items) (none_deep c.args.depth c.args.self.now.layer.now c.args.self.now.lowers.now c.args.path.now c.if-depth-eq0.true))
+
+pub put_below-returns-then-len-self : goal.put_below-returns-then-len-self
+put_below-returns-then-len-self t c =
+    sym (put_full c.args.self.now.most (option_copied c.args.self.now.after) c.args.rows.now.items (changes_below c.args.depth c.args.self.now.layer.now c.args.self.now.lowers.now c.args.path.now) (le-ltb (length c.args.rows.now.items) c.args.self.now.most (omega (arith, c.len.ensures, c.if-len-self.true))))
+
+pub put_below-returns-then-is_past : goal.put_below-returns-then-is_past
+put_below-returns-then-is_past t c =
+    sym (skipped c.args.depth c.args.self.now.layer.now c.args.self.now.lowers.now c.args.self.now.most (option_copied c.args.self.now.after) c.args.rows.now.items c.args.path.now (sym c.is_past.ensures ∙ c.if-is_past.true))
+
+pub put_below-returns-then-is_untouched : goal.put_below-returns-then-is_untouched
+put_below-returns-then-is_untouched t c =
+    sym (ap (put_rows c.args.self.now.most (option_copied c.args.self.now.after) c.args.rows.now.items) (untouched c.args.depth c.args.self.now.layer.now c.args.self.now.lowers.now c.show_are_layers.ensures c.args.path.now (sym c.is_untouched.ensures ∙ c.if-is_untouched.true)))
+
+pub put_below-returns-in_ok-put_inside : goal.put_below-returns-in_ok-put_inside
+put_below-returns-in_ok-put_inside t c =
+    put_dir c.args.self.now.most (option_copied c.args.self.now.after) c.args.rows.now.items c.put_change.new.rows.items c.put_inside.new.rows.items c.args.depth c.args.self.now.layer.now c.args.self.now.lowers.now c.args.path.now
+    (option_map object c.look-old.result) (option_map object c.look-new.result) c.change_at-kind.result
+    (c.look-old.ensures ∙ ap (λ (s : List Tree). seen s c.args.path.now) c.old.ensures)
+    (c.look-new.ensures ∙ ap (λ (s : List Tree). seen s c.args.path.now) c.new.ensures)
+    c.change_at-kind.ensures (sym c.is_dir.ensures ∙ c.if-is_dir.true) c.if-depth-eq0.false c.in_ok-put_change.ensures c.in_ok-put_inside.ensures
+
+pub put_below-returns-else-is_dir : goal.put_below-returns-else-is_dir
+put_below-returns-else-is_dir t c =
+    put_other c.args.self.now.most (option_copied c.args.self.now.after) c.args.rows.now.items c.put_change.new.rows.items c.args.depth c.args.self.now.layer.now c.args.self.now.lowers.now c.args.path.now
+    (option_map object c.look-old.result) (option_map object c.look-new.result) c.change_at-kind.result
+    (c.look-old.ensures ∙ ap (λ (s : List Tree). seen s c.args.path.now) c.old.ensures)
+    (c.look-new.ensures ∙ ap (λ (s : List Tree). seen s c.args.path.now) c.new.ensures)
+    c.change_at-kind.ensures (sym c.is_dir.ensures ∙ c.if-is_dir.false) c.if-depth-eq0.false c.in_ok-put_change.ensures
+
+-- at what is no path nothing is changed
+pub put_entry-returns-in-Err-BadPath : goal.put_entry-returns-in-Err-BadPath
+put_entry-returns-in-Err-BadPath t c =
+    let p : Names = c.args.directory.now ++ c.args.name.now ∷ [] in
+    sym (ap (put_rows c.args.self.now.most (option_copied c.args.self.now.after) c.args.rows.now.items) (no_changes c.args.depth c.args.self.now.layer.now c.args.self.now.lowers.now c.show_are_layers.ensures p (too_long p ((c.in-Err-BadPath.ensures {u = tt}).bad.0 (ap Err c.in-Err-BadPath.field-0-is)))))
+
+pub put_inside-loop-name-preserved : goal.put_inside-loop-name-preserved
+put_inside-loop-name-preserved t c =
+    let most = c.args.self.now.most in
+    let after : Option Names = option_copied c.args.self.now.after in
+    let f : List ℕ → List Change = λ name. changes_below c.args.depth c.args.self.now.layer.now c.args.self.now.lowers.now (c.args.path.now ++ name ∷ []) in
+    let left : c.loop-name.name-iterator ≡ c.in-Some.name ∷ c.next.new.self = search rules in
+    ap (λ (rs : List Change). put_rows most after rs (flat_map f c.next.new.self)) c.in_ok-put_entry.ensures
+    ∙ sym (put_rows-append most after c.loop-name.rows.items (f c.in-Some.name) (flat_map f c.next.new.self))
+    ∙ ap (λ (ns : Names). put_rows most after c.loop-name.rows.items (flat_map f ns)) (sym left)
+    ∙ c.loop-name.invariant
+
+pub put_inside-returns : goal.put_inside-returns
+put_inside-returns t c =
+    let most = c.args.self.now.most in
+    let after : Option Names = option_copied c.args.self.now.after in
+    let f : List ℕ → List Change = λ name. changes_below c.args.depth c.args.self.now.layer.now c.args.self.now.lowers.now (c.args.path.now ++ name ∷ []) in
+    let none : c.loop-name.name-iterator ≡ [] = rest_all (λ n. n) _ _ _ c.in-None.is c.next.ensures.steps in
+    ap (λ (ns : Names). put_rows most after c.loop-name.rows.items (flat_map f ns)) (sym none)
+    ∙ c.loop-name.invariant
+    ∙ ap (λ (ns : Names). put_rows most after c.args.rows.now.items (flat_map f ns)) c.into_iter-name-iterator.ensures.into_iter_gives.0
+    ∙ ap (put_rows most after c.args.rows.now.items) (c.in_ok-name-items.ensures c.args.depth)

@@ -1,0 +1,92 @@
+-- What a layer changes of what the layers below it show.
+-- Cited by `ChangeKind::as_str`, `changes`, `pibroulez_run` and others.
+use Rattle.std.specs.Prelude.{ℕ, zero, suc, Bool, true, false, not, is_some, ◌==◌, ◌&&◌, nat_lt, if◌then◌else◌, List, [], ◌∷◌, ◌++◌, length, filter, take, codes, Option, Some, None}
+use Rattle.std.specs.List.{flat_map}
+use Rattle.std.specs.Ordering.{is_gt, is_lt}
+use Rattle.std.specs.Str.{bytes_eq}
+use Rattle.snap_path.specs.Text.{Names, begins}
+use Rattle.snap_layer.specs.Tree.{Tree, at, hides, node_hides, path_cmp}
+use Rattle.snap_layer.specs.Equal.{content_eq}
+use Rattle.snap_merge.specs.Objects.{Object, dir, file, symlink, seen}
+use Rattle.snap_merge.specs.Listing.{names, put_names}
+use Rattle.snap_diff.specs.declared.change.ChangeKind.{ChangeKind}
+use Rattle.snap_diff.specs.declared.change.ChangeKind.TheVariants.{Added, Changed, Removed}
+use Rattle.snap_diff.specs.declared.change.Change.{Change}
+
+-- two directories of one mode, two files of one mode and content, or two symlinks with one target
+abbrev pub same : Object → Object → Bool
+same (dir mode) (dir other) = mode == other
+same (file mode content) (file other others) = mode == other && content_eq content others
+same (symlink target) (symlink other) = bytes_eq target other
+same object other = false
+
+-- how what is seen differs from what the layers below show
+abbrev pub change_at : Option Object → Option Object → Option ChangeKind
+change_at None None = None
+change_at None (Some new) = Some Added
+change_at (Some old) None = Some Removed
+change_at (Some old) (Some new) = if same old new then None else Some Changed
+
+-- the word of each kind
+abbrev pub change_word : ChangeKind → List ℕ
+change_word Added = codes "added"
+change_word Changed = codes "changed"
+change_word Removed = codes "removed"
+
+-- the change at the path, if there is one
+abbrev pub row : Names → Option ChangeKind → List Change
+row p None = []
+row p (Some kind) = record { kind = kind; path = p } ∷ []
+
+-- the names in the directory at which something is seen or the layers below show something, each once and in byte order
+abbrev pub both_names : List Tree → List Tree → Names → Names
+both_names old new p = put_names (names old p) (put_names (names new p) [])
+
+-- what is in a directory; in what is no directory nothing is told
+abbrev pub inside : Option Object → List Change → List Change
+inside (Some (dir mode)) changes = changes
+inside other changes = []
+
+-- the changes at the path and below it, at so many names in a row at the most: a directory before what is in it
+unfoldable pub changes_below : ℕ → Tree → List Tree → Names → List Change
+changes_below zero t ts p = []
+changes_below (suc n) t ts p =
+    row p (change_at (seen ts p) (seen (t ∷ ts) p))
+    ++ inside (seen (t ∷ ts) p) (flat_map (λ name. changes_below n t ts (p ++ name ∷ [])) (both_names ts (t ∷ ts) p))
+
+-- what the layer changes of what those below it show; a path has at most 2,047 names (PATH_MAX)
+abbrev pub changes : Tree → List Tree → List Change
+changes t ts = changes_below 2048 t ts []
+
+-- the path comes after this one: paths are ordered name by name, and names by their bytes
+abbrev pub is_after : Option Names → Names → Bool
+is_after None p = true
+is_after (Some after) p = is_lt (path_cmp after p)
+
+-- of the changes after the path the first so many
+abbrev pub page : Option Names → ℕ → List Change → List Change
+page after most changes = take most (filter (λ change. is_after after change.path) changes)
+
+-- ---- what private clauses cite
+
+-- the layer has nothing at the path, and nothing that hides it
+abbrev pub is_untouched : Tree → Names → Bool
+is_untouched t p = not (is_some (at t p)) && not (hides t p)
+
+-- and there hides nothing of a directory, which the layers below share
+abbrev pub is_merged : Tree → Names → Bool
+is_merged t p = not (node_hides (at t p)) && not (hides t p)
+
+-- the page begins after the path and all below it
+abbrev pub is_past : Option Names → Names → Bool
+is_past None p = false
+is_past (Some after) p = is_gt (path_cmp after p) && not (begins p after)
+
+-- the page with one change more, where it comes after the path and has room
+abbrev pub put_row : ℕ → Option Names → List Change → Change → List Change
+put_row most after rows change = if is_after after change.path && nat_lt (length rows) most then rows ++ change ∷ [] else rows
+
+-- the same of several
+abbrev pub put_rows : ℕ → Option Names → List Change → List Change → List Change
+put_rows most after rows [] = rows
+put_rows most after rows (change ∷ changes) = put_rows most after (put_row most after rows change) changes

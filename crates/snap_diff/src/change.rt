@@ -1,0 +1,69 @@
+ghost use Rattle.std.specs.Prelude.{◌≡◌};
+ghost use Rattle.std.specs.Option.{option_map};
+ghost use Rattle.snap_merge.specs.Objects.{object};
+ghost use Rattle.snap_diff.specs.Changes.{change_at, change_word, same};
+
+use snap_merge::Seen;
+use snap_path::Path;
+
+/// How what is seen at a path differs from what is seen there without the layer.
+#[derive(Clone, Copy, Debug, PartialEq, Eq)]
+pub enum ChangeKind {
+    /// Without the layer nothing is seen.
+    Added,
+    /// Another object is seen: of another kind, or with another mode, content or target.
+    Changed,
+    /// With the layer nothing is seen.
+    Removed,
+}
+
+impl ChangeKind {
+    /// The change's word: `added`, `changed` or `removed`. Takes no memory.
+    pub fn as_str(&self) -> &'static str
+        ensures { result.now ≡ change_word self.now }
+    {
+        match self {
+            ChangeKind::Added => "added",
+            ChangeKind::Changed => "changed",
+            ChangeKind::Removed => "removed",
+        }
+    }
+}
+
+/// What a layer changes at a path.
+#[derive(Debug, Drop)]
+pub struct Change {
+    pub kind: ChangeKind,
+    pub path: Path,
+}
+
+/// Whether the two are one object.
+fn same(old: Seen<'_>, new: Seen<'_>) -> bool
+    ensures { result ≡ same (object old.entry) (object new.entry) }
+{
+    match (old, new) {
+        (Seen::Dir { mode }, Seen::Dir { mode: other }) => mode == other,
+        (
+            Seen::File { mode, content },
+            Seen::File {
+                mode: other,
+                content: others,
+            },
+        ) => mode == other && content == others,
+        (Seen::Symlink { target }, Seen::Symlink { target: other }) => target == other,
+        _ => false,
+    }
+}
+
+/// How what is seen with the layer differs from what is seen without it.
+pub(crate) fn change_at(old: Option<Seen<'_>>, new: Option<Seen<'_>>) -> Option<ChangeKind>
+    ensures { result ≡ change_at (option_map object old.entry) (option_map object new.entry) }
+{
+    match (old, new) {
+        (None, None) => None,
+        (None, Some(_)) => Some(ChangeKind::Added),
+        (Some(_), None) => Some(ChangeKind::Removed),
+        (Some(old), Some(new)) if same(old, new) => None,
+        (Some(_), Some(_)) => Some(ChangeKind::Changed),
+    }
+}

@@ -1,0 +1,43 @@
+// The leases of a namespace.
+ghost use Rattle.std.specs.Prelude.{◌≡◌, IfOk};
+ghost use Rattle.snap_session.specs.Leases.{leases, one_lease};
+
+use crate::tree::place_among;
+use snap_call::Refusal;
+use snap_lease::LeaseInfo;
+use snap_ledger::StoreName;
+use snap_record::{Sequence, Text};
+use snap_script::Answer;
+use snap_world::{NoMemory, World};
+use std::alloc::{AllocError, Global};
+
+// The one lease, where there is such a one.
+fn one_lease(alloc: Global, info: Option<LeaseInfo>) -> Result<Answer, AllocError>
+    ensures { IfOk result (λ answer. answer ≡ one_lease info) }
+{
+    let Some(info) = info else {
+        return Ok(Answer::refused(Refusal::NoLease));
+    };
+    let mut found = Sequence::new(alloc);
+    found.push(info)?;
+    Ok(Answer::Leases(found))
+}
+
+pub(crate) fn leases<N: StoreName>(
+    alloc: Global,
+    world: &World<N>,
+    names: &[Text],
+    namespace: Text,
+    lease: Option<Text>,
+) -> Result<Answer, NoMemory>
+    ensures { IfOk result (λ answer. answer ≡ leases (record { world = world.now; names = names.now }) namespace lease) }
+{
+    let namespace = namespace.as_str();
+    if place_among(names, namespace).is_none() {
+        return Ok(Answer::refused(Refusal::NoNamespace));
+    }
+    match lease {
+        None => Ok(Answer::Leases(world.leases().infos(namespace)?.into())),
+        Some(lease) => Ok(one_lease(alloc, world.leases().info(namespace, lease.as_str())?)?),
+    }
+}
