@@ -3,7 +3,7 @@ ghost use Rattle.std.specs.Prelude.{IsTrue};
 ghost use Rattle.snap_lease.specs.Reach.{HasParentsWithin};
 
 use crate::setup::equal;
-use snap_lease::{LeaseError, Leases, sweep_set};
+use snap_lease::{LeaseError, LeaseNameError, Leases, sweep_set};
 
 #[test]
 fn leases_that_are_there_or_not(rt: HostRuntime) {
@@ -40,6 +40,25 @@ fn a_name_in_a_lease(rt: HostRuntime) {
     let elsewhere = leases.count("z", "base");
     prove!(elsewhere == 0);
     leases.release("a", "L").expect(&rt, "the lease is there");
+    let held = leases.holds("a", "base");
+    prove!(!held);
+}
+
+#[test]
+fn a_name_that_is_dropped(rt: HostRuntime) {
+    let mut leases = Leases::new(rt.alloc());
+    leases
+        .create("a", "L", None)
+        .expect(&rt, "memory for a lease");
+    let lacking = leases.drop_name("a", "L", "base");
+    prove!(matches!(&lacking, Err(LeaseNameError::NoName)));
+    let missing = leases.drop_name("a", "M", "base");
+    prove!(matches!(&missing, Err(LeaseNameError::NoLease)));
+    leases
+        .add("a", "L", "base")
+        .expect(&rt, "memory for a name");
+    let dropped = leases.drop_name("a", "L", "base");
+    prove!(dropped.is_ok());
     let held = leases.holds("a", "base");
     prove!(!held);
 }

@@ -1,7 +1,7 @@
 // The texts of errors, and of a usage.
 use crate::setup::{equal, usage};
 use snap_layer::LayerError;
-use snap_lease::LeaseError;
+use snap_lease::{LeaseError, LeaseNameError};
 use snap_merge::FsError;
 use snap_path::{NoMemory, PathError};
 use std::alloc::AllocError;
@@ -39,12 +39,13 @@ fn other_texts(rt: HostRuntime) {
     let (full, no_layer) = (LayerError::LayerFull, LayerError::OutOfMemory(no_memory));
     let (none, there) = (LeaseError::NoLease, LeaseError::LeaseExists);
     let (no_lease, usage) = (LeaseError::OutOfMemory(no_memory), usage(4, 3));
+    let (lacks, unnamed) = (LeaseNameError::NoLease, LeaseNameError::NoName);
     let found = format!(in rt.alloc();
-        "{bad}, {no_path}; {full}, {no_layer}; {none}, {there}, {no_lease}; {usage}"
+        "{bad}, {no_path}; {full}, {no_layer}; {none}, {there}, {no_lease}; {lacks}, {unnamed}; {usage}"
     ).expect(&rt, "memory for a text");
     equal(
         &rt,
         found.as_str(),
-        "invalid path, out of memory; the layer is full, out of memory; no such lease, the lease exists already, out of memory; 4/3",
+        "invalid path, out of memory; the layer is full, out of memory; no such lease, the lease exists already, out of memory; no such lease, no such name in the lease; 4/3",
     );
 }
