@@ -37,7 +37,7 @@ enum pibroulez_status {
  * Runs a script from its first line, on a store of its own that is gone at the return.
  *
  *   script, script_length      the bytes of all lines, at most 1,073,741,824
- *   strict                     a field that a command doesn't have is a line's fault
+ *   strict                     a field that a command doesn't have is a line's fault; a refused open names its field
  *   stop                       the first refusal ends the run
  *   answers, answers_length    the room. Its front gets the answers, a line each, and the rest is as it was
  *   written                    gets the number of bytes of all answers; no NUL follows them

@@ -22,7 +22,7 @@ func (r Reason) Error() string { return string(r) }
 
 // Refusals of the store.
 const (
-	// ErrBadArgument: a key, name, lease, label, limit or page has not its form.
+	// ErrBadArgument: a key, name, lease, label, limit or page is malformed, or a field of `open`.
 	ErrBadArgument Reason = "BadArgument"
 	// ErrNoNamespace: the store was opened without this namespace.
 	ErrNoNamespace Reason = "NoNamespace"
@@ -98,6 +98,8 @@ type Refusal struct {
 	From string `json:"from"`
 	// Free is what the namespace has free. ErrOverLimit alone tells it.
 	Free Usage `json:"free"`
+	// Field is the first malformed field of `open`, where a store is refused for it, and else empty.
+	Field string `json:"field"`
 }
 
 func (r *Refusal) Error() string { return fmt.Sprintf("%s (from %s)", r.Reason, r.From) }

@@ -337,7 +337,7 @@ func TestOverLimit(t *testing.T) {
 	isError(t, err, ErrOverLimit)
 	var refusal *Refusal
 	if errors.As(err, &refusal) {
-		equal(t, *refusal, Refusal{ErrOverLimit, "book", Usage{3, 1}})
+		equal(t, *refusal, Refusal{Reason: ErrOverLimit, From: "book", Free: Usage{3, 1}})
 	}
 }
 
@@ -379,6 +379,10 @@ func TestJournalFull(t *testing.T) {
 func TestRefusedOpen(t *testing.T) {
 	_, err := New(ctx, Config{Program: program(), Root: "r"})
 	isError(t, err, ErrBadArgument)
+	var refusal *Refusal
+	if !errors.As(err, &refusal) || refusal.Field != "root" {
+		t.Errorf("%v: the field is not root", err)
+	}
 }
 
 // Each is told with its line, and the store is as it was. The `open` is line 1.

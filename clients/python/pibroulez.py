@@ -269,7 +269,14 @@ class Refused(Error):
 
 
 class BadArgument(Refused):
-    """A key, name, lease, label, limit or page has not its form."""
+    """A key, name, lease, label, limit or page is malformed, or a field of `open`.
+
+    `field` is the first malformed field of `open`, where a store is refused for it, and else None.
+    """
+
+    def __init__(self, name: str, source: str, field: str | None = None) -> None:
+        super().__init__(name, source)
+        self.field = field
 
 
 class NoNamespace(Refused):
@@ -575,6 +582,8 @@ def _error(answer: Mapping[str, Any]) -> Error | None:
         name, source = answer["error"], answer["from"]
         if "free" in answer:
             return OverLimit(name, source, Usage(*answer["free"]))
+        if "field" in answer:
+            return BadArgument(name, source, answer["field"])
         return _REFUSALS.get(name, Refused)(name, source)
     return None
 

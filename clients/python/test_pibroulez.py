@@ -358,6 +358,9 @@ class Refusals(unittest.TestCase):
         self.assert_refused(
             pibroulez.BadArgument, "book", lambda: Store("r", {"a": (1, 1)}, program=PROGRAM)
         )
+        with self.assertRaises(pibroulez.BadArgument) as refused:
+            Store("/r", {"": (1, 1)}, program=PROGRAM)
+        self.assertEqual(refused.exception.field, "namespaces")
         self.assert_refused(pibroulez.JournalFull, "book", lambda: open_store(journal=0))
 
     def test_world(self) -> None:

@@ -2,6 +2,7 @@
 use Rattle.std.specs.Prelude.{if◌then◌else◌, not, Ok, Err}
 use Rattle.std.proofs.Common.{Bool, ◌≡◌, ℕ, ◌+◌, ◌<◌, ◌≤◌, List, length, set, true, false, None, refl, sym, ap, ◌∙◌, subst, arith}
 use Rattle.std.proofs.lemmas.Bool.{leb-true}
+use Rattle.snap_path.specs.Limits.{most_number}
 use Rattle.snap_usage.specs.declared.usage.Usage.{Usage}
 use Rattle.snap_usage.specs.Counted.{no_usage, covers}
 use Rattle.snap_ledger.specs.States.{ChargeState, plus}
@@ -73,7 +74,7 @@ module _ (rs : List Record) (key parent : Bytes) (place : ℕ) (present : is_pre
 -- ---- a place and a slot
 
 -- a place that was found, where an id is left
-pub site : (s : State) (namespace key parent : Bytes) (place : ℕ) → IsPlace s namespace key parent place → s.next_id ≤ 4294967295 → IsSite s place key parent
+pub site : (s : State) (namespace key parent : Bytes) (place : ℕ) → IsPlace s namespace key parent place → s.next_id ≤ most_number → IsSite s place key parent
 site s namespace key parent place is few = record { inside = place_of-below namespace s.namespaces place is.named; new = is.free; base = is.base; deep = is.deep; numbers = few }
 
 -- where both were found, a snapshot can be added there
@@ -82,4 +83,4 @@ vacant s namespace key parent labels place slot few e f =
     let is = place_for-Ok s namespace key parent labels place e in
     let found = slot_for-Ok s place slot f in
     let free = lowest_free-Some s.slots s.records slot found.lowest in
-    record { site = site s namespace key parent place is (leb-true s.next_id 4294967295 found.few); low = free.0; few = few; free = free.1; fits = found.room }
+    record { site = site s namespace key parent place is (leb-true s.next_id most_number found.few); low = free.0; few = few; free = free.1; fits = found.room }

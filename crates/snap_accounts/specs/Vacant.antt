@@ -1,6 +1,7 @@
 -- Where a new snapshot can go.
 -- Cited by `Accounts::plan`, `Accounts::carry_out`, `Accounts::vacancy` and others.
 use Rattle.std.specs.Prelude.{◌≡◌, ℕ, ◌<◌, ◌≤◌, true, false, None, length}
+use Rattle.snap_path.specs.Limits.{most_number}
 use Rattle.snap_usage.specs.Counted.{covers}
 use Rattle.snap_ledger.specs.States.{plus}
 use Rattle.snap_record.specs.Labels.{Bytes}
@@ -16,7 +17,7 @@ pub record IsSite (s : State) (place : ℕ) (key parent : Bytes) : Type 0 where
   pub new : has_key place key s.records ≡ false
   pub base : is_base place parent s.records ≡ true
   pub deep : is_too_deep place parent s.records ≡ false
-  pub numbers : s.next_id ≤ 4294967295
+  pub numbers : s.next_id ≤ most_number
 
 -- an active one can be: its slot is a free one of the store, and its namespace's limit covers 1/1 more
 pub record IsVacant (s : State) (v : Vacancy) (key parent : Bytes) : Type 0 where

@@ -3,7 +3,7 @@ ghost use Rattle.std.specs.Prelude.{◌≡◌, ◌<◌, ◌+◌, ◌^◌, IfOk, 
 ghost use Rattle.snap_usage.specs.Counted.{Covers, no_usage};
 ghost use Rattle.snap_call.specs.Forms.{is_config};
 ghost use Rattle.snap_call.specs.Good.{Good};
-ghost use Rattle.snap_call.specs.Records.{charge_of, open_count};
+ghost use Rattle.snap_call.specs.Records.{charge_of, open_count, max_sessions};
 ghost use Rattle.snap_call.specs.State.{limit_at, opening};
 ghost use Rattle.snap_call.specs.Step.{counted};
 ghost use Rattle.snap_accounts.specs.Totals.{total_at};
@@ -94,7 +94,7 @@ impl<N: StoreName> Accounts<N> {
 
     /// Opens a session, and counts its entry. Takes no memory. The cost is constant.
     pub fn open_session(&mut self)
-        requires sessions { self.old.sessions < 65536 }
+        requires sessions { self.old.sessions < max_sessions }
         requires entries { self.old.entries < 2 ^ 63 }
         ensures { self.new ≡ record self.old { sessions = self.old.sessions + 1; entries = self.old.entries + 1 } }
     {

@@ -54,8 +54,7 @@ impl<N: StoreName> Accounts<N> {
         ensures same { self.new ≡ self.old }
         ensures share { share.new ≡ share.old }
     {
-        self.slots.meet(share);
-        share.held()
+        self.slots.meet(share)
     }
 
     // The place of the namespace of an open slot.

@@ -40,7 +40,7 @@ impl<N: StoreName> Accounts<N> {
     }
 
     /// Why the snapshot of an open slot can't be committed under the name, if it can't. In this order:
-    /// `BadArgument` for a name or a lease that has not its form; `AlreadyExists` where its namespace has
+    /// `BadArgument` for a name or a lease that is malformed; `AlreadyExists` where its namespace has
     /// the name; `NoLease` where it has not the lease. Takes no memory. The cost grows with the logarithms of
     /// the number of records and of the number of leases.
     pub fn check_commit(&self, slot: u64, name: &str, lease: &Option<Text>) -> Result<(), Refusal>

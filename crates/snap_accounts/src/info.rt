@@ -132,9 +132,7 @@ impl<N: StoreName> Accounts<N> {
         let Some(place) = state.place_of(namespace) else {
             return Ok(Reply::Refused(Refusal::NoNamespace));
         };
-        let infos = state
-            .records
-            .page(alloc, place, after, most as usize, asked)?;
+        let infos = state.page(alloc, place, after, most as usize, asked)?;
         Ok(Reply::Page(infos))
     }
 }

@@ -1,5 +1,6 @@
 // A new snapshot.
 ghost use Rattle.std.specs.Prelude.{◌≡◌, ◌<◌, ◌≤◌, ◌+◌, ◌^◌, length, true, None, Some, IfOk, OnOk, OnErr, IfErr, Ok, Err};
+ghost use Rattle.snap_path.specs.Limits.{most_number};
 ghost use Rattle.snap_usage.specs.Counted.{covers as covers_of};
 ghost use Rattle.snap_ledger.specs.States.{plus};
 ghost use Rattle.snap_call.specs.Records.{charge_of, active_at, lowest_free, has_key, max_slots, open_count};
@@ -46,7 +47,7 @@ impl<N: StoreName> Accounts<N> {
         ensures few { IfOk result (λ slot. slot < max_slots) }
         ensures free { IfOk result (λ slot. active_at slot self.now.records ≡ None) }
         ensures fits { IfOk result (λ slot. covers_of (limit_at place self.now.namespaces) (plus (charge_of place self.now.records) one) ≡ true) }
-        ensures numbers { IfOk result (λ slot. self.now.next_id ≤ 4294967295) }
+        ensures numbers { IfOk result (λ slot. self.now.next_id ≤ most_number) }
         ensures recorded { IfErr result IsRecorded }
         ensures refused { IfErr result (λ why. slot_for self.now place ≡ Err why) }
     {
@@ -108,7 +109,7 @@ impl<N: StoreName> Accounts<N> {
     /// Where a new snapshot of this key and parent goes: the place of its namespace and the lowest free
     /// slot.
     ///
-    /// The refusals, in this order: `BadArgument` for a key, a parent or labels that have not their form,
+    /// The refusals, in this order: `BadArgument` for a key, a parent or labels that are malformed,
     /// or for more than 64 labels; `NoNamespace`; `NotFound` where the namespace has no snapshot of the
     /// parent's name; `AlreadyExists` where it has one of the key; `NotCommitted` where the parent is not
     /// committed; `TooDeep` where the snapshot would have more than 64 committed ancestors;
@@ -144,7 +145,7 @@ impl<N: StoreName> Accounts<N> {
         labels: &Labels,
         content: Content,
     ) -> Result<Record, AllocError>
-        requires numbers { self.now.next_id ≤ 4294967295 }
+        requires numbers { self.now.next_id ≤ most_number }
         requires entries { self.now.entries < 2 ^ 63 }
         ensures { IfOk result (λ r. r ≡ new_record self.now place key.now parent.now labels.now content) }
     {

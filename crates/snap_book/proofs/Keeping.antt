@@ -5,7 +5,7 @@ use Rattle.snap_call.specs.declared.reply.Reply.{Reply}
 use Rattle.snap_call.specs.declared.state.State.{State}
 use Rattle.snap_call.specs.Good.{Good}
 use Rattle.snap_call.specs.Journal.{Replays}
-use Rattle.snap_call.specs.Records.{open_count}
+use Rattle.snap_call.specs.Records.{open_count, max_sessions}
 use Rattle.snap_call.specs.Step.{step, IsAllowed}
 use Rattle.snap_call.specs.declared.call.Call.{Call}
 use Rattle.snap_call.specs.declared.call.Given.{Given}
@@ -83,9 +83,9 @@ refused_by (OutOfMemory want) old new n call given h r = absurd (h tt)
 refused_by why old new n call given h r = r
 
 -- one session more
-pub session_step : (s t : State) → s.sessions < 65536 → t ≡ record s { sessions = s.sessions + 1; entries = s.entries + 1 } → step s calls.Session Nothing ≡ (t, Opened)
+pub session_step : (s t : State) → s.sessions < max_sessions → t ≡ record s { sessions = s.sessions + 1; entries = s.entries + 1 } → step s calls.Session Nothing ≡ (t, Opened)
 session_step s t few is =
-    ap (λ (b : Bool). if b then (record s { sessions = s.sessions + 1; entries = s.entries + 1 }, Opened) else (s, Refused NumbersSpent)) (lt-ltb s.sessions 65536 few)
+    ap (λ (b : Bool). if b then (record s { sessions = s.sessions + 1; entries = s.entries + 1 }, Opened) else (s, Refused NumbersSpent)) (lt-ltb s.sessions max_sessions few)
     ∙ (λ i. (sym is i, Opened))
 
 -- a plain call is allowed

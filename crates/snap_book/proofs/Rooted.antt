@@ -4,6 +4,7 @@ use Rattle.std.specs.Prelude.{Option, cond, count_by}
 use Rattle.std.specs.Map.{lookup, values_of}
 use Rattle.std.specs.BTreeMap.{is_at}
 use Rattle.std.proofs.lemmas.List.Sums.{sum_by-cons}
+use Rattle.snap_path.specs.Limits.{most_mode}
 use Rattle.snap_path.specs.Text.{Names}
 use Rattle.snap_layer.specs.declared.node.Node.{Node}
 use Rattle.snap_layer.specs.Tree.{Tree, Entries, path_cmp, at, is_dir, IsDirAt}
@@ -43,7 +44,7 @@ pub count_covers_one : (t : Tree) → IsLayer t → CoversOne (count_of t)
 count_covers_one t layer = let root = root_count t (at t []) refl layer.root in record { blocks = omega (arith, root); inodes = omega (arith, root) }
 
 -- its permission bits are at most octal 7777, as those of each directory
-pub mode-low : (t : Tree) (p : Names) (n : Node) → IsLayer t → at t p ≡ Some n → mode_of (Some n) ≤ 4095
+pub mode-low : (t : Tree) (p : Names) (n : Node) → IsLayer t → at t p ≡ Some n → mode_of (Some n) ≤ most_mode
 mode-low t p (Dir mode opaque) layer e = let whole : IsWhole t (Dir mode opaque) = layer.nodes p (Dir mode opaque) e in whole
 mode-low t p (File number) layer e = omega arith
 mode-low t p (Symlink number) layer e = omega arith

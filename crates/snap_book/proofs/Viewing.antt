@@ -5,6 +5,7 @@ use Rattle.std.specs.Ordering.{is_lt, ordering_reverse}
 use Rattle.std.specs.declared.cmp.Ordering.{Ordering}
 use Rattle.std.specs.declared.cmp.Ordering.TheVariants.{Less, Equal, Greater}
 use Rattle.std.proofs.Common.{◌≡◌, ℕ, ◌+◌, Bool, true, false, true≢false, List, [], ◌∷◌, Option, Some, None, refl, sym, ap, ◌∙◌, subst, arith}
+use Rattle.snap_path.specs.Limits.{most_number}
 use Rattle.snap_layer.specs.Tree.{Tree}
 use Rattle.snap_record.specs.Labels.{Bytes, Label}
 use Rattle.snap_record.specs.declared.record.Content.TheVariants as contents
@@ -90,7 +91,7 @@ granted_placed : (s : State) (namespace key parent : Bytes) (labels : List Label
     → unless_refused s found (view_at s key parent labels) ≡ (added s r, reply) → CanChange s (View r) → IsViewOf (View r) v → IsGranted s namespace parent reply v
 granted_placed s namespace key parent labels r reply v (Ok place) at e can is =
     let named = (place_for-Ok s namespace key parent labels place at).named in
-    granted_numbered s namespace key parent labels place r reply v (nat_le s.next_id 4294967295) named e can is
+    granted_numbered s namespace key parent labels place r reply v (nat_le s.next_id most_number) named e can is
 granted_placed s namespace key parent labels r reply v (Err why) at e can is = absurd (not_refused s r why reply e)
 
 -- the reply to a call View that adds this view, and the layers that the view shows
@@ -126,7 +127,7 @@ numbered_view s key parent labels place change reply false e can not = absurd (r
 
 placed_view : (s : State) (key parent : Bytes) (labels : List Label) (change : Change) (reply : Reply) (found : Result ℕ Refusal)
     → unless_refused s found (view_at s key parent labels) ≡ (changed s change, reply) → CanChange s change → IsNoRefusal reply → HasView change
-placed_view s key parent labels change reply (Ok place) e can not = numbered_view s key parent labels place change reply (nat_le s.next_id 4294967295) e can not
+placed_view s key parent labels change reply (Ok place) e can not = numbered_view s key parent labels place change reply (nat_le s.next_id most_number) e can not
 placed_view s key parent labels change reply (Err why) e can not = absurd (refuses s (changed s change) why reply e not)
 
 replied_view : (s : State) (namespace key parent : Bytes) (labels : List Label) (change : Change) (reply : Reply)

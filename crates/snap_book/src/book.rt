@@ -2,7 +2,7 @@
 ghost use Rattle.std.specs.Prelude.{◌≡◌, ◌≤◌, ◌<◌, ◌+◌, ◌↔◌, ℕ, None, Some, length, Ok, Err, IfErr, IsErrOf, ◌⊎◌, [], IfOk, OnErr, false, true};
 ghost use Rattle.snap_call.specs.Good.{Good};
 ghost use Rattle.snap_call.specs.Journal.{Replays};
-ghost use Rattle.snap_call.specs.Records.{open_count, charge_of, sum_of};
+ghost use Rattle.snap_call.specs.Records.{open_count, charge_of, sum_of, max_sessions};
 ghost use Rattle.snap_call.specs.declared.call.Call.TheVariants as calls;
 ghost use Rattle.snap_call.specs.declared.call.Given.TheVariants.{Nothing};
 ghost use Rattle.snap_call.specs.declared.reply.Reply.TheVariants.{Opened};
@@ -59,7 +59,7 @@ impl<N: StoreName> Model for Book<N> {
 impl<N: StoreName> Book<N> {
     /// A book with the namespaces of the configuration and no snapshots.
     ///
-    /// `BadArgument` where a part of the configuration has not its form; `OutOfMemory` where memory is
+    /// `BadArgument` where a part of the configuration is malformed; `OutOfMemory` where memory is
     /// refused. Memory and cost grow with the numbers of namespaces and of slots; besides there is a charge
     /// for each of the 4096 slots that a store can have, together 192 KiB.
     pub fn open(alloc: Global, table: NewTable, config: Config) -> Result<Book<N>, Refusal>
@@ -90,7 +90,7 @@ impl<N: StoreName> Book<N> {
         ensures number { IfOk result (λ n. n ≡ self.old.state.sessions) }
         ensures granted { IfOk result (λ n. Recorded self.old self.new n calls.Session Nothing Opened) }
         ensures same { OnErr result (self.new ≡ self.old) }
-        ensures err { IfErr result (λ why. IsUnrecorded why ⊎ ((why ≡ NumbersSpent) × (65536 ≤ self.old.state.sessions))) }
+        ensures err { IfErr result (λ why. IsUnrecorded why ⊎ ((why ≡ NumbersSpent) × (max_sessions ≤ self.old.state.sessions))) }
         ensures full { IsErrOf result JournalFull ↔ (self.old.limit ≤ length self.old.journal + open_count self.old.state.records) }
     {
         self.journal.admit(self.accounts.open_slots(), 1)?;

@@ -1,8 +1,9 @@
 // The journal of a round, and its entries.
-ghost use Rattle.std.specs.Prelude.{◌≡◌, ◌↔◌, ◌<◌, ◌≤◌, ◌+◌, ◌++◌, ◌∷◌, [], length, None, Some, OnOk, IfErr, IsErrOf, IsTrue, IfOk};
+ghost use Rattle.std.specs.Prelude.{◌≡◌, ◌↔◌, ◌<◌, ◌≤◌, ◌+◌, ◌++◌, ◌∷◌, [], length, None, Some, OnOk, IfErr, IsErrOf, IfOk};
 ghost use Rattle.snap_call.specs.declared.refusal.Refusal.TheVariants.{JournalFull};
 ghost use Rattle.snap_accounts.specs.Entries.{IsUnrecorded};
 ghost use Rattle.snap_call.specs.Journal.{entry};
+ghost use Rattle.snap_call.specs.Records.{max_journal};
 ghost use Rattle.snap_history.specs.Open.{open_shares};
 ghost use Rattle.snap_call.specs.declared.call.Call.TheVariants as calls;
 ghost use Rattle.snap_call.specs.declared.call.Given.TheVariants.{Nothing, Count};
@@ -87,6 +88,7 @@ pub(crate) struct Journal {
 impl Model for Journal {
     ghost use Rattle.std.specs.Prelude.{◌≡◌, ◌-◌, ◌≤◌};
     ghost use Rattle.std.specs.Vec.{vec_capacity, vec_len};
+    ghost use Rattle.snap_call.specs.Records.{max_journal};
     ghost use Rattle.snap_history.specs.Open.{open_shares};
     ghost use Rattle.snap_book.specs.Book.{JournalValue};
 
@@ -94,13 +96,13 @@ impl Model for Journal {
 
     ghost view = { λ j. record { entries = j.entries.items; opening = j.opening; limit = j.limit; copy = j.copy; room = vec_capacity j.entries - vec_len j.entries } };
 
-    ghost invariant = { λ j. (j.limit ≤ 1048576) × (j.shares ≡ open_shares j.opening.slots j.opening.records) };
+    ghost invariant = { λ j. (j.limit ≤ max_journal) × (j.shares ≡ open_shares j.opening.slots j.opening.records) };
 }
 
 impl Journal {
     // Without entries.
     pub(crate) fn new(alloc: Global, state: &State, limit: u64) -> Result<Journal, AllocError>
-        requires { limit ≤ 1048576 }
+        requires { limit ≤ max_journal }
         ensures { IfOk result (λ j. j ≡ record { entries = []; opening = state.now; limit = limit; copy = None; room = j.room }) }
     {
         Ok(Journal {
@@ -115,7 +117,7 @@ impl Journal {
 
     // No entries, at another state with as many slots. It takes no memory.
     pub(crate) fn begin(&mut self, state: &State, limit: u64)
-        requires limit { limit ≤ 1048576 }
+        requires limit { limit ≤ max_journal }
         requires slots { state.now.slots ≡ self.old.opening.slots }
         ensures room { self.old.room ≤ self.new.room }
         ensures began { self.new ≡ record { entries = []; opening = state.now; limit = limit; copy = None; room = self.new.room } }
@@ -125,25 +127,6 @@ impl Journal {
         self.shares.set(&state.records);
         self.limit = limit;
         self.copy = None;
-    }
-
-    // The limit is below so many entries more beside one for each open snapshot.
-    pub(crate) fn is_full(&self, owed: u64, more: u64) -> bool
-        requires { length self.now.entries + owed ≤ self.now.limit }
-        ensures { IsTrue result ↔ (self.now.limit < length self.now.entries + owed + more) }
-    {
-        let taken = self.entries.len() as u64 + owed;
-        self.limit - taken < more
-    }
-
-    // Makes room for so many entries more.
-    fn reserve(&mut self, owed: u64, more: u64) -> Result<(), AllocError>
-        requires { length self.old.entries + owed + more ≤ self.old.limit }
-        ensures room { OnOk result (owed + more ≤ self.new.room) }
-        ensures more { self.old.room ≤ self.new.room }
-        ensures same { self.new ≡ record self.old { room = self.new.room } }
-    {
-        self.entries.reserve((owed + more) as usize)
     }
 
     // Lets in so many entries more beside one for each open snapshot, and makes room for all of them.
@@ -157,10 +140,11 @@ impl Journal {
         ensures same { self.new ≡ record self.old { room = self.new.room } }
         ensures err { IfErr result IsUnrecorded }
     {
-        if self.is_full(owed, more) {
+        let taken = self.entries.len() as u64 + owed;
+        if self.limit - taken < more {
             return Err(Refusal::JournalFull);
         }
-        match self.reserve(owed, more) {
+        match self.entries.reserve((owed + more) as usize) {
             Ok(()) => Ok(()),
             Err(refused) => Err(refused.into()),
         }

@@ -101,14 +101,14 @@ impl<N: StoreName> Book<N> {
     /// `NotCommitted`, `TooDeep` as for [`Book::prepare`], then `NumbersSpent` after the id
     /// 4,294,967,295. `Remove`: `BadArgument`, `NoNamespace`, `NotFound`; `HasChildren` where a snapshot
     /// of the namespace is on it; `InUse` for an active one, which [`Book::discard`] ends; `Leased` where
-    /// a lease of the namespace names it. `Update`: `BadArgument` for a key, labels or paths that have not their form, or
+    /// a lease of the namespace names it. `Update`: `BadArgument` for a key, labels or paths that are malformed, or
     /// where more than 64 labels would replace all; `NoNamespace`; `NotFound`; `BadArgument` where more
     /// than 64 labels would be left. `Stat`, `Usage` and `Mounts`: `BadArgument`, `NoNamespace`,
     /// `NotFound`, and `NotActive` for the mounts of a committed snapshot. `Walk`: `BadArgument` for a
     /// page of none or of more than 64 infos, or a start of more than 1024 bytes, then `NoNamespace`.
     /// `SetLimit`: `BadArgument` above 2^40 of a quantity, `NoNamespace`, `BelowCharge` where the limit
     /// does not cover what the namespace is charged. The calls on a lease: `BadArgument` for a lease or a
-    /// name that has not its form, `NoNamespace`; then `LeaseCreate` `LeaseExists`, `LeaseAdd` `NotFound`,
+    /// name that is malformed, `NoNamespace`; then `LeaseCreate` `LeaseExists`, `LeaseAdd` `NotFound`,
     /// `NotCommitted` and `NoLease`, `LeaseDrop` `NoLease` and, where the lease doesn't have the name,
     /// `NotFound`, `LeaseRelease` `NoLease`. `Sweep`: `NoNamespace` alone.
     ///

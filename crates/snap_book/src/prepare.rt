@@ -1,5 +1,6 @@
 // A new active snapshot.
 ghost use Rattle.std.specs.Prelude.{◌≡◌, ◌<◌, ◌≤◌, ◌+◌, ◌^◌, ◌↔◌, length, IfOk, OnOk, OnErr, IfErr, IsErrOf, Some, false, true};
+ghost use Rattle.snap_path.specs.Limits.{most_mode, most_number};
 ghost use Rattle.snap_call.specs.Forms.{is_layer_limit};
 ghost use Rattle.snap_call.specs.Records.{open_count};
 ghost use Rattle.snap_call.specs.State.{place_of, ancestors, ids_of, is_too_deep, layers_of};
@@ -28,7 +29,7 @@ use std::alloc::{AllocError, Global};
 // The permission bits for the root of a new layer over these.
 fn root_mode(alloc: Global, lowers: &[Shared]) -> u32
     ensures mode { result ≡ root_mode lowers.now }
-    ensures low { result ≤ 4095 }
+    ensures low { result ≤ most_mode }
 {
     let Some(nearest) = lowers.first() else {
         return DEFAULT_MODE;
@@ -66,7 +67,7 @@ fn reply_to<N: StoreName>(
     parent: &str,
     found: Result<Vacancy, Refusal>,
 ) -> Result<(Reply, Sequence<Shared>), AllocError>
-    requires { IfOk found (λ v. (is_too_deep v.place parent.now accounts.now.records ≡ false) × (accounts.now.next_id ≤ 4294967295)) }
+    requires { IfOk found (λ v. (is_too_deep v.place parent.now accounts.now.records ≡ false) × (accounts.now.next_id ≤ most_number)) }
     ensures reply { IfOk result (λ p. p.0 ≡ prepare_reply found accounts.now parent.now) }
     ensures lowers { IfOk result (λ p. IfOk found (λ v. p.1 ≡ layers_of (ancestors v.place parent.now accounts.now.records))) }
 {
@@ -129,7 +130,7 @@ impl<N: StoreName> Book<N> {
     ///
     /// `JournalFull` where an entry for the call and one for the snapshot's end are not left, and then
     /// `OutOfMemory` where memory for the entry is refused. Then, in this order: `BadArgument` for a
-    /// key, a parent or labels that have not their form, or for more than 64 labels; `NoNamespace`;
+    /// key, a parent or labels that are malformed, or for more than 64 labels; `NoNamespace`;
     /// `NotFound` where the namespace has no snapshot of the parent's name; `AlreadyExists` where it has
     /// one of the key; `NotCommitted` where the parent is not committed; `TooDeep` where the snapshot
     /// would have more than 64 committed ancestors; `TooManyActives` where all slots of the store are open;

@@ -1,6 +1,6 @@
 // The next round of a book.
 ghost use Rattle.std.specs.Prelude.{◌≡◌, ◌≤◌, ◌+◌, ◌^◌, [], None, OnOk, OnErr};
-ghost use Rattle.snap_call.specs.Records.{open_count};
+ghost use Rattle.snap_call.specs.Records.{open_count, max_journal};
 ghost use Rattle.snap_book.specs.Round.{next_round, roll_answer, round_answer};
 
 use crate::book::Book;
@@ -12,7 +12,7 @@ impl<N: StoreName> Book<N> {
     // Whether a round of at most so many entries may follow.
     fn test_round(&self, journal: u64) -> Result<(), Refusal>
         ensures answer { result ≡ round_answer self.now.state journal }
-        ensures limit { OnOk result (journal ≤ 1048576) }
+        ensures limit { OnOk result (journal ≤ max_journal) }
         ensures numbers { OnOk result (self.now.state.entries + journal ≤ 2 ^ 62) }
     {
         if journal > MAX_JOURNAL {

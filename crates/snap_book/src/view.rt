@@ -63,7 +63,7 @@ impl<N: StoreName> Book<N> {
     ///
     /// `JournalFull` where each entry that is left is kept for the end of an open snapshot, and then
     /// `OutOfMemory` where memory for the entry is refused. Then, in this order: `BadArgument` for a
-    /// key, a parent or labels that have not their form, or for more than 64 labels; `NoNamespace`;
+    /// key, a parent or labels that are malformed, or for more than 64 labels; `NoNamespace`;
     /// `NotFound` where the namespace has no snapshot of the parent's name; `AlreadyExists` where it has
     /// one of the key; `NotCommitted` where the parent is not committed; `TooDeep` where the snapshot
     /// would have more than 64 committed ancestors; `NumbersSpent` after the id 4,294,967,295. At last

@@ -2,6 +2,7 @@
 use Rattle.std.proofs.Common.{◌≡◌, ℕ, List, [], ◌∷◌, Bool, true, false, Some, None, refl, ap, ◌∙◌}
 use Rattle.std.specs.Option.{option_map_or}
 use Rattle.std.specs.Prelude.{◌&&◌, not, nat_le, nat_lt, if◌then◌else◌, Option, Result, Ok, Err}
+use Rattle.snap_path.specs.Limits.{most_number}
 use Rattle.snap_layer.specs.Tree.{Tree}
 use Rattle.snap_usage.specs.declared.usage.Usage.{Usage}
 use Rattle.snap_usage.specs.Counted.{covers}
@@ -22,7 +23,7 @@ use Rattle.snap_call.specs.declared.reply.Reply.{Reply}
 use Rattle.snap_call.specs.declared.reply.Reply.TheVariants.{Info, Usage as UsageReply}
 use Rattle.snap_call.specs.declared.state.State.{State}
 use Rattle.snap_call.specs.Forms.{is_key, is_limit, is_page, is_start}
-use Rattle.snap_call.specs.Records.{record_at, has_key, has_children, is_active, is_committed, active_at, charge_of}
+use Rattle.snap_call.specs.Records.{record_at, has_key, has_children, is_active, is_committed, active_at, charge_of, max_sessions}
 use Rattle.snap_call.specs.State.{place_of}
 use Rattle.snap_call.specs.Step.{refused, prepared, prepare_at, prepare, granted, charge_to, charge, trim, commit_as, commit, discard, ask, step, place_for, slot_for, unless_refused, mounts, view_at, view, remove_record, remove, update_record, update, walk, in_namespace, has_named, set_limit_at, set_limit, lease_create, lease_add_record, lease_add, lease_drop, lease_drop_at, lease_release, sweep_at, at_record}
 use Rattle.snap_call.specs.Journal.{Replays}
@@ -46,7 +47,7 @@ preparing : (s : State) (namespace key parent : Bytes) (labels : List Label) →
 preparing s namespace key parent labels = unless_refusing s (place_for s namespace key parent labels) (prepare_at s key parent labels) (preparing_at s key parent labels)
 
 viewing_at : (s : State) (key parent : Bytes) (labels : List Label) (place : ℕ) → IsNext s (view_at s key parent labels place).0
-viewing_at s key parent labels place = either s (nat_le s.next_id 4294967295) _ _ refl refl
+viewing_at s key parent labels place = either s (nat_le s.next_id most_number) _ _ refl refl
 
 viewing : (s : State) (namespace key parent : Bytes) (labels : List Label) → IsNext s (view s namespace key parent labels).0
 viewing s namespace key parent labels = unless_refusing s (place_for s namespace key parent labels) (view_at s key parent labels) (viewing_at s key parent labels)
@@ -141,7 +142,7 @@ releasing s namespace lease = either s (is_key lease) _ _ (in_place s namespace 
 
 -- no call changes how many slots the store has
 pub step-slots : (s : State) (call : Call) (given : Given) → IsNext s (step s call given).0
-step-slots s calls.Session given = either s (nat_lt s.sessions 65536) _ _ refl refl
+step-slots s calls.Session given = either s (nat_lt s.sessions max_sessions) _ _ refl refl
 step-slots s (calls.Prepare namespace key parent labels) given = preparing s namespace key parent labels
 step-slots s (calls.Charge slot id need want) given = charging s slot need want (active_at slot s.records)
 step-slots s (calls.Trim slot id) given = trimming s slot given (active_at slot s.records)

@@ -6,6 +6,7 @@ use Rattle.std.specs.Option.{option_map_or, is_some}
 use Rattle.std.specs.Prelude.{if◌then◌else◌, ◌&&◌, not, nat_lt, nat_le, Result, Ok, Err}
 use Rattle.std.proofs.lemmas.Bool.{and_parts, not-false}
 use Rattle.std.proofs.lemmas.Bool.Decides.{nat_tests}
+use Rattle.snap_path.specs.Limits.{most_number}
 use Rattle.snap_layer.specs.Tree.{Tree}
 use Rattle.snap_usage.specs.declared.usage.Usage.{Usage}
 use Rattle.snap_usage.specs.Counted.{count_of, covers}
@@ -28,7 +29,7 @@ use Rattle.snap_call.specs.declared.refusal.Refusal.TheVariants.{NoNamespace, No
 use Rattle.snap_call.specs.declared.reply.Reply.{Reply}
 use Rattle.snap_call.specs.declared.state.State.{State}
 use Rattle.snap_call.specs.Forms.{is_limit, is_layer_limit, is_namespace, is_slots, is_text, have_distinct_names, is_config, is_key, is_page, is_start}
-use Rattle.snap_call.specs.Records.{charge_of, has_key, has_children, is_active, is_committed, record_at, active_at, max_slots}
+use Rattle.snap_call.specs.Records.{charge_of, has_key, has_children, is_active, is_committed, record_at, active_at, max_slots, max_journal, max_sessions}
 use Rattle.snap_call.specs.State.{opening, place_of, limit_at}
 use Rattle.snap_call.specs.Good.{Good}
 use Rattle.snap_call.specs.Step.{refused, session, prepared, prepare_at, prepare, greater, fits, charge_to, charge, trim, commit_as, commit, discard, ask, step, IsCovered, IsAllowed, place_for, slot_for, unless_refused, view_at, view, remove_record, remove, update_record, update, walk, in_namespace, has_named, set_limit_at, set_limit, lease_create, lease_add_record, lease_add, lease_drop, lease_drop_at, lease_release, at_record}
@@ -48,7 +49,7 @@ either true x y f g = f refl
 either false x y f g = g refl
 
 pub good_session : (s : State) → Good s → Good (session s).0
-good_session s good = either (nat_lt s.sessions 65536) _ _ (λ e. good_counters s (s.sessions + 1) (s.entries + 1) good) (λ e. good)
+good_session s good = either (nat_lt s.sessions max_sessions) _ _ (λ e. good_counters s (s.sessions + 1) (s.entries + 1) good) (λ e. good)
 
 good_unless_refused : (s : State) → Good s → (r : Result ℕ Refusal) (next : ℕ → State × Reply) → ((n : ℕ) → r ≡ Ok n → Good (next n).0) → Good (unless_refused s r next).0
 good_unless_refused s good (Ok n) next h = h n refl
@@ -68,7 +69,7 @@ good_prepare s namespace key parent labels good =
 
 good_view_at : (s : State) (namespace key parent : Bytes) (labels : List Label) (place : ℕ) → Good s → IsPlace s namespace key parent place → Good (view_at s key parent labels place).0
 good_view_at s namespace key parent labels place good is =
-    either (nat_le s.next_id 4294967295) _ _
+    either (nat_le s.next_id most_number) _ _
     (λ few. good_viewed s place key parent labels good (place_of-below namespace s.namespaces place is.named) is.free is.base is.deep)
     (λ spent. good_counted s good)
 
@@ -234,7 +235,7 @@ namespaces_formed c e =
     let few = nat_le (length c.namespaces) 64 in
     let apart = have_distinct_names c.namespaces in
     let slots = is_slots c.slots in
-    let journal = nat_le c.journal 1048576 in
+    let journal = nat_le c.journal max_journal in
     let g = and_parts (root && each && few && apart && slots && journal && nat_le 1 c.first_id) (is_layer_limit c.layer_inodes) e in
     let h = and_parts (root && each && few && apart && slots && journal) (nat_le 1 c.first_id) g.0 in
     let i = and_parts (root && each && few && apart && slots) journal h.0 in

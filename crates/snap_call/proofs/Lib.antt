@@ -28,3 +28,4 @@ pub mod Counts
 pub mod Replaying
 pub mod AsMany
 pub mod Totals
+mod Named

@@ -3,6 +3,7 @@ use Rattle.std.proofs.Common.{◌≡◌, ℕ, Bool, true, false, List, Option, N
 use Rattle.std.specs.Prelude.{if◌then◌else◌, ◌&&◌, not, nat_le, Result, Ok, Err}
 use Rattle.std.specs.Option.{option_map_or}
 use Rattle.std.proofs.lemmas.Bool.{not-false}
+use Rattle.snap_path.specs.Limits.{most_number}
 use Rattle.snap_usage.specs.Counted.{covers}
 use Rattle.snap_ledger.specs.States.{plus}
 use Rattle.snap_record.specs.Labels.{Bytes, Label, are_labels}
@@ -53,7 +54,7 @@ place_for-Ok s namespace key parent labels place e = formed-Ok s namespace key p
 pub record IsSlotFor (s : State) (place slot : ℕ) : Type 0 where
   pub lowest : lowest_free s.slots s.records ≡ Some slot
   pub room : covers (limit_at place s.namespaces) (plus (charge_of place s.records) one) ≡ true
-  pub few : nat_le s.next_id 4294967295 ≡ true
+  pub few : nat_le s.next_id most_number ≡ true
 
 roomy-Ok : (s : State) (place k slot : ℕ) (room few : Bool) → (if room then if few then Ok k else Err NumbersSpent else Err (over_limit s place)) ≡ Ok slot → (k ≡ slot) × (room ≡ true) × (few ≡ true)
 roomy-Ok s place k slot true true e = (cc, refl, refl)
@@ -63,7 +64,7 @@ roomy-Ok s place k slot false few e = absurd (cc)
 slot_in-Ok : (s : State) (place slot : ℕ) (o : Option ℕ) → lowest_free s.slots s.records ≡ o → slot_in s place o ≡ Ok slot → IsSlotFor s place slot
 slot_in-Ok s place slot None low e = absurd (cc)
 slot_in-Ok s place slot (Some k) low e =
-    let h = roomy-Ok s place k slot (covers (limit_at place s.namespaces) (plus (charge_of place s.records) one)) (nat_le s.next_id 4294967295) e in
+    let h = roomy-Ok s place k slot (covers (limit_at place s.namespaces) (plus (charge_of place s.records) one)) (nat_le s.next_id most_number) e in
     record { lowest = low ∙ ap (λ (n : ℕ). Some n) h.0; room = h.1; few = h.2 }
 
 -- a slot that was found is one

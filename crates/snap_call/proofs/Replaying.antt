@@ -3,6 +3,7 @@ use Rattle.std.proofs.Common.{◌≡◌, ◌≢◌, ℕ, ◌+◌, ◌<◌, List,
 use Rattle.std.proofs.lemmas.Bool.Decides.{eqb_tells, nat_tests}
 use Rattle.std.specs.Option.{option_map_or}
 use Rattle.std.specs.Prelude.{◌==◌, ◌&&◌, not, nat_le, nat_lt, if◌then◌else◌, Option, Result, Ok, Err}
+use Rattle.snap_path.specs.Limits.{most_number}
 use Rattle.snap_layer.specs.Tree.{Tree}
 use Rattle.snap_usage.specs.declared.usage.Usage.{Usage}
 use Rattle.snap_usage.specs.Counted.{covers}
@@ -23,7 +24,7 @@ use Rattle.snap_call.specs.declared.reply.Reply.{Reply}
 use Rattle.snap_call.specs.declared.reply.Reply.TheVariants.{Opened, Info, Usage as UsageReply, Refused}
 use Rattle.snap_call.specs.declared.state.State.{State}
 use Rattle.snap_call.specs.Forms.{is_key, is_limit, is_page, is_start}
-use Rattle.snap_call.specs.Records.{record_at, has_key, has_children, is_active, is_committed, active_at, charge_of}
+use Rattle.snap_call.specs.Records.{record_at, has_key, has_children, is_active, is_committed, active_at, charge_of, max_sessions}
 use Rattle.snap_call.specs.State.{place_of}
 use Rattle.snap_call.specs.Step.{refused, session, prepared, prepare_at, prepare, granted, charge_to, charge, trim, commit_as, commit, discard, ask, step, IsAllowed, place_for, slot_for, unless_refused, mounts, view_at, view, remove_record, remove, update_record, update, walk, in_namespace, has_named, set_limit_at, set_limit, lease_create, lease_add_record, lease_add, lease_drop, lease_drop_at, lease_release, sweep_at, at_record}
 use Rattle.snap_call.specs.Journal.{Replays, own}
@@ -47,7 +48,7 @@ preparing : (s : State) (namespace key parent : Bytes) (labels : List Label) →
 preparing s namespace key parent labels = unless_refusing s (place_for s namespace key parent labels) (prepare_at s key parent labels) (preparing_at s key parent labels)
 
 viewing_at : (s : State) (key parent : Bytes) (labels : List Label) (place : ℕ) → IsNext s (view_at s key parent labels place).0
-viewing_at s key parent labels place = either s (nat_le s.next_id 4294967295) _ _ refl refl
+viewing_at s key parent labels place = either s (nat_le s.next_id most_number) _ _ refl refl
 
 viewing : (s : State) (namespace key parent : Bytes) (labels : List Label) → IsNext s (view s namespace key parent labels).0
 viewing s namespace key parent labels = unless_refusing s (place_for s namespace key parent labels) (view_at s key parent labels) (viewing_at s key parent labels)
@@ -144,10 +145,10 @@ releasing s namespace lease = either s (is_key lease) _ _ (in_place s namespace 
 abbrev opened : State → Bool → State × Reply
 opened s b = if b then (record s { sessions = s.sessions + 1; entries = s.entries + 1 }, Opened) else (s, Refused NumbersSpent)
 
-opening : (s : State) → s.sessions < 65536 → IsNext s (session s).0
-opening s left = at (nat_lt s.sessions 65536) refl
+opening : (s : State) → s.sessions < max_sessions → IsNext s (session s).0
+opening s left = at (nat_lt s.sessions max_sessions) refl
   where
-    at : (b : Bool) → nat_lt s.sessions 65536 ≡ b → IsNext s (opened s b).0
+    at : (b : Bool) → nat_lt s.sessions max_sessions ≡ b → IsNext s (opened s b).0
     at true is = refl
     at false is = absurd (grind (arith, nat_tests))
 

@@ -1,14 +1,16 @@
 -- The forms that texts, limits and configurations must have.
 -- Cited by `Config::is_valid`, `is_key`, `is_parent` and others.
-use Rattle.std.specs.Prelude.{ℕ, ◌==◌, Bool, true, not, ◌&&◌, nat_le, List, [], ◌∷◌, length, bytes_eq}
+use Rattle.std.specs.Prelude.{ℕ, ◌==◌, Bool, true, not, ◌&&◌, nat_le, List, [], ◌∷◌, length, bytes_eq, Option, find}
 use Rattle.std.specs.List.{list_any, list_all}
 use Rattle.snap_layer.specs.Counts.{most_inodes}
 use Rattle.snap_usage.specs.declared.usage.Usage.{Usage}
 use Rattle.snap_record.specs.Labels.{Bytes}
 use Rattle.snap_mount.specs.Mounts.{is_root_text}
 use Rattle.snap_call.specs.declared.config.Config.{Config}
+use Rattle.snap_call.specs.declared.config.ConfigField.{ConfigField}
+use Rattle.snap_call.specs.declared.config.ConfigField.TheVariants as fields
 use Rattle.snap_call.specs.declared.config.Namespace.{Namespace}
-use Rattle.snap_call.specs.Records.{max_slots}
+use Rattle.snap_call.specs.Records.{max_slots, max_journal}
 
 -- 1 to so many bytes, none of them NUL
 abbrev pub is_text : ℕ → Bytes → Bool
@@ -54,4 +56,25 @@ is_layer_limit inodes = nat_le 1 inodes && nat_le inodes most_inodes
 
 -- what a store can be opened with
 abbrev pub is_config : Config → Bool
-is_config c = is_root_text c.root && list_all is_namespace c.namespaces && nat_le (length c.namespaces) 64 && have_distinct_names c.namespaces && is_slots c.slots && nat_le c.journal 1048576 && nat_le 1 c.first_id && is_layer_limit c.layer_inodes
+is_config c = is_root_text c.root && list_all is_namespace c.namespaces && nat_le (length c.namespaces) 64 && have_distinct_names c.namespaces && is_slots c.slots && nat_le c.journal max_journal && nat_le 1 c.first_id && is_layer_limit c.layer_inodes
+
+-- the namespaces have their forms, are at most 64, and have distinct names
+abbrev pub are_namespaces_formed : List Namespace → Bool
+are_namespaces_formed ns = list_all is_namespace ns && nat_le (length ns) 64 && have_distinct_names ns
+
+-- the part of a configuration has its form
+abbrev pub has_form : Config → ConfigField → Bool
+has_form c fields.Root = is_root_text c.root
+has_form c fields.Namespaces = are_namespaces_formed c.namespaces
+has_form c fields.Slots = is_slots c.slots
+has_form c fields.Journal = nat_le c.journal max_journal
+has_form c fields.FirstId = nat_le 1 c.first_id
+has_form c fields.LayerInodes = is_layer_limit c.layer_inodes
+
+-- the parts of a configuration, in their order
+abbrev pub config_fields : List ConfigField
+config_fields = fields.Root ∷ fields.Namespaces ∷ fields.Slots ∷ fields.Journal ∷ fields.FirstId ∷ fields.LayerInodes ∷ []
+
+-- the first of them that is malformed
+abbrev pub bad_field : Config → Option ConfigField
+bad_field c = find (λ field. not (has_form c field)) config_fields

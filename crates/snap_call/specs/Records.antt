@@ -158,6 +158,14 @@ default_slots = 64
 abbrev pub max_slots : ℕ
 max_slots = 4096
 
+-- the most sessions of a store: a limit of this project
+abbrev pub max_sessions : ℕ
+max_sessions = 65536
+
+-- the most entries of a journal: a limit of this project
+abbrev pub max_journal : ℕ
+max_journal = 1048576
+
 -- of the slots below a number, the lowest that is free
 unfoldable pub lowest_free : ℕ → List Record → Option ℕ
 lowest_free zero rs = None

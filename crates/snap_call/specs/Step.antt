@@ -2,6 +2,7 @@
 -- Cited by `State::opening`, `State::has_named`, `State::commit` and others.
 use Rattle.std.specs.Prelude.{◌≡◌, ℕ, ◌+◌, ◌<◌, Bool, true, not, ◌&&◌, nat_le, nat_lt, if◌then◌else◌, List, [], ◌∷◌, ◌++◌, count_by, Option, None, Some, IsSomeAnd, max, Result, Ok, Err}
 use Rattle.std.specs.Option.{option_map_or}
+use Rattle.snap_path.specs.Limits.{most_number}
 use Rattle.snap_layer.specs.Tree.{Tree}
 use Rattle.snap_usage.specs.declared.usage.Usage.{Usage}
 use Rattle.snap_usage.specs.Counted.{count_of, Covers, covers}
@@ -26,7 +27,7 @@ use Rattle.snap_call.specs.declared.reply.Reply.{Reply}
 use Rattle.snap_call.specs.declared.reply.Reply.TheVariants.{Opened, Prepared, Viewed, Charged, Trimmed, Committed, Discarded, Removed, Info, Page, Usage as UsageReply, Mounts as MountsReply, Done, Swept, Refused}
 use Rattle.snap_call.specs.declared.state.State.{State}
 use Rattle.snap_call.specs.Forms.{is_key, is_parent, is_page, is_start, is_limit}
-use Rattle.snap_call.specs.Records.{record_at, has_key, has_children, is_active, is_committed, active_at, charge_of, with_record, without_slot, without_key, recharged, relabelled, with_labels, page, committed_as, lowest_free}
+use Rattle.snap_call.specs.Records.{record_at, has_key, has_children, is_active, is_committed, active_at, charge_of, with_record, without_slot, without_key, recharged, relabelled, with_labels, page, committed_as, lowest_free, max_sessions}
 use Rattle.snap_call.specs.State.{place_of, name_at, limit_at, limited, over_limit, is_present, is_base, is_too_deep, ancestors, ids_of, shown_layers}
 use Rattle.snap_call.specs.Reached.{swept, swept_keys, unswept}
 
@@ -40,7 +41,7 @@ refused s why = (counted s, Refused why)
 
 -- Session: there are at most 65,536
 abbrev pub session : State → State × Reply
-session s = if nat_lt s.sessions 65536 then (record s { sessions = s.sessions + 1; entries = s.entries + 1 }, Opened) else (s, Refused NumbersSpent)
+session s = if nat_lt s.sessions max_sessions then (record s { sessions = s.sessions + 1; entries = s.entries + 1 }, Opened) else (s, Refused NumbersSpent)
 
 -- what follows at the place of a namespace, or the refusal of one that the store doesn't have
 abbrev pub in_namespace : State → Bytes → (ℕ → State × Reply) → State × Reply
@@ -87,7 +88,7 @@ abbrev pub slot_in : State → ℕ → Option ℕ → Result ℕ Refusal
 slot_in s place None = Err TooManyActives
 slot_in s place (Some slot) =
     if covers (limit_at place s.namespaces) (plus (charge_of place s.records) one)
-    then if nat_le s.next_id 4294967295 then Ok slot else Err NumbersSpent
+    then if nat_le s.next_id most_number then Ok slot else Err NumbersSpent
     else Err (over_limit s place)
 
 abbrev pub slot_for : State → ℕ → Result ℕ Refusal
@@ -107,7 +108,7 @@ abbrev pub viewed : State → ℕ → Bytes → Bytes → List Label → State �
 viewed s place key parent labels = (added s (new_record s place key parent labels (View (shown_layers place parent s.records))), Viewed s.next_id (ids_of (ancestors place parent s.records)))
 
 abbrev pub view_at : State → Bytes → Bytes → List Label → ℕ → State × Reply
-view_at s key parent labels place = if nat_le s.next_id 4294967295 then viewed s place key parent labels else refused s NumbersSpent
+view_at s key parent labels place = if nat_le s.next_id most_number then viewed s place key parent labels else refused s NumbersSpent
 
 abbrev pub view : State → Bytes → Bytes → Bytes → List Label → State × Reply
 view s namespace key parent labels = unless_refused s (place_for s namespace key parent labels) (view_at s key parent labels)
@@ -301,7 +302,7 @@ IsCovered id now o = IsSomeAnd o (λ r. (r.id ≡ id) × Covers (usage_of r.cont
 
 -- the condition of a call: its slot is open under its id, and the charge covers what the value has; a session is opened only where one is left
 abbrev pub IsAllowed : State → Call → Given → Type 0
-IsAllowed s calls.Session given = s.sessions < 65536
+IsAllowed s calls.Session given = s.sessions < max_sessions
 IsAllowed s (calls.Charge slot id need want) given = IsOpen id (active_at slot s.records)
 IsAllowed s (calls.Trim slot id) (Count now) = IsCovered id now (active_at slot s.records)
 IsAllowed s (calls.Trim slot id) given = ⊥

@@ -1,5 +1,5 @@
-ghost use Rattle.std.specs.Prelude.{◌≡◌};
-ghost use Rattle.snap_call.specs.Forms.{is_config};
+ghost use Rattle.std.specs.Prelude.{◌≡◌, None, true, ◌↔◌};
+ghost use Rattle.snap_call.specs.Forms.{are_namespaces_formed, bad_field, is_config, is_layer_limit};
 
 use crate::forms::{are_namespaces, has_distinct_names, is_slots};
 use crate::limits::{MAX_JOURNAL, MAX_NAMESPACES};
@@ -47,21 +47,67 @@ impl Clone for Namespace {
     }
 }
 
+/// The parts of a configuration, in their order.
+#[derive(Clone, Copy, Debug, PartialEq, Eq)]
+pub enum ConfigField {
+    Root,
+    Namespaces,
+    Slots,
+    Journal,
+    FirstId,
+    LayerInodes,
+}
+
+/// Whether the namespaces have their forms, are no more than a store can have, and have distinct names.
+fn are_formed(namespaces: &[Namespace]) -> bool
+    ensures { result ≡ are_namespaces_formed namespaces.now }
+{
+    are_namespaces(namespaces)
+        && namespaces.len() <= MAX_NAMESPACES
+        && has_distinct_names(namespaces)
+}
+
+/// Whether a layer can have at most so many inodes.
+fn is_layer_limit(inodes: u64) -> bool
+    ensures { result ≡ is_layer_limit inodes }
+{
+    1 <= inodes && inodes <= MAX_LAYER_INODES as u64
+}
+
 impl Config {
-    /// Whether a store can be opened with it. Takes no memory. Its cost grows with the bytes of the
-    /// root and of the names, and with the square of the number of namespaces.
+    /// The first of its parts that is malformed; none where a store can be opened with it. Takes no
+    /// memory. Its cost grows with the bytes of the root and of the names, and with the square of the number
+    /// of namespaces.
+    pub fn bad_field(&self) -> Option<ConfigField>
+        ensures field { result ≡ bad_field self.now }
+        ensures valid { (result ≡ None) ↔ (is_config self.now ≡ true) }
+    {
+        if !is_root_text(self.root.as_str()) {
+            return Some(ConfigField::Root);
+        }
+        if !are_formed(self.namespaces.as_slice()) {
+            return Some(ConfigField::Namespaces);
+        }
+        if !is_slots(self.slots) {
+            return Some(ConfigField::Slots);
+        }
+        if self.journal > MAX_JOURNAL {
+            return Some(ConfigField::Journal);
+        }
+        if self.first_id == 0 {
+            return Some(ConfigField::FirstId);
+        }
+        if !is_layer_limit(self.layer_inodes) {
+            return Some(ConfigField::LayerInodes);
+        }
+        None
+    }
+
+    /// Whether a store can be opened with it. Takes no memory. Its cost is that of
+    /// [`bad_field`](Self::bad_field).
     pub fn is_valid(&self) -> bool
         ensures { result ≡ is_config self.now }
     {
-        let namespaces = self.namespaces.as_slice();
-        is_root_text(self.root.as_str())
-            && are_namespaces(namespaces)
-            && namespaces.len() <= MAX_NAMESPACES
-            && has_distinct_names(namespaces)
-            && is_slots(self.slots)
-            && self.journal <= MAX_JOURNAL
-            && 1 <= self.first_id
-            && 1 <= self.layer_inodes
-            && self.layer_inodes <= MAX_LAYER_INODES as u64
+        self.bad_field().is_none()
     }
 }

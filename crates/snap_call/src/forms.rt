@@ -17,7 +17,12 @@ fn is_text(most: usize, text: &str) -> bool
 fn has_nul(bytes: &[u8]) -> bool
     ensures { result ≡ list_any (λ b. b == 0) bytes.now }
 {
-    bytes.iter().any(|byte| *byte == 0)
+    for byte in bytes {
+        if *byte == 0 {
+            return true;
+        }
+    }
+    false
 }
 
 /// Whether the text can be a key of a snapshot, or the name of a committed snapshot, of a parent or
@@ -78,7 +83,7 @@ pub(crate) fn are_namespaces(namespaces: &[Namespace]) -> bool
 }
 
 /// Whether the namespace has this name.
-pub(crate) fn has_name(namespace: &Namespace, name: &str) -> bool
+fn has_name(namespace: &Namespace, name: &str) -> bool
     ensures { result ≡ bytes_eq namespace.now.name name.now }
 {
     namespace.name.as_str() == name

@@ -26,7 +26,7 @@ mod sweep;
 
 pub use call::{Call, Given};
 pub use chain::{Chain, is_committed};
-pub use config::{Config, Namespace};
+pub use config::{Config, ConfigField, Namespace};
 pub use entry::Entry;
 pub use entry_room::EntryRoom;
 pub use forms::{is_key, is_limit, is_page, is_parent, is_start};

@@ -1,6 +1,6 @@
 ghost use Rattle.std.specs.Prelude.{◌≡◌, ◌<◌, ◌+◌, ◌^◌, [], true, false, map, length, option_copied, None, OnOk, OnErr, IfErr, IfOk, IsTrue, ◌↔◌, ℕ};
 ghost use Rattle.std.specs.List.{list_any};
-ghost use Rattle.std.specs.Option.{option_map};
+ghost use Rattle.std.specs.Option.{option_map, option_to_list};
 ghost use Rattle.snap_call.specs.Records.{record_at, has_key, has_children, child_count, is_slot, active_at, with_record, without_key, without_keys, without_slot, recharged, relabelled, page, lowest_free, HasLowSlot, max_slots};
 ghost use Rattle.snap_call.specs.Indexes.{slot_of};
 
@@ -277,5 +277,29 @@ impl Records {
             Some(space) => space.page(alloc, after, most, asked),
             None => Ok(Sequence::new(alloc)),
         }
+    }
+
+    /// The page that the record of the key alone makes, in the namespace at the place: its info, where there is
+    /// such a record, its key comes after the text, it has every part of the filter and `most` is not 0; else
+    /// none. It is one look-up: no record is passed over. Takes memory for the info.
+    pub fn page_at(
+        &self,
+        alloc: Global,
+        place: usize,
+        key: &str,
+        after: &str,
+        most: usize,
+        asked: &Filter,
+    ) -> Result<Sequence<Info>, AllocError>
+        ensures { IfOk result (λ infos. infos ≡ page place after.now most asked.now (option_to_list (record_at place key.now self.now))) }
+    {
+        let mut infos = Sequence::new(alloc);
+        let Some(record) = self.record_at(place, key) else {
+            return Ok(infos);
+        };
+        if 0 < most && after < record.key.as_str() && record.matches(asked) {
+            infos.push(record.info()?)?;
+        }
+        Ok(infos)
     }
 }

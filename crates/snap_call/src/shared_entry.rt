@@ -1,5 +1,4 @@
 // An entry of the journal in the hands of two holders.
-ghost use Rattle.std.specs.Arc.{arc_value};
 ghost use Rattle.std.specs.Prelude.{◌≡◌, ◌↔◌, IfOk, IsTrue};
 
 use crate::entry::Entry;
@@ -48,15 +47,13 @@ impl SharedEntry {
     {
         let first = Arc::new(alloc, entry)?;
         let second = Arc::try_clone(&first)?;
-        Ok((SharedEntry::counted(first), SharedEntry::counted(second)))
-    }
-
-    fn counted(entry: Arc<Entry>) -> SharedEntry
-        ensures { result ≡ arc_value entry }
-    {
-        SharedEntry {
-            holder: Holder::Counted(entry),
-        }
+        let first = SharedEntry {
+            holder: Holder::Counted(first),
+        };
+        let second = SharedEntry {
+            holder: Holder::Counted(second),
+        };
+        Ok((first, second))
     }
 
     // In memory of its own.

@@ -1,7 +1,7 @@
 ghost use Rattle.std.specs.Prelude.{◌≡◌, ◌<◌, ◌+◌, ◌^◌, length, true, false, Some, IsSome, OnOk, OnErr, IfOk};
 ghost use Rattle.snap_call.specs.Forms.{is_config};
 ghost use Rattle.snap_call.specs.Good.{Good};
-ghost use Rattle.snap_call.specs.Records.{active_at, committed_as, has_key, with_record, without_slot};
+ghost use Rattle.snap_call.specs.Records.{active_at, committed_as, has_key, page, with_record, without_slot};
 ghost use Rattle.snap_call.specs.State.{opening, place_of, name_at, limit_at, limited};
 ghost use Rattle.snap_call.specs.Step.{IsAllowed, step, has_named, leases_after};
 ghost use Rattle.snap_call.specs.declared.call.Call.{Call};
@@ -10,11 +10,10 @@ ghost use Rattle.snap_call.specs.declared.state.State.{State};
 ghost use Rattle.snap_record.specs.declared.record.Record.{Record};
 
 use crate::config::{Config, Namespace};
-use crate::forms::has_name;
 use crate::records::Records;
 use snap_layer::Shared;
 use snap_lease::{LeaseError, Leases};
-use snap_record::{Content, Record, Sequence, Text};
+use snap_record::{Content, Filter, Info, Record, Sequence, Text};
 use snap_usage::{Usage, count};
 use std::alloc::{AllocError, Global};
 
@@ -93,9 +92,12 @@ impl State {
         ensures { result ≡ place_of name.now self.now.namespaces }
     {
         let namespaces = self.namespaces.as_slice();
-        namespaces
-            .iter()
-            .position(|namespace| has_name(namespace, name))
+        for (place, namespace) in namespaces.iter().enumerate() {
+            if namespace.name.as_str() == name {
+                return Some(place);
+            }
+        }
+        None
     }
 
     /// Puts the namespace, which has another limit, in its place. Takes no memory. The cost is constant.
@@ -180,6 +182,32 @@ impl State {
         }
         let _ = self.records.take_slot(slot);
         Ok(())
+    }
+
+    /// The infos of the snapshots of the namespace at the place whose keys come after the text and that have
+    /// every part of the filter: the first so many of them, in the order of their keys. Takes memory for the
+    /// infos, and without a name in the filter for copies of the text.
+    ///
+    /// Where the filter names the key it is one look-up. Else the cost grows with the snapshots of the
+    /// namespace that are passed over, also where the filter names the parent, and with the texts and labels
+    /// of the infos.
+    pub fn page(
+        &self,
+        alloc: Global,
+        place: usize,
+        after: &str,
+        most: usize,
+        asked: &Filter,
+    ) -> Result<Sequence<Info>, AllocError>
+        requires { Good self.now }
+        ensures { IfOk result (λ infos. infos ≡ page place after.now most asked.now self.now.records) }
+    {
+        match &asked.name {
+            Some(key) => self
+                .records
+                .page_at(alloc, place, key.as_str(), after, most, asked),
+            None => self.records.page(alloc, place, after, most, asked),
+        }
     }
 
     /// The name of the namespace at the place; no text past the last one. Takes no memory.

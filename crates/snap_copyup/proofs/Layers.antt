@@ -4,6 +4,7 @@ use Rattle.std.specs.Prelude.{option_and_then, nat_le, ◌&&◌}
 use Rattle.std.proofs.lemmas.Bool.Decides.{nat_tests}
 use Rattle.snap_path.specs.Text.{Names, IsPath}
 use Rattle.snap_path.proofs.Texts.{IsPath-front}
+use Rattle.snap_path.specs.Limits.{most_number}
 use Rattle.snap_layer.specs.declared.node.Node.{Node}
 use Rattle.snap_layer.specs.declared.node.Node.TheVariants as node
 use Rattle.snap_layer.specs.Tree.{Tree, IsDirAt, at, number_of}
@@ -94,10 +95,10 @@ no_missing u ls p ok some = no_missing_from u ls [] p ok some
 few_from : (t : Tree) → is_within t ≡ true → inode_count t ≤ t.most
 few_from t within = grind (arith, nat_tests)
 
-last_from : (t : Tree) → is_within t ≡ true → t.next ≤ 4294967295
+last_from : (t : Tree) → is_within t ≡ true → t.next ≤ most_number
 last_from t within = by (nat_le (inode_count t) t.most) within
   where
-    by : (b : Bool) → (b && nat_le t.next 4294967295) ≡ true → t.next ≤ 4294967295
+    by : (b : Bool) → (b && nat_le t.next most_number) ≡ true → t.next ≤ most_number
     by true e = grind (arith, nat_tests)
     by false e = absurd (cc)
 

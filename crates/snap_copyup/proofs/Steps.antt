@@ -2,6 +2,7 @@
 use Rattle.std.proofs.Common.{◌≡◌, ℕ, ◌+◌, ◌<◌, ◌≤◌, true, false, List, [], ◌∷◌, ◌++◌, length, take, drop, get_or, Option, Some, None, is_some, refl, sym, ap, subst, ◌∙◌, arith, length-append, length-take}
 use Rattle.std.proofs.lemmas.List.{at_drop_more, take_more, take-append-drop}
 use Rattle.std.proofs.lemmas.Bool.Decides.{nat_tests}
+use Rattle.snap_path.specs.Limits.{most_number}
 use Rattle.snap_path.specs.Text.{Names}
 use Rattle.snap_layer.specs.declared.node.Node.TheVariants as node
 use Rattle.snap_layer.specs.Tree.{Tree, at, IsDirAt}
@@ -88,7 +89,7 @@ pub record Missing (u v : Tree) (ls : List Tree) (p : Names) (k : ℕ) (front : 
   pub more : with_parents_from u ls (take k p) (drop k p) ≡ with_parents_from v ls (take (k + 1) p) (drop (k + 1) p)
   pub full : is_within v ≡ false → is_within (with_last last (with_parents_from u ls (take k p) (drop k p)) p) ≡ false
 
-pub many_from : (t : Tree) → t.next ≤ 4294967295 → is_within t ≡ false → t.most < inode_count t
+pub many_from : (t : Tree) → t.next ≤ most_number → is_within t ≡ false → t.most < inode_count t
 many_from t next full = grind (arith, nat_tests)
 
 pub none_from : {A : Type 0} (o : Option A) → is_some o ≡ false → o ≡ None

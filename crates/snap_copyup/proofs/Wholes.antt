@@ -1,6 +1,7 @@
 -- What layers show is within the limits of a layer.
 use Rattle.std.proofs.Common.{◌≡◌, inl, inr, ◌≤◌, Bool, true, false, List, [], ◌∷◌, Option, Some, None, Result, Ok, Err, IfErr, IsErrAnd, refl, sym, subst}
 use Rattle.std.specs.Prelude.{if◌then◌else◌}
+use Rattle.snap_path.specs.Limits.{most_mode}
 use Rattle.snap_path.specs.Text.{Names}
 use Rattle.snap_layer.specs.declared.node.Node.{Node}
 use Rattle.snap_layer.specs.declared.node.Node.TheVariants.{Dir, File, Symlink, Whiteout}
@@ -19,8 +20,8 @@ use Rattle.snap_copyup.specs.Places.{IsFreePlace, IsRefusal}
 -- the object's mode, size or target is within the limits
 abbrev pub IsWholeObject : Option Object → Type 0
 IsWholeObject None = Unit {0}
-IsWholeObject (Some (dir mode)) = mode ≤ 4095
-IsWholeObject (Some (file mode content)) = (mode ≤ 4095) × IsContent content
+IsWholeObject (Some (dir mode)) = mode ≤ most_mode
+IsWholeObject (Some (file mode content)) = (mode ≤ most_mode) × IsContent content
 IsWholeObject (Some (symlink target)) = is_target target ≡ true
 
 whole_file : (o : Option Body) → IsFile o → IsWholeObject (shown_body o)

@@ -1,6 +1,7 @@
 -- What is put at a path, once the directories above it stand.
 -- Cited by `copy_up`, `ensure_dirs`, `put` and others.
 use Rattle.std.specs.Prelude.{◌≡◌, ◌⊎◌, ℕ, ◌+◌, ◌<◌, ◌≤◌, true, false, List, [], ◌∷◌, ◌++◌, length, take, Option, Some, None, is_some}
+use Rattle.snap_path.specs.Limits.{most_mode}
 use Rattle.snap_path.specs.Memory.{no_memory}
 use Rattle.snap_path.specs.Text.{Names}
 use Rattle.snap_layer.specs.declared.node.Node.{Node}
@@ -33,8 +34,8 @@ pub record IsFreePlace (t : Tree) (p : Names) : Type 0 where
 -- it may be put at the path: there is a place, and its mode, content or target is within the limits of a layer
 abbrev pub CanStand : Last → Tree → Names → Type 0
 CanStand Nothing t p = Unit {0}
-CanStand (Dir mode opaque) t p = IsFreePlace t p × (mode ≤ 4095)
-CanStand (File mode content) t p = IsFreePlace t p × (mode ≤ 4095) × IsContent content
+CanStand (Dir mode opaque) t p = IsFreePlace t p × (mode ≤ most_mode)
+CanStand (File mode content) t p = IsFreePlace t p × (mode ≤ most_mode) × IsContent content
 CanStand (Symlink target) t p = IsFreePlace t p × (is_target target ≡ true)
 CanStand Whiteout t p = IsFreePlace t p
 

@@ -5,6 +5,7 @@ use Rattle.std.specs.Prelude.{◌&&◌, ◌||◌, not, is_some, filter, nat_lt}
 use Rattle.std.specs.List.{flat_map}
 use Rattle.std.specs.Cmp.{unsigned_Decides}
 use Rattle.std.proofs.lemmas.Slice.Eq.{bytes_eq-Decides}
+use Rattle.snap_path.specs.Limits.{most_path_bytes}
 use Rattle.snap_path.specs.Text.{Names, IsPath, text_below}
 use Rattle.snap_layer.specs.declared.node.Node.{Node}
 use Rattle.snap_layer.specs.Tree.{Tree, at, hides, node_hides, IsDirAt}
@@ -149,7 +150,7 @@ nothing_below (suc k) t ts p was is = (λ i. row p (change_at (was i) (is i)) ++
 pub no_changes : (k : ℕ) (t : Tree) (ts : List Tree) → AreLayers (t ∷ ts) → (p : Names) → (IsPath p → ⊥) → changes_below k t ts p ≡ []
 no_changes k t ts ok p bad = nothing_below k t ts p (no_object ts ok.1 p bad) (no_object (t ∷ ts) ok p bad)
 
-pub too_long : (p : Names) → 4095 < length (text_below p) → IsPath p → ⊥
+pub too_long : (p : Names) → most_path_bytes < length (text_below p) → IsPath p → ⊥
 too_long p long is = let short = is.1 in omega arith
 
 -- ---- one path

@@ -2,6 +2,7 @@
 use Rattle.std.proofs.Common.{◌≡◌, ℕ, ◌+◌, ◌≤◌, Bool, true, false, List, Option, Some, None, refl, arith}
 use Rattle.std.specs.Option.{option_map_or}
 use Rattle.std.specs.Prelude.{if◌then◌else◌, ◌&&◌, not, nat_le, nat_lt, Result, Ok, Err}
+use Rattle.snap_path.specs.Limits.{most_number}
 use Rattle.snap_usage.specs.declared.usage.Usage.{Usage}
 use Rattle.snap_usage.specs.Counted.{covers}
 use Rattle.snap_lease.specs.Lease.{Lease}
@@ -22,7 +23,7 @@ use Rattle.snap_call.specs.declared.reply.Reply.{Reply}
 use Rattle.snap_call.specs.declared.reply.Reply.TheVariants.{Info, Usage as UsageReply}
 use Rattle.snap_call.specs.declared.state.State.{State}
 use Rattle.snap_call.specs.Forms.{is_key, is_limit, is_page, is_start}
-use Rattle.snap_call.specs.Records.{record_at, is_slot, is_committed, active_at, charge_of, recharged}
+use Rattle.snap_call.specs.Records.{record_at, is_slot, is_committed, active_at, charge_of, recharged, max_sessions}
 use Rattle.snap_call.specs.State.{place_of, shown_layers}
 use Rattle.snap_call.specs.Step.{counted, refused, session, unless_refused, place_for, granted, charge_to, charge, trim, discard, ask, mounts, viewed, view_at, view, update_record, update, walk, in_namespace, limited_at, set_limit_at, set_limit, lease_create, lease_add_record, lease_add, lease_drop, lease_drop_at, lease_release, step, at_record, new_record, relabelled_at}
 use Rattle.snap_call.proofs.Lists.{all-with_record, all-without}
@@ -71,7 +72,7 @@ module _ (s : State) where
   counts = still s.sessions (s.entries + 1) s.leases
 
   stays_session : P (session s)
-  stays_session = either P (nat_lt s.sessions 65536) _ _ (still (s.sessions + 1) (s.entries + 1) s.leases) (still s.sessions s.entries s.leases)
+  stays_session = either P (nat_lt s.sessions max_sessions) _ _ (still (s.sessions + 1) (s.entries + 1) s.leases) (still s.sessions s.entries s.leases)
 
   stays_recharged : (slot : ℕ) (to : Usage) → Stays s (record s { records = recharged slot to s.records; entries = s.entries + 1 })
   stays_recharged slot to = record { come = λ origin all. comes-recharged origin s.namespaces slot to s.records all; same = λ h. weights-recharged h s.namespaces slot to s.records; grows = omega arith }
@@ -130,7 +131,7 @@ module _ (s : State) where
   stays_view : (namespace key parent : Bytes) (labels : List Label) → P (view s namespace key parent labels)
   stays_view namespace key parent labels =
       unless P s (λ why. counts) (place_for s namespace key parent labels) (view_at s key parent labels)
-      (λ place e. either P (nat_le s.next_id 4294967295) _ _ (stays_viewed place key parent labels) counts)
+      (λ place e. either P (nat_le s.next_id most_number) _ _ (stays_viewed place key parent labels) counts)
 
   stays_relabelled : (place : ℕ) (key : Bytes) (labels : List Label) → Stays s (relabelled_at s place key labels)
   stays_relabelled place key labels = record {

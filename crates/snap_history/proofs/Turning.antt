@@ -7,6 +7,7 @@ use Rattle.std.proofs.lemmas.Slice.Eq.{bytes_eq-Decides}
 use Rattle.std.proofs.Math.ListN.{length-set}
 use Rattle.std.specs.Option.{option_map, option_map_or, option_or, is_some}
 use Rattle.std.specs.Prelude.{◌==◌, ◌&&◌, not, nat_le, nat_lt, if◌then◌else◌, bytes_eq, Result, Ok, Err}
+use Rattle.snap_path.specs.Limits.{most_number}
 use Rattle.snap_layer.specs.Tree.{Tree}
 use Rattle.snap_usage.specs.declared.usage.Usage.{Usage}
 use Rattle.snap_usage.specs.Counted.{count_of, covers, no_usage}
@@ -30,7 +31,7 @@ use Rattle.snap_call.specs.declared.state.State.{State}
 use Rattle.snap_call.specs.Forms.{is_key, is_limit, is_page, is_start}
 use Rattle.snap_call.specs.Good.{Good}
 use Rattle.snap_call.specs.Reached.{swept, unswept}
-use Rattle.snap_call.specs.Records.{active_at, charge_of, committed_as, has_children, has_key, is_active, is_committed, is_named, is_slot, record_at, recharged, relabelled, with_record, without_key, without_slot, HasLowSlot}
+use Rattle.snap_call.specs.Records.{active_at, charge_of, committed_as, has_children, has_key, is_active, is_committed, is_named, is_slot, record_at, recharged, relabelled, with_record, without_key, without_slot, HasLowSlot, max_sessions}
 use Rattle.snap_call.specs.State.{place_of, shown_layers}
 use Rattle.snap_call.specs.Step.{IsAllowed, IsCovered, IsOpen, ask, charge, charge_to, counted, commit_as, committed as committed_state, discard, has_named, in_namespace, lease_add, lease_add_record, lease_create, lease_drop, lease_drop_at, lease_release, mounts, one, place_for, prepare, prepare_at, prepared as prepared_state, refused, remove, remove_record, removed_at, session, set_limit, set_limit_at, slot_for, step, sweep, sweep_at, trim, unless_refused, update, update_record, view, view_at, walk, at_record, new_record}
 use Rattle.snap_call.proofs.Alike.{AreAlike, bare-relabelled, alike-active_at, alike-active_at_None, alike-charge_of}
@@ -170,7 +171,7 @@ module _ (name : Bytes) (place : ℕ) (s : State) (shares : List (Option Usage))
   refuses = even_turns (counted s) (replies.Refused NoNamespace) (even_refused NoNamespace)
 
   even_session : Evenly (session s)
-  even_session = cases_if Evenly (nat_lt s.sessions 65536) _ _ (λ few. even_same _ replies.Opened refl refl refl tt) (λ spent. even_same s _ refl refl refl tt)
+  even_session = cases_if Evenly (nat_lt s.sessions max_sessions) _ _ (λ few. even_same _ replies.Opened refl refl refl tt) (λ spent. even_same s _ refl refl refl tt)
 
   -- a call in a namespace that the store has
   in_its_namespace : (P : State × Reply → Type 0) (namespace : Bytes) (next : ℕ → State × Reply) → P (refused s NoNamespace) → ((at : ℕ) → place_of namespace s.namespaces ≡ Some at → P (next at)) → P (in_namespace s namespace next)
@@ -254,7 +255,7 @@ module _ (name : Bytes) (place : ℕ) (s : State) (shares : List (Option Usage))
   even_view_at : (key parent : Bytes) (labels : List Label) (at : ℕ) → Evenly (view_at s key parent labels at)
   even_view_at key parent labels at =
       let new : Record = new_record s at key parent labels (View (shown_layers at parent s.records)) in
-      cases_if Evenly (nat_le s.next_id 4294967295) _ _
+      cases_if Evenly (nat_le s.next_id most_number) _ _
       (λ few. record {
         named = refl;
         as_many = refl;

@@ -12,24 +12,25 @@ use Rattle.snap_lines.specs.declared.stop.Stop.{Stop}
 use Rattle.snap_lines.specs.declared.stop.Stop.TheVariants.{Line, InputFailed, OutputFailed, OutOfMemory}
 use Rattle.snap_lines.specs.Transcripts.{Place, Stops, Tells, Transcript, cut, effect_at, effect_within, max_bytes, first_lines, goes_on, is_over_limit, place_after, start, transcript, transcript_from}
 use Rattle.snap_jobs.specs.Answer.{HasBroken, HasLacked, HasStopped, HasWritten, HasWrittenPart, IsText}
-use Rattle.snap_jobs.specs.Lines.{ReadValue, jobs_effect, taken}
+use Rattle.snap_script.specs.declared.unknown.FieldRule.{FieldRule}
+use Rattle.snap_jobs.specs.Lines.{LinesValue, ReadValue, jobs_effect, taken, unread}
 use Rattle.snap_jobs.specs.declared.stop.JobsStop.{JobsStop}
 use Rattle.snap_jobs.specs.declared.stop.JobsStop.TheVariants.{Lines, NotClosed, WantOfMemory}
 
 -- no text
-abbrev IsSilent : Result (Effect (Option ReadValue)) Fault → Type 0
+abbrev IsSilent : Result (Effect LinesValue) Fault → Type 0
 IsSilent (Ok e) = e.text ≡ []
 IsSilent (Err f) = Unit {0}
 
-silent_by : (r : Result (Option ReadValue) Fault) → IsSilent (r >>= λ v. Ok (record { value = v; text = [] }))
-silent_by (Ok v) = refl
-silent_by (Err f) = tt
+silent_by : (rule : FieldRule) (r : Result (Option ReadValue) Fault) → IsSilent (r >>= λ v. Ok (record { value = record { fields = rule; read = v }; text = [] }))
+silent_by rule (Ok v) = refl
+silent_by rule (Err f) = tt
 
-silent : (read : Option ReadValue) (bytes : List ℕ) → IsSilent (jobs_effect read bytes)
+silent : (lines : LinesValue) (bytes : List ℕ) → IsSilent (jobs_effect lines bytes)
 unfolding jobs_effect
-silent read bytes = silent_by (taken read bytes)
+silent lines bytes = silent_by lines.fields (taken lines.fields lines.read bytes)
 
-silent_within : (left : Option ℕ) (read : Option ReadValue) (line : List ℕ) → IsSilent (effect_within jobs_effect left read line)
+silent_within : (left : Option ℕ) (read : LinesValue) (line : List ℕ) → IsSilent (effect_within jobs_effect left read line)
 silent_within None read line = silent read (take cut (without_feed line))
 silent_within (Some left) read line = by (is_over_limit left line)
   where
@@ -37,20 +38,20 @@ silent_within (Some left) read line = by (is_over_limit left line)
     by true = tt
     by false = silent read (without_feed line)
 
-silent_at : (p : Place (Option ReadValue)) (line : List ℕ) → IsSilent (effect_at jobs_effect p line)
+silent_at : (p : Place LinesValue) (line : List ℕ) → IsSilent (effect_at jobs_effect p line)
 unfolding effect_at
 silent_at p line = silent_within p.left p.value line
 
-after_line : (p : Place (Option ReadValue)) (line : List ℕ) (r : Result (Effect (Option ReadValue)) Fault) (more : Place (Option ReadValue) → Transcript (Option ReadValue)) → IsSilent r → ((q : Place (Option ReadValue)) → (more q).text ≡ []) → (goes_on p line r more).text ≡ []
+after_line : (p : Place LinesValue) (line : List ℕ) (r : Result (Effect LinesValue) Fault) (more : Place LinesValue → Transcript LinesValue) → IsSilent r → ((q : Place LinesValue) → (more q).text ≡ []) → (goes_on p line r more).text ≡ []
 after_line p line (Err c) more quiet none = refl
 after_line p line (Ok e) more quiet none = ap (λ (t : List ℕ). t ++ (more (place_after p line e.value)).text) quiet ∙ none (place_after p line e.value)
 
 -- no text is written for any lines
-pub no_text : (p : Place (Option ReadValue)) (lines : List (List ℕ)) → (transcript_from jobs_effect p lines).text ≡ []
+pub no_text : (p : Place LinesValue) (lines : List (List ℕ)) → (transcript_from jobs_effect p lines).text ≡ []
 no_text p [] = refl
 no_text p (line ∷ lines) = after_line p line (effect_at jobs_effect p line) (λ q. transcript_from jobs_effect q lines) (silent_at p line) (λ q. no_text q lines)
 
-pub none_written : (read : Option ReadValue) (bytes : List ℕ) → (transcript (Some max_bytes) jobs_effect read bytes).text ≡ []
+pub none_written : (read : LinesValue) (bytes : List ℕ) → (transcript (Some max_bytes) jobs_effect read bytes).text ≡ []
 unfolding transcript
 none_written read bytes = no_text (start (Some max_bytes) read) (lines_of bytes)
 
@@ -61,58 +62,64 @@ appends_after (Some x) None c text p q = absurd p
 appends_after (Some x) (Some y) None text p q = absurd q
 appends_after (Some x) (Some y) (Some z) text p q = q ∙ ap (λ l. l ++ text) (p ∙ append-nil x)
 
--- where all lines were read, and then the text was written
-written_then : (told : Bool) (remaining : Option (List ℕ)) (read : Option ReadValue) (before mid after : Option (List ℕ))
-    → IfSome remaining (λ bytes. Tells (transcript (Some max_bytes) jobs_effect None bytes) None before mid) → IfSome remaining (λ bytes. (transcript (Some max_bytes) jobs_effect None bytes).value ≡ read)
-    → HasWritten told read 0 mid after → IfSome remaining (λ bytes. HasWritten told (transcript (Some max_bytes) jobs_effect None bytes).value 0 before after)
-written_then told None read before mid after tells value wrote = tt
-written_then told (Some bytes) read before mid after tells value (text, is, wrote) =
-    subst (λ (v : Option ReadValue). HasWritten told v 0 before after) (sym value)
-    (text, is, appends_after before mid after text (subst (Appends before mid) (none_written None bytes) tells.1) wrote)
+-- what the lines have left was read
+pub was_read : (rule : FieldRule) (remaining : Option (List ℕ)) (lines : LinesValue) (read : Option ReadValue) → read ≡ lines.read
+    → IfSome remaining (λ bytes. (transcript (Some max_bytes) jobs_effect (unread rule) bytes).value ≡ lines) → IfSome remaining (λ bytes. (transcript (Some max_bytes) jobs_effect (unread rule) bytes).value.read ≡ read)
+was_read rule None lines read e h = tt
+was_read rule (Some bytes) lines read e h = ap (λ (v : LinesValue). v.read) h ∙ sym e
 
-pub written : {E : Type 0} (told : Bool) (r : Result Unit E) (remaining : Option (List ℕ)) (read : Option ReadValue) (before mid after : Option (List ℕ))
-    → IfSome remaining (λ bytes. Tells (transcript (Some max_bytes) jobs_effect None bytes) None before mid) → IfSome remaining (λ bytes. (transcript (Some max_bytes) jobs_effect None bytes).value ≡ read)
-    → OnOk r (HasWritten told read 0 mid after) → OnOk r (IfSome remaining (λ bytes. HasWritten told (transcript (Some max_bytes) jobs_effect None bytes).value 0 before after))
-written told (Ok done) remaining read before mid after tells value wrote = written_then told remaining read before mid after tells value wrote
-written told (Err e) remaining read before mid after tells value wrote = tt
+-- where all lines were read, and then the text was written
+written_then : (told : Bool) (rule : FieldRule) (remaining : Option (List ℕ)) (read : Option ReadValue) (before mid after : Option (List ℕ))
+    → IfSome remaining (λ bytes. Tells (transcript (Some max_bytes) jobs_effect (unread rule) bytes) None before mid) → IfSome remaining (λ bytes. (transcript (Some max_bytes) jobs_effect (unread rule) bytes).value.read ≡ read)
+    → HasWritten told read 0 mid after → IfSome remaining (λ bytes. HasWritten told (transcript (Some max_bytes) jobs_effect (unread rule) bytes).value.read 0 before after)
+written_then told rule None read before mid after tells value wrote = tt
+written_then told rule (Some bytes) read before mid after tells value (text, is, wrote) =
+    subst (λ (v : Option ReadValue). HasWritten told v 0 before after) (sym value)
+    (text, is, appends_after before mid after text (subst (Appends before mid) (none_written (unread rule) bytes) tells.1) wrote)
+
+pub written : {E : Type 0} (told : Bool) (rule : FieldRule) (r : Result Unit E) (remaining : Option (List ℕ)) (read : Option ReadValue) (before mid after : Option (List ℕ))
+    → IfSome remaining (λ bytes. Tells (transcript (Some max_bytes) jobs_effect (unread rule) bytes) None before mid) → IfSome remaining (λ bytes. (transcript (Some max_bytes) jobs_effect (unread rule) bytes).value.read ≡ read)
+    → OnOk r (HasWritten told read 0 mid after) → OnOk r (IfSome remaining (λ bytes. HasWritten told (transcript (Some max_bytes) jobs_effect (unread rule) bytes).value.read 0 before after))
+written told rule (Ok done) remaining read before mid after tells value wrote = written_then told rule remaining read before mid after tells value wrote
+written told rule (Err e) remaining read before mid after tells value wrote = tt
 
 -- ---- an end otherwise
 
 -- no text is written for the first lines alone
-pub none_of_first : (read : Option ReadValue) (bytes : List ℕ) (n : ℕ) → (first_lines (Some max_bytes) jobs_effect read bytes n).text ≡ []
+pub none_of_first : (read : LinesValue) (bytes : List ℕ) (n : ℕ) → (first_lines (Some max_bytes) jobs_effect read bytes n).text ≡ []
 unfolding first_lines
 none_of_first read bytes n = no_text (start (Some max_bytes) read) (take n (lines_of bytes))
 
 -- where the lines end otherwise
-stopped_at : (told : Bool) (bytes : List ℕ) (left : Option (List ℕ)) (stop : Stop) (before after : Option (List ℕ)) → Stops (Some max_bytes) jobs_effect None bytes left stop before after → HasStopped told bytes (Lines stop) before after
-stopped_at told bytes left (Line f) before after h = (h.0, subst (Appends before after) (none_written None bytes) h.1)
-stopped_at told bytes left InputFailed before after (read, taken, tells) = subst (Appends before after) (none_of_first None bytes (feeds read)) tells.1
-stopped_at told bytes left OutputFailed before after (part, rest, is, wrote) = inl (subst (Appends before after) (no_front part rest (sym is ∙ none_written None bytes)) wrote)
+stopped_at : (told : Bool) (rule : FieldRule) (bytes : List ℕ) (left : Option (List ℕ)) (stop : Stop) (before after : Option (List ℕ)) → Stops (Some max_bytes) jobs_effect (unread rule) bytes left stop before after → HasStopped told rule bytes (Lines stop) before after
+stopped_at told rule bytes left (Line f) before after h = (h.0, subst (Appends before after) (none_written (unread rule) bytes) h.1)
+stopped_at told rule bytes left InputFailed before after (read, taken, tells) = subst (Appends before after) (none_of_first (unread rule) bytes (feeds read)) tells.1
+stopped_at told rule bytes left OutputFailed before after (part, rest, is, wrote) = inl (subst (Appends before after) (no_front part rest (sym is ∙ none_written (unread rule) bytes)) wrote)
   where
     no_front : (xs ys : List ℕ) → xs ++ ys ≡ [] → xs ≡ []
     no_front [] ys e = refl
     no_front (x ∷ xs) ys e = absurd (cc)
-stopped_at told bytes left (OutOfMemory want) before after (n, tells) = subst (Appends before after) (none_of_first None bytes n) tells.1
+stopped_at told rule bytes left (OutOfMemory want) before after (n, tells) = subst (Appends before after) (none_of_first (unread rule) bytes n) tells.1
 
-pub lines_stopped : (told : Bool) (remaining left : Option (List ℕ)) (stop : Stop) (before after : Option (List ℕ)) → IfSome remaining (λ bytes. Stops (Some max_bytes) jobs_effect None bytes left stop before after) → IfSome remaining (λ bytes. HasStopped told bytes (Lines stop) before after)
-lines_stopped told None left stop before after h = tt
-lines_stopped told (Some bytes) left stop before after h = stopped_at told bytes left stop before after h
+pub lines_stopped : (told : Bool) (rule : FieldRule) (remaining left : Option (List ℕ)) (stop : Stop) (before after : Option (List ℕ)) → IfSome remaining (λ bytes. Stops (Some max_bytes) jobs_effect (unread rule) bytes left stop before after) → IfSome remaining (λ bytes. HasStopped told rule bytes (Lines stop) before after)
+lines_stopped told rule None left stop before after h = tt
+lines_stopped told rule (Some bytes) left stop before after h = stopped_at told rule bytes left stop before after h
 
 -- where what follows the lines ends otherwise
-broken_at : (told : Bool) (bytes : List ℕ) (read : Option ReadValue) (stop : JobsStop) (before mid after : Option (List ℕ)) → (transcript (Some max_bytes) jobs_effect None bytes).value ≡ read → (transcript (Some max_bytes) jobs_effect None bytes).fault ≡ None → Appends before mid [] → HasBroken told read stop mid after → HasStopped told bytes stop before after
-broken_at told bytes read (Lines (Line f)) before mid after value fault none broke = absurd (cc)
-broken_at told bytes read (Lines InputFailed) before mid after value fault none broke = absurd (cc)
-broken_at told bytes read (Lines OutputFailed) before mid after value fault none (text, lacking, n, is, wrote) = inr (subst (λ (v : Option ReadValue). HasWrittenPart told v before after) (sym value) (text, lacking, n, is, appends_after before mid after (take n text) none wrote))
-broken_at told bytes read (Lines (OutOfMemory want)) before mid after value fault none broke = subst (λ (o : Option (List ℕ)). Appends before o []) (sym broke.1) none
-broken_at told bytes read NotClosed before mid after value fault none broke = subst (λ (o : Option (List ℕ)). Appends before o []) (sym broke.1) none
-broken_at told bytes read (WantOfMemory jobs all) before mid after value fault none (some, count, (text, is, wrote)) = (fault, subst (λ (v : Option ReadValue). HasLacked told v jobs all before after) (sym value) (some, count, (text, is, appends_after before mid after text none wrote)))
+broken_at : (told : Bool) (rule : FieldRule) (bytes : List ℕ) (read : Option ReadValue) (stop : JobsStop) (before mid after : Option (List ℕ)) → (transcript (Some max_bytes) jobs_effect (unread rule) bytes).value.read ≡ read → (transcript (Some max_bytes) jobs_effect (unread rule) bytes).fault ≡ None → Appends before mid [] → HasBroken told read stop mid after → HasStopped told rule bytes stop before after
+broken_at told rule bytes read (Lines (Line f)) before mid after value fault none broke = absurd (cc)
+broken_at told rule bytes read (Lines InputFailed) before mid after value fault none broke = absurd (cc)
+broken_at told rule bytes read (Lines OutputFailed) before mid after value fault none (text, lacking, n, is, wrote) = inr (subst (λ (v : Option ReadValue). HasWrittenPart told v before after) (sym value) (text, lacking, n, is, appends_after before mid after (take n text) none wrote))
+broken_at told rule bytes read (Lines (OutOfMemory want)) before mid after value fault none broke = subst (λ (o : Option (List ℕ)). Appends before o []) (sym broke.1) none
+broken_at told rule bytes read NotClosed before mid after value fault none broke = subst (λ (o : Option (List ℕ)). Appends before o []) (sym broke.1) none
+broken_at told rule bytes read (WantOfMemory jobs all) before mid after value fault none (some, count, (text, is, wrote)) = (fault, subst (λ (v : Option ReadValue). HasLacked told v jobs all before after) (sym value) (some, count, (text, is, appends_after before mid after text none wrote)))
 
-pub broken : (told : Bool) (r : Result Unit JobsStop) (remaining : Option (List ℕ)) (read : Option ReadValue) (before mid after : Option (List ℕ))
-    → IfSome remaining (λ bytes. Tells (transcript (Some max_bytes) jobs_effect None bytes) None before mid) → IfSome remaining (λ bytes. (transcript (Some max_bytes) jobs_effect None bytes).value ≡ read)
-    → IfErr r (λ stop. HasBroken told read stop mid after) → IfErr r (λ stop. IfSome remaining (λ bytes. HasStopped told bytes stop before after))
-broken told (Ok done) remaining read before mid after tells value broke = tt
-broken told (Err stop) None read before mid after tells value broke = tt
-broken told (Err stop) (Some bytes) read before mid after tells value broke = broken_at told bytes read stop before mid after value tells.0 (subst (Appends before mid) (none_written None bytes) tells.1) broke
+pub broken : (told : Bool) (rule : FieldRule) (r : Result Unit JobsStop) (remaining : Option (List ℕ)) (read : Option ReadValue) (before mid after : Option (List ℕ))
+    → IfSome remaining (λ bytes. Tells (transcript (Some max_bytes) jobs_effect (unread rule) bytes) None before mid) → IfSome remaining (λ bytes. (transcript (Some max_bytes) jobs_effect (unread rule) bytes).value.read ≡ read)
+    → IfErr r (λ stop. HasBroken told read stop mid after) → IfErr r (λ stop. IfSome remaining (λ bytes. HasStopped told rule bytes stop before after))
+broken told rule (Ok done) remaining read before mid after tells value broke = tt
+broken told rule (Err stop) None read before mid after tells value broke = tt
+broken told rule (Err stop) (Some bytes) read before mid after tells value broke = broken_at told rule bytes read stop before mid after value tells.0 (subst (Appends before mid) (none_written (unread rule) bytes) tells.1) broke
 
 -- where the text is not written whole
 pub text_broken : (told : Bool) (read : Option ReadValue) (lacking : ℕ) (text : List ℕ) (stop : Stop) (before after : Option (List ℕ)) → IsText told read lacking text → Breaks text stop before after → HasBroken told read (Lines stop) before after

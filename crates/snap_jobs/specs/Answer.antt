@@ -14,6 +14,7 @@ use Rattle.snap_round.specs.declared.rule.Round.{Round}
 use Rattle.snap_script.specs.Answers.{answer_line}
 use Rattle.snap_script.specs.declared.answer.Answer.{Answer}
 use Rattle.snap_script.specs.declared.answer.Answer.TheVariants.{Jobs}
+use Rattle.snap_script.specs.declared.unknown.FieldRule.{FieldRule}
 use Rattle.snap_writers.specs.declared.job.Ended.{Ended}
 use Rattle.snap_writers.specs.declared.job.Ended.TheVariants.{Committed, Discarded}
 use Rattle.snap_writers.specs.declared.job.Job.{Job}
@@ -92,9 +93,9 @@ HasBroken told read (WantOfMemory jobs all) before after = HasLacked told read j
 HasBroken told read (Lines OutputFailed) before after = HasWrittenPart told read before after
 HasBroken told read stop before after = (is_of_jobs stop ≡ true) × (after ≡ before)
 
--- where it ends otherwise over these bytes: a line's fault is the one that the lines have; where jobs lacked memory, no line has a fault, and the text is written; else nothing is, but where a write failed a first part of the text may be
-abbrev pub HasStopped : Bool → List ℕ → JobsStop → Option (List ℕ) → Option (List ℕ) → Type 0
-HasStopped told bytes (WantOfMemory jobs all) before after = ((jobs_transcript bytes).fault ≡ None) × HasLacked told (jobs_transcript bytes).value jobs all before after
-HasStopped told bytes (Lines (Line f)) before after = ((jobs_transcript bytes).fault ≡ Some f) × Appends before after []
-HasStopped told bytes (Lines OutputFailed) before after = Appends before after [] ⊎ HasWrittenPart told (jobs_transcript bytes).value before after
-HasStopped told bytes stop before after = Appends before after []
+-- where it ends otherwise over these bytes, by the fields that a line may have: a line's fault is the one that the lines have; where jobs lacked memory, no line has a fault, and the text is written; else nothing is, but where a write failed a first part of the text may be
+abbrev pub HasStopped : Bool → FieldRule → List ℕ → JobsStop → Option (List ℕ) → Option (List ℕ) → Type 0
+HasStopped told rule bytes (WantOfMemory jobs all) before after = ((jobs_transcript rule bytes).fault ≡ None) × HasLacked told (jobs_transcript rule bytes).value.read jobs all before after
+HasStopped told rule bytes (Lines (Line f)) before after = ((jobs_transcript rule bytes).fault ≡ Some f) × Appends before after []
+HasStopped told rule bytes (Lines OutputFailed) before after = Appends before after [] ⊎ HasWrittenPart told (jobs_transcript rule bytes).value.read before after
+HasStopped told rule bytes stop before after = Appends before after []

@@ -9,7 +9,9 @@ use Rattle.snap_script.specs.declared.fault.Field.TheVariants as fields
 use Rattle.snap_script.specs.declared.fault.Found.TheVariants.{Text}
 use Rattle.snap_script.specs.declared.fault.Fault.{Fault}
 use Rattle.snap_script.specs.declared.fault.Fault.TheVariants.{BadField}
+use Rattle.snap_script.specs.declared.unknown.FieldRule.{FieldRule}
 use Rattle.snap_script.specs.Fields.{text, optional, given, as_usage}
+use Rattle.snap_script.specs.Known.{known_job}
 use Rattle.snap_script.specs.Commands.{named}
 use Rattle.snap_script.specs.Operations.{operations}
 use Rattle.snap_script.specs.Results.{◌>>=◌}
@@ -31,12 +33,13 @@ end_by word line =
 unfoldable pub end_of : Data → Result End Fault
 end_of line = do end_by (← text fields.End line) line
 
--- a job: the snapshot by its namespace and key, its parent, its operations, its end, and what each charge wants beyond its need, nothing where there is none
-unfoldable pub job_of : Data → Result Job Fault
-job_of line = do
+-- a job, by the fields that its line and its operations may have: the snapshot by its namespace and key, its parent, its operations, its end, and what each charge wants beyond its need, nothing where there is none
+unfoldable pub job_of : FieldRule → Data → Result Job Fault
+job_of rule line = do
+  known ← known_job rule line
   s ← named line
   parent ← text fields.Parent line
-  ops ← operations line
+  ops ← operations rule line
   end ← end_of line
   extra ← optional as_usage fields.Extra (Ok (record { blocks = 0; inodes = 0 })) line
   Ok (record { namespace = s.0; key = s.1; parent = parent; ops = ops; end = end; extra = extra })

@@ -1,5 +1,5 @@
 -- What the lines of a script of jobs say; cited by the public clauses of `JobLines`.
--- Cited by `JobLines as TakeLine`, `write_jobs_within`, `write_jobs`.
+-- Cited by `JobLines::new`, `JobLines as TakeLine`, `write_jobs_within` and others.
 use Rattle.std.specs.Prelude.{ℕ, if◌then◌else◌, List, [], ◌∷◌, ◌++◌, length, map, nat_lt, Option, Some, None, Result, Ok, Err}
 use Rattle.snap_record.specs.Labels.{Bytes}
 use Rattle.snap_call.specs.Forms.{is_config}
@@ -10,8 +10,8 @@ use Rattle.snap_script.specs.declared.fault.Field.TheVariants.{Open}
 use Rattle.snap_script.specs.declared.fault.Found.TheVariants.{Object}
 use Rattle.snap_script.specs.declared.fault.Fault.{Fault}
 use Rattle.snap_script.specs.declared.fault.Fault.TheVariants.{TooLong, BadField}
-use Rattle.snap_script.specs.Faults.{briefly}
-use Rattle.snap_script.specs.Lines.{is_empty, object_in, opening_of}
+use Rattle.snap_script.specs.declared.unknown.FieldRule.{FieldRule}
+use Rattle.snap_script.specs.Lines.{is_empty, object_in, opening_of, told}
 use Rattle.snap_script.specs.Results.{◌>>=◌}
 use Rattle.snap_writers.specs.declared.job.Job.{Job}
 use Rattle.snap_lines.specs.Effects.{Effects}
@@ -32,23 +32,32 @@ opened_as config = if is_config config then Ok (record { round = record { openin
 abbrev pub with_job : ReadValue → Job → ReadValue
 with_job read job = record { round = read.round; names = read.names; jobs = read.jobs ++ job ∷ [] }
 
--- what is read with the bytes of the next line that isn't empty: the store, then jobs, of which there are at most 65,536
-unfoldable pub read_with : Option ReadValue → List ℕ → Result ReadValue Fault
-read_with None bytes = do opened_as (← opening_of (← object_in bytes))
-read_with (Some read) bytes = if nat_lt (length read.jobs) 65536 then (do Ok (with_job read (← job_of (← object_in bytes)))) else Err TooLong
+-- what is read with the bytes of the next line that isn't empty, by the fields that it may have: the store, then jobs, of which there are at most 65,536
+unfoldable pub read_with : FieldRule → Option ReadValue → List ℕ → Result ReadValue Fault
+read_with rule None bytes = do opened_as (← opening_of rule (← object_in bytes))
+read_with rule (Some read) bytes = if nat_lt (length read.jobs) 65536 then (do Ok (with_job read (← job_of rule (← object_in bytes)))) else Err TooLong
 
 -- what was read is there
 abbrev pub there : Result ReadValue Fault → Result (Option ReadValue) Fault
 there reading = do Ok (Some (← reading))
 
--- the same of any line; an empty one says nothing
-unfoldable pub taken : Option ReadValue → List ℕ → Result (Option ReadValue) Fault
-taken read bytes = if is_empty bytes then Ok read else there (briefly (read_with read bytes))
+-- the same of any line, with a fault as the rule tells it; an empty one says nothing
+unfoldable pub taken : FieldRule → Option ReadValue → List ℕ → Result (Option ReadValue) Fault
+taken rule read bytes = if is_empty bytes then Ok read else there (told rule (read_with rule read bytes))
+
+-- which fields the lines may have, and what was read
+pub record LinesValue : Type 0 where
+  pub fields : FieldRule
+  pub read : Option ReadValue
+
+-- before the first line
+abbrev pub unread : FieldRule → LinesValue
+unread rule = record { fields = rule; read = None }
 
 -- what a line does: nothing is written for it
-unfoldable pub jobs_effect : Effects (Option ReadValue)
-jobs_effect read bytes = do Ok (record { value = (← taken read bytes); text = [] })
+unfoldable pub jobs_effect : Effects LinesValue
+jobs_effect lines bytes = do Ok (record { value = record { fields = lines.fields; read = (← taken lines.fields lines.read bytes) }; text = [] })
 
--- the transcript of a script of jobs; its lines have at most 1 GiB
-abbrev pub jobs_transcript : List ℕ → Transcript (Option ReadValue)
-jobs_transcript = transcript (Some max_bytes) jobs_effect None
+-- the transcript of a script of jobs, by the fields that its lines may have; they have at most 1 GiB
+abbrev pub jobs_transcript : FieldRule → List ℕ → Transcript LinesValue
+jobs_transcript rule = transcript (Some max_bytes) jobs_effect (unread rule)

@@ -5,7 +5,7 @@ ghost use Rattle.snap_jobs.specs.Jobs.{end_of, job_of};
 
 use snap_json::Value;
 use snap_script::fields::{lent_text, optional_text, text, usage_or};
-use snap_script::{Fault, Field, Found, ReadError, named, operations};
+use snap_script::{Fault, Field, FieldRule, Found, ReadError, known_job, named, operations};
 use snap_usage::Usage;
 use snap_writers::{End, Job};
 use std::alloc::Global;
@@ -24,17 +24,18 @@ fn end_of(alloc: Global, line: &Value<'_>) -> Result<End, ReadError>
     }
 }
 
-// The job of a line. A field `do` counts for nothing.
+// The job of a line. Where any field may stand, a field `do` counts for nothing.
 #[tactic(auto, unfolding(crate::specs::Jobs::job_of))]
-pub(crate) fn job_of(alloc: Global, line: &Value<'_>) -> Result<Job, ReadError>
-    ensures { Gives (λ job. job) result (job_of (view line.now)) }
+pub(crate) fn job_of(alloc: Global, rule: FieldRule, line: &Value<'_>) -> Result<Job, ReadError>
+    ensures { Gives (λ job. job) result (job_of rule (view line.now)) }
 {
+    known_job(alloc, rule, line)?;
     let (namespace, key) = named(alloc, line)?;
     Ok(Job {
         namespace,
         key,
         parent: text(alloc, Field::Parent, line)?,
-        ops: operations(alloc, line)?,
+        ops: operations(alloc, rule, line)?,
         end: end_of(alloc, line)?,
         extra: usage_or(Usage::ZERO, Field::Extra, line)?,
     })

@@ -13,6 +13,6 @@ mod run;
 mod stop;
 
 pub use reading::{JobLines, MAX_JOBS};
-pub use run::{write_jobs, write_jobs_within};
+pub use run::{JobOptions, write_jobs, write_jobs_within};
 pub use snap_writers::MAX_WORKERS;
 pub use stop::JobsStop;

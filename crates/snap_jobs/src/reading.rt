@@ -2,7 +2,7 @@
 ghost use Rattle.std.specs.Prelude.{◌≡◌, None, Some};
 ghost use Rattle.snap_json.specs.View.{view};
 ghost use Rattle.snap_script.specs.Gives.{Gives};
-ghost use Rattle.snap_jobs.specs.Lines.{opened_as, read_with, taken, there};
+ghost use Rattle.snap_jobs.specs.Lines.{opened_as, read_with, there, unread};
 
 use crate::job::job_of;
 use snap_call::{Config, Refusal};
@@ -10,7 +10,9 @@ use snap_json::Scratch;
 use snap_lines::TakeLine;
 use snap_path::NoMemory;
 use snap_record::{Sequence, Text};
-use snap_script::{Fault, Field, Found, ReadError, is_empty, names_of, read_object, read_open};
+use snap_script::{
+    Fault, Field, FieldRule, Found, ReadError, is_empty, names_of, read_object, read_open,
+};
 use snap_store::{NewStore, RoundName, Store};
 use snap_writers::Job;
 use std::alloc::Global;
@@ -35,37 +37,39 @@ impl<N: RoundName> Model for Read<N> {
     ghost view = { λ s. record { round = s.store; names = s.names; jobs = s.jobs.items } };
 }
 
-/// What was read of a script of jobs. Contracts see nothing, or, once the first line has opened a store, its
-/// round, the names of its namespaces and the jobs.
+/// What was read of a script of jobs. Contracts see which fields its lines may have, and nothing else, or, once the first
+/// line has opened a store, its round, the names of its namespaces and the jobs.
 ///
 /// The tables name the store, and go to it when it is opened. Where memory is refused then, the name is spent, and
-/// the refusal is kept for a later line that opens a store. A configuration without its form leaves the name.
+/// the refusal is kept for a later line that opens a store. A malformed configuration leaves the name.
 #[derive(Drop)]
 pub struct JobLines<N: RoundName> {
+    fields: FieldRule,
     tables: Option<NewStore>,
     refused: Option<NoMemory>,
     read: Option<Read<N>>,
 }
 
 impl<N: RoundName> Model for JobLines<N> {
-    ghost use Rattle.std.specs.Prelude.{◌≡◌, ◌||◌, Option, true, is_some, IfSome};
-    ghost use Rattle.snap_jobs.specs.Lines.{ReadValue};
+    ghost use Rattle.std.specs.Prelude.{◌≡◌, ◌||◌, true, is_some, IfSome};
+    ghost use Rattle.snap_jobs.specs.Lines.{LinesValue};
 
-    ghost Value = { Option ReadValue };
+    ghost Value = { LinesValue };
 
-    ghost view = { λ s. s.read };
+    ghost view = { λ s. record { fields = s.fields; read = s.read } };
 
     // The tables are there until a store is opened with them or memory is refused.
     ghost invariant = { λ s. IfSome s.tables (λ n. n ≡ (N.table, N.rounds)) × ((is_some s.tables || (is_some s.refused || is_some s.read)) ≡ true) };
 }
 
 impl<N: RoundName> JobLines<N> {
-    /// Before the first line. Takes no memory.
-    pub fn new(new: NewStore) -> JobLines<N>
+    /// Before the first line, where the lines and the operations of jobs may have these fields. Takes no memory.
+    pub fn new(new: NewStore, fields: FieldRule) -> JobLines<N>
         requires { new ≡ (N.table, N.rounds) }
-        ensures { result ≡ None }
+        ensures { result ≡ unread fields }
     {
         JobLines {
+            fields,
             tables: Some(new),
             refused: None,
             read: None,
@@ -74,8 +78,9 @@ impl<N: RoundName> JobLines<N> {
 
     // Opens a store of the configuration.
     fn open(&mut self, alloc: Global, config: Config) -> Result<(), ReadError>
-        requires { self.old ≡ None }
-        ensures { Gives (λ _. self.new) result (there (opened_as config)) }
+        requires { self.old.read ≡ None }
+        ensures read { Gives (λ _. self.new.read) result (there (opened_as config)) }
+        ensures fields { self.new.fields ≡ self.old.fields }
     {
         if !config.is_valid() {
             return Err(ReadError::Fault(Fault::BadField(Field::Open, Some(Found::Object))));
@@ -107,18 +112,19 @@ impl<N: RoundName> JobLines<N> {
     // Reads the first line that isn't empty.
     #[tactic(auto, unfolding(crate::specs::Lines::read_with))]
     fn read_first(&mut self, alloc: Global, line: &[u8]) -> Result<(), ReadError>
-        requires { self.old ≡ None }
-        ensures { Gives (λ _. self.new) result (there (read_with None line.now)) }
+        requires { self.old.read ≡ None }
+        ensures read { Gives (λ _. self.new.read) result (there (read_with self.old.fields None line.now)) }
+        ensures fields { self.new.fields ≡ self.old.fields }
     {
         let mut scratch = Scratch::new(alloc);
         let line = read_object(alloc, line, &mut scratch)?;
-        let config = read_open(alloc, &line)?;
+        let config = read_open(alloc, self.fields, &line)?;
         self.open(alloc, config)
     }
 
     // The store and the jobs, where a line has opened one.
     pub(crate) fn into_read(self) -> Option<Read<N>>
-        ensures { result ≡ self }
+        ensures { result ≡ self.read }
     {
         self.read
     }
@@ -127,15 +133,15 @@ impl<N: RoundName> JobLines<N> {
 impl<N: RoundName> Read<N> {
     // Takes the line of a job.
     #[tactic(auto, unfolding(crate::specs::Lines::read_with))]
-    fn take_job(&mut self, alloc: Global, line: &[u8]) -> Result<(), ReadError>
-        ensures { Gives (λ _. self.new) result (read_with (Some self.old) line.now) }
+    fn take_job(&mut self, alloc: Global, rule: FieldRule, line: &[u8]) -> Result<(), ReadError>
+        ensures { Gives (λ _. self.new) result (read_with rule (Some self.old) line.now) }
     {
         if self.jobs.len() >= MAX_JOBS {
             return Err(ReadError::Fault(Fault::TooLong));
         }
         let mut scratch = Scratch::new(alloc);
         let line = read_object(alloc, line, &mut scratch)?;
-        let job = job_of(alloc, &line)?;
+        let job = job_of(alloc, rule, &line)?;
         self.jobs.push(job)?;
         Ok(())
     }
@@ -144,8 +150,9 @@ impl<N: RoundName> Read<N> {
 /// Takes the lines of a script of jobs. None has an answer: the jobs are run once all lines are read.
 ///
 /// The first line that isn't empty has the faults of `open`, and last `BadField` of `Open` where the store is
-/// refused. The line of a job has `TooLong` where 65,536 jobs were read; then `NotJson`, `NotAnObject`, and
-/// `BadField` with the first of its fields. Each fault is brief. `OutOfMemory` where memory was refused.
+/// refused. The line of a job has `TooLong` where 65,536 jobs were read; then `NotJson`, `NotAnObject`, `UnknownField`
+/// where not any field may stand, and `BadField` with the first of its fields, or `Operation` with the first of its
+/// operations that has a fault. Where any field may stand, each fault is brief. `OutOfMemory` where memory was refused.
 ///
 /// The memory and the cost grow with the line, and a `fill` takes as many bytes as it asks for.
 impl<N: RoundName> TakeLine for JobLines<N> {
@@ -160,12 +167,18 @@ impl<N: RoundName> TakeLine for JobLines<N> {
         }
         let read = match &mut self.read {
             None => self.read_first(alloc, line),
-            Some(read) => read.take_job(alloc, line),
+            Some(read) => read.take_job(alloc, self.fields, line),
         };
-        match read {
-            Ok(()) => Ok(None),
-            Err(ReadError::Fault(fault)) => Err(ReadError::Fault(fault.brief())),
-            Err(ReadError::OutOfMemory(shortage)) => Err(ReadError::OutOfMemory(shortage)),
+        match self.fields {
+            FieldRule::Any => match read {
+                Ok(()) => Ok(None),
+                Err(ReadError::Fault(fault)) => Err(ReadError::Fault(fault.brief())),
+                Err(ReadError::OutOfMemory(shortage)) => Err(ReadError::OutOfMemory(shortage)),
+            },
+            FieldRule::Known | FieldRule::KnownAndId => {
+                read?;
+                Ok(None)
+            }
         }
     }
 }

@@ -12,7 +12,7 @@ use crate::ends::lacking;
 use crate::reading::{JobLines, Read};
 use crate::stop::JobsStop;
 use snap_lines::{MAX_BYTES, Stop, read_lines, write_bytes};
-use snap_script::Shortage;
+use snap_script::{FieldRule, Shortage};
 use snap_store::{Cause, NewStore, NotClosed, RoundName, Store};
 use snap_writers::{Gate, Job, Report, RunFault, run_jobs};
 use std::alloc::Global;
@@ -23,6 +23,17 @@ use std::thread::Threads;
 
 // The most reads.
 const READS: u32 = 4_294_967_295;
+
+/// How a script of jobs is run.
+#[derive(Clone, Copy, Debug, PartialEq, Eq)]
+pub struct JobOptions {
+    /// How many workers run the jobs, 1 to 16.
+    pub workers: u32,
+    /// Whether the end of each job is told.
+    pub ends: bool,
+    /// Which fields a line and the operations of a job may have.
+    pub fields: FieldRule,
+}
 
 // Lets every worker take each of its steps.
 struct OpenGate;
@@ -160,19 +171,23 @@ fn run<N: RoundName + Send + Sync, T: Threads + Wait + Sync, R: Input, W: Write>
     new: NewStore,
     input: &mut R,
     output: &mut W,
-    workers: u32,
-    ends: bool,
+    options: JobOptions,
     reads: u32,
 ) -> Result<(), JobsStop>
     requires names { new ≡ (N.table, N.rounds) }
-    requires workers { (1 ≤ workers) × (workers ≤ 16) }
-    ensures done { OnOk result (IfSome (R.remaining input.old) (λ bytes. (jobs_transcript bytes).fault ≡ None)) }
-    ensures written { OnOk result (IfSome (R.remaining input.old) (λ bytes. HasWritten ends (jobs_transcript bytes).value 0
+    requires workers { (1 ≤ options.workers) × (options.workers ≤ 16) }
+    ensures done { OnOk result (IfSome (R.remaining input.old) (λ bytes. (jobs_transcript options.fields bytes).fault ≡ None)) }
+    ensures written { OnOk result (IfSome (R.remaining input.old) (λ bytes. HasWritten options.ends (jobs_transcript options.fields bytes).value.read 0
         (W.contents output.old) (W.contents output.new))) }
-    ensures stopped { IfErr result (λ stop. IfSome (R.remaining input.old) (λ bytes. HasStopped ends bytes stop
+    ensures stopped { IfErr result (λ stop. IfSome (R.remaining input.old) (λ bytes. HasStopped options.ends options.fields bytes stop
         (W.contents output.old) (W.contents output.new))) }
 {
-    let mut lines: JobLines<N> = JobLines::new(new);
+    let JobOptions {
+        workers,
+        ends,
+        fields,
+    } = options;
+    let mut lines: JobLines<N> = JobLines::new(new, fields);
     match read_lines(
         alloc,
         &mut lines,
@@ -186,8 +201,8 @@ fn run<N: RoundName + Send + Sync, T: Threads + Wait + Sync, R: Input, W: Write>
     }
 }
 
-/// Reads a store and jobs from the input, a JSON object a line, runs the jobs by so many workers, each on a
-/// thread of its own, closes the store, and writes one line: how many jobs were committed, how many were
+/// Reads a store and jobs from the input, a JSON object a line, runs the jobs by as many workers as the options say,
+/// each on a thread of its own, closes the store, and writes one line: how many jobs were committed, how many were
 /// discarded as they asked, how many ended otherwise, and what each namespace is charged. With `ends` a line for
 /// each job comes before it, in the order of the jobs, which tells how the job ended. Nothing is written before
 /// all jobs have ended, and nothing at all where the input has no line but empty ones.
@@ -210,19 +225,18 @@ pub fn write_jobs_within<T: Threads + Wait + Sync, R: Input, W: Write>(
     alloc: Global,
     input: &mut R,
     output: &mut W,
-    workers: u32,
-    ends: bool,
+    options: JobOptions,
     reads: u32,
 ) -> Result<(), JobsStop>
-    requires { (1 ≤ workers) × (workers ≤ 16) }
-    ensures done { OnOk result (IfSome (R.remaining input.old) (λ bytes. (jobs_transcript bytes).fault ≡ None)) }
-    ensures written { OnOk result (IfSome (R.remaining input.old) (λ bytes. HasWritten ends (jobs_transcript bytes).value 0
+    requires { (1 ≤ options.workers) × (options.workers ≤ 16) }
+    ensures done { OnOk result (IfSome (R.remaining input.old) (λ bytes. (jobs_transcript options.fields bytes).fault ≡ None)) }
+    ensures written { OnOk result (IfSome (R.remaining input.old) (λ bytes. HasWritten options.ends (jobs_transcript options.fields bytes).value.read 0
         (W.contents output.old) (W.contents output.new))) }
-    ensures stopped { IfErr result (λ stop. IfSome (R.remaining input.old) (λ bytes. HasStopped ends bytes stop
+    ensures stopped { IfErr result (λ stop. IfSome (R.remaining input.old) (λ bytes. HasStopped options.ends options.fields bytes stop
         (W.contents output.old) (W.contents output.new))) }
 {
     let new = NewStore::new(alloc)?;
-    run::<Brand, T, R, W>(rt, alloc, new, input, output, workers, ends, reads)
+    run::<Brand, T, R, W>(rt, alloc, new, input, output, options, reads)
 }
 
 /// [`write_jobs_within`] with at most 4,294,967,295 reads.
@@ -231,15 +245,14 @@ pub fn write_jobs<T: Threads + Wait + Sync, R: Input, W: Write>(
     alloc: Global,
     input: &mut R,
     output: &mut W,
-    workers: u32,
-    ends: bool,
+    options: JobOptions,
 ) -> Result<(), JobsStop>
-    requires { (1 ≤ workers) × (workers ≤ 16) }
-    ensures done { OnOk result (IfSome (R.remaining input.old) (λ bytes. (jobs_transcript bytes).fault ≡ None)) }
-    ensures written { OnOk result (IfSome (R.remaining input.old) (λ bytes. HasWritten ends (jobs_transcript bytes).value 0
+    requires { (1 ≤ options.workers) × (options.workers ≤ 16) }
+    ensures done { OnOk result (IfSome (R.remaining input.old) (λ bytes. (jobs_transcript options.fields bytes).fault ≡ None)) }
+    ensures written { OnOk result (IfSome (R.remaining input.old) (λ bytes. HasWritten options.ends (jobs_transcript options.fields bytes).value.read 0
         (W.contents output.old) (W.contents output.new))) }
-    ensures stopped { IfErr result (λ stop. IfSome (R.remaining input.old) (λ bytes. HasStopped ends bytes stop
+    ensures stopped { IfErr result (λ stop. IfSome (R.remaining input.old) (λ bytes. HasStopped options.ends options.fields bytes stop
         (W.contents output.old) (W.contents output.new))) }
 {
-    write_jobs_within(rt, alloc, input, output, workers, ends, READS)
+    write_jobs_within(rt, alloc, input, output, options, READS)
 }

@@ -1,7 +1,7 @@
 // A value that lends the texts of its line.
 ghost use Rattle.std.specs.Prelude.{◌≡◌, option_map, is_some};
 ghost use Rattle.std.specs.Prelude.{option_and_then, IfOk};
-ghost use Rattle.serde_json.specs.Find.{get, get_member, as_number, as_u64, as_str, as_array, as_object};
+ghost use Rattle.serde_json.specs.Find.{get, as_number, as_u64, as_str, as_array, as_object};
 ghost use Rattle.snap_json.specs.View.{view, items_view, members_view, members_of};
 
 use serde_json::Number;
@@ -33,7 +33,15 @@ impl<'a> Value<'a> {
         let Value::Object(members) = self else {
             return None;
         };
-        member(members, name)
+        let mut left = members.len();
+        while left > 0 {
+            left -= 1;
+            let member = &members[left];
+            if member.0 == name {
+                return Some(&member.1);
+            }
+        }
+        None
     }
 
     /// Whether it is an object. Takes no memory, and its cost is constant.
@@ -86,20 +94,6 @@ impl<'a> Value<'a> {
             None
         }
     }
-}
-
-fn member<'v, 'a>(members: &'v [Member<'a>], name: &str) -> Option<&'v Value<'a>>
-    ensures { option_map (λ v. view v.now) result ≡ get_member name.now (members_view members.now) }
-{
-    let mut left = members.len();
-    while left > 0 {
-        left -= 1;
-        let member = &members[left];
-        if member.0 == name {
-            return Some(&member.1);
-        }
-    }
-    None
 }
 
 /// The values of an object's members by their names, of equal names the last. Takes memory for a map. The cost

@@ -3,6 +3,7 @@ use Rattle.std.proofs.Common.{◌≡◌, ℕ, ◌+◌, ◌-◌, ◌≤◌, ◌<�
 use Rattle.std.proofs.lemmas.Bool.Decides.{nat_tests}
 use Rattle.std.proofs.lemmas.Grind.{common_steps}
 use Rattle.std.proofs.lemmas.List.{take_all, drop_all, take-replicate, append-nil}
+use Rattle.snap_path.specs.Limits.{most_file_bytes, most_sized_bytes}
 use Rattle.snap_layer.specs.declared.content.Content.{Content}
 use Rattle.snap_layer.specs.declared.content.Content.TheVariants.{Bytes, Sized}
 use Rattle.snap_layer.specs.declared.node.Body.{Body}
@@ -66,16 +67,16 @@ resized_length old size = grind (arith, common_steps)
 no_more_than : (a b m : ℕ) → a ≤ m → b ≤ m → max a b ≤ m
 no_more_than a b m x y = omega (arith, x, y)
 
-sized_written : (size : ℕ) (digest : Option (List ℕ)) (offset : ℕ) (bytes : List ℕ) → offset + length bytes ≤ 1099511627776 → IsContent (Sized size digest) → IsContent (written (Sized size digest) offset bytes)
+sized_written : (size : ℕ) (digest : Option (List ℕ)) (offset : ℕ) (bytes : List ℕ) → offset + length bytes ≤ most_sized_bytes → IsContent (Sized size digest) → IsContent (written (Sized size digest) offset bytes)
 sized_written size digest offset [] is short = short
-sized_written size digest offset (b ∷ bs) is short = (no_more_than size (offset + length (b ∷ bs)) 1099511627776 short.0 is, tt)
+sized_written size digest offset (b ∷ bs) is short = (no_more_than size (offset + length (b ∷ bs)) most_sized_bytes short.0 is, tt)
 
-sized_resized : (old : ℕ) (digest : Option (List ℕ)) (size : ℕ) → size ≤ 1099511627776 → IsContent (Sized old digest) → IsContent (resized (Sized old digest) size)
+sized_resized : (old : ℕ) (digest : Option (List ℕ)) (size : ℕ) → size ≤ most_sized_bytes → IsContent (Sized old digest) → IsContent (resized (Sized old digest) size)
 sized_resized old digest size is short = elim (old == size) as (λ b. IsContent (if b then Sized old digest else Sized size None)) [ true ↦ short | false ↦ (is, tt) ]
 
 pub edited_short : (e : Edit) (old : Content) → IsShort e old → IsContent old → IsContent (edited e old)
 edited_short Keep old is short = short
-edited_short (Write offset bytes) (Bytes old) is short = written_short old offset bytes.now 1048576 short is
+edited_short (Write offset bytes) (Bytes old) is short = written_short old offset bytes.now most_file_bytes short is
 edited_short (Write offset bytes) (Sized size digest) is short = sized_written size digest offset bytes.now is short
 edited_short (Resize size) (Bytes old) is short = omega (arith, resized_length old size, is)
 edited_short (Resize size) (Sized old digest) is short = sized_resized old digest size is short

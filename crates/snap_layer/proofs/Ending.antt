@@ -1,6 +1,6 @@
 -- The files that end with a directory: counted entry by entry.
-use Rattle.std.proofs.Common.{◌≡◌, inl, inr, ℕ, ◌+◌, ◌<◌, ◌≤◌, Bool, true, false, cond, not, List, [], ◌∷◌, ◌++◌, length, take, Option, Some, None, IsSome, refl, sym, ap, subst, ◌∙◌, arith, append-nil, append_assoc, length-append}
-use Rattle.std.specs.Prelude.{filter, is_some, option_and_then, count_by, ◌==◌, if◌then◌else◌}
+use Rattle.std.proofs.Common.{◌≡◌, inl, inr, ℕ, ◌+◌, ◌≤◌, Bool, true, false, cond, List, [], ◌∷◌, ◌++◌, length, take, Option, Some, None, IsSome, refl, sym, ap, subst, ◌∙◌, arith, length-append}
+use Rattle.std.specs.Prelude.{filter, is_some, count_by, ◌==◌, if◌then◌else◌}
 use Rattle.std.specs.declared.cmp.Ordering.TheVariants.{Less}
 use Rattle.std.specs.Ordering.{is_eq, nat_cmp}
 use Rattle.std.specs.Cmp.{nat_cmp_total}
@@ -17,7 +17,7 @@ use Rattle.snap_path.specs.Text.{Names, begins}
 use Rattle.snap_layer.specs.declared.node.Node.{Node}
 use Rattle.snap_layer.specs.declared.node.Node.TheVariants.{Dir, File, Symlink, Whiteout}
 use Rattle.snap_layer.specs.declared.node.Body.{Body}
-use Rattle.snap_layer.specs.Tree.{Tree, Entries, Bodies, path_cmp, at, body, number_at, number_of, has_number, is_dir, is_whiteout, IsDirAt}
+use Rattle.snap_layer.specs.Tree.{Tree, Entries, Bodies, path_cmp, at, body, number_of, has_number, is_dir, is_whiteout, IsDirAt}
 use Rattle.snap_layer.specs.Counts.{name_count, inode_count, block_count, body_blocks}
 use Rattle.snap_layer.specs.Layers.{IsLayer}
 use Rattle.snap_layer.specs.Edits.{bodies_named, bodies_unnamed, inside, outside, without_tree}
@@ -32,7 +32,7 @@ use Rattle.snap_layer.proofs.Lists.{lookup-filter, sum_by-filter}
 use Rattle.snap_layer.proofs.Looks.{has_its_number, no_name_at, number_is, split_number}
 use Rattle.snap_layer.proofs.Paths.{path_cmp_total, path_cmp-IsAntisymmetric, begins_itself}
 use Rattle.snap_layer.proofs.Replacing.{other_name}
-use Rattle.snap_layer.proofs.Trees.{names_outside, filter_all}
+use Rattle.snap_layer.proofs.Trees.{names_outside}
 
 -- ---- one number more
 

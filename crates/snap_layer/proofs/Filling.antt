@@ -4,6 +4,7 @@ use Rattle.std.specs.Prelude.{is_some, ◌==◌, ◌&&◌, IsErrOf}
 use Rattle.std.specs.Ordering.{nat_cmp}
 use Rattle.std.specs.BTreeMap.{is_at}
 use Rattle.std.proofs.lemmas.Bool.Decides.{nat_tests}
+use Rattle.snap_path.specs.Limits.{most_mode, most_number}
 use Rattle.snap_path.specs.Memory.{no_memory}
 use Rattle.snap_path.specs.Text.{Names, IsPath}
 use Rattle.snap_layer.specs.declared.error.LayerError.{LayerError}
@@ -66,7 +67,7 @@ pub record Becomes (u : Tree) (i : ℕ) : Type 0 where
   pub full : u.most < i → is_within u ≡ false
   pub fits : i ≤ u.most → is_within u ≡ true
 
-pub becomes : (u : Tree) (i : ℕ) → i ≡ inode_count u → (inode_count u ≤ u.most → IsLayer u) → u.next ≤ 4294967295 → Becomes u i
+pub becomes : (u : Tree) (i : ℕ) → i ≡ inode_count u → (inode_count u ≤ u.most → IsLayer u) → u.next ≤ most_number → Becomes u i
 becomes u i count layer next = record {
   count = count;
   layer = λ few. layer (omega arith);
@@ -76,7 +77,7 @@ becomes u i count layer next = record {
 
 module _ (t : Tree) (ok : IsLayer t) (p : Names) (path : IsPath p) (r : ℕ) (left : r ≡ inode_count (without t p)) where
   -- a directory over nothing or a whiteout
-  pub dir_becomes : (mode : ℕ) (opaque : Bool) → HasRoom t p → mode ≤ 4095 → Becomes (with_node t p (Dir mode opaque)) (r + 1)
+  pub dir_becomes : (mode : ℕ) (opaque : Bool) → HasRoom t p → mode ≤ most_mode → Becomes (with_node t p (Dir mode opaque)) (r + 1)
   dir_becomes mode opaque room low =
       let place = HasPlace-from_room t p ok room in
       becomes (with_node t p (Dir mode opaque)) (r + 1) (omega (arith, inode_count-with_node t p (Dir mode opaque) ok)) (IsLayer-with_node t p (Dir mode opaque) ok place path low) ok.next.1
@@ -114,8 +115,8 @@ module _ (t : Tree) (ok : IsLayer t) (p : Names) (path : IsPath p) (r : ℕ) (le
   new_body : (n : Node) (b : Body) → body (with_new t p n b) t.next ≡ Some b
   new_body n b = (SetsBody-insert_entry (without t p) (with_new t p n b) t.next b refl).here
 
-  module _ (place : HasPlace t p) (last : t.next < 4294967295) where
-    pub file_becomes : (mode : ℕ) (content : Content) → mode ≤ 4095 → IsContent content → Becomes (with_new t p (File t.next) (body_kinds.File mode content)) (r + 1)
+  module _ (place : HasPlace t p) (last : t.next < most_number) where
+    pub file_becomes : (mode : ℕ) (content : Content) → mode ≤ most_mode → IsContent content → Becomes (with_new t p (File t.next) (body_kinds.File mode content)) (r + 1)
     file_becomes mode content low short =
         let u = with_new t p (File t.next) (body_kinds.File mode content) in
         becomes u (r + 1) (omega (arith, inode_count-with_new t p (File t.next) (body_kinds.File mode content) ok refl))

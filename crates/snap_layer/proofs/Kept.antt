@@ -1,8 +1,9 @@
 -- Each edit leaves a layer.
-use Rattle.std.proofs.Common.{◌≡◌, ℕ, ◌+◌, ◌≤◌, Bool, true, false, cond, not, List, [], ◌∷◌, ◌++◌, Option, Some, None, IsSome, refl, sym, ap, subst, ◌∙◌, inl, inr, arith, append_assoc, lit≤}
+use Rattle.std.proofs.Common.{◌≡◌, ℕ, ◌+◌, ◌≤◌, Bool, true, false, cond, not, List, [], ◌∷◌, ◌++◌, Option, Some, None, IsSome, refl, sym, ap, subst, ◌∙◌, inl, inr, arith, append_assoc}
 use Rattle.std.specs.Prelude.{option_and_then, is_some}
 use Rattle.std.specs.Cmp.{nat_cmp_total}
 use Rattle.std.specs.List.Sorted.{IsStrictlySortedBy}
+use Rattle.snap_path.specs.Limits.{most_mode, most_number}
 use Rattle.snap_path.specs.Text.{Names, IsPath, begins}
 use Rattle.snap_layer.specs.declared.node.Node.{Node}
 use Rattle.snap_layer.specs.declared.node.Node.TheVariants.{Dir, File, Symlink, Whiteout}
@@ -116,7 +117,7 @@ nothing_below t ok p no_dir n r = by (at t (p ++ n ∷ r)) refl
 
 -- ---- the root alone
 
-pub IsLayer-root_within : (most mode first : ℕ) → (1 ≤ most) × (most ≤ most_inodes) → mode ≤ 4095 → 1 ≤ first → first ≤ 4294967295 → IsPath [] → IsLayer (root_within most mode first)
+pub IsLayer-root_within : (most mode first : ℕ) → (1 ≤ most) × (most ≤ most_inodes) → mode ≤ most_mode → 1 ≤ first → first ≤ most_number → IsPath [] → IsLayer (root_within most mode first)
 unfolding IsStrictlySortedBy
 IsLayer-root_within most mode first bounds low one last path = record {
   root = refl;
@@ -296,7 +297,7 @@ pub record PutsNew (t : Tree) (p : Names) (n : Node) (b : Body) (u : Tree) : Typ
   pub path : IsPath p
   pub number : number_of n ≡ Some t.next
   pub whole : IsWhole u n
-  pub last : t.next + 1 ≤ 4294967295
+  pub last : t.next + 1 ≤ most_number
   pub few : inode_count u ≤ u.most
 
 -- the layer with the new file

@@ -5,6 +5,7 @@ use Rattle.std.specs.Ordering.{nat_cmp}
 use Rattle.std.specs.List.Sorted.{IsStrictlySortedBy}
 use Rattle.std.specs.Map.{lookup, keys_of}
 use Rattle.std.specs.BTreeMap.{is_at, insert_entry}
+use Rattle.snap_path.specs.Limits.{most_number}
 use Rattle.snap_path.specs.Text.{Names, IsPath, begins}
 use Rattle.snap_layer.specs.declared.node.Node.{Node}
 use Rattle.snap_layer.specs.declared.node.Node.TheVariants as node
@@ -198,7 +199,7 @@ module _ (t : Tree) (ok : IsLayer t) (path link : Names) (rooms : HasRooms t pat
       one false = omega arith
 
   -- what the edit makes
-  module _ (fits : IsBody b) (path_is : IsPath path) (link_is : IsPath link) (last : t.next < 4294967295) (r : ℕ) (left : r ≡ inode_count (without t link)) where
+  module _ (fits : IsBody b) (path_is : IsPath path) (link_is : IsPath link) (last : t.next < most_number) (r : ℕ) (left : r ≡ inode_count (without t link)) where
     link_becomes : Becomes (with_new t link (leaf_node t.next b) b) (r + 1)
     link_becomes = by b fits
       where
@@ -227,7 +228,7 @@ module _ (t : Tree) (ok : IsLayer t) (path link : Names) (rooms : HasRooms t pat
       by (Some (node.Symlink k)) e free c same = absurd (no_bool (sym free))
 
   -- what is made on the way
-  module _ (okl : IsLayer (with_linked t path link b)) (last : t.next < 4294967295) where
+  module _ (okl : IsLayer (with_linked t path link b)) (last : t.next < most_number) where
     pub link_layer : IsLayer (with_new t link (leaf_node t.next b) b)
     link_layer =
         IsLayer-with_new t link n b ok link_place (okl.paths link (subst IsSome (sym then_link.here) refl)) numbered

@@ -5,6 +5,7 @@ use Rattle.std.specs.Ordering.{nat_cmp}
 use Rattle.std.specs.BTreeMap.{is_at}
 use Rattle.std.proofs.lemmas.Bool.Decides.{nat_tests}
 use Rattle.std.proofs.lemmas.Bool.{cond-true}
+use Rattle.snap_path.specs.Limits.{most_number}
 use Rattle.snap_path.specs.Text.{Names, IsPath, begins}
 use Rattle.snap_layer.specs.declared.node.Node.{Node}
 use Rattle.snap_layer.specs.declared.node.Node.TheVariants.{Dir, File, Symlink, Whiteout}
@@ -90,14 +91,14 @@ inode_count-with_node t p n ok =
     omega (arith, inode_count-with_entry (without t p) p n (sorted-filter path_cmp (λ e. not (begins p e.0)) t.entries ok.sorted_paths), ap inodes_of (at_taken t p))
 
 -- the layer is within the limits, or its inodes or its next number pass them
-pub is_within_yes : (t : Tree) → inode_count t ≤ t.most → t.next ≤ 4294967295 → is_within t ≡ true
+pub is_within_yes : (t : Tree) → inode_count t ≤ t.most → t.next ≤ most_number → is_within t ≡ true
 is_within_yes t few next = grind (arith, nat_tests)
 
 pub is_within_many : (t : Tree) → t.most < inode_count t → is_within t ≡ false
 is_within_many t many = grind (arith, nat_tests)
 
-pub is_within_last : (t : Tree) → 4294967295 < t.next → is_within t ≡ false
-is_within_last t last = by (nat_le (inode_count t) t.most) (nat_le t.next 4294967295) (grind (arith, nat_tests))
+pub is_within_last : (t : Tree) → most_number < t.next → is_within t ≡ false
+is_within_last t last = by (nat_le (inode_count t) t.most) (nat_le t.next most_number) (grind (arith, nat_tests))
   where
     by : (a b : Bool) → b ≡ false → (a && b) ≡ false
     by true b e = e
@@ -145,7 +146,7 @@ IsLayer-with_node t p n ok place path whole few =
     })
 
 -- a new file or symlink in place of what stands there
-pub IsLayer-with_new : (t : Tree) (p : Names) (n : Node) (b : Body) → IsLayer t → HasPlace t p → IsPath p → number_of n ≡ Some t.next → IsWhole (with_new t p n b) n → t.next < 4294967295 → inode_count (with_new t p n b) ≤ t.most → IsLayer (with_new t p n b)
+pub IsLayer-with_new : (t : Tree) (p : Names) (n : Node) (b : Body) → IsLayer t → HasPlace t p → IsPath p → number_of n ≡ Some t.next → IsWhole (with_new t p n b) n → t.next < most_number → inode_count (with_new t p n b) ≤ t.most → IsLayer (with_new t p n b)
 IsLayer-with_new t p n b ok place path number whole last few =
     let clears = clears_place t p ok place in
     IsLayer-with_file (without t p) p n b clears.layer (record {

@@ -3,6 +3,7 @@ use Rattle.std.proofs.Common.{◌≡◌, ℕ, ◌+◌, ◌<◌, ◌≤◌, Bool,
 use Rattle.std.specs.Prelude.{◌&&◌, nat_le, IsErrOf, IsErrAnd}
 use Rattle.std.proofs.lemmas.Bool.Decides.{nat_tests}
 use Rattle.std.proofs.lemmas.Result.{err_from_is_err_and}
+use Rattle.snap_path.specs.Limits.{most_mode, most_number}
 use Rattle.snap_path.specs.Memory.{no_memory}
 use Rattle.snap_path.specs.Text.{Names, IsPath}
 use Rattle.snap_layer.specs.declared.error.LayerError.{LayerError}
@@ -31,21 +32,21 @@ pub record Costs (t u : Tree) (p : Names) (k i b : ℕ) : Type 0 where
   pub most : u.most ≡ t.most
   pub inodes : inode_count u ≡ inode_count (without t p) + i
   pub blocks : block_count u ≡ block_count (without t p) + b
-  pub layer : inode_count u ≤ u.most → u.next ≤ 4294967295 → IsLayer u
+  pub layer : inode_count u ≤ u.most → u.next ≤ most_number → IsLayer u
 
 -- the test of the limits answers `LayerFull` exactly where they are passed
 abbrev pub IsFullBy : Result Totals LayerError → Bool → Type 0
 IsFullBy r b = (IsErrOf r LayerFull → b ≡ false) × (b ≡ false → IsErrOf r LayerFull)
 
-both : (a b m : ℕ) → (nat_le a m && nat_le b 4294967295) ≡ true → (a ≤ m) × (b ≤ 4294967295)
+both : (a b m : ℕ) → (nat_le a m && nat_le b most_number) ≡ true → (a ≤ m) × (b ≤ most_number)
 both a b m fit = (grind (arith, nat_tests), grind (arith, nat_tests))
 
-pub fits_next : (t : Tree) (p : Names) (k i : ℕ) → fits t p k i ≡ true → t.next + k ≤ 4294967295
+pub fits_next : (t : Tree) (p : Names) (k i : ℕ) → fits t p k i ≡ true → t.next + k ≤ most_number
 fits_next t p k i fit = (both (inode_count (without t p) + i) (t.next + k) t.most fit).1
 
 module _ (t u : Tree) (p : Names) (k i b : ℕ) (c : Costs t u p k i b) where
   costs_within : is_within u ≡ fits t p k i
-  costs_within = λ j. nat_le (c.inodes j) (c.most j) && nat_le (c.next j) 4294967295
+  costs_within = λ j. nat_le (c.inodes j) (c.most j) && nat_le (c.next j) most_number
 
   pub costs_full : {B : Type 0} (r : Result B LayerError) (x : LayerError) → IsErrAnd r (λ e. e ≡ x) → IsFullBy (Err x) (fits t p k i) → SaysFull r u
   costs_full (Ok a) x is said = absurd is
@@ -76,7 +77,7 @@ pub path_node : (t : Tree) → IsLayer t → (p : Names) (n : Node) → path_cou
 path_node t ok p n = omega (arith, path_count-with_node t p n ok.sorted_paths, path_put t p)
 
 module _ (t : Tree) (ok : IsLayer t) (p : Names) (path : IsPath p) where
-  pub dir_costs : (mode : ℕ) (opaque : Bool) → HasRoom t p → mode ≤ 4095 → Costs t (with_entry t p (Dir mode opaque)) p 0 1 1
+  pub dir_costs : (mode : ℕ) (opaque : Bool) → HasRoom t p → mode ≤ most_mode → Costs t (with_entry t p (Dir mode opaque)) p 0 1 1
   dir_costs mode opaque room low =
       let b = dir_becomes t ok p path (inode_count (without t p)) refl mode opaque room low in
       subst (λ (u : Tree). Costs t u p 0 1 1) (with_node-free t ok p (Dir mode opaque) room.free)

@@ -1,6 +1,7 @@
 -- A mode, a mark or a content set in place.
 use Rattle.std.proofs.Common.{◌≡◌, ℕ, ◌≤◌, Bool, Option, Some, None, IsSome, refl, ap, subst, arith}
 use Rattle.std.specs.Prelude.{option_and_then, is_some}
+use Rattle.snap_path.specs.Limits.{most_mode}
 use Rattle.snap_path.specs.Text.{Names}
 use Rattle.snap_layer.specs.declared.content.Content.{Content}
 use Rattle.snap_layer.specs.declared.node.Node.TheVariants.{Dir, File}
@@ -20,7 +21,7 @@ pub record Stays (t u : Tree) : Type 0 where
 
 module _ (t : Tree) (ok : IsLayer t) where
   -- a directory with another mode or mark
-  pub dir_stays : (p : Names) (m n : ℕ) (b c : Bool) → at t p ≡ Some (Dir m b) → n ≤ 4095 → Stays t (with_entry t p (Dir n c))
+  pub dir_stays : (p : Names) (m n : ℕ) (b c : Bool) → at t p ≡ Some (Dir m b) → n ≤ most_mode → Stays t (with_entry t p (Dir n c))
   dir_stays p m n b c is low =
       let count : inode_count t ≡ inode_count (with_entry t p (Dir n c)) = omega (arith, inode_count-with_entry t p (Dir n c) ok.sorted_paths, ap inodes_of is) in
       record {
@@ -36,7 +37,7 @@ module _ (t : Tree) (ok : IsLayer t) where
         count = count;
       }
 
-  pub dir_mode : (p : Names) (m : ℕ) (b : Bool) → at t p ≡ Some (Dir m b) → m ≤ 4095
+  pub dir_mode : (p : Names) (m : ℕ) (b : Bool) → at t p ≡ Some (Dir m b) → m ≤ most_mode
   dir_mode p m b is = ok.nodes p (Dir m b) is
 
 -- the name of a file has a file's body

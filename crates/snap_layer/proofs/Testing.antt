@@ -10,6 +10,7 @@ use Rattle.std.proofs.lemmas.Bool.Decides.{nat_tests}
 use Rattle.std.proofs.lemmas.List.Folds.{list_all-append}
 use Rattle.snap_path.specs.Text.{Names, is_name, text_of, text_below, IsPath, begins}
 use Rattle.snap_path.proofs.Texts.{text_below-append}
+use Rattle.snap_path.specs.Limits.{most_path_bytes}
 use Rattle.snap_layer.specs.declared.node.Node.{Node}
 use Rattle.snap_layer.specs.Tree.{Tree, Entries, path_cmp, at, is_whiteout, name_below, IsDirAt}
 use Rattle.snap_layer.specs.Edits.{IsFree, HasParent}
@@ -86,7 +87,7 @@ free_test (Some n) e = absurd (no_bool e)
 
 -- the entry doesn't lie at `from` or below it, or its new path's text has at most 4095 bytes
 abbrev pub is_short : Names → Names → Names × Node → Bool
-is_short from to e = not (begins from e.0) || nat_le (length (text_of e.0) + length (text_of to)) (4095 + length (text_of from))
+is_short from to e = not (begins from e.0) || nat_le (length (text_of e.0) + length (text_of to)) (most_path_bytes + length (text_of from))
 
 text_is : (p : Names) → (p ≡ [] → ⊥) → text_of p ≡ text_below p
 text_is [] some = absurd (some refl)
@@ -116,43 +117,43 @@ short_test true b e is = e
 short_test false b e is = absurd (no_bool is)
 
 module _ (from to : Names) (one : from ≡ [] → ⊥) (two : to ≡ [] → ⊥) where
-  pub short_from : (es : Entries) → list_all (is_short from to) es ≡ true → (r : Names) → IsSome (lookup (is_at (path_cmp (from ++ r))) es) → length (text_below (to ++ r)) ≤ 4095
+  pub short_from : (es : Entries) → list_all (is_short from to) es ≡ true → (r : Names) → IsSome (lookup (is_at (path_cmp (from ++ r))) es) → length (text_below (to ++ r)) ≤ most_path_bytes
   short_from [] all r some = absurd (cc)
   short_from (e ∷ es) all r some = elim (split_path (from ++ r) e.0) [
-    | inl same ↦ here (short_test (begins from e.0) (nat_le (length (text_of e.0) + length (text_of to)) (4095 + length (text_of from))) (all_first (is_short from to e) (list_all (is_short from to) es) all) (begins_from from e.0 r (sym same.0))) same.0
+    | inl same ↦ here (short_test (begins from e.0) (nat_le (length (text_of e.0) + length (text_of to)) (most_path_bytes + length (text_of from))) (all_first (is_short from to e) (list_all (is_short from to) es) all) (begins_from from e.0 r (sym same.0))) same.0
     | inr apart ↦ short_from es (all_second (is_short from to e) (list_all (is_short from to) es) all) r (subst IsSome (cond-false _ (Some e.1) (lookup (is_at (path_cmp (from ++ r))) es) apart.1) some)
   ]
     where
-      here : nat_le (length (text_of e.0) + length (text_of to)) (4095 + length (text_of from)) ≡ true → from ++ r ≡ e.0 → length (text_below (to ++ r)) ≤ 4095
+      here : nat_le (length (text_of e.0) + length (text_of to)) (most_path_bytes + length (text_of from)) ≡ true → from ++ r ≡ e.0 → length (text_below (to ++ r)) ≤ most_path_bytes
       here test same =
-          let fits : length (text_of e.0) + length (text_of to) ≤ 4095 + length (text_of from) = grind (arith, nat_tests) in
+          let fits : length (text_of e.0) + length (text_of to) ≤ most_path_bytes + length (text_of from) = grind (arith, nat_tests) in
           omega (arith, fits, ap (λ (q : Names). length (text_of q)) same, moved_length from to r one two)
 
-  pub all_short : (es : Entries) → IsStrictlySortedBy path_cmp (keys_of es) → ((r : Names) → IsSome (lookup (is_at (path_cmp (from ++ r))) es) → length (text_below (to ++ r)) ≤ 4095) → list_all (is_short from to) es ≡ true
+  pub all_short : (es : Entries) → IsStrictlySortedBy path_cmp (keys_of es) → ((r : Names) → IsSome (lookup (is_at (path_cmp (from ++ r))) es) → length (text_below (to ++ r)) ≤ most_path_bytes) → list_all (is_short from to) es ≡ true
   unfolding IsStrictlySortedBy
   all_short [] sorted short = refl
   all_short (e ∷ es) sorted short = (λ i. first i && all_short es sorted.1 rest i)
     where
-      by : (b : Bool) → begins from e.0 ≡ b → (not b || nat_le (length (text_of e.0) + length (text_of to)) (4095 + length (text_of from))) ≡ true
+      by : (b : Bool) → begins from e.0 ≡ b → (not b || nat_le (length (text_of e.0) + length (text_of to)) (most_path_bytes + length (text_of from))) ≡ true
       by false is = refl
       by true is =
           let r = drop (length from) e.0 in
           let whole : e.0 ≡ from ++ r = begins_rest from e.0 is in
           let there : IsSome (lookup (is_at (path_cmp (from ++ r))) (e ∷ es)) = ap is_some (cond-true _ (Some e.1) (lookup (is_at (path_cmp (from ++ r))) es) (subst (λ (q : Names). is_at (path_cmp q) e.0 ≡ true) whole (at_itself path_cmp_total path_cmp-IsAntisymmetric e.0))) in
-          let fits : length (text_of e.0) + length (text_of to) ≤ 4095 + length (text_of from) = omega (arith, short r there, ap (λ (q : Names). length (text_of q)) whole, moved_length from to r one two) in
+          let fits : length (text_of e.0) + length (text_of to) ≤ most_path_bytes + length (text_of from) = omega (arith, short r there, ap (λ (q : Names). length (text_of q)) whole, moved_length from to r one two) in
           grind (arith, nat_tests)
 
       first : is_short from to e ≡ true
       first = by (begins from e.0) refl
 
-      rest : (r : Names) → IsSome (lookup (is_at (path_cmp (from ++ r))) es) → length (text_below (to ++ r)) ≤ 4095
+      rest : (r : Names) → IsSome (lookup (is_at (path_cmp (from ++ r))) es) → length (text_below (to ++ r)) ≤ most_path_bytes
       rest r some = short r (elim (split_path (from ++ r) e.0) [
         | inl same ↦ ap is_some (cond-true _ (Some e.1) (lookup (is_at (path_cmp (from ++ r))) es) same.1)
         | inr apart ↦ subst IsSome (sym (cond-false _ (Some e.1) (lookup (is_at (path_cmp (from ++ r))) es) apart.1)) some
       ])
 
 -- the names of a moved path are names
-pub moved_names : (from to r : Names) → IsPath to → IsPath (from ++ r) → length (text_below (to ++ r)) ≤ 4095 → IsPath (to ++ r)
+pub moved_names : (from to r : Names) → IsPath to → IsPath (from ++ r) → length (text_below (to ++ r)) ≤ most_path_bytes → IsPath (to ++ r)
 moved_names from to r target source short =
     let last : list_all is_name r ≡ true = all_second (list_all is_name from) (list_all is_name r) (sym (list_all-append is_name from r) ∙ source.0) in
     (list_all-append is_name to r ∙ (λ i. target.0 i && last i), short)

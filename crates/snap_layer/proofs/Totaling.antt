@@ -9,6 +9,7 @@ use Rattle.std.specs.BTreeMap.{is_at}
 use Rattle.std.proofs.lemmas.Bool.{cond-true}
 use Rattle.std.proofs.lemmas.List.Sums.{sum_by-cons}
 use Rattle.std.proofs.lemmas.Map.Entries.{sum_by-insert_entry}
+use Rattle.snap_path.specs.Limits.{most_mode}
 use Rattle.snap_path.specs.Text.{Names, IsPath, begins}
 use Rattle.snap_layer.specs.declared.node.Node.{Node}
 use Rattle.snap_layer.specs.declared.node.Node.TheVariants as node
@@ -87,7 +88,7 @@ pub counts_without : (t : Tree) (p : Names) (v : Totals) → path_count t < v.pa
 counts_without t p v paths inodes blocks = record { inodes = inodes; blocks = blocks; paths = omega (arith, paths, path_count-without t p) }
 
 -- a directory's mode or mark changes nothing
-pub counts_dir : (t : Tree) → IsLayer t → (p : Names) (m n : ℕ) (b c : Bool) (v : Totals) → at t p ≡ Some (node.Dir m b) → n ≤ 4095 → Counts v t → Counts v (with_entry t p (node.Dir n c))
+pub counts_dir : (t : Tree) → IsLayer t → (p : Names) (m n : ℕ) (b c : Bool) (v : Totals) → at t p ≡ Some (node.Dir m b) → n ≤ most_mode → Counts v t → Counts v (with_entry t p (node.Dir n c))
 counts_dir t ok p m n b c v is low had = record {
   inodes = omega (arith, had.inodes, (dir_stays t ok p m n b c is low).count);
   blocks = omega (arith, had.blocks, block_count-with_entry t p (node.Dir n c) ok.sorted_paths, ap (weight dirs) is);

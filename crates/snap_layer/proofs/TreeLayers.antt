@@ -4,8 +4,6 @@ use Rattle.std.specs.Prelude.{is_some, option_and_then, ◌==◌, ◌↔◌, if�
 use Rattle.std.specs.FinMap.{nat_cmp-IsAntisymmetric}
 use Rattle.std.specs.Ordering.{nat_cmp}
 use Rattle.std.specs.Cmp.{nat_cmp_total}
-use Rattle.std.specs.Map.{lookup}
-use Rattle.std.specs.BTreeMap.{is_at}
 use Rattle.std.proofs.lemmas.Bool.{cond-true, cond-false}
 use Rattle.std.proofs.lemmas.Bool.Decides.{nat_tests}
 use Rattle.snap_path.specs.Text.{Names, IsPath, begins}
@@ -16,10 +14,10 @@ use Rattle.snap_layer.specs.declared.error.LayerError.TheVariants.{LayerFull, Ou
 use Rattle.snap_layer.specs.declared.node.Node.{Node}
 use Rattle.snap_layer.specs.declared.node.Node.TheVariants.{Whiteout}
 use Rattle.snap_layer.specs.declared.node.Body.{Body}
-use Rattle.snap_layer.specs.Tree.{Tree, path_cmp, at, body, number_at, number_of, IsDirAt}
+use Rattle.snap_layer.specs.Tree.{Tree, path_cmp, at, body, number_of, IsDirAt}
 use Rattle.snap_layer.specs.Counts.{name_count, inode_count, block_count, is_within}
 use Rattle.snap_layer.specs.Layers.{IsLayer}
-use Rattle.snap_layer.specs.Edits.{with_entry, with_node, with_tree_taken, without, without_tree, outside, IsInnerDir}
+use Rattle.snap_layer.specs.Edits.{with_entry, with_node, with_tree_taken, without_tree, outside, IsInnerDir}
 use Rattle.snap_layer.proofs.Counting.{inode_count-with_entry, inode_count-without, block_count-with_entry, inodes_of, weight, dirs}
 use Rattle.snap_layer.proofs.Ending.{tree_inodes, dir_inside}
 use Rattle.snap_layer.proofs.Kept.{IsLayer-with_entry, IsWhole-same, has_body}

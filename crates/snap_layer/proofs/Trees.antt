@@ -6,9 +6,9 @@ use Rattle.std.specs.declared.cmp.Ordering.TheVariants.{Less, Equal, Greater}
 use Rattle.std.specs.Ordering.{is_eq, nat_cmp, ordering_reverse}
 use Rattle.std.specs.Cmp.{nat_cmp_total}
 use Rattle.std.specs.FinMap.{nat_cmp-IsAntisymmetric}
-use Rattle.std.specs.List.{AllByRecursion, sum_by}
+use Rattle.std.specs.List.{AllByRecursion}
 use Rattle.std.specs.List.Sorted.{IsStrictlySortedBy}
-use Rattle.std.specs.Map.{lookup, keys_of, values_of, remove_entry}
+use Rattle.std.specs.Map.{lookup, keys_of, remove_entry}
 use Rattle.std.specs.BTreeMap.{is_at}
 use Rattle.std.proofs.lemmas.Cmp.{tied_itself}
 use Rattle.std.proofs.lemmas.Bool.{cond-true, cond-false}

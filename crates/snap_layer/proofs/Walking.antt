@@ -13,6 +13,7 @@ use Rattle.std.proofs.lemmas.Bool.{cond-false}
 use Rattle.std.proofs.lemmas.Grind.{flat_map-append}
 use Rattle.std.proofs.lemmas.List.Folds.{flat_map-map}
 use Rattle.slab.specs.Slab.{Slab as Slots, get}
+use Rattle.snap_path.specs.Limits.{most_path_bytes}
 use Rattle.snap_path.specs.Text.{Names, IsPath, text_below, begins}
 use Rattle.snap_layer.specs.declared.node.Node.{Node}
 use Rattle.snap_layer.specs.Tree.{Entries, path_cmp}
@@ -217,7 +218,7 @@ module _ (s : Slots Inode) (root : ℕ) (h : Holds s root) (listed : IsListed s 
         by None e sorted = tt
         by (Some t) e sorted = subst (AllByRecursion (λ (u : Names × Target). walk (entry_at s) root u.0 ≡ Some u.1)) (sym (ahead_entered s p [] t ∙ append-nil (placed p (items_in s t)))) (leads_placed s root p t e sorted)
 
-        text : (x : Option Target) → frames_text (entered_from x) ≤ 4095
+        text : (x : Option Target) → frames_text (entered_from x) ≤ most_path_bytes
         text None = omega arith
         text (Some target.Whiteout) = omega arith
         text (Some (target.Inode c)) = omega arith

@@ -1,6 +1,7 @@
 -- What a regular file has, and what it has after an edit.
 -- Cited by `Edit::size`, `Edit::content`, `Layer::edit_content` and others.
 use Rattle.std.specs.Prelude.{ℕ, ◌+◌, ◌-◌, ◌<◌, ◌≤◌, ◌==◌, Bool, false, not, if◌then◌else◌, max, List, [], ◌∷◌, ◌++◌, length, take, drop, replicate, Option, Some, None}
+use Rattle.snap_path.specs.Limits.{most_file_bytes, most_sized_bytes}
 use Rattle.snap_layer.specs.declared.content.Content.{Content}
 use Rattle.snap_layer.specs.declared.content.Content.TheVariants.{Bytes, Sized}
 use Rattle.snap_layer.specs.declared.node.Body.{Body}
@@ -15,8 +16,8 @@ size_of (Sized size digest) = size
 
 -- how many a file may have: one of bytes 1,048,576, and one of a size 2 ^ 40
 abbrev pub most_bytes : Content → ℕ
-most_bytes (Bytes bytes) = 1048576
-most_bytes (Sized size digest) = 1099511627776
+most_bytes (Bytes bytes) = most_file_bytes
+most_bytes (Sized size digest) = most_sized_bytes
 
 -- a digest has at most 1024 bytes
 abbrev pub IsDigest : Option (List ℕ) → Type 0
@@ -25,8 +26,8 @@ IsDigest (Some digest) = length digest ≤ 1024
 
 -- the file is within its limits
 abbrev pub IsContent : Content → Type 0
-IsContent (Bytes bytes) = length bytes ≤ 1048576
-IsContent (Sized size digest) = (size ≤ 1099511627776) × IsDigest digest
+IsContent (Bytes bytes) = length bytes ≤ most_file_bytes
+IsContent (Sized size digest) = (size ≤ most_sized_bytes) × IsDigest digest
 
 -- the bytes put into the old ones at an offset; a gap before them has zero bytes, and no bytes change nothing (pwrite(2), lseek(2))
 abbrev pub bytes_written : List ℕ → ℕ → List ℕ → List ℕ

@@ -3,6 +3,7 @@
 use Rattle.std.specs.Prelude.{ℕ, ◌+◌, ◌/◌, Bool, ◌&&◌, nat_le, length, count_by}
 use Rattle.std.specs.Map.{values_of}
 use Rattle.std.specs.List.{sum_by}
+use Rattle.snap_path.specs.Limits.{most_number}
 use Rattle.snap_layer.specs.declared.node.Body.{Body}
 use Rattle.snap_layer.specs.declared.node.Body.TheVariants.{File, Symlink}
 use Rattle.snap_layer.specs.Contents.{size_of}
@@ -47,4 +48,4 @@ most_inodes = 16777216
 
 -- at most the layer's most inodes, and the last file number not passed
 abbrev pub is_within : Tree → Bool
-is_within t = nat_le (inode_count t) t.most && nat_le t.next 4294967295
+is_within t = nat_le (inode_count t) t.most && nat_le t.next most_number

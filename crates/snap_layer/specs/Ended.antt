@@ -1,6 +1,6 @@
 -- The files that end with the entries of a directory.
 -- Cited by invariants and private clauses alone.
-use Rattle.std.specs.Prelude.{ℕ, Bool, ◌==◌, filter, length, Option, Some, None, if◌then◌else◌}
+use Rattle.std.specs.Prelude.{ℕ, Bool, ◌==◌, filter, Option, Some, None, if◌then◌else◌}
 use Rattle.snap_layer.specs.declared.node.Node.{Node}
 use Rattle.snap_layer.specs.declared.node.Body.{Body}
 use Rattle.snap_layer.specs.Tree.{Tree, Entries, Bodies, body, number_of}

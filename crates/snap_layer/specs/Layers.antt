@@ -5,6 +5,7 @@ use Rattle.std.specs.Ordering.{nat_cmp}
 use Rattle.std.specs.List.{list_any}
 use Rattle.std.specs.List.Sorted.{IsStrictlySortedBy}
 use Rattle.std.specs.Map.{keys_of}
+use Rattle.snap_path.specs.Limits.{most_mode, most_number, most_target_bytes}
 use Rattle.snap_path.specs.Text.{Names, IsPath}
 use Rattle.snap_layer.specs.declared.node.Node.{Node}
 use Rattle.snap_layer.specs.declared.node.Node.TheVariants.{Dir, File, Symlink, Whiteout}
@@ -16,12 +17,12 @@ use Rattle.snap_layer.specs.Contents.{IsContent}
 
 -- a symlink's target: 1 to 4095 bytes without NUL (symlink(2), PATH_MAX)
 abbrev pub is_target : List ℕ → Bool
-is_target bs = nat_lt 0 (length bs) && nat_le (length bs) 4095 && not (list_any (λ b. b == 0) bs)
+is_target bs = nat_lt 0 (length bs) && nat_le (length bs) most_target_bytes && not (list_any (λ b. b == 0) bs)
 
 -- a file: its mode is at most octal 7777, and its content is within its limits
 abbrev pub IsFile : Option Body → Type 0
 IsFile None = ⊥
-IsFile (Some (body_kinds.File mode content)) = (mode ≤ 4095) × IsContent content
+IsFile (Some (body_kinds.File mode content)) = (mode ≤ most_mode) × IsContent content
 IsFile (Some (body_kinds.Symlink target)) = ⊥
 
 -- a symlink with a target
@@ -32,12 +33,12 @@ IsSymlink (Some (body_kinds.Symlink target)) = is_target target ≡ true
 
 -- a body that may stand in a layer: a file within its limits, or a symlink with a target
 abbrev pub IsBody : Body → Type 0
-IsBody (body_kinds.File mode content) = (mode ≤ 4095) × IsContent content
+IsBody (body_kinds.File mode content) = (mode ≤ most_mode) × IsContent content
 IsBody (body_kinds.Symlink target) = is_target target ≡ true
 
 -- a node that may stand in the layer: a directory's mode is at most octal 7777, and a name has its body
 abbrev pub IsWhole : Tree → Node → Type 0
-IsWhole t (Dir mode opaque) = mode ≤ 4095
+IsWhole t (Dir mode opaque) = mode ≤ most_mode
 IsWhole t (File number) = IsFile (body t number)
 IsWhole t (Symlink number) = IsSymlink (body t number)
 IsWhole t Whiteout = Unit {0}
@@ -53,7 +54,7 @@ pub record IsLayer (t : Tree) : Type 0 where
   pub named : (k : ℕ) → IsSome (body t k) → (p : Names) × (number_at t p ≡ Some k)
   -- file numbers are 1 to 4,294,967,294 and below the next one; there are no more inodes than the layer may have
   pub numbers : (k : ℕ) → IsSome (body t k) → (1 ≤ k) × (k < t.next)
-  pub next : (1 ≤ t.next) × (t.next ≤ 4294967295)
+  pub next : (1 ≤ t.next) × (t.next ≤ most_number)
   pub few : inode_count t ≤ t.most
   pub most : (1 ≤ t.most) × (t.most ≤ most_inodes)
   -- both lists rise, so each path and each number stands once

@@ -12,6 +12,7 @@ use Rattle.std.specs.List.Sorted.{IsStrictlySortedBy}
 use Rattle.std.specs.Map.{lookup, keys_of}
 use Rattle.std.specs.BTreeMap.{is_at}
 use Rattle.slab.specs.Slab.{Slab as Slots, get}
+use Rattle.snap_path.specs.Limits.{most_path_bytes}
 use Rattle.snap_path.specs.Text.{Names, IsPath, text_below}
 use Rattle.snap_layer.specs.declared.node.Node.{Node}
 use Rattle.snap_layer.specs.Tree.{Entries, path_cmp}
@@ -118,7 +119,7 @@ pub record Passes (fs gs : Frames) (n : List ℕ) : Type 0 where
 pub record IsWalk (s : Slots Inode) (root : ℕ) (es : Entries) (p : Names) (fs : Frames) : Type 0 where
   pub leads : AllByRecursion (λ (t : Names × Target). walk (entry_at s) root t.0 ≡ Some t.1) (ahead s p fs)
   pub way : IsWay fs
-  pub text : frames_text fs ≤ 4095
+  pub text : frames_text fs ≤ most_path_bytes
   pub there : (q : Names) (c : ℕ) → walk (entry_at s) root q ≡ Some (target.Inode c) → IsSome (node_at s c)
   pub shows : (q : Names) → stands (view_of s) root q ≡ lookup (is_at (path_cmp q)) es
   pub sorted : IsStrictlySortedBy path_cmp (keys_of es)

@@ -3,6 +3,7 @@
 use Rattle.std.specs.Prelude.{◌≡◌, ◌<◌, ℕ, ◌+◌, Bool, ◌&&◌, nat_le, is_none, if◌then◌else◌}
 use Rattle.std.specs.List.{sum_by}
 use Rattle.std.specs.Map.{values_of}
+use Rattle.snap_path.specs.Limits.{most_number}
 use Rattle.snap_layer.specs.declared.node.Node.{Node}
 use Rattle.snap_layer.specs.declared.totals.Totals.{Totals}
 use Rattle.snap_path.specs.Text.{Names}
@@ -27,7 +28,7 @@ IsCounted v t = Counts v t × IsLayer t
 
 -- so many numbers and inodes fit in place of what stands at the path
 abbrev pub fits : Tree → Names → ℕ → ℕ → Bool
-fits t p numbers inodes = nat_le (inode_count (without t p) + inodes) t.most && nat_le (t.next + numbers) 4294967295
+fits t p numbers inodes = nat_le (inode_count (without t p) + inodes) t.most && nat_le (t.next + numbers) most_number
 
 -- what a layer takes with so many inodes and blocks in place of what stands at the path
 pub record IsRoom (v : Totals) (t : Tree) (p : Names) (i b : ℕ) : Type 0 where

@@ -1,5 +1,6 @@
 // How a file is edited, and how bytes change in place.
 ghost use Rattle.std.specs.Prelude.{◌≡◌, ◌+◌, ◌<◌, ◌≤◌, ℕ, List, IfOk, OnOk, OnErr, length, take, drop, ◌++◌};
+ghost use Rattle.snap_path.specs.Limits.{most_file_bytes};
 ghost use Rattle.snap_layer.specs.Contents.{bytes_resized, bytes_written, changes, edited, size_of, IsShort};
 ghost use Rattle.snap_layer.specs.declared.content.Content.{Content as ContentValue};
 ghost use Rattle.snap_layer.specs.declared.content.Content.TheVariants as content_kinds;
@@ -96,7 +97,7 @@ impl<'a> Edit<'a> {
 /// Puts the bytes at the offset, over a gap of zero bytes. Only a growth takes memory, and nothing changes before it is
 /// there.
 pub(crate) fn put_at(items: &mut Vec<u8>, offset: usize, bytes: &[u8]) -> Result<(), AllocError>
-    requires { offset + length bytes.now ≤ 1048576 }
+    requires { offset + length bytes.now ≤ most_file_bytes }
     ensures ok { OnOk result (items.new.items ≡ bytes_written items.old.items offset bytes.now) }
     ensures grows { OnErr result (length items.old.items < length (bytes_written items.old.items offset bytes.now)) }
     ensures err { OnErr result (items.new.items ≡ items.old.items) }

@@ -1,6 +1,7 @@
 // The edits of a layer.
 ghost use Rattle.std.specs.Prelude.{◌≡◌, ◌↔◌, ◌<◌, ◌≤◌, ◌+◌, ◌-◌, Some, None, is_none, if◌then◌else◌, IfOk, OnOk, OnErr, IsErrOf, IsSome, ◌∷◌, [], true, false};
 ghost use Rattle.std.specs.Map.{keys_of};
+ghost use Rattle.snap_path.specs.Limits.{most_mode};
 ghost use Rattle.snap_path.specs.Memory.{no_memory};
 ghost use Rattle.snap_path.specs.Text.{IsPath};
 ghost use Rattle.snap_layer.specs.Tree.{at, body, number_at, IsDirAt, leaf_node};
@@ -28,7 +29,7 @@ impl Layer {
     /// layer is as it was. Cost: as `at`.
     pub fn add_dir(&mut self, path: &Path, mode: u32, opaque: bool) -> Result<(), LayerError>
         requires room { HasRoom self.old path.now }
-        requires mode { mode ≤ 4095 }
+        requires mode { mode ≤ most_mode }
         ensures ok { OnOk result (self.new ≡ with_entry self.old path.now (Node.Dir mode opaque)) }
         ensures full { IsErrOf result LayerError.LayerFull ↔ (is_within (with_entry self.old path.now (Node.Dir mode opaque)) ≡ false) }
         ensures err { OnErr result (self.new ≡ self.old) }
@@ -47,7 +48,7 @@ impl Layer {
     /// gone. Cost: as `at`, and where a directory stands there, its entries.
     pub fn add_file(&mut self, path: &Path, mode: u32, content: Content) -> Result<u32, LayerError>
         requires place { HasPlace self.old path.now }
-        requires mode { mode ≤ 4095 }
+        requires mode { mode ≤ most_mode }
         requires content { IsContent content }
         ensures ok { OnOk result (self.new ≡ with_new self.old path.now (Node.File self.old.next) (Body.File mode content)) }
         ensures number { IfOk result (λ k. k ≡ self.old.next) }
@@ -290,7 +291,7 @@ impl Layer {
     /// memory. Cost: as `at`.
     pub fn set_mode(&mut self, path: &Path, mode: u32)
         requires there { HasMode (at self.old path.now) }
-        requires mode { mode ≤ 4095 }
+        requires mode { mode ≤ most_mode }
         ensures { self.new ≡ with_mode self.old path.now (at self.old path.now) mode }
     {
         let _ = &self.is_layer;
@@ -348,7 +349,7 @@ impl Layer {
     /// Sets the mode and the mark of the directory at the path.
     fn set_dir(&mut self, path: &Path, mode: u32, opaque: bool)
         requires dir { IsDirAt (at self.old path.now) }
-        requires mode { mode ≤ 4095 }
+        requires mode { mode ≤ most_mode }
         ensures { self.new ≡ with_entry self.old path.now (Node.Dir mode opaque) }
     {
         let _ = &self.is_layer;

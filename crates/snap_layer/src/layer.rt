@@ -3,6 +3,7 @@ ghost use Rattle.std.specs.Prelude.{◌≡◌, ◌↔◌, ◌≤◌, ◌+◌, []
 ghost use Rattle.std.specs.Option.{option_copied};
 ghost use Rattle.std.specs.List.{sum_by};
 ghost use Rattle.std.specs.Map.{keys_of, values_of};
+ghost use Rattle.snap_path.specs.Limits.{most_mode, most_path_bytes};
 ghost use Rattle.snap_path.specs.Text.{Names, IsPath, text_below};
 ghost use Rattle.snap_layer.specs.Tree.{at, body, names_below, number_of, IsDirAt};
 ghost use Rattle.snap_layer.specs.Counts.{dir_count, whiteout_count, name_count, inode_count, block_count, body_blocks, most_inodes};
@@ -60,7 +61,7 @@ impl Layer {
     /// The condition is a mode of at most octal 7777. It fails only where memory is refused. The cost is
     /// constant.
     pub fn empty(alloc: Global, mode: u32) -> Result<Layer, AllocError>
-        requires { mode ≤ 4095 }
+        requires { mode ≤ most_mode }
         ensures { IfOk result (λ l. l ≡ root_only mode 1) }
     {
         Layer::empty_from(alloc, mode, 1)
@@ -71,7 +72,7 @@ impl Layer {
     /// The conditions are a mode of at most octal 7777, and 1 to 16,777,216 inodes. It fails only where memory is
     /// refused, and takes the same for each number of inodes. The cost is constant.
     pub fn within(alloc: Global, mode: u32, most: usize) -> Result<Layer, AllocError>
-        requires mode { mode ≤ 4095 }
+        requires mode { mode ≤ most_mode }
         requires most { (1 ≤ most) × (most ≤ most_inodes) }
         ensures { IfOk result (λ l. l ≡ root_within most mode 1) }
     {
@@ -83,7 +84,7 @@ impl Layer {
     /// The conditions are a mode of at most octal 7777, and a number from 1. File numbers are given in
     /// rising order, and none is ever given again; 4,294,967,294 is the last one.
     pub fn empty_from(alloc: Global, mode: u32, first: u32) -> Result<Layer, AllocError>
-        requires mode { mode ≤ 4095 }
+        requires mode { mode ≤ most_mode }
         requires first { 1 ≤ first }
         ensures { IfOk result (λ l. l ≡ root_only mode first) }
     {
@@ -92,7 +93,7 @@ impl Layer {
 
     /// The layer of an empty root directory, which may have so many inodes, and whose first file gets the number.
     fn root_alone(alloc: Global, mode: u32, first: u32, most: usize) -> Result<Layer, AllocError>
-        requires mode { mode ≤ 4095 }
+        requires mode { mode ≤ most_mode }
         requires first { 1 ≤ first }
         requires most { (1 ≤ most) × (most ≤ most_inodes) }
         ensures { IfOk result (λ l. l ≡ root_within most mode first) }
@@ -420,7 +421,7 @@ impl Layer {
     pub fn has_short_paths(&self, from: &Path, to: &Path) -> bool
         requires from { from.now ≡ [] → ⊥ }
         requires to { to.now ≡ [] → ⊥ }
-        ensures { IsTrue result ↔ ((r : Names) → IsSome (at self.now (from.now ++ r)) → length (text_below (to.now ++ r)) ≤ 4095) }
+        ensures { IsTrue result ↔ ((r : Names) → IsSome (at self.now (from.now ++ r)) → length (text_below (to.now ++ r)) ≤ most_path_bytes) }
     {
         self.table.has_short_paths(from, to)
     }

@@ -4,6 +4,7 @@ ghost use Rattle.std.specs.Option.{option_copied};
 ghost use Rattle.std.specs.List.Sorted.{IsStrictlySortedBy};
 ghost use Rattle.std.specs.Map.{keys_of};
 ghost use Rattle.arrayvec.specs.ArrayVec.{array_vec_len};
+ghost use Rattle.snap_path.specs.Limits.{most_path_bytes};
 ghost use Rattle.snap_path.specs.Text.{Names, text_below};
 ghost use Rattle.snap_layer.specs.contracts.node.Node as node_contracts;
 ghost use Rattle.snap_layer.specs.Walk.{walk, entry_at, node_at, seen};
@@ -92,7 +93,7 @@ fn advance<'a>(
     text: &mut usize,
 ) -> Option<(&'a Name, Target)>
     requires text { text.old ≡ frames_text frames.old.items }
-    requires small { text.old ≤ 4095 }
+    requires small { text.old ≤ most_path_bytes }
     ensures ahead { (p : Names)
         → MatchOption result (ahead slots.now p frames.old.items ≡ []) (λ i. ahead slots.now p frames.old.items ≡ (last_path p frames.new.items, i.1) ∷ ahead slots.now p frames.new.items) }
     ensures passes { IfSome result (λ i. Passes frames.old.items frames.new.items i.0.now) }

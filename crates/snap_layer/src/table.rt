@@ -2,6 +2,7 @@
 ghost use Rattle.std.specs.Prelude.{[], ◌≡◌, ◌<◌, ◌≤◌, ◌+◌, ◌-◌, ◌^◌, Option, Some, None, OnOk, OnErr, IfOk, IsSome, length, take, find, nat_lt};
 ghost use Rattle.std.specs.Option.{option_copied};
 ghost use Rattle.std.specs.Map.{keys_of};
+ghost use Rattle.snap_path.specs.Limits.{most_mode, most_number};
 ghost use Rattle.snap_layer.specs.Tree.{Tree, at, body, number_at, IsDirAt, leaf_node};
 ghost use Rattle.snap_layer.specs.Counts.{name_count, body_blocks, most_inodes};
 ghost use Rattle.snap_layer.specs.Contents.{body_content, body_edited, Grows, IsShort};
@@ -61,7 +62,7 @@ impl Model for Table {
 impl Table {
     /// The layer of the root alone, which may have so many inodes.
     pub fn new(alloc: Global, mode: u32, first: u32, most: usize) -> Result<Table, AllocError>
-        requires mode { mode ≤ 4095 }
+        requires mode { mode ≤ most_mode }
         requires first { 1 ≤ first }
         requires most { (1 ≤ most) × (most ≤ most_inodes) }
         ensures { IfOk result (λ t. t ≡ root_within most mode first) }
@@ -182,7 +183,7 @@ impl Table {
     /// Puts a new file or symlink, which has the next number, in place of what stands at the path.
     pub fn put_leaf(&mut self, path: &Path, body: Body) -> Result<(), AllocError>
         requires place { HasPlace self.old path.now }
-        requires last { self.old.next < 4294967295 }
+        requires last { self.old.next < most_number }
         requires layer { IsLayer (with_new self.old path.now (leaf_node self.old.next body) body) }
         ensures ok { OnOk result (self.new ≡ with_new self.old path.now (leaf_node self.old.next body) body) }
         ensures err { OnErr result (self.new ≡ self.old) }
@@ -221,7 +222,7 @@ impl Table {
     /// Puts a new file or symlink, which has the next number, and one more name of it at the link.
     pub fn put_linked(&mut self, path: &Path, link: &Path, body: Body) -> Result<(), AllocError>
         requires rooms { HasRooms self.old path.now link.now }
-        requires last { self.old.next < 4294967295 }
+        requires last { self.old.next < most_number }
         requires layer { IsLayer (with_linked self.old path.now link.now body) }
         ensures ok { OnOk result (self.new ≡ with_linked self.old path.now link.now body) }
         ensures err { OnErr result (self.new ≡ self.old) }
@@ -327,7 +328,7 @@ impl Table {
     /// Sets the mode of the file with the number.
     pub fn set_file_mode(&mut self, number: u32, mode: u32)
         requires file { IsFile (body self.old number) }
-        requires mode { mode ≤ 4095 }
+        requires mode { mode ≤ most_mode }
         ensures { self.new ≡ with_file_mode self.old number (body self.old number) mode }
     {
         let _ = &self.slots;

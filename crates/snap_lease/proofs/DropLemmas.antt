@@ -1,5 +1,5 @@
 -- A name that is taken out of a lease.
-use Rattle.std.proofs.Common.{◌≡◌, ◌≢◌, ℕ, zero, suc, ◌+◌, ◌-◌, ◌<◌, Bool, true, false, not, cond, List, [], ◌∷◌, ◌&&◌, ◌||◌, map, filter, length, get_or, set, Option, Some, String, string_bytes, refl, sym, ap, ◌∙◌, subst, arith, true≢false, if◌then◌else◌, bytes_eq}
+use Rattle.std.proofs.Common.{◌≡◌, ◌≢◌, ℕ, zero, suc, ◌+◌, ◌-◌, ◌<◌, Bool, true, false, not, cond, List, [], ◌∷◌, ◌&&◌, ◌||◌, map, filter, length, get_or, set, Some, String, string_bytes, refl, sym, ap, ◌∙◌, subst, arith, true≢false, if◌then◌else◌, bytes_eq}
 use Rattle.std.proofs.lemmas.List.Folds.{list_any_at}
 use Rattle.std.proofs.lemmas.List.Sums.{sum_by-set}
 use Rattle.std.proofs.lemmas.Slice.Eq.{bytes_eq-Decides}
@@ -15,7 +15,7 @@ use Rattle.snap_lease.specs.Leases.{AreDistinct, CountsDropped, guards, has_leas
 use Rattle.snap_lease.specs.Numbers.{AreNumbers, LeaseIndex, number_in, number_of}
 use Rattle.snap_lease.proofs.CountLemmas.{bytes_eq-other, count_by-agree, count_by-list_any, count_by-map, is_of-is_lease, is_of-other, lease_names-at}
 use Rattle.snap_lease.proofs.IndexLemmas.{one_if}
-use Rattle.snap_lease.proofs.ListLemmas.{all-filter, bytes_eq_comm, filter-none, has_lease-after, list_any-filter_none, map-none}
+use Rattle.snap_lease.proofs.ListLemmas.{all-filter, filter-none, has_lease-after, map-none}
 use Rattle.snap_lease.proofs.NumberLemmas.{Stands, number_of-set, stands_at_number}
 
 -- ---- the names of one lease

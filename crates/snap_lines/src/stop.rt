@@ -63,7 +63,8 @@ fn fault_status(fault: &Fault) -> u8
         | Fault::OpenTwice
         | Fault::NoSuchCommand(_)
         | Fault::UnknownField(_, _)
-        | Fault::BadField(_, _) => 2,
+        | Fault::BadField(_, _)
+        | Fault::Operation(_, _) => 2,
     }
 }
 

@@ -8,6 +8,7 @@ use Rattle.std.proofs.lemmas.Bool.Decides.{nat_tests}
 use Rattle.std.proofs.lemmas.List.{at_drop_more, take_more, take_all, take-append-drop}
 use Rattle.snap_path.specs.Text.{Names, IsPath, is_name, is_name_byte, text_below}
 use Rattle.snap_path.proofs.Texts.{IsPath-front}
+use Rattle.snap_path.specs.Limits.{most_path_bytes}
 use Rattle.snap_layer.specs.Tree.{Tree}
 use Rattle.snap_merge.specs.declared.error.FsError.{FsError}
 use Rattle.snap_merge.specs.declared.error.FsError.TheVariants.{BadPath, NotDir, NotFound}
@@ -122,10 +123,10 @@ names_enter : (front : Names) (n : List ℕ) (rest : Names) → IsPath (front ++
 names_enter front n rest ok =
     let whole : (front ++ n ∷ []) ++ rest ≡ front ++ n ∷ rest = append_assoc front (n ∷ []) rest in
     let name = no_word n (middle_true front n rest ok.0) in
-    let short : length (text_below (front ++ n ∷ [])) ≤ 4095 = (IsPath-front (front ++ n ∷ rest) (front ++ n ∷ []) rest ok (sym whole)).1 in
+    let short : length (text_below (front ++ n ∷ [])) ≤ most_path_bytes = (IsPath-front (front ++ n ∷ rest) (front ++ n ∷ []) rest ok (sym whole)).1 in
     let few : length n ≤ 255 = name.2 in
     let long : nat_lt 255 (length n) ≡ false = grind (arith, nat_tests) in
-    let far : nat_lt 4095 (length (text_below (front ++ n ∷ []))) ≡ false = grind (arith, nat_tests) in
+    let far : nat_lt most_path_bytes (length (text_below (front ++ n ∷ []))) ≡ false = grind (arith, nat_tests) in
     (name.0, name.1, neither _ _ long far)
 
 way_plain : (follow : Names → Names → Answer) (s : List Tree) (rest front : Names) → IsPath (front ++ rest) → walk_from s front rest ≡ None → is_shown_end (seen s (front ++ rest)) ≡ true → way follow s front rest ≡ Ok (front ++ rest)

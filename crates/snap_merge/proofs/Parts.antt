@@ -10,6 +10,7 @@ use Rattle.snap_merge.specs.declared.taken.Part.TheVariants as parts
 use Rattle.snap_merge.specs.Objects.{AreLayers}
 use Rattle.snap_merge.specs.Listing.{names}
 use Rattle.std.proofs.Math.Nat.{add-zero, min-eq_left}
+use Rattle.snap_path.specs.Limits.{most_path_bytes}
 use Rattle.snap_merge.specs.Taken.{capped, part, part_over, parts_below, with_inside}
 
 nothing_else : (b : Bool) → cond {A = Option Part} b None None ≡ None
@@ -38,7 +39,7 @@ unfolding parts_below
 no_parts zero s ok p bad = refl
 no_parts (suc n) s ok p bad = nothing_inside (flat_map (λ name. parts_below n s (p ++ name ∷ [])) (names s p)) (part 0 s p) (no_part 0 s ok p bad)
 
-pub too_long : (p : Names) → 4095 < length (text_below p) → IsPath p → ⊥
+pub too_long : (p : Names) → most_path_bytes < length (text_below p) → IsPath p → ⊥
 too_long p long is = let short = is.1 in omega arith
 
 -- a directory with what is in it

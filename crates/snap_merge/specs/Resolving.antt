@@ -3,6 +3,7 @@
 use Rattle.std.specs.Prelude.{◌==◌, ◌||◌, ℕ, zero, suc, Bool, true, false, not, nat_lt, List, [], ◌∷◌, ◌++◌, length, Option, Some, None, unwrap_or, if◌then◌else◌, Result, Ok, Err}
 use Rattle.std.specs.List.{slice_split}
 use Rattle.std.specs.Str.{bytes_eq}
+use Rattle.snap_path.specs.Limits.{most_path_bytes}
 use Rattle.snap_path.specs.Text.{Names, text_below, parent_of}
 use Rattle.snap_layer.specs.Tree.{Tree}
 use Rattle.snap_merge.specs.declared.error.FsError.{FsError}
@@ -27,7 +28,7 @@ above place = unwrap_or (parent_of place) []
 
 -- a name of more than 255 bytes, or a path of more than 4095 (limits.h: NAME_MAX, PATH_MAX)
 abbrev pub is_too_long : Names → List ℕ → Bool
-is_too_long place w = nat_lt 255 (length w) || nat_lt 4095 (length (text_below (place ++ w ∷ [])))
+is_too_long place w = nat_lt 255 (length w) || nat_lt most_path_bytes (length (text_below (place ++ w ∷ [])))
 
 -- where a symlink in the directory leads from: the root where its target begins with `/`, else the directory
 abbrev pub start_of : Names → List ℕ → Names

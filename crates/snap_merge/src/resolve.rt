@@ -3,6 +3,7 @@ ghost use Rattle.std.specs.Prelude.{◌≡◌, ◌≤◌, ◌∷◌, ◌++◌, [
 ghost use Rattle.std.specs.Option.{option_map};
 ghost use Rattle.std.specs.Result.{result_err};
 ghost use Rattle.std.specs.Borrow.{Bor};
+ghost use Rattle.snap_path.specs.Limits.{most_path_bytes};
 ghost use Rattle.snap_path.specs.Text.{Names, text_below};
 ghost use Rattle.snap_merge.specs.Objects.{object, seen};
 ghost use Rattle.snap_merge.specs.Walk.{Answers};
@@ -165,7 +166,7 @@ fn is_too_long(place: &Path, word: &[u8]) -> bool
 /// The length of the path's text without the `/` that stands for the root.
 fn text_len(place: &Path) -> usize
     ensures length { result ≡ length (text_below place.now) }
-    ensures short { result ≤ 4095 }
+    ensures short { result ≤ most_path_bytes }
 {
     if place.names().is_empty() {
         0

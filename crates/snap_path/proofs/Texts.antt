@@ -8,6 +8,7 @@ use Rattle.std.specs.List.{list_all, slice_split, onto_first}
 use Rattle.std.specs.Str.{bytes_eq}
 use Rattle.std.specs.Prelude.{◌-◌, Some, slice_get, nat_le, ◌==◌, ◌&&◌, not}
 use Rattle.std.proofs.lemmas.Bool.Decides.{nat_tests}
+use Rattle.snap_path.specs.Limits.{most_path_bytes}
 use Rattle.snap_path.specs.Text.{Names, text_below, text_of, path_names, is_name, is_name_byte, is_path, IsPath, IsHeld, Spells, IsSpelling, IsJoined, parent_of, last_name}
 
 pub text_below-append : (xs ys : Names) → text_below (xs ++ ys) ≡ text_below xs ++ text_below ys
@@ -27,7 +28,7 @@ IsPath-front ns xs ys ok e =
     (first_true (list_all is_name xs) (list_all is_name ys) (sym (list_all-append is_name xs ys) ∙ whole.0), omega (arith, whole.1, ap length (text_below-append xs ys), length-append (text_below xs) (text_below ys)))
 
 -- one name more
-pub IsHeld_push : (bs : List ℕ) (ns : Names) (n : List ℕ) → IsHeld bs ns → is_name n ≡ true → length (text_below (ns ++ n ∷ [])) ≤ 4095 → IsHeld ((bs ++ 47 ∷ []) ++ n) (ns ++ n ∷ [])
+pub IsHeld_push : (bs : List ℕ) (ns : Names) (n : List ℕ) → IsHeld bs ns → is_name n ≡ true → length (text_below (ns ++ n ∷ [])) ≤ most_path_bytes → IsHeld ((bs ++ 47 ∷ []) ++ n) (ns ++ n ∷ [])
 IsHeld_push bs ns n held valid short =
     (ap (λ b. (b ++ 47 ∷ []) ++ n) held.0 ∙ sym (text_below_push ns n), (list_all-append is_name ns (n ∷ []) ∙ grind (arith, nat_tests, held.1.0), short))
 
@@ -65,13 +66,13 @@ pub below_root : (bs : List ℕ) → is_path bs ≡ true → 1 < length bs → I
 below_root [] ok long = absurd (omega arith)
 below_root (b ∷ []) ok long = absurd (omega arith)
 below_root (b ∷ c ∷ bs) ok long =
-    let short : length (b ∷ c ∷ bs) ≤ 4095 = grind (arith, nat_tests) in
+    let short : length (b ∷ c ∷ bs) ≤ most_path_bytes = grind (arith, nat_tests) in
     let first : b ≡ 47 = grind (arith, nat_tests) in
     let valid : list_all is_name (path_names (b ∷ c ∷ bs)) ≡ true = grind (arith, nat_tests) in
     let text : text_below (path_names (b ∷ c ∷ bs)) ≡ b ∷ c ∷ bs = text_below-slice_split (c ∷ bs) ∙ ap (λ x. x ∷ c ∷ bs) (sym first) in
-    record { first = first; text = text_of-below (path_names (b ∷ c ∷ bs)) b (c ∷ bs) text; below = text; path = (valid, subst (λ t. length t ≤ 4095) (sym text) short); split = refl }
+    record { first = first; text = text_of-below (path_names (b ∷ c ∷ bs)) b (c ∷ bs) text; below = text; path = (valid, subst (λ t. length t ≤ most_path_bytes) (sym text) short); split = refl }
 
-pub path_some : (bs rest : List ℕ) (r : Bool) → bs ≡ 47 ∷ rest → length bs ≤ 4095 → bytes_eq bs (47 ∷ []) ≡ false → r ≡ list_all is_name (slice_split (λ b. b == 47) rest) → r ≡ is_path bs
+pub path_some : (bs rest : List ℕ) (r : Bool) → bs ≡ 47 ∷ rest → length bs ≤ most_path_bytes → bytes_eq bs (47 ∷ []) ≡ false → r ≡ list_all is_name (slice_split (λ b. b == 47) rest) → r ≡ is_path bs
 path_some [] rest r e short other all = cc
 path_some (b ∷ []) rest r e short other all =
     let same : b ≡ 47 = cc in absurd (grind (arith, nat_tests))
@@ -125,7 +126,7 @@ accepted [] path = (refl, refl)
 accepted ([] ∷ ns) path = absurd (grind (arith, nat_tests, path.0))
 accepted ((b ∷ bs) ∷ ns) path =
     let split = split-text_below (b ∷ bs) ns path.0 in
-    let short : nat_le (length (text_below ((b ∷ bs) ∷ ns))) 4095 ≡ true = grind (arith, nat_tests, path.1) in
+    let short : nat_le (length (text_below ((b ∷ bs) ∷ ns))) most_path_bytes ≡ true = grind (arith, nat_tests, path.1) in
     let valid : list_all is_name (slice_split (λ d. d == 47) ((b ∷ bs) ++ text_below ns)) ≡ true = rw split path.0 in
     (grind (arith, nat_tests), split)
 

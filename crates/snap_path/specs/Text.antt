@@ -3,6 +3,7 @@
 use Rattle.std.specs.Prelude.{take, slice_get, Option, Some, None, ◌-◌, ◌≡◌, ℕ, ◌≤◌, Bool, not, false, ◌&&◌, ◌==◌, nat_lt, nat_le, List, [], ◌∷◌, ◌++◌, length, true}
 use Rattle.std.specs.List.{list_all, slice_split, starts_with}
 use Rattle.std.specs.Str.{bytes_eq}
+use Rattle.snap_path.specs.Limits.{most_path_bytes}
 
 -- a path as its names, from the root down
 abbrev pub Names : Type 0
@@ -20,7 +21,7 @@ is_name n = nat_lt 0 (length n) && nat_le (length n) 255 && list_all is_name_byt
 abbrev pub is_path : List ℕ → Bool
 is_path [] = false
 is_path (b ∷ []) = b == 47
-is_path (b ∷ c ∷ bs) = b == 47 && nat_le (length (b ∷ c ∷ bs)) 4095 && list_all is_name (slice_split (λ d. d == 47) (c ∷ bs))
+is_path (b ∷ c ∷ bs) = b == 47 && nat_le (length (b ∷ c ∷ bs)) most_path_bytes && list_all is_name (slice_split (λ d. d == 47) (c ∷ bs))
 
 -- the names that a path's text spells
 abbrev pub path_names : List ℕ → Names
@@ -40,7 +41,7 @@ text_of (n ∷ ns) = text_below (n ∷ ns)
 
 -- valid names whose text is short enough
 abbrev pub IsPath : Names → Type 0
-IsPath ns = (list_all is_name ns ≡ true) × (length (text_below ns) ≤ 4095)
+IsPath ns = (list_all is_name ns ≡ true) × (length (text_below ns) ≤ most_path_bytes)
 
 -- the text that a path keeps beside its names: empty for the root
 abbrev pub IsHeld : List ℕ → Names → Type 0

@@ -3,6 +3,7 @@ ghost use Rattle.std.specs.Fmt.{padded};
 ghost use Rattle.std.specs.String.{string_bytes};
 ghost use Rattle.std.specs.Option.{option_copied};
 ghost use Rattle.std.specs.List.{list_all, slice_split};
+ghost use Rattle.snap_path.specs.Limits.{most_path_bytes};
 ghost use Rattle.snap_path.specs.Text.{is_name, is_path, path_names, text_of, text_below, parent_of, last_name, Begins, begins, IsHeld, IsPath, IsJoined, IsSpelling};
 
 use super::limits::MAX_PATH_BYTES;
@@ -95,7 +96,7 @@ impl Path {
     /// and its cost is constant.
     pub fn as_str(&self) -> &str
         ensures value { result.now ≡ text_of self.now }
-        ensures short { length (text_of self.now) ≤ 4095 }
+        ensures short { length (text_of self.now) ≤ most_path_bytes }
     {
         if self.text.is_empty() {
             "/"
@@ -145,7 +146,7 @@ impl Path {
     pub fn join(&self, name: &Name) -> Result<Path, PathError>
         ensures ok { IfOk result (λ p. p ≡ self.now ++ name.now ∷ []) }
         ensures bad { IsErrOf result PathError.BadPath
-            ↔ (4095 < length (text_below (self.now ++ name.now ∷ []))) }
+            ↔ (most_path_bytes < length (text_below (self.now ++ name.now ∷ []))) }
 
         // A path is its parent joined with its name.
         ensures parts { IfOk result (IsJoined self.now name.now) }
@@ -158,7 +159,7 @@ impl Path {
 
     /// The path and a name more, where its text is short enough.
     fn joined(&self, name: &Name) -> Result<Path, AllocError>
-        requires { length (text_below (self.now ++ name.now ∷ [])) ≤ 4095 }
+        requires { length (text_below (self.now ++ name.now ∷ [])) ≤ most_path_bytes }
         ensures { IfOk result (λ p. p ≡ self.now ++ name.now ∷ []) }
     {
         let mut path = Path::from_names(*self.names.allocator(), &self.names)?;

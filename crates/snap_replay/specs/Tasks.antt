@@ -8,4 +8,4 @@ use Rattle.snap_replay.specs.declared.Task.TheVariants.{Run, Serve, Writers}
 abbrev pub IsTask : Task → Type 0
 IsTask (Run options) = Unit {0}
 IsTask Serve = Unit {0}
-IsTask (Writers workers ends) = (1 ≤ workers) × (workers ≤ 16)
+IsTask (Writers options) = (1 ≤ options.workers) × (options.workers ≤ 16)

@@ -12,7 +12,7 @@ ghost use Rattle.std.specs.Prelude.{◌≡◌, ◌≤◌, IfOk, IfSome};
 
 use clap::error::ErrorKind as WordsErrorKind;
 use clap::{Arg, ArgAction, ArgMatches, Command, Error, value_parser};
-use snap_jobs::{JobsStop, MAX_WORKERS, write_jobs};
+use snap_jobs::{JobOptions, JobsStop, MAX_WORKERS, write_jobs};
 use snap_lines::Stop;
 use snap_script::{FieldRule, Shortage};
 use snap_session::{RunOptions, replay, serve};
@@ -81,17 +81,16 @@ fn lines_served<T: Input + Print + AllocGlobal>(rt: &T) -> Result<(), JobsStop> 
 
 fn jobs_written<T: Threads + Wait + Sync + Input + Print + AllocGlobal>(
     rt: &T,
-    workers: u32,
-    ends: bool,
+    options: JobOptions,
 ) -> Result<(), JobsStop>
-    requires { (1 ≤ workers) × (workers ≤ 16) }
+    requires { (1 ≤ options.workers) × (options.workers ≤ 16) }
 {
     let alloc = rt.alloc();
     let mut input = rt.reader();
     let Ok(mut output) = BufWriter::new(alloc, io::writer(rt)) else {
         return Err(WANT_OF_MEMORY);
     };
-    write_jobs(rt, alloc, &mut input, &mut output, workers, ends)
+    write_jobs(rt, alloc, &mut input, &mut output, options)
 }
 
 // The status of a run that ended so; the words for it go to standard error.
@@ -132,8 +131,8 @@ enum Task {
     Run { options: RunOptions },
     // Answer each line on standard input.
     Serve,
-    // Run the jobs on standard input by so many workers, 1 to 16, and tell how each ended or not.
-    Writers { workers: u32, ends: bool },
+    // Run the jobs on standard input by 1 to 16 workers.
+    Writers { options: JobOptions },
 }
 
 // The option that says how many workers there are.
@@ -142,9 +141,10 @@ const WORKERS: &str = "workers";
 // The option of `writers` by which the end of each job is told.
 const ENDS: &str = "ends";
 
-// The option of `run` by which unknown fields are faults, and the one by which it ends at the first refusal.
+// The option of `run` and of `writers` by which unknown fields are faults.
 const STRICT: &str = "strict";
 
+// The option of `run` by which it ends at the first refusal.
 const STOP: &str = "stop";
 
 // What goes in and out of `run`. The last line works as it stands.
@@ -167,6 +167,7 @@ Example:
 // The same for `writers`.
 const WRITERS_HELP: &str =
     r#"In: a JSON object a line. The first opens a store, each other one is a job: a snapshot's whole life.
+By --strict lines are read as by run --strict, and a fault in an operation names its number, from 1.
 Out: one line: how many jobs were committed, discarded and refused, and what is charged then; before it,
 with --ends, a line for each job.
 Status: as of run; 4 also after the answer where jobs were refused for want of memory or of a thread; 5 where
@@ -205,11 +206,16 @@ fn writers_command<'a>(alloc: Global) -> Result<Command<'a>, Error> {
         .long(ENDS)
         .help("Writes a line for each job: how it ended")
         .action(ArgAction::SetTrue);
+    let strict = Arg::new(alloc, STRICT)
+        .long(STRICT)
+        .help("A field that a job or an operation doesn't have is a fault")
+        .action(ArgAction::SetTrue);
     let writers = Command::new(alloc, "writers")
         .about("Runs jobs on threads: reads a store and jobs, writes one line at the end")
         .after_help(WRITERS_HELP)
         .arg(workers)?
-        .arg(ends)?;
+        .arg(ends)?
+        .arg(strict)?;
     Ok(writers)
 }
 
@@ -238,14 +244,19 @@ fn task_of(alloc: Global, words: &[String]) -> Result<Option<Task>, Error>
     Ok(chosen(&matches))
 }
 
+// Which fields the words let a line have.
+fn field_rule(words: &ArgMatches<'_>) -> FieldRule {
+    if words.get_flag(STRICT) {
+        FieldRule::Known
+    } else {
+        FieldRule::Any
+    }
+}
+
 // How the words want a script to be run.
 fn run_options(words: &ArgMatches<'_>) -> RunOptions {
     RunOptions {
-        fields: if words.get_flag(STRICT) {
-            FieldRule::Known
-        } else {
-            FieldRule::Any
-        },
+        fields: field_rule(words),
         stops_at_refusal: words.get_flag(STOP),
     }
 }
@@ -265,8 +276,11 @@ fn chosen(matches: &ArgMatches<'_>) -> Option<Task>
                 return None;
             }
             Some(Task::Writers {
-                workers,
-                ends: own.get_flag(ENDS),
+                options: JobOptions {
+                    workers,
+                    ends: own.get_flag(ENDS),
+                    fields: field_rule(own),
+                },
             })
         }
         _ => None,
@@ -281,7 +295,7 @@ fn run<T: Threads + Wait + Sync + Input + Print + Eprint + AllocGlobal>(
     match task_of(rt.alloc(), words) {
         Ok(Some(Task::Run { options })) => status(rt, replayed(rt, options)),
         Ok(Some(Task::Serve)) => status(rt, lines_served(rt)),
-        Ok(Some(Task::Writers { workers, ends })) => status(rt, jobs_written(rt, workers, ends)),
+        Ok(Some(Task::Writers { options })) => status(rt, jobs_written(rt, options)),
         Ok(None) => {
             let _ = rt.eprintln("error: no command");
             BAD_WORDS

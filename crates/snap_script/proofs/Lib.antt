@@ -3,3 +3,5 @@ pub mod Texts
 pub mod LineValues
 pub mod Maps
 pub mod UnknownFields
+mod Ordered
+pub mod Words

@@ -15,6 +15,8 @@ use Rattle.snap_record.specs.Kinds.{kind_word}
 use Rattle.snap_record.specs.declared.info.Info.{Info}
 use Rattle.snap_mount.specs.declared.mount.Mount.{Mount}
 use Rattle.snap_mount.specs.Mounts.{mount_kind_word}
+use Rattle.snap_call.specs.declared.config.ConfigField.{ConfigField}
+use Rattle.snap_call.specs.declared.config.ConfigField.TheVariants as config_fields
 use Rattle.snap_call.specs.declared.refusal.Refusal.{Refusal}
 use Rattle.snap_call.specs.declared.refusal.Refusal.TheVariants as refusals
 use Rattle.snap_call.specs.declared.reply.Reply.{Reply}
@@ -31,6 +33,8 @@ use Rattle.snap_script.specs.declared.answer.TreeNode.{TreeNode}
 use Rattle.snap_script.specs.declared.answer.JournalEntry.{JournalEntry}
 use Rattle.snap_script.specs.declared.answer.Answer.{Answer}
 use Rattle.snap_script.specs.declared.answer.Answer.TheVariants as answers
+use Rattle.snap_script.specs.declared.unknown.FieldRule.{FieldRule}
+use Rattle.snap_script.specs.declared.unknown.FieldRule.TheVariants as rules
 
 -- the name of each refusal
 abbrev pub refusal_name : Refusal → List ℕ
@@ -108,27 +112,37 @@ mount_data mount = object
 abbrev pub error_data : List ℕ → List ℕ → Data
 error_data name from = object (member (codes "error") (string name) (only (codes "from") (string from)))
 
+-- the parts of a configuration as the fields of `open`; no line gives the first id
+abbrev pub config_field_name : ConfigField → List ℕ
+config_field_name config_fields.Root = codes "root"
+config_field_name config_fields.Namespaces = codes "namespaces"
+config_field_name config_fields.Slots = codes "slots"
+config_field_name config_fields.Journal = codes "journal"
+config_field_name config_fields.FirstId = codes "first_id"
+config_field_name config_fields.LayerInodes = codes "layer_inodes"
+
+-- the refusal of a store, with the field that is malformed
+abbrev pub bad_config_data : ConfigField → Data
+bad_config_data field = object
+    (member (codes "error") (string (refusal_name refusals.BadArgument))
+    (member (codes "field") (string (config_field_name field))
+    (only (codes "from") (string (codes "book")))))
+
 -- a text, or null where the bytes are none: UTF-8 alone is JSON
 abbrev pub text_data : List ℕ → Data
 text_data bytes = if is_utf8 bytes then string bytes else null
 
 -- a digest, or null where there is none
 abbrev pub digest_data : Option (List ℕ) → Data
-digest_data None = null
-digest_data (Some digest) = text_data digest
-
--- a file's digest, mode and size
-abbrev pub sized_data : ℕ → ℕ → Option (List ℕ) → Data
-sized_data mode size digest = object
-    (member (codes "digest") (digest_data digest)
-    (member (codes "file") (number_data mode) (only (codes "size") (number_data size))))
+digest_data digest = option_map_or text_data digest null
 
 -- what a snapshot shows: null for nothing; a directory's mode; a file's mode and size, and its digest where its bytes aren't kept; a symlink's target
 abbrev pub shown_data : Option Shown → Data
 shown_data None = null
 shown_data (Some (shown.Dir mode)) = object (only (codes "dir") (number_data mode))
 shown_data (Some (shown.File mode size)) = object (member (codes "file") (number_data mode) (only (codes "size") (number_data size)))
-shown_data (Some (shown.Sized mode size digest)) = sized_data mode size digest
+shown_data (Some (shown.Sized mode size digest)) = object
+    (member (codes "digest") (digest_data digest) (member (codes "file") (number_data mode) (only (codes "size") (number_data size))))
 shown_data (Some (shown.Symlink target)) = object (only (codes "symlink") (text_data target))
 
 -- a snapshot of a forest, with the word of its kind
@@ -178,15 +192,8 @@ entry_data told = object
     (maybe (codes "refused") (option_map (λ why. string (refusal_name why)) told.entry.refused)
     (only (codes "session") (number_data told.entry.session)))))))))
 
--- nothing is to be told but that it was done
-abbrev pub ok_data : Data
-ok_data = object (only (codes "ok") (boolean true))
-
--- what the store replies to a call: a refusal over the limit has what is free
+-- what the store replies to a call: a refusal over the limit has what is free, and of the others, Opened, Trimmed and Done, nothing is told but that it was done
 abbrev pub reply_data : Reply → Data
-reply_data replies.Opened = ok_data
-reply_data replies.Trimmed = ok_data
-reply_data replies.Done = ok_data
 reply_data (replies.Prepared id slot chain) = object
     (member (codes "chain") (array (items_of (map number_data chain)))
     (member (codes "id") (number_data id) (only (codes "slot") (number_data slot))))
@@ -208,6 +215,7 @@ reply_data (replies.Refused (refusals.OverLimit free_blocks free_inodes)) = obje
     (member (codes "free") (usage_data (record { blocks = free_blocks; inodes = free_inodes }))
     (only (codes "from") (string (codes "book")))))
 reply_data (replies.Refused refusal) = error_data (refusal_name refusal) (codes "book")
+reply_data reply = object (only (codes "ok") (boolean true))
 
 -- an answer: a reply has its own data, and the bytes of a file are in lower hexadecimal
 abbrev pub answer_data : Answer → Data
@@ -237,10 +245,22 @@ answer_data (answers.Jobs committed discarded refused totals) = object
     (member (codes "discarded") (number_data discarded)
     (member (codes "refused") (number_data refused)
     (only (codes "totals") (object (members_with usage_data totals no_members))))))
+answer_data (answers.BadConfig field) = bad_config_data field
 answer_data (answers.Failed error) = error_data (error_name error) (codes "file")
 answer_data answers.NoSession = error_data (codes "NoSession") (codes "world")
 answer_data answers.NoHand = error_data (codes "NoHand") (codes "world")
 answer_data answers.StillOut = error_data (codes "StillOut") (codes "world")
+
+-- the refusal of a store without the field
+abbrev pub brief_answer : Answer → Answer
+brief_answer (answers.BadConfig field) = answers.Reply (replies.Refused refusals.BadArgument)
+brief_answer answer = answer
+
+-- the answer as the rule tells it: where any field may stand, a refusal is brief
+abbrev pub answer_told : FieldRule → Answer → Answer
+answer_told rules.Any answer = brief_answer answer
+answer_told rules.Known answer = answer
+answer_told rules.KnownAndId answer = answer
 
 -- the line of an answer: its text with no space between, and a line feed
 unfoldable pub answer_line : Answer → List ℕ

@@ -2,109 +2,53 @@
 -- A call of `charge`, `trim`, `commit` and `discard` names its snapshot by the slot and the id, so the namespace and the
 -- key of its line are given beside it.
 -- Cited by `call_line`, `Runner::new`, `replay_within` and others.
-use Rattle.std.specs.Prelude.{ℕ, List, [], ◌∷◌, map, Option, Some, None, codes}
-use Rattle.std.specs.Option.{option_map}
-use Rattle.serde_json.specs.Data.{Data, null, string, array, object, Members, no_members, member}
+use Rattle.std.specs.Prelude.{ℕ, List, [], ◌∷◌, map, Option, codes, unwrap_or}
+use Rattle.std.specs.Option.{option_map, option_map_or, option_or}
+use Rattle.serde_json.specs.Data.{Data, null, string, array, object, Members, no_members, member, put}
 use Rattle.serde_json.specs.View.{items_of}
 use Rattle.serde_json.specs.Written.{compact_text}
 use Rattle.snap_record.specs.Kinds.{kind_word}
-use Rattle.snap_record.specs.Labels.{Bytes, Label}
+use Rattle.snap_record.specs.Labels.{Bytes}
 use Rattle.snap_record.specs.declared.filter.LabelFilter.{LabelFilter}
 use Rattle.snap_call.specs.declared.call.Call.{Call}
 use Rattle.snap_call.specs.declared.call.Call.TheVariants as calls
-use Rattle.snap_history.specs.Entries.{call_word}
-use Rattle.snap_history.specs.declared.kind.CallKind.{CallKind}
-use Rattle.snap_history.specs.declared.kind.CallKind.TheVariants as kinds
+use Rattle.snap_history.specs.Entries.{call_kind, call_word, key_in}
+use Rattle.snap_history.specs.History.{namespace_in}
 use Rattle.snap_script.specs.Answers.{number_data, usage_data, only, maybe, members_with}
-
--- the word of a call
-abbrev pub word_data : CallKind → Data
-word_data call = string (call_word call)
-
--- the namespace and the session, with which most lines end
-abbrev pub ends : Bytes → ℕ → Members
-ends namespace session = member (codes "ns") (string namespace) (only (codes "s") (number_data session))
-
--- a snapshot by its key, which may not be known
-abbrev pub held_line : CallKind → Bytes → ℕ → Option Bytes → Data
-held_line call namespace session key = object (member (codes "do") (word_data call) (maybe (codes "key") (option_map string key) (ends namespace session)))
-
--- a snapshot by its key
-abbrev pub named_line : CallKind → Bytes → ℕ → Bytes → Data
-named_line call namespace session key = object (member (codes "do") (word_data call) (member (codes "key") (string key) (ends namespace session)))
-
--- a new snapshot
-abbrev pub new_line : CallKind → Bytes → ℕ → Bytes → Bytes → List Label → Data
-new_line call namespace session key parent labels = object
-    (member (codes "do") (word_data call)
-    (member (codes "key") (string key)
-    (member (codes "labels") (object (members_with string labels no_members))
-    (member (codes "ns") (string namespace)
-    (member (codes "parent") (string parent) (only (codes "s") (number_data session)))))))
 
 -- the value that a label has to have, or null where any will do
 abbrev pub wanted_data : Option Bytes → Data
-wanted_data None = null
-wanted_data (Some value) = string value
+wanted_data value = option_map_or string value null
 
 -- the labels that are asked for, in their order
 abbrev pub wanted_members : List LabelFilter → Members
 wanted_members [] = no_members
 wanted_members (label ∷ labels) = member label.key (wanted_data label.value) (wanted_members labels)
 
--- the line of a call in the session, of a snapshot of the namespace that has the key
+-- what the line of a call has beside its word, its session and its namespace; a call on an open snapshot has the key that is given beside it
+abbrev pub parts : Option Bytes → Call → Members
+parts held (calls.Prepare namespace key parent labels) = member (codes "key") (string key) (member (codes "labels") (object (members_with string labels no_members)) (only (codes "parent") (string parent)))
+parts held (calls.View namespace key parent labels) = member (codes "key") (string key) (member (codes "labels") (object (members_with string labels no_members)) (only (codes "parent") (string parent)))
+parts held (calls.Charge slot id need want) = maybe (codes "key") (option_map string held) (member (codes "need") (usage_data need) (only (codes "want") (usage_data want)))
+parts held (calls.Commit slot id name lease) = maybe (codes "key") (option_map string held) (maybe (codes "lease") (option_map string lease) (only (codes "name") (string name)))
+parts held (calls.Update namespace key labels paths) = member (codes "key") (string key) (member (codes "labels") (object (members_with string labels no_members)) (only (codes "paths") (array (items_of (map string paths)))))
+parts held (calls.Walk namespace after most asked) =
+    member (codes "after") (string after) (maybe (codes "kind") (option_map (λ kind. string (kind_word kind)) asked.kind)
+    (member (codes "labels") (object (wanted_members asked.labels)) (member (codes "max") (number_data most)
+    (maybe (codes "name") (option_map string asked.name) (maybe (codes "parent") (option_map string asked.parent) no_members)))))
+parts held (calls.SetLimit namespace limit) = member (codes "blocks") (number_data limit.blocks) (only (codes "inodes") (number_data limit.inodes))
+parts held (calls.LeaseCreate namespace lease until) = member (codes "lease") (string lease) (maybe (codes "until") (option_map number_data until) no_members)
+parts held (calls.LeaseAdd namespace lease name) = member (codes "lease") (string lease) (only (codes "name") (string name))
+parts held (calls.LeaseDrop namespace lease name) = member (codes "lease") (string lease) (only (codes "name") (string name))
+parts held (calls.LeaseRelease namespace lease) = only (codes "lease") (string lease)
+parts held (calls.Sweep namespace moment) = only (codes "now") (number_data moment)
+parts held call = maybe (codes "key") (option_map string (option_or (key_in call) held)) no_members
+
+-- the line of a call in the session, with its parts and the namespace that it names, or else its snapshot's: the keys in byte order
 abbrev pub call_data : Bytes → ℕ → Option Bytes → Call → Data
-call_data own session held calls.Session = object (member (codes "do") (word_data kinds.Session) (only (codes "s") (number_data session)))
-call_data own session held (calls.Prepare namespace key parent labels) = new_line kinds.Prepare namespace session key parent labels
-call_data own session held (calls.View namespace key parent labels) = new_line kinds.View namespace session key parent labels
-call_data own session held (calls.Charge slot id need want) = object
-    (member (codes "do") (word_data kinds.Charge)
-    (maybe (codes "key") (option_map string held)
-    (member (codes "need") (usage_data need)
-    (member (codes "ns") (string own)
-    (member (codes "s") (number_data session) (only (codes "want") (usage_data want)))))))
-call_data own session held (calls.Trim slot id) = held_line kinds.Trim own session held
-call_data own session held (calls.Commit slot id name lease) = object
-    (member (codes "do") (word_data kinds.Commit)
-    (maybe (codes "key") (option_map string held)
-    (maybe (codes "lease") (option_map string lease) (member (codes "name") (string name) (ends own session)))))
-call_data own session held (calls.Discard slot id) = held_line kinds.Discard own session held
-call_data own session held (calls.Remove namespace key) = named_line kinds.Remove namespace session key
-call_data own session held (calls.Stat namespace key) = named_line kinds.Stat namespace session key
-call_data own session held (calls.Usage namespace key) = named_line kinds.Usage namespace session key
-call_data own session held (calls.Mounts namespace key) = named_line kinds.Mounts namespace session key
-call_data own session held (calls.Update namespace key labels paths) = object
-    (member (codes "do") (word_data kinds.Update)
-    (member (codes "key") (string key)
-    (member (codes "labels") (object (members_with string labels no_members))
-    (member (codes "ns") (string namespace)
-    (member (codes "paths") (array (items_of (map string paths))) (only (codes "s") (number_data session)))))))
-call_data own session held (calls.Walk namespace after most asked) = object
-    (member (codes "after") (string after)
-    (member (codes "do") (word_data kinds.Walk)
-    (maybe (codes "kind") (option_map (λ kind. string (kind_word kind)) asked.kind)
-    (member (codes "labels") (object (wanted_members asked.labels))
-    (member (codes "max") (number_data most)
-    (maybe (codes "name") (option_map string asked.name)
-    (member (codes "ns") (string namespace)
-    (maybe (codes "parent") (option_map string asked.parent) (only (codes "s") (number_data session))))))))))
-call_data own session held (calls.SetLimit namespace limit) = object
-    (member (codes "blocks") (number_data limit.blocks)
-    (member (codes "do") (word_data kinds.Limit) (member (codes "inodes") (number_data limit.inodes) (ends namespace session))))
-call_data own session held (calls.LeaseCreate namespace lease until) = object
-    (member (codes "do") (word_data kinds.LeaseCreate)
-    (member (codes "lease") (string lease)
-    (member (codes "ns") (string namespace)
-    (member (codes "s") (number_data session)
-    (maybe (codes "until") (option_map number_data until) no_members)))))
-call_data own session held (calls.LeaseAdd namespace lease name) = object
-    (member (codes "do") (word_data kinds.LeaseAdd) (member (codes "lease") (string lease) (member (codes "name") (string name) (ends namespace session))))
-call_data own session held (calls.LeaseDrop namespace lease name) = object
-    (member (codes "do") (word_data kinds.LeaseDrop) (member (codes "lease") (string lease) (member (codes "name") (string name) (ends namespace session))))
-call_data own session held (calls.LeaseRelease namespace lease) = object
-    (member (codes "do") (word_data kinds.LeaseRelease) (member (codes "lease") (string lease) (ends namespace session)))
-call_data own session held (calls.Sweep namespace moment) = object
-    (member (codes "do") (word_data kinds.Sweep) (member (codes "now") (number_data moment) (ends namespace session)))
+call_data own session held calls.Session = object (member (codes "do") (string (call_word (call_kind calls.Session))) (only (codes "s") (number_data session)))
+call_data own session held call = object
+    (put (codes "do") (string (call_word (call_kind call))) (put (codes "ns") (string (unwrap_or (namespace_in call) own)) (put (codes "s") (number_data session) (parts held call))))
 
 -- its text with no space between, without a line feed
 unfoldable pub call_line : Bytes → ℕ → Option Bytes → Call → Bytes

@@ -1,16 +1,16 @@
 -- The commands of a script; cited by the public clause of `read_line` through Lines.antt. The fields of a command are
 -- tested in the order in which they stand.
 -- Cited by `read_open`, `read_line`, `named` and others.
-use Rattle.std.specs.Prelude.{ℕ, [], Bool, true, false, Option, Some, None, Result, Ok}
+use Rattle.std.specs.Prelude.{ℕ, [], false, if◌then◌else◌, Option, None, unwrap_or, Result, Ok}
 use Rattle.serde_json.specs.Data.{Data}
 use Rattle.serde_json.specs.Find.{as_bool, as_str}
+use Rattle.snap_path.specs.Limits.{most_file_bytes}
 use Rattle.snap_layer.specs.Counts.{default_inodes}
-use Rattle.snap_usage.specs.declared.usage.Usage.{Usage}
 use Rattle.snap_record.specs.Labels.{Bytes}
 use Rattle.snap_record.specs.declared.filter.Filter.{Filter}
 use Rattle.snap_call.specs.declared.call.Call.TheVariants as calls
 use Rattle.snap_call.specs.declared.config.Config.{Config}
-use Rattle.snap_call.specs.Records.{default_slots}
+use Rattle.snap_call.specs.Records.{default_slots, max_journal}
 use Rattle.snap_history.specs.declared.kind.CallKind.{CallKind}
 use Rattle.snap_history.specs.declared.kind.CallKind.TheVariants as kinds
 use Rattle.snap_script.specs.declared.fault.Field.TheVariants as fields
@@ -31,16 +31,12 @@ use Rattle.snap_script.specs.Results.{◌>>=◌}
 unfoldable pub named : Data → Result (Bytes × Bytes) Fault
 named line = do namespace ← text fields.Namespace line; key ← text fields.Key line; Ok (namespace, key)
 
--- the limit that a command names
-abbrev pub limit_of : Data → Result Usage Fault
-limit_of line = do blocks ← required as_natural fields.Blocks line; inodes ← required as_natural fields.Inodes line; Ok (record { blocks = blocks; inodes = inodes })
-
 -- the store that open names, by its root, its namespaces, the most entries of its journal, how many slots it has, and the most inodes of a layer. The first id is 1.
 unfoldable pub config_of : Data → Result Config Fault
 config_of line = do
   root ← text fields.Root line
   namespaces ← required as_namespaces fields.Namespaces line
-  journal ← optional as_natural fields.Journal (Ok 1048576) line
+  journal ← optional as_natural fields.Journal (Ok max_journal) line
   slots ← optional as_natural fields.Slots (Ok default_slots) line
   inodes ← optional as_natural fields.LayerInodes (Ok default_inodes) line
   Ok (record { root = root; namespaces = namespaces; slots = slots; journal = journal; first_id = 1; layer_inodes = inodes })
@@ -54,17 +50,7 @@ filter_of line = do
   labels ← optional as_label_filters fields.Labels (Ok []) line
   Ok (record { name = name; parent = parent; kind = kind; labels = labels })
 
--- the sweep of a namespace at a moment, or what it would take away, where it is only tried
-abbrev pub sweep_of : Bytes → ℕ → Bool → Command
-sweep_of namespace moment true = commands.TrySweep namespace moment
-sweep_of namespace moment false = commands.Call (calls.Sweep namespace moment)
-
--- the usage of a snapshot alone, or with its ancestors
-abbrev pub usage_of : Bytes → Bytes → Bool → Command
-usage_of namespace key true = commands.ChainUsage namespace key
-usage_of namespace key false = commands.Call (calls.Usage namespace key)
-
--- the command of a line that is a call by its kind, mostly on a snapshot s; `prepare`, `view`, `commit`, `remove`, `update` and `walk` are containerd's calls of these names, and a charge wants what it needs where it names no other
+-- the command of a line that is a call by its kind, mostly on a snapshot s; `prepare`, `view`, `commit`, `remove`, `update` and `walk` are containerd's calls of these names. A charge wants what it needs where it names no other; a usage is asked for alone or with the ancestors', and a sweep made or only tried
 unfoldable pub call_of : CallKind → Data → Result Command Fault
 call_of kinds.Session line = Ok commands.Session
 call_of kinds.Prepare line = do s ← named line; Ok (commands.Call (calls.Prepare s.0 s.1 (← text fields.Parent line) (← optional as_labels fields.Labels (Ok []) line)))
@@ -76,22 +62,20 @@ call_of kinds.Discard line = do s ← named line; Ok (commands.Discard s.0 s.1)
 call_of kinds.Remove line = do s ← named line; Ok (commands.Call (calls.Remove s.0 s.1))
 call_of kinds.Stat line = do s ← named line; Ok (commands.Call (calls.Stat s.0 s.1))
 call_of kinds.Update line = do s ← named line; Ok (commands.Call (calls.Update s.0 s.1 (← required as_labels fields.Labels line) (← optional as_texts fields.Paths (Ok []) line)))
-call_of kinds.Usage line = do s ← named line; Ok (usage_of s.0 s.1 (← optional as_bool fields.Chain (Ok false) line))
+call_of kinds.Usage line = do s ← named line; Ok (if (← optional as_bool fields.Chain (Ok false) line) then commands.ChainUsage s.0 s.1 else commands.Call (calls.Usage s.0 s.1))
 call_of kinds.Mounts line = do s ← named line; Ok (commands.Call (calls.Mounts s.0 s.1))
 call_of kinds.Walk line = do Ok (commands.Call (calls.Walk (← text fields.Namespace line) (← optional as_str fields.After (Ok []) line) (← optional as_natural fields.Most (Ok 64) line) (← filter_of line)))
-call_of kinds.Limit line = do Ok (commands.Call (calls.SetLimit (← text fields.Namespace line) (← limit_of line)))
+call_of kinds.Limit line = do Ok (commands.Call (calls.SetLimit (← text fields.Namespace line) (record { blocks = (← required as_natural fields.Blocks line); inodes = (← required as_natural fields.Inodes line) })))
 call_of kinds.LeaseCreate line = do Ok (commands.Call (calls.LeaseCreate (← text fields.Namespace line) (← text fields.Lease line) (← given as_natural fields.Until line)))
 call_of kinds.LeaseAdd line = do Ok (commands.Call (calls.LeaseAdd (← text fields.Namespace line) (← text fields.Lease line) (← text fields.Name line)))
 call_of kinds.LeaseDrop line = do Ok (commands.Call (calls.LeaseDrop (← text fields.Namespace line) (← text fields.Lease line) (← text fields.Name line)))
 call_of kinds.LeaseRelease line = do Ok (commands.Call (calls.LeaseRelease (← text fields.Namespace line) (← text fields.Lease line)))
-call_of kinds.Sweep line = do Ok (sweep_of (← text fields.Namespace line) (← required as_natural fields.Moment line) (← optional as_bool fields.Try (Ok false) line))
+call_of kinds.Sweep line = do namespace ← text fields.Namespace line; moment ← required as_natural fields.Moment line; Ok (if (← optional as_bool fields.Try (Ok false) line) then commands.TrySweep namespace moment else commands.Call (calls.Sweep namespace moment))
 
 -- what a read asks for: without an offset and a number of bytes the first ones, else a part, which begins at the first byte where no offset is named and has as many bytes as a file may have where no number is
 abbrev pub read_asked : Option ℕ → Option ℕ → Lookup
 read_asked None None = lookups.Read
-read_asked (Some offset) None = lookups.Part offset 1048576
-read_asked None (Some most) = lookups.Part 0 most
-read_asked (Some offset) (Some most) = lookups.Part offset most
+read_asked offset most = lookups.Part (unwrap_or offset 0) (unwrap_or most most_file_bytes)
 
 -- what a line asks of a path
 unfoldable pub lookup_of : LookupVerb → Data → Result Lookup Fault
@@ -104,8 +88,8 @@ lookup_of lookup_verbs.Usage line = Ok lookups.Usage
 -- the command of a line by its verb; a file command and a lookup are on a snapshot s
 unfoldable pub command_of : Verb → Data → Result Command Fault
 command_of verbs.Open line = do Ok (commands.Open (← config_of line))
-command_of verbs.Reopen line = do Ok (commands.Reopen (← optional as_natural fields.Journal (Ok 1048576) line))
-command_of verbs.Roll line = do Ok (commands.Roll (← optional as_natural fields.Journal (Ok 1048576) line))
+command_of verbs.Reopen line = do Ok (commands.Reopen (← optional as_natural fields.Journal (Ok max_journal) line))
+command_of verbs.Roll line = do Ok (commands.Roll (← optional as_natural fields.Journal (Ok max_journal) line))
 command_of (verbs.Call kind) line = call_of kind line
 command_of (verbs.File verb) line = do s ← named line; Ok (commands.File s.0 s.1 (← file_operation verb line) (← optional as_usage fields.Extra (Ok (record { blocks = 0; inodes = 0 })) line))
 command_of (verbs.Lookup verb) line = do s ← named line; path ← path_in fields.Path line; asked ← lookup_of verb line; Ok (commands.Lookup s.0 s.1 asked path (← optional as_bool fields.Peek (Ok false) line))

@@ -1,12 +1,14 @@
 -- What a line's faults are called; cited by the public clauses of `Field` and `Fault`.
 -- Cited by `Field::name`, `Fault as Display`, `read_open` and others.
-use Rattle.std.specs.Prelude.{ℕ, List, ◌++◌, Some, None, Result, Ok, Err, codes}
+use Rattle.std.specs.Prelude.{ℕ, List, ◌++◌, Option, Some, None, Result, Ok, Err, codes, decimal}
 use Rattle.snap_script.specs.declared.fault.Field.{Field}
 use Rattle.snap_script.specs.declared.fault.Field.TheVariants as fields
 use Rattle.snap_script.specs.declared.fault.Found.{Found}
 use Rattle.snap_script.specs.declared.fault.Found.TheVariants.{Nothing, Null, Truth, Number, Text, Array, Object}
 use Rattle.snap_script.specs.declared.fault.Fault.{Fault}
 use Rattle.snap_script.specs.declared.fault.Fault.TheVariants as faults
+use Rattle.snap_script.specs.declared.fault.OperationFault.{OperationFault}
+use Rattle.snap_script.specs.declared.fault.OperationFault.TheVariants as operation_faults
 use Rattle.snap_script.specs.Refusals.{refused_name}
 
 -- a field's name, as it stands in a line
@@ -104,6 +106,24 @@ found_words Array kind = codes "an array"
 found_words Object Object = codes "another object"
 found_words Object kind = codes "an object"
 
+-- the words for a field that isn't known, and for the one that is near
+abbrev pub unknown_field_words : List ℕ → Option Field → List ℕ
+unknown_field_words name None = codes "unknown field " ++ name
+unknown_field_words name (Some near) = codes "unknown field " ++ (name ++ (codes ": " ++ (field_name near ++ codes "?")))
+
+-- the words for a bad field, and for what is wanted and what is there
+abbrev pub bad_field_words : Field → Option Found → List ℕ
+bad_field_words field None = codes "bad field " ++ field_name field
+bad_field_words field (Some found) = codes "bad field " ++ (field_name field ++ (codes ": " ++ ((wanted field).1 ++ (codes " is wanted, " ++ (found_words found (wanted field).0 ++ codes " is there")))))
+
+-- the words for the fault of an operation, without its place
+abbrev pub operation_words : OperationFault → List ℕ
+operation_words operation_faults.NotAnObject = codes "not an object"
+operation_words (operation_faults.NoSuchCommand None) = codes "bad field do: the word of a file command is wanted, another text is there"
+operation_words (operation_faults.NoSuchCommand (Some near)) = codes "bad field do: " ++ (near ++ codes "?")
+operation_words (operation_faults.UnknownField name near) = unknown_field_words name near
+operation_words (operation_faults.BadField field found) = bad_field_words field found
+
 -- the words for a fault
 abbrev pub fault_words : Fault → List ℕ
 fault_words faults.TooLong = codes "too long"
@@ -113,17 +133,32 @@ fault_words faults.FirstLineMustBeOpen = codes "first line must be open"
 fault_words faults.OpenTwice = codes "open twice"
 fault_words (faults.NoSuchCommand None) = codes "no such command"
 fault_words (faults.NoSuchCommand (Some near)) = codes "no such command: " ++ (near ++ codes "?")
-fault_words (faults.UnknownField name None) = codes "unknown field " ++ name
-fault_words (faults.UnknownField name (Some near)) = codes "unknown field " ++ (name ++ (codes ": " ++ (field_name near ++ codes "?")))
-fault_words (faults.BadField field None) = codes "bad field " ++ field_name field
-fault_words (faults.BadField field (Some found)) = codes "bad field " ++ (field_name field ++ (codes ": " ++ ((wanted field).1 ++ (codes " is wanted, " ++ (found_words found (wanted field).0 ++ codes " is there")))))
+fault_words (faults.UnknownField name near) = unknown_field_words name near
+fault_words (faults.BadField field found) = bad_field_words field found
+fault_words (faults.Operation number fault) = codes "operation " ++ (decimal number ++ (codes ": " ++ operation_words fault))
 fault_words (faults.Refused why) = refused_name why
 
--- the fault without what is wanted and what is there, and without what is near
+-- the fault of the operation of this number, of what a value is no operation for
+abbrev pub of_operation : ℕ → Fault → Fault
+of_operation number faults.NotAnObject = faults.Operation number operation_faults.NotAnObject
+of_operation number (faults.NoSuchCommand near) = faults.Operation number (operation_faults.NoSuchCommand near)
+of_operation number (faults.UnknownField name near) = faults.Operation number (operation_faults.UnknownField name near)
+of_operation number (faults.BadField field found) = faults.Operation number (operation_faults.BadField field found)
+of_operation number fault = fault
+
+-- the fault of the job's line, without the operation's place and what is wanted, there or near: a value that is no object is a bad field `ops`, and a word of no file command a bad field `do`
+abbrev pub operation_brief : OperationFault → Fault
+operation_brief operation_faults.NotAnObject = faults.BadField fields.Ops None
+operation_brief (operation_faults.NoSuchCommand near) = faults.BadField fields.Do None
+operation_brief (operation_faults.UnknownField name near) = faults.UnknownField name None
+operation_brief (operation_faults.BadField field found) = faults.BadField field None
+
+-- the fault without what is wanted and what is there, and without what is near; that of an operation without its place
 abbrev pub brief : Fault → Fault
 brief (faults.NoSuchCommand near) = faults.NoSuchCommand None
 brief (faults.UnknownField name near) = faults.UnknownField name None
 brief (faults.BadField field found) = faults.BadField field None
+brief (faults.Operation number fault) = operation_brief fault
 brief fault = fault
 
 -- what was read, with a brief fault

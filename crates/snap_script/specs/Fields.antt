@@ -6,6 +6,7 @@ use Rattle.std.specs.Option.{ok_or, option_map_or, option_zip}
 use Rattle.std.specs.Str.{bytes_eq}
 use Rattle.serde_json.specs.Data.{Data, null, boolean, number, string, array, object, Items, no_items, item, Members, no_members, member}
 use Rattle.serde_json.specs.Find.{get, as_number, as_u64, as_str, as_array, as_object}
+use Rattle.snap_path.specs.Limits.{most_file_bytes}
 use Rattle.snap_usage.specs.declared.usage.Usage.{Usage}
 use Rattle.snap_record.specs.Labels.{Bytes, Label, with_label}
 use Rattle.snap_record.specs.declared.filter.LabelFilter.{LabelFilter}
@@ -81,7 +82,7 @@ as_usage d = option_map usage_with (as_pair d)
 
 -- a byte repeated: [byte, number], at most 255 and at most 1,048,576
 abbrev pub as_fill : Data → Option Bytes
-as_fill d = option_and_then (λ pair. if nat_le pair.0 255 && nat_le pair.1 1048576 then Some (replicate pair.1 pair.0) else None) (as_pair d)
+as_fill d = option_and_then (λ pair. if nat_le pair.0 255 && nat_le pair.1 most_file_bytes then Some (replicate pair.1 pair.0) else None) (as_pair d)
 
 -- the items of an array, where each is of a kind
 abbrev pub each_item : {A : Type 0} → (Data → Option A) → Items → Option (List A)

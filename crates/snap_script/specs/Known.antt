@@ -1,6 +1,6 @@
 -- The fields that a line may have, where unknown ones are faults; cited by the public clauses of `read_line` and
 -- `read_request` through Lines.antt.
--- Cited by `read_line`, `read_request`, `Runner::new` and others.
+-- Cited by `read_open`, `read_line`, `operations` and others.
 use Rattle.std.specs.Prelude.{ℕ, Bool, ◌||◌, if◌then◌else◌, List, [], ◌∷◌, Option, Some, None, find, option_and_then, Result, Ok, Err}
 use Rattle.std.specs.List.{list_any}
 use Rattle.std.specs.Str.{bytes_eq}
@@ -15,13 +15,14 @@ use Rattle.snap_script.specs.declared.unknown.FieldRule.{FieldRule}
 use Rattle.snap_script.specs.declared.unknown.FieldRule.TheVariants as rules
 use Rattle.snap_script.specs.declared.verb.Verb.{Verb}
 use Rattle.snap_script.specs.declared.verb.Verb.TheVariants as verbs
+use Rattle.snap_script.specs.declared.verb.FileVerb.{FileVerb}
 use Rattle.snap_script.specs.declared.verb.FileVerb.TheVariants as file_verbs
 use Rattle.snap_script.specs.declared.verb.PathVerb.TheVariants as path_verbs
 use Rattle.snap_script.specs.declared.verb.LookupVerb.TheVariants as lookup_verbs
 use Rattle.snap_script.specs.Faults.{field_name}
 use Rattle.snap_script.specs.Near.{is_near}
 
--- the fields that each command has, with and without a default
+-- the fields that each command has, with and without a default; the first three of a file command are those that a job has for all its operations
 abbrev pub fields_of : Verb → List Field
 fields_of verbs.Open = fields.Root ∷ fields.Namespaces ∷ fields.Journal ∷ fields.Slots ∷ fields.LayerInodes ∷ []
 fields_of verbs.Reopen = fields.Journal ∷ []
@@ -45,19 +46,19 @@ fields_of (verbs.Call kinds.LeaseAdd) = fields.Namespace ∷ fields.Lease ∷ fi
 fields_of (verbs.Call kinds.LeaseDrop) = fields.Namespace ∷ fields.Lease ∷ fields.Name ∷ []
 fields_of (verbs.Call kinds.LeaseRelease) = fields.Namespace ∷ fields.Lease ∷ []
 fields_of (verbs.Call kinds.Sweep) = fields.Namespace ∷ fields.Moment ∷ fields.Try ∷ []
-fields_of (verbs.File (file_verbs.At path_verbs.Mkdir)) = fields.Namespace ∷ fields.Key ∷ fields.Path ∷ fields.Mode ∷ fields.Extra ∷ []
-fields_of (verbs.File (file_verbs.At path_verbs.Create)) = fields.Namespace ∷ fields.Key ∷ fields.Path ∷ fields.Mode ∷ fields.Extra ∷ []
-fields_of (verbs.File (file_verbs.At path_verbs.Put)) = fields.Namespace ∷ fields.Key ∷ fields.Path ∷ fields.Mode ∷ fields.Size ∷ fields.Digest ∷ fields.Extra ∷ []
-fields_of (verbs.File (file_verbs.At path_verbs.Write)) = fields.Namespace ∷ fields.Key ∷ fields.Path ∷ fields.Offset ∷ fields.Text ∷ fields.Fill ∷ fields.Extra ∷ []
-fields_of (verbs.File (file_verbs.At path_verbs.Truncate)) = fields.Namespace ∷ fields.Key ∷ fields.Path ∷ fields.Size ∷ fields.Extra ∷ []
-fields_of (verbs.File (file_verbs.At path_verbs.SetMode)) = fields.Namespace ∷ fields.Key ∷ fields.Path ∷ fields.Mode ∷ fields.Extra ∷ []
-fields_of (verbs.File (file_verbs.At path_verbs.Symlink)) = fields.Namespace ∷ fields.Key ∷ fields.Path ∷ fields.Target ∷ fields.Extra ∷ []
-fields_of (verbs.File (file_verbs.At path_verbs.Unlink)) = fields.Namespace ∷ fields.Key ∷ fields.Path ∷ fields.Extra ∷ []
-fields_of (verbs.File (file_verbs.At path_verbs.Rmdir)) = fields.Namespace ∷ fields.Key ∷ fields.Path ∷ fields.Extra ∷ []
-fields_of (verbs.File (file_verbs.At path_verbs.Opaque)) = fields.Namespace ∷ fields.Key ∷ fields.Path ∷ fields.Extra ∷ []
-fields_of (verbs.File (file_verbs.At path_verbs.Whiteout)) = fields.Namespace ∷ fields.Key ∷ fields.Path ∷ fields.Extra ∷ []
-fields_of (verbs.File file_verbs.Link) = fields.Namespace ∷ fields.Key ∷ fields.From ∷ fields.To ∷ fields.Extra ∷ []
-fields_of (verbs.File file_verbs.Rename) = fields.Namespace ∷ fields.Key ∷ fields.From ∷ fields.To ∷ fields.Extra ∷ []
+fields_of (verbs.File (file_verbs.At path_verbs.Mkdir)) = fields.Namespace ∷ fields.Key ∷ fields.Extra ∷ fields.Path ∷ fields.Mode ∷ []
+fields_of (verbs.File (file_verbs.At path_verbs.Create)) = fields.Namespace ∷ fields.Key ∷ fields.Extra ∷ fields.Path ∷ fields.Mode ∷ []
+fields_of (verbs.File (file_verbs.At path_verbs.Put)) = fields.Namespace ∷ fields.Key ∷ fields.Extra ∷ fields.Path ∷ fields.Mode ∷ fields.Size ∷ fields.Digest ∷ []
+fields_of (verbs.File (file_verbs.At path_verbs.Write)) = fields.Namespace ∷ fields.Key ∷ fields.Extra ∷ fields.Path ∷ fields.Offset ∷ fields.Text ∷ fields.Fill ∷ []
+fields_of (verbs.File (file_verbs.At path_verbs.Truncate)) = fields.Namespace ∷ fields.Key ∷ fields.Extra ∷ fields.Path ∷ fields.Size ∷ []
+fields_of (verbs.File (file_verbs.At path_verbs.SetMode)) = fields.Namespace ∷ fields.Key ∷ fields.Extra ∷ fields.Path ∷ fields.Mode ∷ []
+fields_of (verbs.File (file_verbs.At path_verbs.Symlink)) = fields.Namespace ∷ fields.Key ∷ fields.Extra ∷ fields.Path ∷ fields.Target ∷ []
+fields_of (verbs.File (file_verbs.At path_verbs.Unlink)) = fields.Namespace ∷ fields.Key ∷ fields.Extra ∷ fields.Path ∷ []
+fields_of (verbs.File (file_verbs.At path_verbs.Rmdir)) = fields.Namespace ∷ fields.Key ∷ fields.Extra ∷ fields.Path ∷ []
+fields_of (verbs.File (file_verbs.At path_verbs.Opaque)) = fields.Namespace ∷ fields.Key ∷ fields.Extra ∷ fields.Path ∷ []
+fields_of (verbs.File (file_verbs.At path_verbs.Whiteout)) = fields.Namespace ∷ fields.Key ∷ fields.Extra ∷ fields.Path ∷ []
+fields_of (verbs.File file_verbs.Link) = fields.Namespace ∷ fields.Key ∷ fields.Extra ∷ fields.From ∷ fields.To ∷ []
+fields_of (verbs.File file_verbs.Rename) = fields.Namespace ∷ fields.Key ∷ fields.Extra ∷ fields.From ∷ fields.To ∷ []
 fields_of (verbs.Lookup lookup_verbs.Look) = fields.Namespace ∷ fields.Key ∷ fields.Path ∷ fields.Peek ∷ []
 fields_of (verbs.Lookup lookup_verbs.List) = fields.Namespace ∷ fields.Key ∷ fields.Path ∷ fields.Peek ∷ []
 fields_of (verbs.Lookup lookup_verbs.Read) = fields.Namespace ∷ fields.Key ∷ fields.Path ∷ fields.Peek ∷ fields.Offset ∷ fields.Most ∷ []
@@ -98,8 +99,39 @@ abbrev pub unless_unknown : List Field → Option (List ℕ) → Result Unit Fau
 unless_unknown own None = Ok tt
 unless_unknown own (Some name) = Err (UnknownField name (near_field own name))
 
+-- an object has no field but the common ones and its own
+abbrev pub known_within : List Field → List Field → Data → Result Unit Fault
+known_within common own d = unless_unknown own (option_and_then (unknown_among common own) (as_object d))
+
 -- the line of a command has no field but those that it may have
 unfoldable pub known_fields : FieldRule → Verb → Data → Result Unit Fault
 known_fields rules.Any verb line = Ok tt
-known_fields rules.Known verb line = unless_unknown (fields_of verb) (option_and_then (unknown_among (common_fields rules.Known) (fields_of verb)) (as_object line))
-known_fields rules.KnownAndId verb line = unless_unknown (fields_of verb) (option_and_then (unknown_among (common_fields rules.KnownAndId) (fields_of verb)) (as_object line))
+known_fields rules.Known verb line = known_within (common_fields rules.Known) (fields_of verb) line
+known_fields rules.KnownAndId verb line = known_within (common_fields rules.KnownAndId) (fields_of verb) line
+
+-- ---- jobs
+
+-- the fields of a file command without those that a job has for all its operations
+abbrev pub without_shared : List Field → List Field
+without_shared (_ ∷ _ ∷ _ ∷ own) = own
+without_shared those = []
+
+-- the fields of an operation beside its word
+abbrev pub operation_fields : FileVerb → List Field
+operation_fields verb = without_shared (fields_of (verbs.File verb))
+
+-- an operation has no field but its word and those that it may have
+unfoldable pub known_operation : FieldRule → FileVerb → Data → Result Unit Fault
+known_operation rules.Any verb d = Ok tt
+known_operation rules.Known verb d = known_within (fields.Do ∷ []) (operation_fields verb) d
+known_operation rules.KnownAndId verb d = known_within (fields.Do ∷ []) (operation_fields verb) d
+
+-- the fields of a job's line
+abbrev pub job_fields : List Field
+job_fields = fields.Namespace ∷ fields.Key ∷ fields.Parent ∷ fields.Ops ∷ fields.End ∷ fields.Name ∷ fields.Lease ∷ fields.Extra ∷ []
+
+-- the line of a job, which has neither a command's word nor a session, has no field but those that it may have
+unfoldable pub known_job : FieldRule → Data → Result Unit Fault
+known_job rules.Any line = Ok tt
+known_job rules.Known line = known_within [] job_fields line
+known_job rules.KnownAndId line = known_within (fields.Id ∷ []) job_fields line

@@ -3,14 +3,15 @@ pub mod Results
 pub mod Fields
 pub mod Near
 pub mod Words
+pub mod Known
 pub mod Operations
 pub mod Commands
-pub mod Known
 pub mod Lines
 pub mod Gives
 pub mod Answers
 pub mod Calls
 pub mod Refusals
 pub mod Written
+pub mod WrittenCalls
 pub mod Requests
 pub mod Responses

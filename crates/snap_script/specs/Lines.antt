@@ -63,17 +63,24 @@ command_in rule opened line = do
 -- what was read, as the rule tells it: where any field may stand, a fault is brief
 abbrev pub told : {A : Type 0} → FieldRule → Result A Fault → Result A Fault
 told rules.Any reading = briefly reading
-told rules.Known reading = reading
-told rules.KnownAndId reading = reading
+told rule reading = reading
 
 -- the command of a line that isn't empty
 unfoldable pub command_line : FieldRule → Bool → List ℕ → Result Line Fault
 command_line rule opened bytes = do told rule (command_in rule opened (← object_in bytes))
 
+-- the session of a line that opens a store where none is named: where not any field may stand it is tested all the same
+unfoldable pub session_in : FieldRule → Data → Result ℕ Fault
+session_in rules.Any line = Ok 0
+session_in rules.Known line = optional as_natural fields.Session (Ok 0) line
+session_in rules.KnownAndId line = optional as_natural fields.Session (Ok 0) line
+
 -- the store that a first line opens, where no session is named
-unfoldable pub opening_of : Data → Result Config Fault
-opening_of line = do
+unfoldable pub opening_of : FieldRule → Data → Result Config Fault
+opening_of rule line = do
   verb ← allowed false (← text fields.Do line)
+  known ← known_fields rule Open line
+  session ← session_in rule line
   config_of line
 
 -- a line, without its line feed, by the fields that it may have: at most 16 MiB

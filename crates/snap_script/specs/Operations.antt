@@ -1,7 +1,7 @@
 -- File operations, as lines and jobs have them; cited by the public clauses of `read_line`, through Commands.antt, and of
 -- `operations`. The fields are tested in the order in which they stand.
 -- Cited by `read_line`, `operations`, `read_request` and others.
-use Rattle.std.specs.Prelude.{ℕ, if◌then◌else◌, List, [], ◌∷◌, Option, Some, None, option_map, Result, Ok, Err}
+use Rattle.std.specs.Prelude.{ℕ, ◌+◌, if◌then◌else◌, List, [], ◌∷◌, Option, Some, None, option_map, Result, Ok, Err}
 use Rattle.std.specs.Option.{is_some, ok_or, option_zip}
 use Rattle.serde_json.specs.Data.{Data, Items, no_items, item}
 use Rattle.serde_json.specs.Find.{as_array, as_object, as_str}
@@ -10,17 +10,20 @@ use Rattle.snap_upper.specs.declared.op.Op.{Op}
 use Rattle.snap_upper.specs.declared.op.Op.TheVariants as ops
 use Rattle.snap_script.specs.declared.fault.Field.{Field}
 use Rattle.snap_script.specs.declared.fault.Field.TheVariants as fields
-use Rattle.snap_script.specs.declared.fault.Found.TheVariants.{Text, Array}
+use Rattle.snap_script.specs.declared.fault.Found.TheVariants.{Text}
 use Rattle.snap_script.specs.declared.fault.Fault.{Fault}
-use Rattle.snap_script.specs.declared.fault.Fault.TheVariants.{BadField}
+use Rattle.snap_script.specs.declared.fault.Fault.TheVariants.{BadField, NoSuchCommand, NotAnObject}
+use Rattle.snap_script.specs.declared.unknown.FieldRule.{FieldRule}
 use Rattle.snap_script.specs.declared.verb.Verb.{Verb}
 use Rattle.snap_script.specs.declared.verb.Verb.TheVariants as verbs
 use Rattle.snap_script.specs.declared.verb.FileVerb.{FileVerb}
 use Rattle.snap_script.specs.declared.verb.FileVerb.TheVariants as file_verbs
 use Rattle.snap_script.specs.declared.verb.PathVerb.{PathVerb}
 use Rattle.snap_script.specs.declared.verb.PathVerb.TheVariants as path_verbs
+use Rattle.snap_script.specs.Faults.{of_operation}
 use Rattle.snap_script.specs.Fields.{text, required, optional, given, as_natural, as_mode, content_of}
-use Rattle.snap_script.specs.Words.{verb_of}
+use Rattle.snap_script.specs.Known.{known_operation}
+use Rattle.snap_script.specs.Words.{near_file_command, verb_of}
 use Rattle.snap_script.specs.Results.{◌>>=◌}
 
 -- the path that a text is
@@ -68,26 +71,42 @@ file_operation file_verbs.Rename line = do Ok (both ops.Rename (← path_in fiel
 
 -- ---- the operations of a job
 
--- the operation of a job by its verb, that of a file command, with paths that are paths; no other verb is one of an operation
-abbrev pub operation_by : Option Verb → Data → Result Op Fault
-operation_by (Some (verbs.File (file_verbs.At verb))) line = do operation_at verb (← path fields.Path line) line
-operation_by (Some (verbs.File file_verbs.Link)) line = do Ok (ops.Link (← path fields.From line) (← path fields.To line))
-operation_by (Some (verbs.File file_verbs.Rename)) line = do Ok (ops.Rename (← path fields.From line) (← path fields.To line))
-operation_by verb line = Err (BadField fields.Do (Some Text))
+-- the file command that has the verb; no other verb is one of an operation
+abbrev pub file_verb_by : Option Verb → List ℕ → Result FileVerb Fault
+file_verb_by (Some (verbs.File verb)) word = Ok verb
+file_verb_by verb word = Err (NoSuchCommand (near_file_command word))
 
--- the operation that an object is
-abbrev pub operation_in : Data → Result Op Fault
-operation_in line = do operation_by (verb_of (← text fields.Do line)) line
+-- the same by the operation's word
+unfoldable pub file_verb : List ℕ → Result FileVerb Fault
+file_verb word = file_verb_by (verb_of word) word
+
+-- the operation of a job by its file command, with paths that are paths
+unfoldable pub operation_by : FileVerb → Data → Result Op Fault
+operation_by (file_verbs.At verb) line = do operation_at verb (← path fields.Path line) line
+operation_by file_verbs.Link line = do Ok (ops.Link (← path fields.From line) (← path fields.To line))
+operation_by file_verbs.Rename line = do Ok (ops.Rename (← path fields.From line) (← path fields.To line))
+
+-- the operation that an object is, by the fields that it may have
+abbrev pub operation_in : FieldRule → Data → Result Op Fault
+operation_in rule line = do
+  verb ← file_verb (← text fields.Do line)
+  known ← known_operation rule verb line
+  operation_by verb line
 
 -- an operation: an object
-unfoldable pub operation : Data → Result Op Fault
-operation line = if is_some (as_object line) then operation_in line else Err (BadField fields.Ops (Some Array))
+unfoldable pub operation : FieldRule → Data → Result Op Fault
+operation rule line = if is_some (as_object line) then operation_in rule line else Err NotAnObject
 
--- each item an operation
-abbrev pub operations_in : Items → Result (List Op) Fault
-operations_in no_items = Ok []
-operations_in (item d ds) = do op ← operation d; ops ← operations_in ds; Ok (op ∷ ops)
+-- what was read of the operation of this number, which a fault tells
+abbrev pub numbered : {A : Type 0} → ℕ → Result A Fault → Result A Fault
+numbered number (Ok a) = Ok a
+numbered number (Err fault) = Err (of_operation number fault)
 
--- the operations of a job: an array of them
-unfoldable pub operations : Data → Result (List Op) Fault
-operations line = do operations_in (← required as_array fields.Ops line)
+-- each item an operation, of which the first has this number
+abbrev pub operations_in : FieldRule → ℕ → Items → Result (List Op) Fault
+operations_in rule number no_items = Ok []
+operations_in rule number (item d ds) = do op ← numbered number (operation rule d); ops ← operations_in rule (number + 1) ds; Ok (op ∷ ops)
+
+-- the operations of a job: an array of them, which are counted from 1
+unfoldable pub operations : FieldRule → Data → Result (List Op) Fault
+operations rule line = do operations_in rule 1 (← required as_array fields.Ops line)

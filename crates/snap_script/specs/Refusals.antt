@@ -1,6 +1,7 @@
 -- Which answers tell of a refusal, and its name; cited by the public clauses of `Answer::refusal` and `Refused::name`.
 -- Cited by `Fault as Display`, `Refused::name`, `Answer::refusal` and others.
 use Rattle.std.specs.Prelude.{ℕ, List, Option, Some, None, codes}
+use Rattle.snap_call.specs.declared.refusal.Refusal.TheVariants.{BadArgument}
 use Rattle.snap_call.specs.declared.reply.Reply.TheVariants as replies
 use Rattle.snap_script.specs.declared.answer.Answer.{Answer}
 use Rattle.snap_script.specs.declared.answer.Answer.TheVariants as answers
@@ -11,6 +12,7 @@ use Rattle.snap_script.specs.Answers.{refusal_name, error_name}
 -- why the command was refused, where the answer says so: each answer that has an `error`
 abbrev pub refusal_in : Answer → Option Refused
 refusal_in (answers.Reply (replies.Refused why)) = Some (refused.Book why)
+refusal_in (answers.BadConfig field) = Some (refused.Book BadArgument)
 refusal_in (answers.Failed error) = Some (refused.File error)
 refusal_in answers.NoSession = Some refused.NoSession
 refusal_in answers.NoHand = Some refused.NoHand

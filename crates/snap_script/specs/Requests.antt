@@ -1,10 +1,10 @@
 -- A line that a client may give an id; cited by the public clause of `read_request`.
 -- Cited by `read_request`, `serve`, `Server as TakeLine`.
-use Rattle.std.specs.Prelude.{ℕ, nat_lt, if◌then◌else◌, List, length, Option, None, Result, Ok, Err, codes}
+use Rattle.std.specs.Prelude.{ℕ, nat_lt, if◌then◌else◌, List, length, Option, None, codes}
+use Rattle.std.specs.Result.{result_ok}
 use Rattle.std.specs.Option.{option_and_then, option_map, option_or}
 use Rattle.serde_json.specs.Data.{Data}
 use Rattle.serde_json.specs.Find.{get, as_str}
-use Rattle.snap_script.specs.declared.fault.Fault.{Fault}
 use Rattle.snap_script.specs.declared.request.Id.{Id}
 use Rattle.snap_script.specs.declared.request.Id.TheVariants.{Text, Number}
 use Rattle.snap_script.specs.Fields.{as_natural}
@@ -18,11 +18,6 @@ as_id value = option_or (option_map Text (as_str value)) (option_map Number (as_
 abbrev pub id_in : Data → Option Id
 id_in line = option_and_then as_id (get (codes "id") line)
 
--- the id of what was read
-abbrev pub id_read : Result Data Fault → Option Id
-id_read (Ok line) = id_in line
-id_read (Err fault) = None
-
 -- the id of a line, without its line feed: one above 16 MiB and an empty one have none
 unfoldable pub id_of : List ℕ → Option Id
-id_of bytes = if nat_lt 16777216 (length bytes) then None else (if is_empty bytes then None else id_read (object_in bytes))
+id_of bytes = if nat_lt 16777216 (length bytes) then None else (if is_empty bytes then None else option_and_then id_in (result_ok (object_in bytes)))

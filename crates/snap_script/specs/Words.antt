@@ -1,7 +1,7 @@
 -- The words of the commands; cited by the public clauses of `read_line` and `operations` through Lines.antt and
 -- Operations.antt.
 -- Cited by `read_open`, `read_line`, `operations` and others.
-use Rattle.std.specs.Prelude.{List, ℕ, [], ◌∷◌, Option, option_map, codes, find, map}
+use Rattle.std.specs.Prelude.{List, ℕ, [], ◌∷◌, Bool, true, false, ◌&&◌, Option, option_map, codes, find, map}
 use Rattle.std.specs.Option.{option_or}
 use Rattle.std.specs.Map.{lookup}
 use Rattle.std.specs.Str.{bytes_eq}
@@ -67,3 +67,16 @@ verb_of word = option_or (option_map verbs.Call (call_of_word word)) (lookup (by
 -- the first word of a command that is near the word
 unfoldable pub near_command : List ℕ → Option (List ℕ)
 near_command word = option_or (find (λ known. is_near known word) (map call_word calls)) (find (λ known. is_near known word) (map (λ p. p.0) words))
+
+-- the verb is that of a file command
+abbrev pub is_file : Verb → Bool
+is_file (verbs.File verb) = true
+is_file verb = false
+
+-- the first word of a file command in a table that is near the word
+abbrev pub near_file_word : List (List ℕ × Verb) → List ℕ → Option (List ℕ)
+near_file_word table word = option_map (λ p. p.0) (find (λ p. is_file p.1 && is_near p.0 word) table)
+
+-- the same of all words
+unfoldable pub near_file_command : List ℕ → Option (List ℕ)
+near_file_command word = near_file_word words word

@@ -1,11 +1,12 @@
 ghost use Rattle.std.specs.Prelude.{◌≡◌, IfOk, string_bytes};
 ghost use Rattle.snap_call.specs.declared.reply.Reply.TheVariants as replies;
-ghost use Rattle.snap_script.specs.Answers.{answer_data, answer_line, change_data, node_data, quota_data, shown_data};
+ghost use Rattle.snap_script.specs.Answers.{answer_data, answer_line, answer_told, brief_answer, change_data, node_data, quota_data, shown_data};
 ghost use Rattle.snap_script.specs.declared.answer.Answer.TheVariants as answers;
 
 use crate::to_json::{ToJson, member, only, pair};
-use crate::values::{error, error_name, jobs, quotas, report, sized};
-use snap_call::{Refusal, Reply};
+use crate::unknown::FieldRule;
+use crate::values::{bad_config, error, error_name, jobs, quotas, report, sized};
+use snap_call::{ConfigField, Refusal, Reply};
 use snap_diff::Change;
 use snap_history::EntryInfo;
 use snap_json::{Token, Writer};
@@ -221,6 +222,9 @@ pub enum Answer {
         refused: u64,
         totals: Sequence<(Text, Usage)>,
     },
+    /// A store was refused for the form of a field of its `open`, the first such in the order of [`ConfigField`]:
+    /// `{"error":"BadArgument","field":"slots","from":"book"}`.
+    BadConfig(ConfigField),
     /// A file operation failed: `{"error":"Exists","from":"file"}`.
     Failed(FsError),
     /// No such session was opened: `{"error":"NoSession","from":"world"}`.
@@ -262,6 +266,7 @@ impl Drop for Answer {
                 refused: _,
                 totals: _,
             } => {}
+            Answer::BadConfig(_) => {}
             Answer::Failed(_) => {}
             Answer::NoSession => {}
             Answer::NoHand => {}
@@ -276,6 +281,27 @@ impl Answer {
         ensures { result ≡ answers.Reply (replies.Refused why) }
     {
         Answer::Reply(Reply::Refused(why))
+    }
+
+    /// The answer; the refusal of a store without the field.
+    fn brief(self) -> Answer
+        ensures { result ≡ brief_answer self }
+    {
+        match &self {
+            Answer::BadConfig(_) => Answer::refused(Refusal::BadArgument),
+            _ => self,
+        }
+    }
+
+    /// The answer as the rule tells it: where any field may stand in a line, the refusal of a store doesn't name
+    /// the field. Takes no memory.
+    pub fn told(self, rule: FieldRule) -> Answer
+        ensures { result ≡ answer_told rule self }
+    {
+        match rule {
+            FieldRule::Any => self.brief(),
+            FieldRule::Known | FieldRule::KnownAndId => self,
+        }
     }
 
     /// The line of the answer: compact JSON, the keys of each object in byte order, texts escaped as
@@ -340,6 +366,7 @@ impl ToJson for Answer {
                 *refused,
                 totals.as_slice(),
             ),
+            Answer::BadConfig(field) => bad_config(alloc, out, *field),
             Answer::Failed(own) => error(alloc, out, error_name(*own), "file"),
             Answer::NoSession => error(alloc, out, "NoSession", "world"),
             Answer::NoHand => error(alloc, out, "NoHand", "world"),

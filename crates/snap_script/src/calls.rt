@@ -4,7 +4,8 @@ ghost use Rattle.serde_json.specs.Data.{object, string};
 ghost use Rattle.snap_call.specs.declared.call.Call.TheVariants as calls;
 ghost use Rattle.snap_json.specs.Tokens.{with_members, with_value};
 ghost use Rattle.snap_record.specs.Kinds.{kind_word};
-ghost use Rattle.snap_script.specs.Calls.{call_data, call_line, ends, held_line, named_line, new_line, wanted_data, wanted_members};
+ghost use Rattle.snap_script.specs.Calls.{call_line, wanted_data, wanted_members};
+ghost use Rattle.snap_script.specs.WrittenCalls.{ends, held_line, named_line, new_line, ordered_data};
 
 use crate::to_json::{ToJson, maybe, member};
 use snap_call::Call;
@@ -114,7 +115,7 @@ fn made(
 }
 
 fn session_call(alloc: Global, out: &mut Writer, session: u64) -> Result<(), AllocError>
-    ensures { OnOk result (out.new ≡ with_value (call_data [] session None calls.Session) out.old) }
+    ensures { OnOk result (out.new ≡ with_value (ordered_data [] session None calls.Session) out.old) }
 {
     out.token(Token::BeginObject)?;
     member(alloc, out, "do", &CallKind::Session.as_str())?;
@@ -132,7 +133,7 @@ fn charge(
     need: Usage,
     want: Usage,
 ) -> Result<(), AllocError>
-    ensures { OnOk result (out.new ≡ with_value (call_data namespace.now session key.now (calls.Charge 0 0 need want)) out.old) }
+    ensures { OnOk result (out.new ≡ with_value (ordered_data namespace.now session key.now (calls.Charge 0 0 need want)) out.old) }
 {
     out.token(Token::BeginObject)?;
     member(alloc, out, "do", &CallKind::Charge.as_str())?;
@@ -154,7 +155,7 @@ fn commit(
     name: &Text,
     lease: &Option<Text>,
 ) -> Result<(), AllocError>
-    ensures { OnOk result (out.new ≡ with_value (call_data namespace.now session key.now (calls.Commit 0 0 name.now lease.now)) out.old) }
+    ensures { OnOk result (out.new ≡ with_value (ordered_data namespace.now session key.now (calls.Commit 0 0 name.now lease.now)) out.old) }
 {
     out.token(Token::BeginObject)?;
     member(alloc, out, "do", &CallKind::Commit.as_str())?;
@@ -173,7 +174,7 @@ fn update(
     labels: &Labels,
     paths: &Sequence<Text>,
 ) -> Result<(), AllocError>
-    ensures { OnOk result (out.new ≡ with_value (call_data [] session None (calls.Update namespace.now key.now labels.now paths.now)) out.old) }
+    ensures { OnOk result (out.new ≡ with_value (ordered_data [] session None (calls.Update namespace.now key.now labels.now paths.now)) out.old) }
 {
     out.token(Token::BeginObject)?;
     member(alloc, out, "do", &CallKind::Update.as_str())?;
@@ -195,7 +196,7 @@ fn walk(
     most: u64,
     asked: &Filter,
 ) -> Result<(), AllocError>
-    ensures { OnOk result (out.new ≡ with_value (call_data [] session None (calls.Walk namespace.now after.now most asked.now)) out.old) }
+    ensures { OnOk result (out.new ≡ with_value (ordered_data [] session None (calls.Walk namespace.now after.now most asked.now)) out.old) }
 {
     out.token(Token::BeginObject)?;
     member(alloc, out, "after", after)?;
@@ -218,7 +219,7 @@ fn set_limit(
     session: u64,
     limit: Usage,
 ) -> Result<(), AllocError>
-    ensures { OnOk result (out.new ≡ with_value (call_data [] session None (calls.SetLimit namespace.now limit)) out.old) }
+    ensures { OnOk result (out.new ≡ with_value (ordered_data [] session None (calls.SetLimit namespace.now limit)) out.old) }
 {
     out.token(Token::BeginObject)?;
     member(alloc, out, "blocks", &limit.blocks)?;
@@ -236,7 +237,7 @@ fn lease_create(
     lease: &Text,
     until: &Option<u64>,
 ) -> Result<(), AllocError>
-    ensures { OnOk result (out.new ≡ with_value (call_data [] session None (calls.LeaseCreate namespace.now lease.now until.now)) out.old) }
+    ensures { OnOk result (out.new ≡ with_value (ordered_data [] session None (calls.LeaseCreate namespace.now lease.now until.now)) out.old) }
 {
     out.token(Token::BeginObject)?;
     member(alloc, out, "do", &CallKind::LeaseCreate.as_str())?;
@@ -255,7 +256,7 @@ fn lease_add(
     lease: &Text,
     name: &Text,
 ) -> Result<(), AllocError>
-    ensures { OnOk result (out.new ≡ with_value (call_data [] session None (calls.LeaseAdd namespace.now lease.now name.now)) out.old) }
+    ensures { OnOk result (out.new ≡ with_value (ordered_data [] session None (calls.LeaseAdd namespace.now lease.now name.now)) out.old) }
 {
     out.token(Token::BeginObject)?;
     member(alloc, out, "do", &CallKind::LeaseAdd.as_str())?;
@@ -272,7 +273,7 @@ fn lease_drop(
     lease: &Text,
     name: &Text,
 ) -> Result<(), AllocError>
-    ensures { OnOk result (out.new ≡ with_value (call_data [] session None (calls.LeaseDrop namespace.now lease.now name.now)) out.old) }
+    ensures { OnOk result (out.new ≡ with_value (ordered_data [] session None (calls.LeaseDrop namespace.now lease.now name.now)) out.old) }
 {
     out.token(Token::BeginObject)?;
     member(alloc, out, "do", &CallKind::LeaseDrop.as_str())?;
@@ -288,7 +289,7 @@ fn lease_release(
     session: u64,
     lease: &Text,
 ) -> Result<(), AllocError>
-    ensures { OnOk result (out.new ≡ with_value (call_data [] session None (calls.LeaseRelease namespace.now lease.now)) out.old) }
+    ensures { OnOk result (out.new ≡ with_value (ordered_data [] session None (calls.LeaseRelease namespace.now lease.now)) out.old) }
 {
     out.token(Token::BeginObject)?;
     member(alloc, out, "do", &CallKind::LeaseRelease.as_str())?;
@@ -303,7 +304,7 @@ fn sweep(
     session: u64,
     moment: u64,
 ) -> Result<(), AllocError>
-    ensures { OnOk result (out.new ≡ with_value (call_data [] session None (calls.Sweep namespace.now moment)) out.old) }
+    ensures { OnOk result (out.new ≡ with_value (ordered_data [] session None (calls.Sweep namespace.now moment)) out.old) }
 {
     out.token(Token::BeginObject)?;
     member(alloc, out, "do", &CallKind::Sweep.as_str())?;
@@ -320,7 +321,7 @@ fn write_call(
     key: &Option<Text>,
     call: &Call,
 ) -> Result<(), AllocError>
-    ensures { OnOk result (out.new ≡ with_value (call_data own.now n key.now call.now) out.old) }
+    ensures { OnOk result (out.new ≡ with_value (ordered_data own.now n key.now call.now) out.old) }
 {
     match call {
         Call::Session => session_call(alloc, out, n),
@@ -399,7 +400,7 @@ fn write_call(
 /// the labels that a walk asks for, without a line feed. A call on an active snapshot, which names it by its slot, has
 /// this namespace, and this key where there is one; any other call has its own. The cost and the memory grow with the
 /// line.
-#[tactic(auto, unfolding(crate::specs::Calls::call_line))]
+#[tactic(auto, using(crate::proofs::Ordered::line_ordered))]
 pub fn call_line(
     alloc: Global,
     namespace: &Text,

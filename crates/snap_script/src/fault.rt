@@ -1,6 +1,6 @@
 ghost use Rattle.std.specs.Prelude.{◌≡◌, Some};
 ghost use Rattle.snap_path.specs.Memory.{no_memory};
-ghost use Rattle.snap_script.specs.Faults.{brief, fault_words, field_name, found_words, wanted};
+ghost use Rattle.snap_script.specs.Faults.{bad_field_words, brief, fault_words, field_name, found_words, of_operation, operation_brief, operation_words, unknown_field_words, wanted};
 ghost use Rattle.snap_script.specs.declared.fault.ReadError.TheVariants as errors;
 ghost use Rattle.snap_script.specs.declared.fault.Shortage.TheVariants.{Allocator};
 
@@ -111,8 +111,25 @@ pub enum Fault {
     /// The field is missing and has no default, or its value is of a wrong kind; and what stands there, where that is
     /// told. `BadField(Do, _)` comes before `FirstLineMustBeOpen`.
     BadField(Field, Option<Found>),
+    /// The operation of a job that has this number, counted from 1, has the fault.
+    Operation(u64, OperationFault),
     /// The command was refused, where a run ends at that.
     Refused(Refused),
+}
+
+/// Why a value is no operation of a job. Of several faults, the operation has the first in the order below, as a
+/// line has.
+#[derive(Debug, PartialEq, Eq, Drop)]
+pub enum OperationFault {
+    NotAnObject,
+    /// No file command has the operation's word; and the first word of a file command that is one edit away from it.
+    NoSuchCommand(Option<Text>),
+    /// The operation has a field of this name, and its file command has none, or one that a job has in its place; and
+    /// the first field of the operation whose name is one edit away.
+    UnknownField(Text, Option<Field>),
+    /// The field is missing and has no default, or its value is of a wrong kind, or the text of a path is none; and
+    /// what stands there. `BadField(Do, _)` comes before `NoSuchCommand`.
+    BadField(Field, Option<Found>),
 }
 
 /// Who tells of want of memory.
@@ -258,8 +275,24 @@ impl Found {
     }
 }
 
+impl OperationFault {
+    /// The fault of the job's line, without the operation's place and what is wanted, there or near: an operation
+    /// that is no object is a bad field `ops`, and a word of no file command a bad field `do`.
+    fn brief(self) -> Fault
+        ensures { result ≡ operation_brief self }
+    {
+        match self {
+            OperationFault::NotAnObject => Fault::BadField(Field::Ops, None),
+            OperationFault::NoSuchCommand(_) => Fault::BadField(Field::Do, None),
+            OperationFault::UnknownField(name, _) => Fault::UnknownField(name, None),
+            OperationFault::BadField(field, _) => Fault::BadField(field, None),
+        }
+    }
+}
+
 impl Fault {
-    /// The fault without what is wanted and what is there, and without what is near. Takes no memory.
+    /// The fault without what is wanted and what is there, and without what is near; that of an operation without its
+    /// place. Takes no memory.
     pub fn brief(self) -> Fault
         ensures { result ≡ brief self }
     {
@@ -267,7 +300,83 @@ impl Fault {
             Fault::NoSuchCommand(_) => Fault::NoSuchCommand(None),
             Fault::UnknownField(name, _) => Fault::UnknownField(name, None),
             Fault::BadField(field, _) => Fault::BadField(field, None),
+            Fault::Operation(_, fault) => fault.brief(),
             other => other,
+        }
+    }
+
+    /// The fault of the operation of a job that has this number, where a value is no operation for it.
+    pub(crate) fn of_operation(self, number: u64) -> Fault
+        ensures { result ≡ of_operation number self }
+    {
+        match self {
+            Fault::NotAnObject => Fault::Operation(number, OperationFault::NotAnObject),
+            Fault::NoSuchCommand(near) => {
+                Fault::Operation(number, OperationFault::NoSuchCommand(near))
+            }
+            Fault::UnknownField(name, near) => {
+                Fault::Operation(number, OperationFault::UnknownField(name, near))
+            }
+            Fault::BadField(field, found) => {
+                Fault::Operation(number, OperationFault::BadField(field, found))
+            }
+            other => other,
+        }
+    }
+}
+
+/// The words for a field that isn't known, and for the one that is near.
+#[derive(Drop)]
+struct UnknownField<'a>(&'a Text, Option<Field>);
+
+impl fmt::Display for UnknownField<'_> {
+    ghost output = { λ f. Some (unknown_field_words f.0.now f.1) };
+
+    fn fmt<W: fmt::Write>(&self, f: &mut fmt::Formatter<W>) -> fmt::Result {
+        let name = self.0;
+        match self.1 {
+            None => write!(f, "unknown field {name}"),
+            Some(near) => {
+                let near = near.name();
+                write!(f, "unknown field {name}: {near}?")
+            }
+        }
+    }
+}
+
+/// The words for a bad field, and for what is wanted and what is there.
+#[derive(Drop)]
+struct BadField(Field, Option<Found>);
+
+impl fmt::Display for BadField {
+    ghost output = { λ f. Some (bad_field_words f.0 f.1) };
+
+    fn fmt<W: fmt::Write>(&self, f: &mut fmt::Formatter<W>) -> fmt::Result {
+        let name = self.0.name();
+        match self.1 {
+            None => write!(f, "bad field {name}"),
+            Some(found) => {
+                let (kind, wanted) = self.0.wanted();
+                let there = found.words(kind);
+                write!(f, "bad field {name}: {wanted} is wanted, {there} is there")
+            }
+        }
+    }
+}
+
+/// The fault's words, without the operation's place; a width or a precision has no effect.
+impl fmt::Display for OperationFault {
+    ghost output = { λ f. Some (operation_words f) };
+
+    fn fmt<W: fmt::Write>(&self, f: &mut fmt::Formatter<W>) -> fmt::Result {
+        match self {
+            OperationFault::NotAnObject => f.write_str("not an object"),
+            OperationFault::NoSuchCommand(None) => f.write_str(
+                "bad field do: the word of a file command is wanted, another text is there",
+            ),
+            OperationFault::NoSuchCommand(Some(near)) => write!(f, "bad field do: {near}?"),
+            OperationFault::UnknownField(name, near) => UnknownField(name, *near).fmt(f),
+            OperationFault::BadField(field, found) => BadField(*field, *found).fmt(f),
         }
     }
 }
@@ -285,21 +394,9 @@ impl fmt::Display for Fault {
             Fault::OpenTwice => f.write_str("open twice"),
             Fault::NoSuchCommand(None) => f.write_str("no such command"),
             Fault::NoSuchCommand(Some(near)) => write!(f, "no such command: {near}?"),
-            Fault::UnknownField(name, None) => write!(f, "unknown field {name}"),
-            Fault::UnknownField(name, Some(near)) => {
-                let near = near.name();
-                write!(f, "unknown field {name}: {near}?")
-            }
-            Fault::BadField(field, None) => {
-                let name = field.name();
-                write!(f, "bad field {name}")
-            }
-            Fault::BadField(field, Some(found)) => {
-                let name = field.name();
-                let (kind, wanted) = field.wanted();
-                let there = found.words(kind);
-                write!(f, "bad field {name}: {wanted} is wanted, {there} is there")
-            }
+            Fault::UnknownField(name, near) => UnknownField(name, *near).fmt(f),
+            Fault::BadField(field, found) => BadField(*field, *found).fmt(f),
+            Fault::Operation(number, fault) => write!(f, "operation {number}: {fault}"),
             Fault::Refused(why) => f.write_str(why.name()),
         }
     }

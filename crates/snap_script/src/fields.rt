@@ -1,9 +1,8 @@
 // The fields of a line, each of its kind.
-ghost use Rattle.std.specs.Prelude.{◌≡◌, [], Some, None, Ok, option_map, IfOk, false};
-ghost use Rattle.serde_json.specs.Find.{get, as_bool, as_str};
+ghost use Rattle.std.specs.Prelude.{◌≡◌, [], Some, None, Ok, IfOk, false};
+ghost use Rattle.serde_json.specs.Find.{as_bool, as_str};
 ghost use Rattle.snap_json.specs.View.{view, items_view, members_of};
 ghost use Rattle.snap_script.specs.declared.fault.Field.TheVariants as fields;
-ghost use Rattle.snap_script.specs.Faults.{field_name};
 ghost use Rattle.snap_script.specs.Fields.{found_in, misfit, missing, text, required, optional, given, as_natural, as_mode, pair_in, as_pair, as_usage, each_item, as_texts, kind_named, as_kind, labels_with, as_labels, label_filter, label_filters_in, as_label_filters, as_namespace, as_namespaces, as_fill, content_of};
 ghost use Rattle.snap_script.specs.Gives.{Gives, GivesAll};
 
@@ -16,13 +15,6 @@ use snap_record::{Kind, LabelFilter, Labels, Sequence, Text};
 use snap_usage::Usage;
 use std::alloc::{AllocError, Global};
 use std::collections::BTreeMap;
-
-/// The value of a field, if the line has it.
-pub(crate) fn find<'v, 'a>(field: Field, line: &'v Value<'a>) -> Option<&'v Value<'a>>
-    ensures { option_map (λ v. view v.now) result ≡ get (field_name field) (view line.now) }
-{
-    line.get(field.name())
-}
 
 fn found_in(value: &Value<'_>) -> Found
     ensures { result ≡ found_in (view value.now) }
@@ -51,22 +43,13 @@ pub(crate) fn missing(field: Field) -> Fault
     Fault::BadField(field, Some(Found::Nothing))
 }
 
-fn truth(value: &Value<'_>) -> Option<bool>
-    ensures { result ≡ as_bool (view value.now) }
-{
-    if let Value::Bool(truth) = value {
-        Some(*truth)
-    } else {
-        None
-    }
-}
-
 /// Whether a field is true; it is not where it is absent.
 pub(crate) fn is_true(field: Field, line: &Value<'_>) -> Result<bool, Fault>
     ensures { result ≡ optional as_bool field (Ok false) (view line.now) }
 {
-    match find(field, line) {
-        Some(value) => truth(value).ok_or(misfit(field, value)),
+    match line.get(field.name()) {
+        Some(Value::Bool(truth)) => Ok(*truth),
+        Some(value) => Err(misfit(field, value)),
         None => Ok(false),
     }
 }
@@ -75,8 +58,11 @@ pub(crate) fn is_true(field: Field, line: &Value<'_>) -> Result<bool, Fault>
 pub(crate) fn number_or(default: u64, field: Field, line: &Value<'_>) -> Result<u64, Fault>
     ensures { result ≡ optional as_natural field (Ok default) (view line.now) }
 {
-    match find(field, line) {
-        Some(value) => value.as_u64().ok_or(misfit(field, value)),
+    match line.get(field.name()) {
+        Some(value) => match value.as_u64() {
+            Some(number) => Ok(number),
+            None => Err(misfit(field, value)),
+        },
         None => Ok(default),
     }
 }
@@ -85,8 +71,11 @@ pub(crate) fn number_or(default: u64, field: Field, line: &Value<'_>) -> Result<
 pub(crate) fn optional_number(field: Field, line: &Value<'_>) -> Result<Option<u64>, Fault>
     ensures { result ≡ given as_natural field (view line.now) }
 {
-    match find(field, line) {
-        Some(value) => Ok(Some(value.as_u64().ok_or(misfit(field, value))?)),
+    match line.get(field.name()) {
+        Some(value) => match value.as_u64() {
+            Some(number) => Ok(Some(number)),
+            None => Err(misfit(field, value)),
+        },
         None => Ok(None),
     }
 }
@@ -95,8 +84,11 @@ pub(crate) fn optional_number(field: Field, line: &Value<'_>) -> Result<Option<u
 pub(crate) fn required_number(field: Field, line: &Value<'_>) -> Result<u64, Fault>
     ensures { result ≡ required as_natural field (view line.now) }
 {
-    match find(field, line) {
-        Some(value) => value.as_u64().ok_or(misfit(field, value)),
+    match line.get(field.name()) {
+        Some(value) => match value.as_u64() {
+            Some(number) => Ok(number),
+            None => Err(misfit(field, value)),
+        },
         None => Err(missing(field)),
     }
 }
@@ -115,8 +107,11 @@ fn mode(value: &Value<'_>) -> Option<u32>
 pub(crate) fn mode_or(default: u32, line: &Value<'_>) -> Result<u32, Fault>
     ensures { result ≡ optional as_mode fields.Mode (Ok default) (view line.now) }
 {
-    match find(Field::Mode, line) {
-        Some(value) => mode(value).ok_or(misfit(Field::Mode, value)),
+    match line.get(Field::Mode.name()) {
+        Some(value) => match mode(value) {
+            Some(mode) => Ok(mode),
+            None => Err(misfit(Field::Mode, value)),
+        },
         None => Ok(default),
     }
 }
@@ -125,8 +120,11 @@ pub(crate) fn mode_or(default: u32, line: &Value<'_>) -> Result<u32, Fault>
 pub(crate) fn required_mode(line: &Value<'_>) -> Result<u32, Fault>
     ensures { result ≡ required as_mode fields.Mode (view line.now) }
 {
-    match find(Field::Mode, line) {
-        Some(value) => mode(value).ok_or(misfit(Field::Mode, value)),
+    match line.get(Field::Mode.name()) {
+        Some(value) => match mode(value) {
+            Some(mode) => Ok(mode),
+            None => Err(misfit(Field::Mode, value)),
+        },
         None => Err(missing(Field::Mode)),
     }
 }
@@ -135,8 +133,9 @@ pub(crate) fn required_mode(line: &Value<'_>) -> Result<u32, Fault>
 pub fn lent_text<'a>(field: Field, line: &Value<'a>) -> Result<&'a str, Fault>
     ensures { GivesAll (λ s. s.now) result (text field (view line.now)) }
 {
-    match find(field, line) {
-        Some(value) => value.as_str().ok_or(misfit(field, value)),
+    match line.get(field.name()) {
+        Some(Value::String(text)) => Ok(*text),
+        Some(value) => Err(misfit(field, value)),
         None => Err(missing(field)),
     }
 }
@@ -157,11 +156,9 @@ pub fn optional_text(
 ) -> Result<Option<Text>, ReadError>
     ensures { Gives (λ t. t) result (given as_str field (view line.now)) }
 {
-    match find(field, line) {
-        Some(value) => {
-            let text = value.as_str().ok_or(misfit(field, value))?;
-            Ok(Some(Text::copy_of(alloc, text)?))
-        }
+    match line.get(field.name()) {
+        Some(Value::String(text)) => Ok(Some(Text::copy_of(alloc, text)?)),
+        Some(value) => Err(ReadError::Fault(misfit(field, value))),
         None => Ok(None),
     }
 }
@@ -174,7 +171,7 @@ pub(crate) fn text_or_empty(
 ) -> Result<Text, ReadError>
     ensures { Gives (λ t. t) result (optional as_str field (Ok []) (view line.now)) }
 {
-    match find(field, line) {
+    match line.get(field.name()) {
         Some(_) => text(alloc, field, line),
         None => Ok(Text::new(alloc)),
     }
@@ -198,7 +195,7 @@ fn texts_in(alloc: Global, values: &[Value<'_>]) -> Result<Option<Sequence<Text>
 pub(crate) fn paths(alloc: Global, line: &Value<'_>) -> Result<Sequence<Text>, ReadError>
     ensures { Gives (λ paths. paths) result (optional as_texts fields.Paths (Ok []) (view line.now)) }
 {
-    let Some(value) = find(Field::Paths, line) else {
+    let Some(value) = line.get(Field::Paths.name()) else {
         return Ok(Sequence::new(alloc));
     };
     let Some(values) = value.as_array() else {
@@ -224,7 +221,7 @@ fn kind_named(word: &str) -> Option<Kind>
 pub(crate) fn optional_kind(line: &Value<'_>) -> Result<Option<Kind>, Fault>
     ensures { result ≡ given as_kind fields.Kind (view line.now) }
 {
-    match find(Field::Kind, line) {
+    match line.get(Field::Kind.name()) {
         Some(value) => {
             let word = value.as_str().ok_or(misfit(Field::Kind, value))?;
             Ok(Some(kind_named(word).ok_or(misfit(Field::Kind, value))?))
@@ -262,8 +259,11 @@ fn usage(value: &Value<'_>) -> Option<Usage>
 pub(crate) fn required_usage(field: Field, line: &Value<'_>) -> Result<Usage, Fault>
     ensures { result ≡ required as_usage field (view line.now) }
 {
-    match find(field, line) {
-        Some(value) => usage(value).ok_or(misfit(field, value)),
+    match line.get(field.name()) {
+        Some(value) => match usage(value) {
+            Some(usage) => Ok(usage),
+            None => Err(misfit(field, value)),
+        },
         None => Err(missing(field)),
     }
 }
@@ -272,8 +272,11 @@ pub(crate) fn required_usage(field: Field, line: &Value<'_>) -> Result<Usage, Fa
 pub fn usage_or(default: Usage, field: Field, line: &Value<'_>) -> Result<Usage, Fault>
     ensures { result ≡ optional as_usage field (Ok default) (view line.now) }
 {
-    match find(field, line) {
-        Some(value) => usage(value).ok_or(misfit(field, value)),
+    match line.get(field.name()) {
+        Some(value) => match usage(value) {
+            Some(usage) => Ok(usage),
+            None => Err(misfit(field, value)),
+        },
         None => Ok(default),
     }
 }
@@ -301,7 +304,9 @@ fn labels_in(
 pub(crate) fn required_labels(alloc: Global, line: &Value<'_>) -> Result<Labels, ReadError>
     ensures { Gives (λ labels. labels) result (required as_labels fields.Labels (view line.now)) }
 {
-    let value = find(Field::Labels, line).ok_or(missing(Field::Labels))?;
+    let value = line
+        .get(Field::Labels.name())
+        .ok_or(missing(Field::Labels))?;
     let Some(members) = value.as_object() else {
         return Err(ReadError::Fault(misfit(Field::Labels, value)));
     };
@@ -313,7 +318,7 @@ pub(crate) fn required_labels(alloc: Global, line: &Value<'_>) -> Result<Labels,
 pub(crate) fn labels(alloc: Global, line: &Value<'_>) -> Result<Labels, ReadError>
     ensures { Gives (λ labels. labels) result (optional as_labels fields.Labels (Ok []) (view line.now)) }
 {
-    match find(Field::Labels, line) {
+    match line.get(Field::Labels.name()) {
         Some(_) => required_labels(alloc, line),
         None => Ok(Labels::new(alloc)),
     }
@@ -360,7 +365,7 @@ pub(crate) fn label_filters(
 ) -> Result<Sequence<LabelFilter>, ReadError>
     ensures { Gives (λ filters. filters) result (optional as_label_filters fields.Labels (Ok []) (view line.now)) }
 {
-    let Some(value) = find(Field::Labels, line) else {
+    let Some(value) = line.get(Field::Labels.name()) else {
         return Ok(Sequence::new(alloc));
     };
     let Some(members) = value.as_object() else {
@@ -410,7 +415,9 @@ fn namespaces_in(
 pub(crate) fn namespaces(alloc: Global, line: &Value<'_>) -> Result<Sequence<Namespace>, ReadError>
     ensures { Gives (λ namespaces. namespaces) result (required as_namespaces fields.Namespaces (view line.now)) }
 {
-    let value = find(Field::Namespaces, line).ok_or(missing(Field::Namespaces))?;
+    let value = line
+        .get(Field::Namespaces.name())
+        .ok_or(missing(Field::Namespaces))?;
     let Some(values) = value.as_array() else {
         return Err(ReadError::Fault(misfit(Field::Namespaces, value)));
     };
@@ -422,7 +429,7 @@ pub(crate) fn namespaces(alloc: Global, line: &Value<'_>) -> Result<Sequence<Nam
 fn fill(alloc: Global, line: &Value<'_>) -> Result<Bytes, ReadError>
     ensures { Gives (λ bytes. bytes) result (required as_fill fields.Fill (view line.now)) }
 {
-    let value = find(Field::Fill, line).ok_or(missing(Field::Fill))?;
+    let value = line.get(Field::Fill.name()).ok_or(missing(Field::Fill))?;
     let (byte, number) = pair(value).ok_or(misfit(Field::Fill, value))?;
     if byte > 255 || number > MAX_FILE_BYTES {
         return Err(ReadError::Fault(misfit(Field::Fill, value)));
@@ -434,22 +441,22 @@ fn fill(alloc: Global, line: &Value<'_>) -> Result<Bytes, ReadError>
 pub(crate) fn content(alloc: Global, line: &Value<'_>) -> Result<Bytes, ReadError>
     ensures { Gives (λ bytes. bytes) result (content_of (view line.now)) }
 {
-    let Some(value) = find(Field::Text, line) else {
-        return fill(alloc, line);
-    };
-    let text = value.as_str().ok_or(misfit(Field::Text, value))?;
-    Ok(Bytes::copy_of(alloc, text.as_bytes())?)
+    match line.get(Field::Text.name()) {
+        Some(Value::String(text)) => Ok(Bytes::copy_of(alloc, text.as_bytes())?),
+        Some(value) => Err(ReadError::Fault(misfit(Field::Text, value))),
+        None => fill(alloc, line),
+    }
 }
 
 /// The digest of a file, if there is one.
 pub(crate) fn digest(alloc: Global, line: &Value) -> Result<Option<Bytes>, ReadError>
     ensures { Gives (λ digest. digest) result (given as_str fields.Digest (view line.now)) }
 {
-    let Some(value) = find(Field::Digest, line) else {
-        return Ok(None);
-    };
-    let text = value.as_str().ok_or(misfit(Field::Digest, value))?;
-    Ok(Some(Bytes::copy_of(alloc, text.as_bytes())?))
+    match line.get(Field::Digest.name()) {
+        Some(Value::String(text)) => Ok(Some(Bytes::copy_of(alloc, text.as_bytes())?)),
+        Some(value) => Err(ReadError::Fault(misfit(Field::Digest, value))),
+        None => Ok(None),
+    }
 }
 
 /// The target of a symlink.

@@ -1,8 +1,7 @@
-ghost use Rattle.std.specs.Prelude.{◌≡◌, IfOk};
+ghost use Rattle.std.specs.Prelude.{◌≡◌, IfOk, option_map};
 ghost use Rattle.snap_json.specs.View.{view};
-ghost use Rattle.snap_script.specs.Lines.{is_empty, object_in, allowed, command_in, command_line, opening_of, line_of};
+ghost use Rattle.snap_script.specs.Lines.{is_empty, object_in, allowed, command_in, command_line, session_in, opening_of, line_of};
 ghost use Rattle.snap_script.specs.Gives.{Gives};
-ghost use Rattle.snap_script.specs.Words.{near_command};
 ghost use Rattle.snap_script.specs.declared.fault.Fault.TheVariants.{NoSuchCommand};
 ghost use Rattle.snap_script.specs.Faults.{briefly};
 ghost use Rattle.snap_script.specs.declared.unknown.FieldRule.TheVariants.{Any};
@@ -67,11 +66,11 @@ pub fn read_object<'a>(
     }
 }
 
-/// The fault of a word that no command has.
-fn no_such_command(alloc: Global, word: &str) -> Result<Fault, AllocError>
-    ensures { IfOk result (λ fault. fault ≡ NoSuchCommand (near_command word.now)) }
+/// The fault of a word that no command has, with the one that is near.
+pub(crate) fn no_such_command(alloc: Global, near: Option<&str>) -> Result<Fault, AllocError>
+    ensures { IfOk result (λ fault. fault ≡ NoSuchCommand (option_map (λ word. word.now) near.entry)) }
 {
-    match near_command(word) {
+    match near {
         Some(near) => Ok(Fault::NoSuchCommand(Some(Text::copy_of(alloc, near)?))),
         None => Ok(Fault::NoSuchCommand(None)),
     }
@@ -87,7 +86,7 @@ fn allowed(alloc: Global, opened: bool, word: &str) -> Result<Verb, ReadError>
         (false, _) => Err(ReadError::Fault(Fault::FirstLineMustBeOpen)),
         (true, Some(Verb::Open)) => Err(ReadError::Fault(Fault::OpenTwice)),
         (true, Some(verb)) => Ok(verb),
-        (true, None) => Err(ReadError::Fault(no_such_command(alloc, word)?)),
+        (true, None) => Err(ReadError::Fault(no_such_command(alloc, near_command(word))?)),
     }
 }
 
@@ -137,17 +136,31 @@ fn command_line(
     }
 }
 
-/// The store that a first line opens, where no session is named: the field `s` isn't looked at.
+/// The session of a line that opens a store where none is named.
+#[tactic(auto, unfolding(crate::specs::Lines::session_in))]
+fn session_in(rule: FieldRule, line: &Value<'_>) -> Result<u64, Fault>
+    ensures { result ≡ session_in rule (view line.now) }
+{
+    match rule {
+        FieldRule::Any => Ok(0),
+        FieldRule::Known | FieldRule::KnownAndId => number_or(0, Field::Session, line),
+    }
+}
+
+/// The store that a first line opens, where no session is named: where any field may stand, `s` isn't looked at.
+/// `rule` says which fields it may have.
 ///
-/// `BadField` of `do`, then `FirstLineMustBeOpen`, then the fields of `open` in their order. The configuration
-/// need not have its form. `OutOfMemory` where memory for it was refused. The memory and the cost grow with
-/// the line.
+/// `BadField` of `do`, then `FirstLineMustBeOpen`. Where not any field may stand, `UnknownField`, then `BadField` of `s`
+/// that is no number. Then the fields of `open` in their order. The configuration need not have its form.
+/// `OutOfMemory` where memory for it was refused. The memory and the cost grow with the line.
 #[tactic(auto, unfolding(crate::specs::Lines::opening_of))]
-pub fn read_open(alloc: Global, line: &Value<'_>) -> Result<Config, ReadError>
-    ensures { Gives (λ config. config) result (opening_of (view line.now)) }
+pub fn read_open(alloc: Global, rule: FieldRule, line: &Value<'_>) -> Result<Config, ReadError>
+    ensures { Gives (λ config. config) result (opening_of rule (view line.now)) }
 {
     let word = lent_text(Field::Do, line)?;
     allowed(alloc, false, word)?;
+    known_fields(alloc, rule, Verb::Open, line)?;
+    session_in(rule, line)?;
     config_of(alloc, line)
 }
 

@@ -1,14 +1,16 @@
 // File operations, read from the values of lines and of jobs.
 ghost use Rattle.snap_json.specs.View.{view, items_view};
-ghost use Rattle.snap_script.specs.Operations.{path_in, path, operation_at, file_operation, operation, operations_in, operations};
+ghost use Rattle.snap_script.specs.Operations.{path_in, path, operation_at, file_operation, file_verb, operation_by, operation, numbered, operations_in, operations};
 ghost use Rattle.snap_script.specs.Gives.{Gives};
 
 use crate::fault::{Fault, Field, Found, ReadError};
 use crate::fields::{
-    content, digest, find, lent_text, misfit, missing, mode_or, number_or, required_mode,
+    content, digest, lent_text, misfit, missing, mode_or, number_or, required_mode,
     required_number, target,
 };
-use crate::verb::{FileVerb, PathVerb, Verb, verb_of};
+use crate::line::no_such_command;
+use crate::unknown::{FieldRule, known_operation};
+use crate::verb::{FileVerb, PathVerb, Verb, near_file_command, verb_of};
 use snap_json::Value;
 use snap_path::limits::DEFAULT_MODE;
 use snap_path::{Path, PathError};
@@ -136,39 +138,79 @@ pub(crate) fn file_operation(
     }
 }
 
-/// The operation of a job that a value is.
-#[tactic(auto, unfolding(crate::specs::Operations::operation))]
-fn operation(alloc: Global, value: &Value<'_>) -> Result<Op, ReadError>
-    ensures { Gives (λ op. op) result (operation (view value.now)) }
+/// The file command that has the word. Memory is taken only where there is none.
+#[tactic(auto, unfolding(crate::specs::Operations::file_verb))]
+fn file_verb(alloc: Global, word: &str) -> Result<FileVerb, ReadError>
+    ensures { Gives (λ verb. verb) result (file_verb word.now) }
 {
-    if !value.is_object() {
-        return Err(ReadError::Fault(Fault::BadField(Field::Ops, Some(Found::Array))));
-    }
-    let word = lent_text(Field::Do, value)?;
     match verb_of(word) {
-        Some(Verb::File(FileVerb::At(verb))) => {
-            let path = path(alloc, Field::Path, value)?;
-            operation_at(alloc, verb, path, value)
-        }
-        Some(Verb::File(FileVerb::Link)) => Ok(Op::Link {
-            from: path(alloc, Field::From, value)?,
-            to: path(alloc, Field::To, value)?,
-        }),
-        Some(Verb::File(FileVerb::Rename)) => Ok(Op::Rename {
-            from: path(alloc, Field::From, value)?,
-            to: path(alloc, Field::To, value)?,
-        }),
-        _ => Err(ReadError::Fault(Fault::BadField(Field::Do, Some(Found::Text)))),
+        Some(Verb::File(verb)) => Ok(verb),
+        _ => Err(ReadError::Fault(no_such_command(alloc, near_file_command(word))?)),
     }
 }
 
-/// The operations that values are, each in turn.
-fn operations_in(alloc: Global, values: &[Value<'_>]) -> Result<Sequence<Op>, ReadError>
-    ensures { Gives (λ ops. ops) result (operations_in (items_view values.now)) }
+/// The operation of a job by its file command.
+#[tactic(auto, unfolding(crate::specs::Operations::operation_by))]
+fn operation_by(alloc: Global, verb: FileVerb, value: &Value<'_>) -> Result<Op, ReadError>
+    ensures { Gives (λ op. op) result (operation_by verb (view value.now)) }
+{
+    match verb {
+        FileVerb::At(verb) => {
+            let path = path(alloc, Field::Path, value)?;
+            operation_at(alloc, verb, path, value)
+        }
+        FileVerb::Link => Ok(Op::Link {
+            from: path(alloc, Field::From, value)?,
+            to: path(alloc, Field::To, value)?,
+        }),
+        FileVerb::Rename => Ok(Op::Rename {
+            from: path(alloc, Field::From, value)?,
+            to: path(alloc, Field::To, value)?,
+        }),
+    }
+}
+
+/// The operation of a job that a value is.
+#[tactic(auto, unfolding(crate::specs::Operations::operation))]
+fn operation(alloc: Global, rule: FieldRule, value: &Value<'_>) -> Result<Op, ReadError>
+    ensures { Gives (λ op. op) result (operation rule (view value.now)) }
+{
+    if !value.is_object() {
+        return Err(ReadError::Fault(Fault::NotAnObject));
+    }
+    let word = lent_text(Field::Do, value)?;
+    let verb = file_verb(alloc, word)?;
+    known_operation(alloc, rule, verb, value)?;
+    operation_by(alloc, verb, value)
+}
+
+/// The same of the operation that has this number, which a fault tells.
+fn numbered_operation(
+    alloc: Global,
+    rule: FieldRule,
+    number: u64,
+    value: &Value<'_>,
+) -> Result<Op, ReadError>
+    ensures { Gives (λ op. op) result (numbered number (operation rule (view value.now))) }
+{
+    match operation(alloc, rule, value) {
+        Ok(op) => Ok(op),
+        Err(ReadError::Fault(fault)) => Err(ReadError::Fault(fault.of_operation(number))),
+        Err(ReadError::OutOfMemory(shortage)) => Err(ReadError::OutOfMemory(shortage)),
+    }
+}
+
+/// The operations that values are, each in turn, counted from 1.
+fn operations_in(
+    alloc: Global,
+    rule: FieldRule,
+    values: &[Value<'_>],
+) -> Result<Sequence<Op>, ReadError>
+    ensures { Gives (λ ops. ops) result (operations_in rule 1 (items_view values.now)) }
 {
     let mut ops = Sequence::new(alloc);
-    for value in values {
-        ops.push(operation(alloc, value)?)?;
+    for (place, value) in values.iter().enumerate() {
+        ops.push(numbered_operation(alloc, rule, place as u64 + 1, value)?)?;
     }
     Ok(ops)
 }
@@ -176,17 +218,23 @@ fn operations_in(alloc: Global, values: &[Value<'_>]) -> Result<Sequence<Op>, Re
 /// The operations of a job (`ops`): an array of objects, each with its word in `do` and the fields of that file
 /// command, but for its snapshot and its extra amount.
 ///
-/// `BadField` of `ops` where the field is absent, or no array. Then, operation by operation: of `ops` where
-/// it is no object, of `do` where its word is none of a file command, and the first of its fields that
-/// is absent without a default, of a wrong kind, or a path's text that is no path. `OutOfMemory` where memory
-/// was refused. The memory and the cost grow with the line, and a `fill` takes as many bytes as it asks for.
+/// `BadField` of `ops` where the field is absent, or no array. Then, operation by operation, `Operation` with its
+/// number, counted from 1, and its fault: `NotAnObject`; `BadField` of `do` where that is no text; `NoSuchCommand`
+/// where it is no file command's word; `UnknownField`, but where any field may stand; and `BadField` with the first
+/// of its fields that is absent without a default, of a wrong kind, or a path's text that is no path. `OutOfMemory`
+/// where memory was refused. The memory and the cost grow with the line, and a `fill` takes as many bytes as it asks
+/// for.
 #[tactic(auto, unfolding(crate::specs::Operations::operations))]
-pub fn operations(alloc: Global, line: &Value<'_>) -> Result<Sequence<Op>, ReadError>
-    ensures { Gives (λ ops. ops) result (operations (view line.now)) }
+pub fn operations(
+    alloc: Global,
+    rule: FieldRule,
+    line: &Value<'_>,
+) -> Result<Sequence<Op>, ReadError>
+    ensures { Gives (λ ops. ops) result (operations rule (view line.now)) }
 {
-    let found = find(Field::Ops, line).ok_or(missing(Field::Ops))?;
+    let found = line.get(Field::Ops.name()).ok_or(missing(Field::Ops))?;
     let Some(values) = found.as_array() else {
         return Err(ReadError::Fault(misfit(Field::Ops, found)));
     };
-    operations_in(alloc, values)
+    operations_in(alloc, rule, values)
 }

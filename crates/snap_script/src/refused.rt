@@ -43,6 +43,7 @@ impl Answer {
     {
         match self {
             Answer::Reply(Reply::Refused(why)) => Some(Refused::Book(*why)),
+            Answer::BadConfig(_) => Some(Refused::Book(Refusal::BadArgument)),
             Answer::Failed(error) => Some(Refused::File(*error)),
             Answer::NoSession => Some(Refused::NoSession),
             Answer::NoHand => Some(Refused::NoHand),

@@ -4,7 +4,7 @@ ghost use Rattle.std.specs.List.{list_all};
 ghost use Rattle.serde_json.specs.Find.{as_object};
 ghost use Rattle.snap_json.specs.View.{view, members_of};
 ghost use Rattle.snap_history.specs.declared.kind.CallKind.TheVariants as kinds;
-ghost use Rattle.snap_script.specs.Known.{common_fields, fields_of, is_among, is_known, known_fields, near_field, unknown_among};
+ghost use Rattle.snap_script.specs.Known.{common_fields, fields_of, is_among, is_known, job_fields, known_fields, known_job, known_operation, known_within, near_field, operation_fields, unknown_among};
 ghost use Rattle.snap_script.specs.Gives.{Gives};
 ghost use Rattle.snap_script.specs.declared.verb.Verb.TheVariants as verbs;
 ghost use Rattle.snap_script.specs.declared.verb.FileVerb.TheVariants as file_verbs;
@@ -21,9 +21,9 @@ use std::collections::BTreeMap;
 /// Which fields a line may have.
 #[derive(Clone, Copy, Debug, PartialEq, Eq)]
 pub enum FieldRule {
-    /// Any: those that its command doesn't have aren't looked at. A fault is [brief](Fault::brief).
+    /// Any: those that its command, or a job, doesn't have aren't looked at. A fault is [brief](Fault::brief).
     Any,
-    /// `do`, `s` and those of its command.
+    /// `do`, `s` and those of its command; in a job, which has no command, its own.
     Known,
     /// The same, and `id`.
     KnownAndId,
@@ -72,7 +72,7 @@ fn call_fields(kind: CallKind) -> &'static [Field]
     }
 }
 
-/// The fields of a file command at one path.
+/// The fields of a file command at one path. The first three are those that a job has for all its operations.
 fn path_fields(verb: PathVerb) -> &'static [Field]
     ensures { result.now ≡ fields_of (verbs.File (file_verbs.At verb)) }
 {
@@ -80,44 +80,44 @@ fn path_fields(verb: PathVerb) -> &'static [Field]
         PathVerb::Mkdir | PathVerb::Create | PathVerb::SetMode => &[
             Field::Namespace,
             Field::Key,
+            Field::Extra,
             Field::Path,
             Field::Mode,
-            Field::Extra,
         ],
         PathVerb::Put => &[
             Field::Namespace,
             Field::Key,
+            Field::Extra,
             Field::Path,
             Field::Mode,
             Field::Size,
             Field::Digest,
-            Field::Extra,
         ],
         PathVerb::Write => &[
             Field::Namespace,
             Field::Key,
+            Field::Extra,
             Field::Path,
             Field::Offset,
             Field::Text,
             Field::Fill,
-            Field::Extra,
         ],
         PathVerb::Truncate => &[
             Field::Namespace,
             Field::Key,
+            Field::Extra,
             Field::Path,
             Field::Size,
-            Field::Extra,
         ],
         PathVerb::Symlink => &[
             Field::Namespace,
             Field::Key,
+            Field::Extra,
             Field::Path,
             Field::Target,
-            Field::Extra,
         ],
         PathVerb::Unlink | PathVerb::Rmdir | PathVerb::Opaque | PathVerb::Whiteout => {
-            &[Field::Namespace, Field::Key, Field::Path, Field::Extra]
+            &[Field::Namespace, Field::Key, Field::Extra, Field::Path]
         }
     }
 }
@@ -140,9 +140,9 @@ fn fields_of(verb: Verb) -> &'static [Field]
         Verb::File(FileVerb::Link | FileVerb::Rename) => &[
             Field::Namespace,
             Field::Key,
+            Field::Extra,
             Field::From,
             Field::To,
-            Field::Extra,
         ],
         Verb::Lookup(
             LookupVerb::Look | LookupVerb::List | LookupVerb::Resolve | LookupVerb::Usage,
@@ -244,7 +244,26 @@ fn near_field(mut fields: &[Field], name: &str) -> Option<Field>
     None
 }
 
-/// That the line has no field but those that it may have. The cost grows with the members.
+/// That an object has no field but the common ones and its own. The cost grows with the members, and memory is taken
+/// only where there is another one.
+fn known_within(
+    alloc: Global,
+    common: &[Field],
+    own: &[Field],
+    object: &Value<'_>,
+) -> Result<(), ReadError>
+    ensures { Gives (λ done. done) result (known_within common.now own.now (view object.now)) }
+{
+    match unknown_in(alloc, common, own, object)? {
+        Some(name) => {
+            let near = near_field(own, name.as_str());
+            Err(ReadError::Fault(Fault::UnknownField(name, near)))
+        }
+        None => Ok(()),
+    }
+}
+
+/// That the line of a command has no field but those that it may have.
 #[tactic(auto, unfolding(crate::specs::Known::known_fields))]
 pub(crate) fn known_fields(
     alloc: Global,
@@ -254,15 +273,70 @@ pub(crate) fn known_fields(
 ) -> Result<(), ReadError>
     ensures { Gives (λ done. done) result (known_fields rule verb (view line.now)) }
 {
-    if rule == FieldRule::Any {
-        return Ok(());
-    }
-    let own = fields_of(verb);
-    match unknown_in(alloc, common_fields(rule), own, line)? {
-        Some(name) => {
-            let near = near_field(own, name.as_str());
-            Err(ReadError::Fault(Fault::UnknownField(name, near)))
+    match rule {
+        FieldRule::Any => Ok(()),
+        FieldRule::Known | FieldRule::KnownAndId => {
+            known_within(alloc, common_fields(rule), fields_of(verb), line)
         }
-        None => Ok(()),
+    }
+}
+
+/// The fields of an operation of a job beside its word.
+fn operation_fields(verb: FileVerb) -> &'static [Field]
+    ensures { result.now ≡ operation_fields verb }
+{
+    match fields_of(Verb::File(verb)) {
+        [_, _, _, own @ ..] => own,
+        _ => &[],
+    }
+}
+
+/// That an operation of a job has no field but those that it may have.
+#[tactic(auto, unfolding(crate::specs::Known::known_operation))]
+pub(crate) fn known_operation(
+    alloc: Global,
+    rule: FieldRule,
+    verb: FileVerb,
+    value: &Value<'_>,
+) -> Result<(), ReadError>
+    ensures { Gives (λ done. done) result (known_operation rule verb (view value.now)) }
+{
+    match rule {
+        FieldRule::Any => Ok(()),
+        FieldRule::Known | FieldRule::KnownAndId => {
+            known_within(alloc, &[Field::Do], operation_fields(verb), value)
+        }
+    }
+}
+
+/// The fields of a job's line.
+fn job_fields() -> &'static [Field]
+    ensures { result.now ≡ job_fields }
+{
+    &[
+        Field::Namespace,
+        Field::Key,
+        Field::Parent,
+        Field::Ops,
+        Field::End,
+        Field::Name,
+        Field::Lease,
+        Field::Extra,
+    ]
+}
+
+/// That the line of a job has no field but those that it may have.
+///
+/// `UnknownField` with the first other one in byte order, but where any field may stand; `OutOfMemory` where memory
+/// for its name was refused. The cost grows with the line's members, and memory is taken only where there is another
+/// field.
+#[tactic(auto, unfolding(crate::specs::Known::known_job))]
+pub fn known_job(alloc: Global, rule: FieldRule, line: &Value<'_>) -> Result<(), ReadError>
+    ensures { Gives (λ done. done) result (known_job rule (view line.now)) }
+{
+    match rule {
+        FieldRule::Any => Ok(()),
+        FieldRule::Known => known_within(alloc, &[], job_fields(), line),
+        FieldRule::KnownAndId => known_within(alloc, &[Field::Id], job_fields(), line),
     }
 }

@@ -1,14 +1,15 @@
 // The JSON of what answers have.
-ghost use Rattle.std.specs.Prelude.{◌≡◌, OnOk};
+ghost use Rattle.std.specs.Prelude.{◌≡◌, OnOk, Some};
 ghost use Rattle.serde_json.specs.Data.{string};
 ghost use Rattle.snap_call.specs.declared.reply.Reply.TheVariants as replies;
 ghost use Rattle.snap_json.specs.Tokens.{with_value};
-ghost use Rattle.snap_script.specs.Answers.{answer_data, entry_data, error_data, error_name, info_data, lease_data, mount_data, refusal_name, reply_data, sized_data};
+ghost use Rattle.snap_script.specs.Answers.{answer_data, bad_config_data, config_field_name, entry_data, error_data, error_name, info_data, lease_data, mount_data, refusal_name, reply_data, shown_data};
 ghost use Rattle.snap_script.specs.declared.answer.Answer.TheVariants as answers;
+ghost use Rattle.snap_script.specs.declared.answer.Shown.TheVariants as shown;
 
 use crate::answer::{JournalEntry, QuotaInfo};
 use crate::to_json::{ToJson, by_name, maybe, member, only, pair};
-use snap_call::{Refusal, Reply};
+use snap_call::{ConfigField, Refusal, Reply};
 use snap_json::{Token, Writer};
 use snap_layer::Bytes;
 use snap_lease::LeaseInfo;
@@ -95,7 +96,7 @@ pub(crate) fn sized(
     size: u64,
     digest: &Option<Bytes>,
 ) -> Result<(), AllocError>
-    ensures { OnOk result (out.new ≡ with_value (sized_data mode size digest.now) out.old) }
+    ensures { OnOk result (out.new ≡ with_value (shown_data (Some (shown.Sized mode size digest.now))) out.old) }
 {
     out.token(Token::BeginObject)?;
     member(alloc, out, "digest", digest)?;
@@ -162,6 +163,35 @@ pub(crate) fn error(
     ensures { OnOk result (out.new ≡ with_value (error_data name.now from.now) out.old) }
 {
     pair(alloc, out, "error", &name, "from", &from)
+}
+
+/// The field of `open` that gives a part of a configuration; no line gives the first id.
+fn config_field_name(field: ConfigField) -> &'static str
+    ensures { result.now ≡ config_field_name field }
+{
+    match field {
+        ConfigField::Root => "root",
+        ConfigField::Namespaces => "namespaces",
+        ConfigField::Slots => "slots",
+        ConfigField::Journal => "journal",
+        ConfigField::FirstId => "first_id",
+        ConfigField::LayerInodes => "layer_inodes",
+    }
+}
+
+/// The refusal of a store, with the field that is malformed.
+pub(crate) fn bad_config(
+    alloc: Global,
+    out: &mut Writer,
+    field: ConfigField,
+) -> Result<(), AllocError>
+    ensures { OnOk result (out.new ≡ with_value (bad_config_data field) out.old) }
+{
+    out.token(Token::BeginObject)?;
+    member(alloc, out, "error", &refusal_name(Refusal::BadArgument))?;
+    member(alloc, out, "field", &config_field_name(field))?;
+    member(alloc, out, "from", &"book")?;
+    out.token(Token::EndObject)
 }
 
 pub(crate) fn report(

@@ -1,9 +1,8 @@
 ghost use Rattle.std.specs.Prelude.{◌≡◌, find, map, option_map};
 ghost use Rattle.std.specs.Map.{lookup};
 ghost use Rattle.std.specs.Str.{bytes_eq};
-ghost use Rattle.snap_history.specs.Entries.{call_word};
 ghost use Rattle.snap_script.specs.Near.{is_near};
-ghost use Rattle.snap_script.specs.Words.{near_command, verb_of};
+ghost use Rattle.snap_script.specs.Words.{is_file, near_command, near_file_command, near_file_word, verb_of};
 
 use crate::near::is_near;
 use snap_history::CallKind;
@@ -61,31 +60,27 @@ pub(crate) enum LookupVerb {
     Usage,
 }
 
-/// The calls that are commands.
-const CALLS: [CallKind; 19] = [
-    CallKind::Session,
-    CallKind::Prepare,
-    CallKind::View,
-    CallKind::Charge,
-    CallKind::Trim,
-    CallKind::Commit,
-    CallKind::Discard,
-    CallKind::Remove,
-    CallKind::Stat,
-    CallKind::Update,
-    CallKind::Usage,
-    CallKind::Mounts,
-    CallKind::Walk,
-    CallKind::Limit,
-    CallKind::LeaseCreate,
-    CallKind::LeaseAdd,
-    CallKind::LeaseDrop,
-    CallKind::LeaseRelease,
-    CallKind::Sweep,
-];
-
-/// The words of the other commands.
-const WORDS: [(&str, Verb); 27] = [
+/// The commands by their words: those of the calls, as a journal has them, then the others.
+const WORDS: [(&str, Verb); 46] = [
+    ("session", Verb::Call(CallKind::Session)),
+    ("prepare", Verb::Call(CallKind::Prepare)),
+    ("view", Verb::Call(CallKind::View)),
+    ("charge", Verb::Call(CallKind::Charge)),
+    ("trim", Verb::Call(CallKind::Trim)),
+    ("commit", Verb::Call(CallKind::Commit)),
+    ("discard", Verb::Call(CallKind::Discard)),
+    ("remove", Verb::Call(CallKind::Remove)),
+    ("stat", Verb::Call(CallKind::Stat)),
+    ("update", Verb::Call(CallKind::Update)),
+    ("usage", Verb::Call(CallKind::Usage)),
+    ("mounts", Verb::Call(CallKind::Mounts)),
+    ("walk", Verb::Call(CallKind::Walk)),
+    ("limit", Verb::Call(CallKind::Limit)),
+    ("lease_create", Verb::Call(CallKind::LeaseCreate)),
+    ("lease_add", Verb::Call(CallKind::LeaseAdd)),
+    ("lease_drop", Verb::Call(CallKind::LeaseDrop)),
+    ("lease_release", Verb::Call(CallKind::LeaseRelease)),
+    ("sweep", Verb::Call(CallKind::Sweep)),
     ("open", Verb::Open),
     ("reopen", Verb::Reopen),
     ("roll", Verb::Roll),
@@ -115,19 +110,6 @@ const WORDS: [(&str, Verb); 27] = [
     ("report", Verb::Report),
 ];
 
-/// The call among these that has the word.
-fn call_in(mut calls: &[CallKind], word: &str) -> Option<CallKind>
-    ensures { result ≡ lookup (bytes_eq word.now) (map (λ call. (call_word call, call)) calls.entry.now) }
-{
-    while let [call, rest @ ..] = calls {
-        if word == call.as_str() {
-            return Some(*call);
-        }
-        calls = rest;
-    }
-    None
-}
-
 /// The verb that a table has for the word.
 fn verb_in(mut table: &[(&str, Verb)], word: &str) -> Option<Verb>
     ensures { result ≡ lookup (bytes_eq word.now) (map (λ p. (p.0.now, p.1)) table.entry.now) }
@@ -142,28 +124,10 @@ fn verb_in(mut table: &[(&str, Verb)], word: &str) -> Option<Verb>
 }
 
 /// The verb of a word.
-#[tactic(auto, unfolding(crate::specs::Words::verb_of))]
 pub(crate) fn verb_of(word: &str) -> Option<Verb>
     ensures { result ≡ verb_of word.now }
 {
-    match call_in(&CALLS, word) {
-        Some(call) => Some(Verb::Call(call)),
-        None => verb_in(&WORDS, word),
-    }
-}
-
-/// The first word of these calls that is near.
-fn near_call(mut calls: &[CallKind], word: &str) -> Option<&'static str>
-    ensures { option_map (λ known. known.now) result ≡ find (λ known. is_near known word.now) (map call_word calls.entry.now) }
-{
-    while let [call, rest @ ..] = calls {
-        let known = call.as_str();
-        if is_near(known.as_bytes(), word.as_bytes()) {
-            return Some(known);
-        }
-        calls = rest;
-    }
-    None
+    verb_in(&WORDS, word)
 }
 
 /// The first word of a table that is near.
@@ -180,12 +144,36 @@ fn near_entry(mut table: &[(&'static str, Verb)], word: &str) -> Option<&'static
 }
 
 /// The first word of a command that is near this one.
-#[tactic(auto, unfolding(crate::specs::Words::near_command))]
 pub(crate) fn near_command(word: &str) -> Option<&'static str>
     ensures { option_map (λ known. known.now) result ≡ near_command word.now }
 {
-    match near_call(&CALLS, word) {
-        Some(known) => Some(known),
-        None => near_entry(&WORDS, word),
+    near_entry(&WORDS, word)
+}
+
+/// Whether the verb is that of a file command.
+fn is_file(verb: Verb) -> bool
+    ensures { result ≡ is_file verb }
+{
+    matches!(verb, Verb::File(_))
+}
+
+/// The first word of a file command in a table that is near.
+fn near_file_entry(mut table: &[(&'static str, Verb)], word: &str) -> Option<&'static str>
+    ensures { option_map (λ known. known.now) result ≡ near_file_word (map (λ p. (p.0.now, p.1)) table.entry.now) word.now }
+{
+    while let [entry, rest @ ..] = table {
+        if is_file(entry.1) && is_near(entry.0.as_bytes(), word.as_bytes()) {
+            return Some(entry.0);
+        }
+        table = rest;
     }
+    None
+}
+
+/// The first word of a file command that is near this one.
+#[tactic(auto, unfolding(crate::specs::Words::near_file_command))]
+pub(crate) fn near_file_command(word: &str) -> Option<&'static str>
+    ensures { option_map (λ known. known.now) result ≡ near_file_command word.now }
+{
+    near_file_entry(&WORDS, word)
 }

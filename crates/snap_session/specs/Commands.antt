@@ -1,14 +1,13 @@
 -- What a command of a script answers, and the store after it; cited by the public clauses of `act` and, through Script.antt, of `replay`.
 -- Cited by `Runner::new`, `Runner as TakeLine`, `replay_within` and others.
-use Rattle.std.specs.Prelude.{ℕ, Bool, true, false, List, length, map, take, drop, Option, None, Some, Result, Ok, Err, if◌then◌else◌}
+use Rattle.std.specs.Prelude.{ℕ, nat_lt, Bool, true, false, List, length, map, take, drop, Option, None, Some, Result, Ok, Err, if◌then◌else◌}
 use Rattle.std.specs.Option.{option_map, option_map_or}
 use Rattle.snap_path.specs.Text.{Names}
 use Rattle.snap_layer.specs.declared.content.Content.{Content}
 use Rattle.snap_layer.specs.declared.content.Content.TheVariants as contents
 use Rattle.snap_layer.specs.Tree.{Tree}
 use Rattle.snap_usage.specs.declared.usage.Usage.{Usage}
-use Rattle.snap_merge.specs.declared.error.FsError.{FsError}
-use Rattle.snap_merge.specs.declared.error.FsError.TheVariants.{BadPath}
+use Rattle.snap_merge.specs.declared.error.FsError.TheVariants.{BadPath, NeedsCharge}
 use Rattle.snap_merge.specs.Objects.{Object, dir, file, symlink, seen}
 use Rattle.snap_merge.specs.Listing.{listing}
 use Rattle.snap_merge.specs.Reading.{reading}
@@ -21,13 +20,13 @@ use Rattle.snap_call.specs.declared.config.Config.{Config}
 use Rattle.snap_call.specs.declared.refusal.Refusal.{Refusal}
 use Rattle.snap_call.specs.declared.refusal.Refusal.TheVariants.{BadArgument}
 use Rattle.snap_call.specs.declared.reply.Reply.TheVariants as replies
-use Rattle.snap_call.specs.Forms.{is_config}
+use Rattle.snap_call.specs.Forms.{bad_field}
 use Rattle.snap_call.specs.Records.{open_count}
 use Rattle.snap_call.specs.Step.{sweep}
 use Rattle.snap_book.specs.Questions.{chain_usage}
-use Rattle.snap_book.specs.Round.{roll_answer}
+use Rattle.snap_book.specs.Round.{roll_answer, round_answer}
 use Rattle.snap_book.specs.Slot.{slot_of}
-use Rattle.snap_book.specs.Wanted.{needed_by, wanted}
+use Rattle.snap_book.specs.Wanted.{wanted}
 use Rattle.snap_world.specs.declared.step.Step.{Step}
 use Rattle.snap_world.specs.declared.step.Step.TheVariants.{Locked, Hand}
 use Rattle.snap_world.specs.declared.step.Answer.{Answer as StepAnswer}
@@ -35,9 +34,7 @@ use Rattle.snap_world.specs.declared.step.Answer.TheVariants as step_answers
 use Rattle.snap_world.specs.World.{WorldValue}
 use Rattle.snap_world.specs.Move.{move}
 use Rattle.snap_world.specs.Stacks.{peeked_of, stack_of}
-use Rattle.snap_world.specs.declared.round.ReopenFault.{ReopenFault}
-use Rattle.snap_world.specs.declared.round.ReopenFault.TheVariants as faults
-use Rattle.snap_world.specs.Round.{reopen_answer, reopened}
+use Rattle.snap_world.specs.Round.{reopened}
 use Rattle.snap_script.specs.declared.answer.Shown.{Shown}
 use Rattle.snap_script.specs.declared.answer.Shown.TheVariants as shown
 use Rattle.snap_script.specs.declared.answer.Answer.{Answer}
@@ -46,6 +43,7 @@ use Rattle.snap_script.specs.declared.command.Command.{Command}
 use Rattle.snap_script.specs.declared.command.Command.TheVariants as commands
 use Rattle.snap_script.specs.declared.command.Lookup.{Lookup}
 use Rattle.snap_script.specs.declared.command.Lookup.TheVariants as lookups
+use Rattle.snap_session.specs.Found.{found_or_else, refused}
 use Rattle.snap_session.specs.Opened.{OpenedValue, new_world, share_at, count_at, totals_of}
 use Rattle.snap_session.specs.Diff.{diff}
 use Rattle.snap_session.specs.Journal.{journal_of}
@@ -73,22 +71,22 @@ telling session slot after = (after.0, told session slot after.0 after.1)
 abbrev pub stepped : ℕ → ℕ → Step → WorldValue → WorldValue × Answer
 stepped session slot step w = telling session slot (move w step)
 
+-- what follows, or the refusal; no step is made where it is refused
+abbrev pub unless_refused : {A : Type 0} → WorldValue → (A → WorldValue × Answer) → Result A Refusal → WorldValue × Answer
+unless_refused w next (Ok found) = next found
+unless_refused w next (Err why) = (w, refused why)
+
 -- ---- commands on an active snapshot
 
--- with the slot and the id of the snapshot, or why there is none; no step is made where there is none
-abbrev pub if_found : WorldValue → (ℕ → ℕ → WorldValue × Answer) → Result (ℕ × ℕ) Refusal → WorldValue × Answer
-if_found w next (Ok found) = next found.0 found.1
-if_found w next (Err why) = (w, answers.Reply (replies.Refused why))
-
--- the same by the key of the snapshot
+-- with the slot and the id of the snapshot of the key, or why there is none
 abbrev pub on_key : WorldValue → Bytes → Bytes → (ℕ → ℕ → WorldValue × Answer) → WorldValue × Answer
-on_key w namespace key next = if_found w next (slot_of w.state namespace key)
+on_key w namespace key next = unless_refused w (λ found. next found.0 found.1) (slot_of w.state namespace key)
 
 -- ---- file commands
 
 -- the charge that an operation needs
 abbrev pub need_of : StepAnswer → Option Usage
-need_of (step_answers.File (Err e)) = needed_by e
+need_of (step_answers.File (Err (NeedsCharge need))) = Some need
 need_of answer = None
 
 -- a charge was granted
@@ -112,51 +110,34 @@ performed session slot id None extra w = (w, answers.Failed BadPath)
 
 -- ---- what a snapshot shows
 
--- a file that is seen: how many bytes it has, and its digest where they aren't kept
-abbrev pub shown_file : ℕ → Content → Shown
-shown_file mode (contents.Bytes bytes) = shown.File mode (length bytes)
-shown_file mode (contents.Sized size digest) = shown.Sized mode size digest
-
--- what is seen, as answers have it
+-- what is seen, as answers have it: of a file how many bytes it has, and its digest where they aren't kept
 abbrev pub shown_of : Object → Shown
 shown_of (dir mode) = shown.Dir mode
-shown_of (file mode content) = shown_file mode content
+shown_of (file mode (contents.Bytes bytes)) = shown.File mode (length bytes)
+shown_of (file mode (contents.Sized size digest)) = shown.Sized mode size digest
 shown_of (symlink target) = shown.Symlink target
 
--- the answer for what was found, or the error
-abbrev pub found_or_failed : {A : Type 0} → (A → Answer) → Result A FsError → Answer
-found_or_failed answer (Ok found) = answer found
-found_or_failed answer (Err e) = answers.Failed e
+-- a file that is read: what is told of its bytes, or its size and its digest, where they aren't kept
+abbrev pub read_of : (List ℕ → Answer) → Content → Answer
+read_of tell (contents.Bytes bytes) = tell bytes
+read_of tell (contents.Sized size digest) = answers.Known size digest
 
--- a file that is read: its first 16 bytes, and how many it has; or its size and its digest, where its bytes aren't kept
-abbrev pub read_of : Content → Answer
-read_of (contents.Bytes bytes) = answers.Head (take 16 bytes) (length bytes)
-read_of (contents.Sized size digest) = answers.Known size digest
-
--- a part of a file that is read: its bytes from the offset on, at most so many, and how many it has (pread(2)); or its size and its digest, where its bytes aren't kept
-abbrev pub part_of : ℕ → ℕ → Content → Answer
-part_of offset most (contents.Bytes bytes) = answers.Part (take most (drop offset bytes)) (length bytes)
-part_of offset most (contents.Sized size digest) = answers.Known size digest
-
--- what the layers show at a path
+-- what the layers show at a path: of a file its first 16 bytes, or those from the offset on, at most so many (pread(2)), and how many it has
 abbrev pub looked_up : Lookup → List Tree → Names → Answer
 looked_up lookups.Look layers path = answers.Seen (option_map shown_of (seen layers path))
-looked_up lookups.List layers path = found_or_failed answers.Names (listing layers path)
-looked_up lookups.Read layers path = found_or_failed read_of (reading layers path)
-looked_up (lookups.Part offset most) layers path = found_or_failed (part_of offset most) (reading layers path)
-looked_up lookups.Resolve layers path = found_or_failed answers.Path (resolution layers path)
-looked_up lookups.Usage layers path = found_or_failed answers.Taken (taken layers path)
+looked_up lookups.List layers path = found_or_else answers.Names answers.Failed (listing layers path)
+looked_up lookups.Read layers path = found_or_else (read_of (λ bytes. answers.Head (take 16 bytes) (length bytes))) answers.Failed (reading layers path)
+looked_up (lookups.Part offset most) layers path = found_or_else (read_of (λ bytes. answers.Part (take most (drop offset bytes)) (length bytes))) answers.Failed (reading layers path)
+looked_up lookups.Resolve layers path = found_or_else answers.Path answers.Failed (resolution layers path)
+looked_up lookups.Usage layers path = found_or_else answers.Taken answers.Failed (taken layers path)
 
 -- the layers of a snapshot that is looked at, or why there are none; where it is peeked at, a committed one has some
 abbrev pub layers_at : WorldValue → Bytes → Bytes → Bool → Result (List Tree) Refusal
-layers_at w namespace key false = stack_of w namespace key
-layers_at w namespace key true = option_map_or Ok (peeked_of w namespace key) (stack_of w namespace key)
+layers_at w namespace key peek = option_map_or Ok (if peek then peeked_of w namespace key else None) (stack_of w namespace key)
 
 -- a lookup in the layers of a snapshot, or why there are none; there is no path where its text was none. No step is made
 abbrev pub lookup : Lookup → Option Names → Result (List Tree) Refusal → Answer
-lookup asked (Some path) (Ok layers) = looked_up asked layers path
-lookup asked None (Ok layers) = answers.Failed BadPath
-lookup asked path (Err why) = answers.Reply (replies.Refused why)
+lookup asked path layers = found_or_else (λ found. option_map_or (looked_up asked found) path (answers.Failed BadPath)) refused layers
 
 -- ---- the next round
 
@@ -169,29 +150,15 @@ is_started answer = false
 abbrev pub round_opened : WorldValue × StepAnswer → WorldValue × Answer
 round_opened after = (after.0, if is_started after.1 then answers.Reply replies.Done else told 0 0 after.0 after.1)
 
--- the next round and its session 0, or why there is none
-abbrev pub if_reopened : WorldValue → ℕ → Result Unit ReopenFault → WorldValue × Answer
-if_reopened w journal (Ok done) = round_opened (move (reopened w journal) (Locked 0 calls.Session))
-if_reopened w journal (Err faults.StillOut) = (w, answers.StillOut)
-if_reopened w journal (Err (faults.Book why)) = (w, answers.Reply (replies.Refused why))
-
+-- the next round and its session 0, or why there is none: StillOut where a snapshot is open
 abbrev pub reopen : WorldValue → ℕ → WorldValue × Answer
-reopen w journal = if_reopened w journal (reopen_answer w journal)
+reopen w journal =
+    if nat_lt 0 (open_count w.state.records) then (w, answers.StillOut)
+    else unless_refused w (λ done. round_opened (move (reopened w journal) (Locked 0 calls.Session))) (round_answer w.state journal)
 
 -- the same, and snapshots may be open
-abbrev pub if_rolled : WorldValue → ℕ → Result Unit Refusal → WorldValue × Answer
-if_rolled w journal (Ok done) = round_opened (move (reopened w journal) (Locked 0 calls.Session))
-if_rolled w journal (Err why) = (w, answers.Reply (replies.Refused why))
-
 abbrev pub roll : WorldValue → ℕ → WorldValue × Answer
-roll w journal = if_rolled w journal (roll_answer w.state journal)
-
--- ---- what is asked without a step
-
--- what a snapshot is charged with its ancestors, or why there is none
-abbrev pub usage_answer : Result Usage Refusal → Answer
-usage_answer (Ok usage) = answers.Reply (replies.Usage usage)
-usage_answer (Err why) = answers.Reply (replies.Refused why)
+roll w journal = unless_refused w (λ done. round_opened (move (reopened w journal) (Locked 0 calls.Session))) (roll_answer w.state journal)
 
 -- ---- commands on a store
 
@@ -201,7 +168,7 @@ report s = answers.Report (length s.world.journal) (open_count s.world.state.rec
 
 -- a command by a session. A store that stands isn't opened again: no line of a script asks for that
 abbrev pub on_store : OpenedValue → ℕ → Command → WorldValue × Answer
-on_store s n (commands.Open config) = (s.world, answers.Reply (replies.Refused BadArgument))
+on_store s n (commands.Open config) = (s.world, refused BadArgument)
 on_store s n commands.Session = stepped s.world.state.sessions 0 (Locked s.world.state.sessions calls.Session) s.world
 on_store s n (commands.Reopen journal) = reopen s.world journal
 on_store s n (commands.Roll journal) = roll s.world journal
@@ -213,7 +180,7 @@ on_store s n (commands.Discard namespace key) = on_key s.world namespace key (λ
 on_store s n (commands.File namespace key operation extra) = on_key s.world namespace key (λ slot id. performed n slot id operation extra s.world)
 on_store s n (commands.Lookup namespace key asked path peek) = (s.world, lookup asked path (layers_at s.world namespace key peek))
 on_store s n (commands.TrySweep namespace moment) = (s.world, answers.Reply (sweep s.world.state namespace moment).1)
-on_store s n (commands.ChainUsage namespace key) = (s.world, usage_answer (chain_usage s.world.state namespace key))
+on_store s n (commands.ChainUsage namespace key) = (s.world, found_or_else (λ usage. answers.Reply (replies.Usage usage)) refused (chain_usage s.world.state namespace key))
 on_store s n (commands.Quota namespace) = (s.world, quota_answer s namespace)
 on_store s n (commands.Leases namespace lease) = (s.world, leases s namespace lease)
 on_store s n (commands.Tree namespace) = (s.world, tree s namespace)
@@ -228,8 +195,12 @@ abbrev pub started : List Bytes → WorldValue × StepAnswer → Option OpenedVa
 started names after = if is_started after.1 then (Some (record { world = after.0; names = names }), answers.Reply replies.Done) else (None, told 0 0 after.0 after.1)
 
 -- a world of the configuration, and its session 0
+abbrev pub store_begun : Config → Option OpenedValue × Answer
+store_begun c = started (map (λ n. n.name) c.namespaces) (move (new_world c) (Locked 0 calls.Session))
+
+-- the same, unless a part of the configuration is malformed: then the first such is told
 abbrev pub store_opened : Config → Option OpenedValue × Answer
-store_opened c = if is_config c then started (map (λ n. n.name) c.namespaces) (move (new_world c) (Locked 0 calls.Session)) else (None, answers.Reply (replies.Refused BadArgument))
+store_opened c = option_map_or (λ field. (None, answers.BadConfig field)) (bad_field c) (store_begun c)
 
 -- ---- a command
 

@@ -1,7 +1,7 @@
 -- The round's entries of a namespace.
 -- Cited by `Runner::new`, `Runner as TakeLine`, `replay_within` and others.
 use Rattle.std.specs.Prelude.{ℕ, ◌-◌, ◌==◌, Bool, if◌then◌else◌, List, [], ◌∷◌, length, map, slice_get, Option, None, Some, option_and_then}
-use Rattle.std.specs.Option.{option_map, option_or}
+use Rattle.std.specs.Option.{option_map, option_map_or, option_or}
 use Rattle.snap_record.specs.Labels.{Bytes}
 use Rattle.snap_call.specs.Forms.{is_page}
 use Rattle.snap_call.specs.State.{place_of}
@@ -18,15 +18,11 @@ use Rattle.snap_script.specs.Calls.{call_line}
 use Rattle.snap_script.specs.declared.answer.JournalEntry.{JournalEntry}
 use Rattle.snap_script.specs.declared.answer.Answer.{Answer}
 use Rattle.snap_script.specs.declared.answer.Answer.TheVariants as answers
+use Rattle.snap_session.specs.Found.{refused}
 
--- the key of the snapshot that a call prepares
-abbrev pub prepared_key : Call → Option Bytes
-prepared_key (calls.Prepare namespace key parent labels) = Some key
-prepared_key call = None
-
--- that of the snapshot of this id, where the call has prepared it
+-- the key of the snapshot of this id, where the call has prepared it
 abbrev pub key_by : ℕ → Call → Reply → Option Bytes
-key_by id call (replies.Prepared made slot chain) = if made == id then prepared_key call else None
+key_by id (calls.Prepare namespace key parent labels) (replies.Prepared made slot chain) = if made == id then Some key else None
 key_by id call reply = None
 
 -- the key under which one of the entries has prepared the snapshot of this id
@@ -48,9 +44,8 @@ journal_entry w namespace full info = record { entry = info; line = if full then
 
 -- those of the namespace at the place, of a greater number, at most so many, or that there is no such namespace
 abbrev pub journal_at : WorldValue → Bytes → ℕ → ℕ → Bool → Option ℕ → Answer
-journal_at w namespace after most full None = answers.Reply (replies.Refused NoNamespace)
-journal_at w namespace after most full (Some place) = answers.Journal (map (journal_entry w namespace full) (history_page after most (history place w.opening w.journal)))
+journal_at w namespace after most full place = option_map_or (λ p. answers.Journal (map (journal_entry w namespace full) (history_page after most (history p w.opening w.journal)))) place (refused NoNamespace)
 
 -- those of the namespace of this name; a page has 1 to 64 of them
 abbrev pub journal_of : WorldValue → Bytes → ℕ → ℕ → Bool → Answer
-journal_of w namespace after most full = if is_page most then journal_at w namespace after most full (place_of namespace w.state.namespaces) else answers.Reply (replies.Refused BadArgument)
+journal_of w namespace after most full = if is_page most then journal_at w namespace after most full (place_of namespace w.state.namespaces) else refused BadArgument

@@ -1,27 +1,25 @@
 -- The leases of a namespace.
 -- Cited by `Runner::new`, `Runner as TakeLine`, `replay_within` and others.
-use Rattle.std.specs.Prelude.{List, [], ◌∷◌, Option, None, Some}
+use Rattle.std.specs.Prelude.{List, [], ◌∷◌, Option}
 use Rattle.std.specs.Option.{option_map_or}
 use Rattle.snap_record.specs.Labels.{Bytes}
 use Rattle.snap_lease.specs.Lease.{Lease}
 use Rattle.snap_lease.specs.Told.{ToldLease, told_lease, told_leases}
-use Rattle.snap_call.specs.declared.reply.Reply.TheVariants as replies
 use Rattle.snap_call.specs.declared.refusal.Refusal.TheVariants.{NoLease, NoNamespace}
 use Rattle.snap_script.specs.declared.answer.Answer.{Answer}
 use Rattle.snap_script.specs.declared.answer.Answer.TheVariants as answers
+use Rattle.snap_session.specs.Found.{refused}
 use Rattle.snap_session.specs.Opened.{OpenedValue}
 use Rattle.snap_session.specs.Tree.{place_among}
 
 -- the one lease, or that there is none of this name
 abbrev pub one_lease : Option ToldLease → Answer
-one_lease (Some found) = answers.Leases (found ∷ [])
-one_lease None = answers.Reply (replies.Refused NoLease)
+one_lease found = option_map_or (λ lease. answers.Leases (lease ∷ [])) found (refused NoLease)
 
 -- all leases of the namespace, or the one that is named
 abbrev pub leases_in : List Lease → Bytes → Option Bytes → Answer
-leases_in ls namespace None = answers.Leases (told_leases ls namespace)
-leases_in ls namespace (Some lease) = one_lease (told_lease ls namespace lease)
+leases_in ls namespace lease = option_map_or (λ name. one_lease (told_lease ls namespace name)) lease (answers.Leases (told_leases ls namespace))
 
 -- those of the namespace of this name, or that there is none
 abbrev pub leases : OpenedValue → Bytes → Option Bytes → Answer
-leases s namespace lease = option_map_or (λ place. leases_in s.world.state.leases namespace lease) (place_among namespace s.names) (answers.Reply (replies.Refused NoNamespace))
+leases s namespace lease = option_map_or (λ place. leases_in s.world.state.leases namespace lease) (place_among namespace s.names) (refused NoNamespace)

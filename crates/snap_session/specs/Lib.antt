@@ -1,3 +1,4 @@
+pub mod Found
 pub mod Leases
 pub mod Opened
 pub mod Tree

@@ -1,8 +1,8 @@
 -- What namespaces may take and what they take.
 -- Cited by `Runner::new`, `Runner as TakeLine`, `replay_within` and others.
-use Rattle.std.specs.Prelude.{List, [], ◌∷◌, Option, None, Some, option_map, filter_map}
+use Rattle.std.specs.Prelude.{List, [], ◌∷◌, Option, option_map, filter_map}
+use Rattle.std.specs.Option.{option_map_or}
 use Rattle.snap_record.specs.Labels.{Bytes}
-use Rattle.snap_call.specs.declared.reply.Reply.TheVariants as replies
 use Rattle.snap_call.specs.declared.refusal.Refusal.TheVariants.{NoNamespace}
 use Rattle.snap_world.specs.declared.quota.Quota.{Quota}
 use Rattle.snap_world.specs.World.{WorldValue}
@@ -10,6 +10,7 @@ use Rattle.snap_world.specs.Quota.{quota}
 use Rattle.snap_script.specs.declared.answer.QuotaInfo.{QuotaInfo}
 use Rattle.snap_script.specs.declared.answer.Answer.{Answer}
 use Rattle.snap_script.specs.declared.answer.Answer.TheVariants as answers
+use Rattle.snap_session.specs.Found.{refused}
 use Rattle.snap_session.specs.Opened.{OpenedValue}
 
 -- a quota as answers have it
@@ -26,10 +27,8 @@ quotas w names = filter_map (named_quota w) names
 
 -- that of the one namespace, or that there is none
 abbrev pub one_quota : Option (Bytes × QuotaInfo) → Answer
-one_quota (Some found) = answers.Quota (found ∷ [])
-one_quota None = answers.Reply (replies.Refused NoNamespace)
+one_quota found = option_map_or (λ quota. answers.Quota (quota ∷ [])) found (refused NoNamespace)
 
 -- those of all namespaces, or of the one that is named
 abbrev pub quota_answer : OpenedValue → Option Bytes → Answer
-quota_answer s None = answers.Quota (quotas s.world s.names)
-quota_answer s (Some name) = one_quota (named_quota s.world name)
+quota_answer s namespace = option_map_or (λ name. one_quota (named_quota s.world name)) namespace (answers.Quota (quotas s.world s.names))

@@ -1,31 +1,29 @@
 -- What a script answers, line for line, and its first fault; cited by the public clauses of `replay`.
 -- Cited by `Runner::new`, `Runner as TakeLine`, `replay_within` and others.
-use Rattle.std.specs.Prelude.{List, [], ℕ, Bool, true, false, Option, None, Some, is_some, Result, Ok, Err}
+use Rattle.std.specs.Prelude.{List, [], ℕ, if◌then◌else◌, Option, None, Some, is_some, Result, Ok, Err}
+use Rattle.std.specs.Option.{option_map_or}
 use Rattle.snap_script.specs.declared.answer.Answer.{Answer}
 use Rattle.snap_script.specs.declared.fault.Fault.{Fault}
 use Rattle.snap_script.specs.declared.fault.Fault.TheVariants as faults
 use Rattle.snap_script.specs.declared.line.Line.{Line}
 use Rattle.snap_script.specs.declared.line.Line.TheVariants.{Empty, Command}
-use Rattle.snap_script.specs.declared.refused.Refused.{Refused}
 use Rattle.snap_script.specs.Results.{◌>>=◌}
 use Rattle.snap_script.specs.Refusals.{refusal_in}
-use Rattle.snap_script.specs.Answers.{answer_line}
+use Rattle.snap_script.specs.Answers.{answer_line, answer_told}
 use Rattle.snap_script.specs.Lines.{line_of}
 use Rattle.snap_lines.specs.Effects.{Effect, Effects}
 use Rattle.snap_lines.specs.Transcripts.{Stops, Transcript, max_bytes, transcript}
 use Rattle.snap_lines.specs.declared.stop.Stop.{Stop}
 use Rattle.snap_session.specs.declared.run.RunOptions.{RunOptions}
-use Rattle.snap_session.specs.Opened.{OpenedValue, ScriptValue, unopened}
+use Rattle.snap_session.specs.Opened.{ScriptValue, unopened}
 use Rattle.snap_session.specs.Commands.{done}
 
--- the script after a command, which doesn't spend the name, and the answer
-abbrev pub carried_out : Bool → Option OpenedValue × Answer → ScriptValue × Option Answer
-carried_out spent after = (record { store = after.0; spent = spent }, Some after.1)
-
--- what a line makes of a script, and its answer: an empty line does nothing and has none, any other does its command
+-- what a line makes of a script, and its answer: an empty line does nothing and has none, any other does its command, which doesn't spend the name
 abbrev pub step : ScriptValue → Line → ScriptValue × Option Answer
 step s Empty = (s, None)
-step s (Command session command) = carried_out s.spent (done s.store session command)
+step s (Command session command) =
+    let after = done s.store session command in
+    (record { store = after.0; spent = s.spent }, Some after.1)
 
 -- a script, and how it is run
 pub record RunnerValue : Type 0 where
@@ -36,28 +34,17 @@ pub record RunnerValue : Type 0 where
 abbrev pub unbegun : RunOptions → RunnerValue
 unbegun options = record { script = unopened; options = options }
 
--- why an answer ends the run, where refusals do
-abbrev pub ending : Bool → Answer → Option Refused
-ending false answer = None
-ending true answer = refusal_in answer
-
--- the line of an answer, or that its command was refused
-abbrev pub told_or_ended : Answer → Option Refused → Result (List ℕ) Fault
-told_or_ended answer None = Ok (answer_line answer)
-told_or_ended answer (Some why) = Err (faults.Refused why)
-
--- the line of an answer that doesn't end the run
-abbrev pub text_told : Bool → Answer → Result (List ℕ) Fault
-text_told stops answer = told_or_ended answer (ending stops answer)
+-- the line of an answer, told by the rule of the run's fields, or, where refusals end the run, that its command was refused
+abbrev pub text_told : RunOptions → Answer → Result (List ℕ) Fault
+text_told options answer = option_map_or (λ why. Err (faults.Refused why)) (if options.stops_at_refusal then refusal_in answer else None) (Ok (answer_line (answer_told options.fields answer)))
 
 -- the same of the answer that there may be
-abbrev pub text_of : Bool → Option Answer → Result (List ℕ) Fault
-text_of stops None = Ok []
-text_of stops (Some answer) = text_told stops answer
+abbrev pub text_of : RunOptions → Option Answer → Result (List ℕ) Fault
+text_of options answer = option_map_or (text_told options) answer (Ok [])
 
 -- the effect of a step
 abbrev pub effect_step : RunOptions → ScriptValue × Option Answer → Result (Effect RunnerValue) Fault
-effect_step options after = do Ok (record { value = record { script = after.0; options = options }; text = (← text_of options.stops_at_refusal after.1) })
+effect_step options after = do Ok (record { value = record { script = after.0; options = options }; text = (← text_of options after.1) })
 
 -- what the bytes of a line do
 unfoldable pub effect_of : Effects RunnerValue

@@ -1,7 +1,7 @@
 -- What a server answers, line for line; cited by the public clauses of `serve`.
 -- Cited by `Server::new`, `Server as TakeLine`, `serve`.
-use Rattle.std.specs.Prelude.{ℕ, List, Option, None, Some, is_some, Result, Ok, Err}
-use Rattle.snap_script.specs.declared.answer.Answer.{Answer}
+use Rattle.std.specs.Prelude.{ℕ, List, Option, None, is_some, Result, Ok, Err}
+use Rattle.std.specs.Option.{option_map_or}
 use Rattle.snap_script.specs.declared.fault.Fault.{Fault}
 use Rattle.snap_script.specs.declared.line.Line.{Line}
 use Rattle.snap_script.specs.declared.request.Id.{Id}
@@ -27,14 +27,9 @@ pub record ServerValue : Type 0 where
 abbrev pub idle : ServerValue
 idle = record { script = unopened; lines = 0 }
 
--- the response to a line that is empty or a command
-abbrev pub response_of : Option Answer → Response
-response_of None = responses.Empty
-response_of (Some answer) = responses.Answer answer
-
--- what was read of the line of this number, and what it makes of the script: one that is no command does nothing
+-- what was read of the line of this number, and what it makes of the script: one that is no command does nothing, and one that is empty has no answer
 abbrev pub responded : ScriptValue → ℕ → Result Line Fault → ScriptValue × Response
-responded s number (Ok line) = ((step s line).0, response_of (step s line).1)
+responded s number (Ok line) = ((step s line).0, option_map_or responses.Answer (step s line).1 responses.Empty)
 responded s number (Err fault) = (s, responses.Fault fault number)
 
 -- the effect of a line that has this id, or none

@@ -6,11 +6,11 @@ use Rattle.snap_record.specs.Labels.{Bytes}
 use Rattle.snap_record.specs.Records.{kind_of, usage_of}
 use Rattle.snap_record.specs.declared.record.Record.{Record}
 use Rattle.snap_call.specs.Records.{child_count}
-use Rattle.snap_call.specs.declared.reply.Reply.TheVariants as replies
 use Rattle.snap_call.specs.declared.refusal.Refusal.TheVariants.{NoNamespace}
 use Rattle.snap_script.specs.declared.answer.TreeNode.{TreeNode}
 use Rattle.snap_script.specs.declared.answer.Answer.{Answer}
 use Rattle.snap_script.specs.declared.answer.Answer.TheVariants as answers
+use Rattle.snap_session.specs.Found.{refused}
 use Rattle.snap_session.specs.Opened.{OpenedValue}
 
 -- the snapshot, with its own usage and the number of the namespace's snapshots on it
@@ -27,4 +27,4 @@ place_among namespace names = position (λ name. bytes_eq name namespace) names
 
 -- the forest of the namespace of this name, or that there is none
 abbrev pub tree : OpenedValue → Bytes → Answer
-tree s namespace = option_map_or (λ place. answers.Tree (forest place s.world.state.records)) (place_among namespace s.names) (answers.Reply (replies.Refused NoNamespace))
+tree s namespace = option_map_or (λ place. answers.Tree (forest place s.world.state.records)) (place_among namespace s.names) (refused NoNamespace)

@@ -5,8 +5,10 @@ ghost use Rattle.snap_book.specs.Slot.{slot_of};
 ghost use Rattle.snap_world.specs.declared.step.Step.TheVariants.{Locked};
 ghost use Rattle.snap_call.specs.Step.{sweep};
 ghost use Rattle.snap_book.specs.Questions.{chain_usage};
+ghost use Rattle.snap_call.specs.declared.reply.Reply.TheVariants as replies;
 ghost use Rattle.snap_script.specs.declared.answer.Answer.TheVariants as answers;
-ghost use Rattle.snap_session.specs.Commands.{stepped, on_key, usage_answer};
+ghost use Rattle.snap_session.specs.Commands.{stepped, on_key};
+ghost use Rattle.snap_session.specs.Found.{found_or_else, refused};
 
 use crate::step::called;
 use snap_call::{Call, Refusal, Reply};
@@ -127,7 +129,7 @@ pub(crate) fn try_sweep<N: StoreName>(
 
 // What the snapshot is charged with its ancestors, or why there is none.
 pub(crate) fn chain_usage<N: StoreName>(world: &World<N>, namespace: Text, key: Text) -> Answer
-    ensures { result ≡ usage_answer (chain_usage world.now.state namespace key) }
+    ensures { result ≡ found_or_else (λ usage. answers.Reply (replies.Usage usage)) refused (chain_usage world.now.state namespace key) }
 {
     match world.chain_usage(namespace.as_str(), key.as_str()) {
         Ok(usage) => Answer::Reply(Reply::Usage(usage)),

@@ -1,6 +1,6 @@
 // The round's entries of a namespace.
 ghost use Rattle.std.specs.Prelude.{◌≡◌, IfOk, map, option_and_then, option_copied};
-ghost use Rattle.snap_session.specs.Journal.{entry_of, journal_entry, journal_of, key_among, key_by, line_at, prepared_key};
+ghost use Rattle.snap_session.specs.Journal.{entry_of, journal_entry, journal_of, key_among, key_by, line_at};
 
 use snap_call::{Call, Entry, Refusal, Reply, SharedEntry, is_page};
 use snap_history::{EntryInfo, history};
@@ -10,28 +10,15 @@ use snap_script::{Answer, JournalEntry, call_line};
 use snap_world::{NoMemory, World};
 use std::alloc::{AllocError, Global};
 
-// The key of the snapshot that the call prepares.
-fn prepared_key(call: &Call) -> Option<&Text>
-    ensures { option_copied result ≡ prepared_key call.now }
-{
-    match call {
-        Call::Prepare { key, .. } => Some(key),
-        _ => None,
-    }
-}
-
-// That of the snapshot of this id, where the call has prepared it.
+// The key of the snapshot of this id, where the call has prepared it.
 fn key_by<'a>(id: u32, call: &'a Call, reply: &Reply) -> Option<&'a Text>
     ensures { option_copied result ≡ key_by id call.now reply.now }
 {
+    let Call::Prepare { key, .. } = call else {
+        return None;
+    };
     match reply {
-        Reply::Prepared { id: made, .. } => {
-            if *made == id {
-                prepared_key(call)
-            } else {
-                None
-            }
-        }
+        Reply::Prepared { id: made, .. } if *made == id => Some(key),
         _ => None,
     }
 }

@@ -1,8 +1,8 @@
 // What a snapshot shows at a path.
 ghost use Rattle.std.specs.Prelude.{◌≡◌, IfOk, Ok, drop, length, take};
-ghost use Rattle.snap_merge.specs.Objects.{object};
+ghost use Rattle.snap_merge.specs.Objects.{file, object};
 ghost use Rattle.snap_script.specs.declared.answer.Answer.TheVariants as answers;
-ghost use Rattle.snap_session.specs.Commands.{layers_at, part_of, read_of, shown_file, shown_of, looked_up, lookup};
+ghost use Rattle.snap_session.specs.Commands.{layers_at, read_of, shown_of, looked_up, lookup};
 
 use snap_layer::{Bytes, Content};
 use snap_ledger::StoreName;
@@ -31,7 +31,7 @@ fn shown_of(alloc: Global, seen: Seen<'_>) -> Result<Shown, AllocError>
 
 // A file that is seen, with its own digest.
 fn shown_file(alloc: Global, mode: u32, content: &Content) -> Result<Shown, AllocError>
-    ensures { IfOk result (λ shown. shown ≡ shown_file mode content.now) }
+    ensures { IfOk result (λ shown. shown ≡ shown_of (file mode content.now)) }
 {
     match content {
         Content::Bytes(_) => Ok(Shown::File {
@@ -48,7 +48,7 @@ fn shown_file(alloc: Global, mode: u32, content: &Content) -> Result<Shown, Allo
 
 // The file's first bytes, and how many it has; or its size and its digest, where its bytes aren't kept.
 fn read_of(alloc: Global, content: &Content) -> Result<Answer, AllocError>
-    ensures { IfOk result (λ answer. answer ≡ read_of content.now) }
+    ensures { IfOk result (λ answer. answer ≡ read_of (λ bytes. answers.Head (take 16 bytes) (length bytes)) content.now) }
 {
     match content {
         Content::Bytes(bytes) => head_of(alloc, bytes.as_slice()),
@@ -72,7 +72,7 @@ fn head_of(alloc: Global, bytes: &[u8]) -> Result<Answer, AllocError>
 
 // A part of the file's bytes, and how many it has; or its size and its digest, where its bytes aren't kept.
 fn part_of(alloc: Global, content: &Content, offset: u64, most: u64) -> Result<Answer, AllocError>
-    ensures { IfOk result (λ answer. answer ≡ part_of offset most content.now) }
+    ensures { IfOk result (λ answer. answer ≡ read_of (λ bytes. answers.Part (take most (drop offset bytes)) (length bytes)) content.now) }
 {
     match content {
         Content::Bytes(bytes) => part_in(alloc, bytes.as_slice(), offset, most),

@@ -1,12 +1,12 @@
 ghost use Rattle.std.specs.Prelude.{◌≡◌, None, OnOk, IfErr, IfSome, string_bytes};
 ghost use Rattle.snap_lines.specs.Transcripts.{Tells};
 ghost use Rattle.snap_script.specs.Gives.{Gives};
-ghost use Rattle.snap_session.specs.Script.{HasStopped, effect_of, ending, script, text_told, unbegun};
+ghost use Rattle.snap_session.specs.Script.{HasStopped, effect_of, script, text_told, unbegun};
 
 use crate::script::Script;
 use snap_ledger::{NewTable, StoreName};
 use snap_lines::{MAX_BYTES, Stop, TakeLine, read_lines};
-use snap_script::{Answer, Fault, FieldRule, ReadError, Refused, Scratch, read_line};
+use snap_script::{Answer, Fault, FieldRule, ReadError, Scratch, read_line};
 use std::alloc::Global;
 use std::io::{Read, Write};
 use std::marker::{Brand, Model};
@@ -53,21 +53,16 @@ impl<N: StoreName> Runner<N> {
     }
 }
 
-// Why the answer ends the run, where refusals do.
-fn ending(stops: bool, answer: &Answer) -> Option<Refused>
-    ensures { result ≡ ending stops answer.now }
-{
-    if stops { answer.refusal() } else { None }
-}
-
 // The text of an answer that doesn't end the run.
-fn text_told(alloc: Global, stops: bool, answer: &Answer) -> Result<String, ReadError>
-    ensures { Gives string_bytes result (text_told stops answer.now) }
+fn text_told(alloc: Global, options: RunOptions, answer: Answer) -> Result<String, ReadError>
+    ensures { Gives string_bytes result (text_told options answer) }
 {
-    match ending(stops, answer) {
-        Some(why) => Err(ReadError::Fault(Fault::Refused(why))),
-        None => Ok(answer.line(alloc)?),
+    if options.stops_at_refusal {
+        if let Some(why) = answer.refusal() {
+            return Err(ReadError::Fault(Fault::Refused(why)));
+        }
     }
+    Ok(answer.told(options.fields).line(alloc)?)
 }
 
 /// A line is read and its command carried out; the text is the line of the answer, and none for an empty line.
@@ -79,7 +74,7 @@ impl<N: StoreName> TakeLine for Runner<N> {
         let opened = self.script.is_open();
         let line = read_line(alloc, line, self.options.fields, opened, &mut self.scratch)?;
         match self.script.step(line)? {
-            Some(answer) => Ok(Some(text_told(alloc, self.options.stops_at_refusal, &answer)?)),
+            Some(answer) => Ok(Some(text_told(alloc, self.options, answer)?)),
             None => Ok(None),
         }
     }

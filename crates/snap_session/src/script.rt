@@ -4,7 +4,7 @@ ghost use Rattle.snap_call.specs.declared.call.Call.TheVariants as calls;
 ghost use Rattle.snap_world.specs.declared.step.Answer.{Answer as StepAnswer};
 ghost use Rattle.snap_world.specs.declared.step.Step.TheVariants.{Locked};
 ghost use Rattle.snap_world.specs.Move.{move};
-ghost use Rattle.snap_session.specs.Commands.{is_started, store_opened, done};
+ghost use Rattle.snap_session.specs.Commands.{is_started, store_begun, store_opened, done};
 ghost use Rattle.snap_session.specs.Opened.{new_world, unopened};
 ghost use Rattle.snap_session.specs.Script.{step};
 
@@ -43,7 +43,7 @@ impl<N: StoreName> Model for Script<N> {
     ghost invariant = { λ s. IfSome s.table (λ t. t ≡ N.table) × ((is_some s.table || (is_some s.refused || is_some s.store)) ≡ true) };
 }
 
-// A world of the configuration, which has its form and room for an entry, with its session 0.
+// A world of the configuration, which is valid and has room for an entry, with its session 0.
 fn begun<N: StoreName>(alloc: Global, table: NewTable, config: Config) -> Result<World<N>, NoMemory>
     requires table { table ≡ N.table }
     requires valid { is_config config ≡ true }
@@ -83,12 +83,12 @@ impl<N: StoreName> Script<N> {
         self.store.is_some()
     }
 
-    // A world of the configuration, which has its form and room for an entry, and its session 0.
+    // A world of the configuration, which is valid and has room for an entry, and its session 0.
     fn start(&mut self, config: Config) -> Result<Answer, NoMemory>
         requires valid { is_config config ≡ true }
         requires room { 1 ≤ config.journal }
         requires none { self.old.store ≡ None }
-        ensures store { IfOk result (λ answer. store_opened config ≡ (self.new.store, answer)) }
+        ensures store { IfOk result (λ answer. store_begun config ≡ (self.new.store, answer)) }
         ensures spent { OnOk result (self.new.spent ≡ self.old.spent) }
     {
         let names = names_of(self.alloc, config.namespaces.as_slice())?;
@@ -116,8 +116,8 @@ impl<N: StoreName> Script<N> {
         ensures store { IfOk result (λ answer. store_opened config ≡ (self.new.store, answer)) }
         ensures spent { OnOk result (self.new.spent ≡ self.old.spent) }
     {
-        if !config.is_valid() {
-            return Ok(Answer::refused(Refusal::BadArgument));
+        if let Some(field) = config.bad_field() {
+            return Ok(Answer::BadConfig(field));
         }
         if config.journal == 0 {
             return Ok(Answer::refused(Refusal::JournalFull));
@@ -128,11 +128,11 @@ impl<N: StoreName> Script<N> {
     /// A command by a session of this number: its answer, and what it makes of the store.
     ///
     /// Without a store every command but `Open` is answered `NoSession`; with one, `Open` is refused as
-    /// a bad argument and the store stays. No line of a script asks for either. An `Open` that is refused, for
-    /// its form or for a journal without room, leaves the name to a later one. `NoMemory` where memory was
-    /// refused; the run of a script ends with it, and nothing is said of the store. An `Open` that it
-    /// ends may have spent the store's name, so that a later one answers `NoMemory` too. The cost is that of
-    /// the command's steps, at most three.
+    /// a bad argument and the store stays. No line of a script asks for either. A malformed `Open` is answered
+    /// `BadConfig` with its first malformed field; it, and one whose journal has no room, leave the name to a later
+    /// one. `NoMemory` where memory was refused; the run of a script ends with it, and nothing is said of the store.
+    /// An `Open` that it ends may have spent the store's name, so that a later one answers `NoMemory` too. The cost is
+    /// that of the command's steps, at most three.
     pub fn act(&mut self, n: u64, command: Command) -> Result<Answer, NoMemory>
         ensures done { IfOk result (λ answer. done self.old.store n command ≡ (self.new.store, answer)) }
         ensures spent { OnOk result (self.new.spent ≡ self.old.spent) }

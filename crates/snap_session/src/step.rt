@@ -1,10 +1,9 @@
 // One step of the world, and what a script says of it.
-ghost use Rattle.std.specs.Prelude.{◌≡◌, IfOk, false, is_some};
+ghost use Rattle.std.specs.Prelude.{◌≡◌, IfOk, false};
 ghost use Rattle.snap_world.specs.declared.step.Step.TheVariants.{Hand, Locked};
-ghost use Rattle.snap_world.specs.declared.step.Answer.TheVariants as step_answers;
 ghost use Rattle.snap_world.specs.Move.{move};
 ghost use Rattle.snap_session.specs.Opened.{share_at, count_at};
-ghost use Rattle.snap_session.specs.Wanting.{is_error_want, is_memory, is_want};
+ghost use Rattle.snap_session.specs.Wanting.{is_want};
 ghost use Rattle.snap_session.specs.Commands.{told, stepped};
 
 use snap_call::{Call, Refusal, Reply};
@@ -35,42 +34,14 @@ pub(crate) fn count_at<N: StoreName>(world: &World<N>, slot: u64) -> Usage
     }
 }
 
-fn memory_of(why: Refusal) -> Option<NoMemory>
-    ensures { is_some result ≡ is_memory why }
-{
-    match why {
-        Refusal::OutOfMemory(no_memory) => Some(no_memory),
-        _ => None,
-    }
-}
-
-fn error_want(error: FsError) -> Option<NoMemory>
-    ensures { is_some result ≡ is_error_want error }
-{
-    match error {
-        FsError::OutOfMemory(no_memory) => Some(no_memory),
-        _ => None,
-    }
-}
-
-// The want of memory that a step's answer tells of.
-fn want_of(answer: &StepAnswer) -> Option<NoMemory>
-    ensures { is_some result ≡ is_want answer.now }
-{
-    match answer {
-        StepAnswer::Reply(Reply::Refused(why)) => memory_of(*why),
-        StepAnswer::File(Err(error)) => error_want(*error),
-        _ => None,
-    }
-}
-
 // The answer of a step that had the memory that it wanted.
 fn unless_want(answer: StepAnswer) -> Result<StepAnswer, NoMemory>
     ensures { IfOk result (λ same. (same ≡ answer) × (is_want answer ≡ false)) }
 {
-    match want_of(&answer) {
-        Some(no_memory) => Err(no_memory),
-        None => Ok(answer),
+    match answer {
+        StepAnswer::Reply(Reply::Refused(Refusal::OutOfMemory(no_memory))) => Err(no_memory),
+        StepAnswer::File(Err(FsError::OutOfMemory(no_memory))) => Err(no_memory),
+        answer => Ok(answer),
     }
 }
 
@@ -96,28 +67,6 @@ pub(crate) fn operate<N: StoreName>(
     unless_want(world.operate(slot, op))
 }
 
-fn told_reply<N: StoreName>(session: u64, slot: u64, world: &World<N>, reply: Reply) -> Answer
-    ensures { result ≡ told session slot world.now (step_answers.Reply reply) }
-{
-    match reply {
-        Reply::Opened => Answer::Session(session),
-        Reply::Trimmed => Answer::Share(share_at(world, slot)),
-        reply => Answer::Reply(reply),
-    }
-}
-
-fn told_outcome<N: StoreName>(slot: u64, world: &World<N>, outcome: Result<(), FsError>) -> Answer
-    ensures { result ≡ told 0 slot world.now (step_answers.File outcome) }
-{
-    match outcome {
-        Ok(()) => Answer::Changed {
-            count: count_at(world, slot),
-            share: share_at(world, slot),
-        },
-        Err(error) => Answer::Failed(error),
-    }
-}
-
 // What a script says of the answer of a step on the slot.
 pub(crate) fn told<N: StoreName>(
     session: u64,
@@ -128,8 +77,14 @@ pub(crate) fn told<N: StoreName>(
     ensures { result ≡ told session slot world.now answer }
 {
     match answer {
-        StepAnswer::Reply(reply) => told_reply(session, slot, world, reply),
-        StepAnswer::File(outcome) => told_outcome(slot, world, outcome),
+        StepAnswer::Reply(Reply::Opened) => Answer::Session(session),
+        StepAnswer::Reply(Reply::Trimmed) => Answer::Share(share_at(world, slot)),
+        StepAnswer::Reply(reply) => Answer::Reply(reply),
+        StepAnswer::File(Ok(())) => Answer::Changed {
+            count: count_at(world, slot),
+            share: share_at(world, slot),
+        },
+        StepAnswer::File(Err(error)) => Answer::Failed(error),
         StepAnswer::NoSession => Answer::NoSession,
         StepAnswer::NoHand => Answer::NoHand,
     }

@@ -147,7 +147,7 @@ impl<N: RoundName> Store<N> {
 
     /// A store with the namespaces of the configuration and no snapshots, in a round without sessions.
     ///
-    /// `BadArgument` where a part of the configuration has not its form; `OutOfMemory` where memory is
+    /// `BadArgument` where a part of the configuration is malformed; `OutOfMemory` where memory is
     /// refused. Memory and cost are those of [`Book::open`](snap_book::Book::open). It waits for nobody.
     pub fn open(alloc: Global, new: NewStore, config: Config) -> Result<Store<N>, Refusal>
         requires { new ≡ (N.table, N.rounds) }

@@ -1,5 +1,6 @@
 -- A file that is edited.
 use Rattle.std.proofs.Common.{◌≡◌, ℕ, ◌≤◌, List, ◌∷◌, Option, Some, None, sym, ap, subst, ◌∙◌}
+use Rattle.snap_path.specs.Limits.{most_mode}
 use Rattle.snap_path.specs.Text.{Names}
 use Rattle.snap_layer.specs.declared.content.Content.{Content}
 use Rattle.snap_layer.specs.declared.node.Body.{Body}
@@ -21,7 +22,7 @@ use Rattle.snap_layer.proofs.Contents.{edited_short}
 use Rattle.snap_upper.proofs.Writing.{own_file, no_own, own_filled, copy_filled}
 
 module _ (u : Tree) (ls : List Tree) (p : Names) (e : Edit) (ok : IsLayer u) (layers : AreLayers ls) (m : ℕ) (old : Content) (was : seen (u ∷ ls) p ≡ Some (file m old)) (is_short : (x : ℕ) (y : Content) → seen (u ∷ ls) p ≡ Some (file x y) → IsShort e y) where
-  whole : (m ≤ 4095) × IsContent old
+  whole : (m ≤ most_mode) × IsContent old
   whole = subst IsWholeObject was (whole_seen (u ∷ ls) (ok, layers) p)
 
   -- the layer's own file

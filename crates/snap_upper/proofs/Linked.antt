@@ -5,6 +5,7 @@ use Rattle.std.specs.Ordering.{nat_cmp}
 use Rattle.std.specs.Cmp.{nat_cmp_total}
 use Rattle.std.specs.List.Sorted.{IsStrictlySortedBy}
 use Rattle.std.specs.Map.{keys_of}
+use Rattle.snap_path.specs.Limits.{most_number}
 use Rattle.snap_path.specs.Text.{Names, IsPath, begins}
 use Rattle.snap_layer.specs.declared.node.Node.{Node}
 use Rattle.snap_layer.specs.declared.node.Node.TheVariants.{Dir, File, Symlink, Whiteout}
@@ -252,7 +253,7 @@ module _ (u : Tree) (ls : List Tree) (from to : Names) (ok : IsLayer u) (layers 
   same_inodes = omega (arith, inode_count-with_entry room to named.0 (sorted-without t to grows), ap inodes_of (at-without_inside t to to (begins_itself to)), no_inode named.0 copies.number.0 named.2)
 
   pub same_within : is_within (next_layer (op.Link from to) u ls) ≡ is_within room
-  same_within = ap is_within linked_is ∙ (λ i. nat_le (same_inodes i) room.most && nat_le room.next 4294967295)
+  same_within = ap is_within linked_is ∙ (λ i. nat_le (same_inodes i) room.most && nat_le room.next most_number)
 
   -- ---- the name is put
 

@@ -3,6 +3,7 @@ use Rattle.std.proofs.Common.{◌≡◌, ℕ, ◌≤◌, Bool, true, false, List
 use Rattle.std.specs.Prelude.{nat_lt, nat_le, not, ◌&&◌, ◌||◌, ◌==◌}
 use Rattle.std.specs.List.{list_any}
 use Rattle.std.proofs.lemmas.Bool.Decides.{nat_tests}
+use Rattle.snap_path.specs.Limits.{most_mode, most_sized_bytes, most_target_bytes}
 use Rattle.snap_layer.specs.Layers.{is_target}
 use Rattle.snap_path.specs.Text.{Names}
 use Rattle.snap_layer.specs.declared.node.Node.TheVariants.{Dir}
@@ -26,20 +27,20 @@ use Rattle.snap_upper.proofs.Outcomes.{test_passes, error_if_passes, after_passe
 pub record IsNew (s : List Tree) (p : Names) (mode : ℕ) : Type 0 where
   pub way : walk s p ≡ None
   pub unseen : is_some (seen s p) ≡ false
-  pub low : mode ≤ 4095
+  pub low : mode ≤ most_mode
 
-low_mode : (mode : ℕ) → nat_lt 4095 mode ≡ false → mode ≤ 4095
-low_mode mode e = ltb-false 4095 mode e
+low_mode : (mode : ℕ) → nat_lt most_mode mode ≡ false → mode ≤ most_mode
+low_mode mode e = ltb-false most_mode mode e
 
 pub IsNew-passed : (s : List Tree) (p : Names) (mode : ℕ) → first_error (tests (op.Mkdir p mode) s) ≡ None → IsNew s p mode
 IsNew-passed s p mode passes =
-    let first = test_passes (walk s p) (error_if (is_some (seen s p)) Exists ∷ error_if (nat_lt 4095 mode) Invalid ∷ []) passes in
-    let second = test_passes (error_if (is_some (seen s p)) Exists) (error_if (nat_lt 4095 mode) Invalid ∷ []) first.1 in
-    let third = test_passes (error_if (nat_lt 4095 mode) Invalid) [] second.1 in
+    let first = test_passes (walk s p) (error_if (is_some (seen s p)) Exists ∷ error_if (nat_lt most_mode mode) Invalid ∷ []) passes in
+    let second = test_passes (error_if (is_some (seen s p)) Exists) (error_if (nat_lt most_mode mode) Invalid ∷ []) first.1 in
+    let third = test_passes (error_if (nat_lt most_mode mode) Invalid) [] second.1 in
     record {
       way = first.0;
       unseen = error_if_passes (is_some (seen s p)) Exists second.0;
-      low = low_mode mode (error_if_passes (nat_lt 4095 mode) Invalid third.0);
+      low = low_mode mode (error_if_passes (nat_lt most_mode mode) Invalid third.0);
     }
 
 some_shown : (o : Option Object) → is_shown_dir o ≡ true → is_some o ≡ true
@@ -74,7 +75,7 @@ module _ (u : Tree) (ls : List Tree) (p : Names) (mode : ℕ) where
 pub record IsNewSized (s : List Tree) (p : Names) (mode size : ℕ) (digest : Option (List ℕ)) : Type 0 where
   pub way : walk s p ≡ None
   pub unseen : is_some (seen s p) ≡ false
-  pub low : mode ≤ 4095
+  pub low : mode ≤ most_mode
   pub content : IsContent (Sized size digest)
 
 digest_from : (digest : Option (List ℕ)) → is_long_digest digest ≡ false → IsDigest digest
@@ -83,8 +84,8 @@ digest_from (Some digest) e = ltb-false 1024 (length digest) e
 
 pub IsNewSized-passed : (s : List Tree) (p : Names) (mode size : ℕ) (digest : Option (List ℕ)) → first_error (tests (op.Put p mode size digest) s) ≡ None → IsNewSized s p mode size digest
 IsNewSized-passed s p mode size digest passes =
-    let bad = error_if (nat_lt 4095 mode) Invalid in
-    let big = error_if (nat_lt 1099511627776 size) TooBig in
+    let bad = error_if (nat_lt most_mode mode) Invalid in
+    let big = error_if (nat_lt most_sized_bytes size) TooBig in
     let long = error_if (is_long_digest digest) TooBig in
     let first = test_passes (walk s p) (error_if (is_some (seen s p)) Exists ∷ bad ∷ big ∷ long ∷ []) passes in
     let second = test_passes (error_if (is_some (seen s p)) Exists) (bad ∷ big ∷ long ∷ []) first.1 in
@@ -94,8 +95,8 @@ IsNewSized-passed s p mode size digest passes =
     record {
       way = first.0;
       unseen = error_if_passes (is_some (seen s p)) Exists second.0;
-      low = low_mode mode (error_if_passes (nat_lt 4095 mode) Invalid third.0);
-      content = (ltb-false 1099511627776 size (error_if_passes (nat_lt 1099511627776 size) TooBig fourth.0), digest_from digest (error_if_passes (is_long_digest digest) TooBig fifth.0));
+      low = low_mode mode (error_if_passes (nat_lt most_mode mode) Invalid third.0);
+      content = (ltb-false most_sized_bytes size (error_if_passes (nat_lt most_sized_bytes size) TooBig fourth.0), digest_from digest (error_if_passes (is_long_digest digest) TooBig fifth.0));
     }
 
 pub sized_after : (u : Tree) (ls : List Tree) (p : Names) (mode size : ℕ) (digest copy : Option (List ℕ)) → first_error (tests (op.Put p mode size digest) (u ∷ ls)) ≡ None → copy ≡ digest → limited (with_last (last.File mode (Sized size copy)) (with_parents u ls p) p) ≡ after (op.Put p mode size digest) u ls
@@ -116,17 +117,17 @@ either_false false b e = (refl, e)
 nat_from : (n : ℕ) → (n == 0) ≡ false → nat_lt 0 n ≡ true
 nat_from n e = grind (arith, nat_tests)
 
-short_target : (n : ℕ) → nat_lt 4095 n ≡ false → nat_le n 4095 ≡ true
+short_target : (n : ℕ) → nat_lt most_target_bytes n ≡ false → nat_le n most_target_bytes ≡ true
 short_target n e = grind (arith, nat_tests)
 
-target_from : (target : List ℕ) → is_no_target target ≡ false → nat_lt 4095 (length target) ≡ false → is_target target ≡ true
+target_from : (target : List ℕ) → is_no_target target ≡ false → nat_lt most_target_bytes (length target) ≡ false → is_target target ≡ true
 target_from target e short =
     let parts = either_false (length target == 0) (list_any (λ b. b == 0) target) e in
     λ i. nat_from (length target) parts.0 i && short_target (length target) short i && not (parts.1 i)
 
 pub IsNewSymlink-passed : (s : List Tree) (p : Names) (target : List ℕ) → first_error (tests (op.Symlink p target) s) ≡ None → IsNewSymlink s p target
 IsNewSymlink-passed s p target passes =
-    let big = error_if (nat_lt 4095 (length target)) TooBig in
+    let big = error_if (nat_lt most_target_bytes (length target)) TooBig in
     let bad = error_if (is_no_target target) Invalid in
     let first = test_passes (walk s p) (error_if (is_some (seen s p)) Exists ∷ bad ∷ big ∷ []) passes in
     let second = test_passes (error_if (is_some (seen s p)) Exists) (bad ∷ big ∷ []) first.1 in
@@ -135,7 +136,7 @@ IsNewSymlink-passed s p target passes =
     record {
       way = first.0;
       unseen = error_if_passes (is_some (seen s p)) Exists second.0;
-      target_is = target_from target (error_if_passes (is_no_target target) Invalid third.0) (error_if_passes (nat_lt 4095 (length target)) TooBig fourth.0);
+      target_is = target_from target (error_if_passes (is_no_target target) Invalid third.0) (error_if_passes (nat_lt most_target_bytes (length target)) TooBig fourth.0);
     }
 
 pub symlink_after : (u : Tree) (ls : List Tree) (p : Names) (target copy : List ℕ) → first_error (tests (op.Symlink p target) (u ∷ ls)) ≡ None → copy ≡ target → limited (with_last (last.Symlink copy) (with_parents u ls p) p) ≡ after (op.Symlink p target) u ls

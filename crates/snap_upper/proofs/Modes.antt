@@ -1,6 +1,7 @@
 -- A mode that is set.
 use Rattle.std.proofs.Common.{◌≡◌, ℕ, ◌≤◌, true, false, List, [], ◌∷◌, Option, Some, None, is_some, Result, Ok, refl, sym, ap, subst, ◌∙◌, arith, ltb-false}
 use Rattle.std.specs.Prelude.{nat_lt}
+use Rattle.snap_path.specs.Limits.{most_mode}
 use Rattle.snap_path.specs.Text.{Names}
 use Rattle.snap_layer.specs.declared.node.Node.{Node}
 use Rattle.snap_layer.specs.declared.node.Node.TheVariants.{Dir, File, Symlink, Whiteout}
@@ -44,21 +45,21 @@ use Rattle.snap_upper.proofs.Writing.{new_with_body, entry_with_entry}
 pub record IsSettable (s : List Tree) (p : Names) (mode : ℕ) : Type 0 where
   pub way : walk s p ≡ None
   pub there : mode_error (seen s p) ≡ None
-  pub low : mode ≤ 4095
+  pub low : mode ≤ most_mode
 
-low_mode : (mode : ℕ) → nat_lt 4095 mode ≡ false → mode ≤ 4095
-low_mode mode e = ltb-false 4095 mode e
+low_mode : (mode : ℕ) → nat_lt most_mode mode ≡ false → mode ≤ most_mode
+low_mode mode e = ltb-false most_mode mode e
 
 pub IsSettable-passed : (s : List Tree) (p : Names) (mode : ℕ) → first_error (tests (op.SetMode p mode) s) ≡ None → IsSettable s p mode
 IsSettable-passed s p mode passes =
-    let last = error_if (nat_lt 4095 mode) Invalid in
+    let last = error_if (nat_lt most_mode mode) Invalid in
     let first = test_passes (walk s p) (mode_error (seen s p) ∷ last ∷ []) passes in
     let second = test_passes (mode_error (seen s p)) (last ∷ []) first.1 in
     let third = test_passes last [] second.1 in
     record {
       way = first.0;
       there = second.0;
-      low = low_mode mode (error_if_passes (nat_lt 4095 mode) Invalid third.0);
+      low = low_mode mode (error_if_passes (nat_lt most_mode mode) Invalid third.0);
     }
 
 none_from : {A : Type 0} (o : Option A) → is_some o ≡ false → o ≡ None
@@ -141,7 +142,7 @@ module _ (u : Tree) (ls : List Tree) (p : Names) (mode : ℕ) (ok : IsLayer u) (
 
 -- ---- plans
 
-mode_layer : (u : Tree) (p : Names) (mode : ℕ) → IsLayer u → HasMode (at u p) → mode ≤ 4095 → IsLayer (with_mode u p (at u p) mode)
+mode_layer : (u : Tree) (p : Names) (mode : ℕ) → IsLayer u → HasMode (at u p) → mode ≤ most_mode → IsLayer (with_mode u p (at u p) mode)
 mode_layer u p mode ok has low = by (at u p) refl has
   where
     by : (o : Option Node) → at u p ≡ o → HasMode o → IsLayer (with_mode u p o mode)
@@ -154,7 +155,7 @@ mode_layer u p mode ok has low = by (at u p) refl has
     by (Some (Symlink k)) e has = absurd has
     by (Some Whiteout) e has = absurd has
 
-pub with_mode_planned : (u : Tree) (p : Names) (mode : ℕ) → IsLayer u → HasMode (at u p) → mode ≤ 4095 → (usage : Usage) → usage ≡ record { blocks = block_count u; inodes = inode_count u } → ◌≡◌ {A = Result Planned FsError} (Ok (record { after = usage })) (planned (limited (with_mode u p (at u p) mode)))
+pub with_mode_planned : (u : Tree) (p : Names) (mode : ℕ) → IsLayer u → HasMode (at u p) → mode ≤ most_mode → (usage : Usage) → usage ≡ record { blocks = block_count u; inodes = inode_count u } → ◌≡◌ {A = Result Planned FsError} (Ok (record { after = usage })) (planned (limited (with_mode u p (at u p) mode)))
 with_mode_planned u p mode ok has low usage is =
     planned_fits (with_mode u p (at u p) mode) usage (limited (with_mode u p (at u p) mode))
     (mode_layer u p mode ok has low)
@@ -168,12 +169,12 @@ module _ (u : Tree) (ls : List Tree) (p : Names) (mode : ℕ) (ok : IsLayer u) (
   pub lower_ready : AreLayers ls → is_some (at u p) ≡ false → (n : New) → IsWithMode n (seen (u ∷ ls) p) mode → (walk (u ∷ ls) p ≡ None) × CanStand (as_last n) u p × IsSound n
   lower_ready layers none (new.Dir m opaque) is =
       let can = settable u ls p mode ok passes in
-      (can.way, (vacant u p ok (none_from (at u p) none), subst (λ (x : ℕ). x ≤ 4095) (sym is.1) can.low), tt)
+      (can.way, (vacant u p ok (none_from (at u p) none), subst (λ (x : ℕ). x ≤ most_mode) (sym is.1) can.low), tt)
   lower_ready layers none (new.File m old edit) is =
       let can = settable u ls p mode ok passes in
       let whole = subst IsWholeObject is.1 (whole_seen (u ∷ ls) (ok, layers) p) in
       let short : IsContent (edited edit old.now) = subst (λ (e : Edit). IsContent (edited e old.now)) (sym is.3) whole.1 in
-      (can.way, (vacant u p ok (none_from (at u p) none), subst (λ (x : ℕ). x ≤ 4095) (sym is.2) can.low, short), (subst (λ (e : Edit). IsShort e old.now) (sym is.3) tt, short))
+      (can.way, (vacant u p ok (none_from (at u p) none), subst (λ (x : ℕ). x ≤ most_mode) (sym is.2) can.low, short), (subst (λ (e : Edit). IsShort e old.now) (sym is.3) tt, short))
   lower_ready layers none (new.Empty m) is = absurd is
   lower_ready layers none (new.Sized m size digest) is = absurd is
   lower_ready layers none (new.Symlink target) is = absurd is

@@ -10,6 +10,7 @@ use Rattle.std.specs.Str.{bytes_eq}
 use Rattle.std.proofs.lemmas.Bool.{cond-true, cond-false}
 use Rattle.std.proofs.lemmas.Bool.Decides.{nat_tests}
 use Rattle.std.proofs.lemmas.Slice.Eq.{bytes_eq-Decides}
+use Rattle.snap_path.specs.Limits.{most_path_bytes}
 use Rattle.snap_path.specs.Memory.{no_memory}
 use Rattle.snap_path.specs.Text.{Names, text_below, begins}
 use Rattle.snap_layer.specs.declared.node.Node.{Node}
@@ -110,14 +111,14 @@ no_names s p layers no_dir = by (names s p) (listing_is s p).exactly
 
 -- an entry's path would be too long under its new front
 abbrev is_long : Names → Names → Names × Node → Bool
-is_long from to e = nat_lt 4095 (length (text_below (relocated from to e.0)))
+is_long from to e = nat_lt most_path_bytes (length (text_below (relocated from to e.0)))
 
 -- an entry counts where it begins with `from`
 among : (b : Bool) (from to : Names) (e : Names × Node) (es : Entries) → list_any (is_long from to) (cond b (e ∷ es) es) ≡ false → (b ≡ true → is_long from to e ≡ false) × (list_any (is_long from to) es ≡ false)
 among true from to e es none = let both = or_false (is_long from to e) (list_any (is_long from to) es) none in (λ t. both.0, both.1)
 among false from to e es none = (λ t. absurd (no_bool (sym t)), none)
 
-short_from : (from to : Names) (es : Entries) → list_any (is_long from to) (inside from es) ≡ false → (r : Names) → IsSome (lookup (is_at (path_cmp (from ++ r))) es) → length (text_below (to ++ r)) ≤ 4095
+short_from : (from to : Names) (es : Entries) → list_any (is_long from to) (inside from es) ≡ false → (r : Names) → IsSome (lookup (is_at (path_cmp (from ++ r))) es) → length (text_below (to ++ r)) ≤ most_path_bytes
 short_from from to [] none r some = absurd (cc)
 short_from from to (e ∷ es) none r some =
     let both = among (begins from e.0) from to e (inside from es) none in
@@ -126,18 +127,18 @@ short_from from to (e ∷ es) none r some =
       | inr apart ↦ short_from from to es both.1 r (subst IsSome (cond-false _ (Some e.1) (lookup (is_at (path_cmp (from ++ r))) es) apart.1) some)
     ]
   where
-    here : is_long from to e ≡ false → from ++ r ≡ e.0 → length (text_below (to ++ r)) ≤ 4095
+    here : is_long from to e ≡ false → from ++ r ≡ e.0 → length (text_below (to ++ r)) ≤ most_path_bytes
     here short same =
         let moved : relocated from to e.0 ≡ to ++ r = ap (λ (q : Names). to ++ drop (length from) q) (sym same) ∙ ap (λ (q : Names). to ++ q) (drop-append from r) in
-        let fits : nat_lt 4095 (length (text_below (to ++ r))) ≡ false = ap (λ (q : Names). nat_lt 4095 (length (text_below q))) (sym moved) ∙ short in
+        let fits : nat_lt most_path_bytes (length (text_below (to ++ r))) ≡ false = ap (λ (q : Names). nat_lt most_path_bytes (length (text_below q))) (sym moved) ∙ short in
         grind (arith, nat_tests)
 
-all_short : (from to : Names) (es : Entries) → IsStrictlySortedBy path_cmp (keys_of es) → ((r : Names) → IsSome (lookup (is_at (path_cmp (from ++ r))) es) → length (text_below (to ++ r)) ≤ 4095) → list_any (is_long from to) (inside from es) ≡ false
+all_short : (from to : Names) (es : Entries) → IsStrictlySortedBy path_cmp (keys_of es) → ((r : Names) → IsSome (lookup (is_at (path_cmp (from ++ r))) es) → length (text_below (to ++ r)) ≤ most_path_bytes) → list_any (is_long from to) (inside from es) ≡ false
 unfolding IsStrictlySortedBy
 all_short from to [] sorted short = refl
 all_short from to (e ∷ es) sorted short = by (begins from e.0) refl (all_short from to es sorted.1 rest)
   where
-    rest : (r : Names) → IsSome (lookup (is_at (path_cmp (from ++ r))) es) → length (text_below (to ++ r)) ≤ 4095
+    rest : (r : Names) → IsSome (lookup (is_at (path_cmp (from ++ r))) es) → length (text_below (to ++ r)) ≤ most_path_bytes
     rest r some = short r (elim (split_path (from ++ r) e.0) [
       | inl same ↦ ap is_some (cond-true _ (Some e.1) (lookup (is_at (path_cmp (from ++ r))) es) same.1)
       | inr apart ↦ subst IsSome (sym (cond-false _ (Some e.1) (lookup (is_at (path_cmp (from ++ r))) es) apart.1)) some
@@ -149,18 +150,18 @@ all_short from to (e ∷ es) sorted short = by (begins from e.0) refl (all_short
         let r = drop (length from) e.0 in
         let whole : e.0 ≡ from ++ r = begins_rest from e.0 is in
         let there : IsSome (lookup (is_at (path_cmp (from ++ r))) (e ∷ es)) = ap is_some (cond-true _ (Some e.1) (lookup (is_at (path_cmp (from ++ r))) es) (subst (λ (q : Names). is_at (path_cmp q) e.0 ≡ true) whole (at_itself path_cmp_total path_cmp-IsAntisymmetric e.0))) in
-        let fits : length (text_below (to ++ r)) ≤ 4095 = short r there in
+        let fits : length (text_below (to ++ r)) ≤ most_path_bytes = short r there in
         let first : is_long from to e ≡ false = grind (arith, nat_tests) in
         (λ i. first i || later i)
 
 -- no moved path is too long
-pub short_paths : (u : Tree) (from to : Names) → moves_too_long u from to ≡ false → (r : Names) → IsSome (at u (from ++ r)) → length (text_below (to ++ r)) ≤ 4095
+pub short_paths : (u : Tree) (from to : Names) → moves_too_long u from to ≡ false → (r : Names) → IsSome (at u (from ++ r)) → length (text_below (to ++ r)) ≤ most_path_bytes
 short_paths u from to short = short_from from to u.entries short
 
 -- the layer's test says so
 pub long_test : (u : Tree) (from to : Names) (b : Bool) → IsLayer u
-    → (b ≡ true → (r : Names) → IsSome (at u (from ++ r)) → length (text_below (to ++ r)) ≤ 4095)
-    → (((r : Names) → IsSome (at u (from ++ r)) → length (text_below (to ++ r)) ≤ 4095) → b ≡ true)
+    → (b ≡ true → (r : Names) → IsSome (at u (from ++ r)) → length (text_below (to ++ r)) ≤ most_path_bytes)
+    → (((r : Names) → IsSome (at u (from ++ r)) → length (text_below (to ++ r)) ≤ most_path_bytes) → b ≡ true)
     → not b ≡ moves_too_long u from to
 long_test u from to true ok there back = sym (all_short from to u.entries ok.sorted_paths (there refl))
 long_test u from to false ok there back = by (moves_too_long u from to) refl

@@ -2,6 +2,7 @@
 use Rattle.std.proofs.Common.{◌≡◌, ◌⊎◌, ℕ, ◌+◌, ◌<◌, ◌≤◌, Bool, true, false, arith, List, ◌∷◌, Option, Some, None, Result, Ok, Err, refl, sym, ap, ◌∙◌, inl, inr}
 use Rattle.std.specs.Prelude.{if◌then◌else◌}
 use Rattle.std.proofs.lemmas.Bool.Decides.{nat_tests}
+use Rattle.snap_path.specs.Limits.{most_number}
 use Rattle.snap_path.specs.Memory.{no_memory}
 use Rattle.snap_layer.specs.declared.error.LayerError.{LayerError}
 use Rattle.snap_layer.specs.declared.error.LayerError.TheVariants as layer_errors
@@ -66,18 +67,18 @@ planned_full t a full is = sym (ap planned (is ∙ limited_full t full))
 
 -- the next layer has no file number left, more inodes than a layer may have, or neither
 module _ (u t : Tree) (usage : Usage) (numbered : Bool) (next : IsNext u t usage numbered) where
-  pub no_number_left : numbered ≡ true → u.next ≡ 4294967295 → ◌≡◌ {A = Result Planned FsError} (Err LayerFull) (planned (limited t))
+  pub no_number_left : numbered ≡ true → u.next ≡ most_number → ◌≡◌ {A = Result Planned FsError} (Err LayerFull) (planned (limited t))
   no_number_left one last = planned_full t (limited t) (is_within_last t (omega (arith, next.number, ap {B = ℕ} (λ b. if b then 1 else 0) one, last))) refl
 
   pub too_many : u.most < usage.inodes → ◌≡◌ {A = Result Planned FsError} (Err LayerFull) (planned (limited t))
   too_many many = planned_full t (limited t) (is_within_many t (omega (arith, next.inodes, next.most, many))) refl
 
-  pub next_planned : u.next ≤ 4294967295 → (numbered ≡ true → u.next < 4294967295) → usage.inodes ≤ u.most → ◌≡◌ {A = Result Planned FsError} (Ok (record { after = usage })) (planned (limited t))
+  pub next_planned : u.next ≤ most_number → (numbered ≡ true → u.next < most_number) → usage.inodes ≤ u.most → ◌≡◌ {A = Result Planned FsError} (Ok (record { after = usage })) (planned (limited t))
   next_planned low below few =
       let within = is_within_yes t (omega (arith, next.inodes, next.most, few)) (omega (arith, next.number, by numbered below)) in
       planned_fits t usage (limited t) (next.layer within) next.blocks next.inodes refl
     where
-      by : (b : Bool) → (b ≡ true → u.next < 4294967295) → u.next + (if b then 1 else 0) ≤ 4294967295
+      by : (b : Bool) → (b ≡ true → u.next < most_number) → u.next + (if b then 1 else 0) ≤ most_number
       by true below = omega (arith, below refl)
       by false below = omega (arith, low)
 

@@ -5,6 +5,7 @@ use Rattle.std.specs.Ordering.{nat_cmp}
 use Rattle.std.specs.List.Sorted.{IsStrictlySortedBy}
 use Rattle.std.specs.Map.{lookup, keys_of}
 use Rattle.std.specs.BTreeMap.{is_at}
+use Rattle.snap_path.specs.Limits.{most_number}
 use Rattle.snap_path.specs.Text.{Names, IsPath, begins}
 use Rattle.snap_layer.specs.declared.node.Node.{Node}
 use Rattle.snap_layer.specs.Tree.{Tree, Bodies, path_cmp, at, body, number_at}
@@ -206,7 +207,7 @@ module _ (u : Tree) (ls : List Tree) (from to : Names) (ok : IsLayer u) (layers 
   prepared_next false none some = omega (arith, own_next (some refl))
 
   -- it is a layer where it is within the limits
-  pub prepared_layer : IsPath from → IsPath to → inode_count (before_move u ls from to) ≤ (before_move u ls from to).most → (before_move u ls from to).next ≤ 4294967295 → IsLayer (before_move u ls from to)
+  pub prepared_layer : IsPath from → IsPath to → inode_count (before_move u ls from to) ≤ (before_move u ls from to).most → (before_move u ls from to).next ≤ most_number → IsLayer (before_move u ls from to)
   prepared_layer path_from path_to few low = by (at u from) refl
     where
       by : (o : Option Node) → at u from ≡ o → IsLayer (before_move u ls from to)

@@ -9,6 +9,7 @@ use Rattle.std.specs.BTreeMap.{is_at}
 use Rattle.std.specs.Ordering.{nat_cmp}
 use Rattle.std.proofs.lemmas.Bool.{cond-true, cond-false}
 use Rattle.std.proofs.lemmas.Bool.Decides.{nat_tests}
+use Rattle.snap_path.specs.Limits.{most_number}
 use Rattle.snap_path.specs.Memory.{no_memory}
 use Rattle.snap_path.specs.Text.{Names, begins}
 use Rattle.snap_layer.specs.declared.node.Node.{Node}
@@ -120,10 +121,10 @@ module _ (t : Tree) (p : Names) (sorted : IsStrictlySortedBy path_cmp (keys_of t
 
 -- ---- the limits
 
-pub last_from : (t : Tree) → is_within t ≡ true → t.next ≤ 4294967295
+pub last_from : (t : Tree) → is_within t ≡ true → t.next ≤ most_number
 last_from t within = by (nat_le (inode_count t) t.most) within
   where
-    by : (b : Bool) → (b && nat_le t.next 4294967295) ≡ true → t.next ≤ 4294967295
+    by : (b : Bool) → (b && nat_le t.next most_number) ≡ true → t.next ≤ most_number
     by true e = grind (arith, nat_tests)
     by false e = absurd (no_bool (sym e))
 

@@ -1,6 +1,7 @@
 -- No operation answers NeedsCharge of its own: the error is that of a share that is too small.
 use Rattle.std.proofs.Common.{◌≡◌, Bool, true, false, List, [], ◌∷◌, ◌++◌, Option, Some, None, Ok, Err}
 use Rattle.std.specs.Prelude.{ℕ, ◌+◌, ◌&&◌, ◌||◌, not, nat_lt, length, is_some, if◌then◌else◌}
+use Rattle.snap_path.specs.Limits.{most_mode, most_sized_bytes, most_target_bytes}
 use Rattle.snap_path.specs.Text.{Names, begins}
 use Rattle.snap_layer.specs.Tree.{Tree}
 use Rattle.snap_layer.specs.Counts.{is_within}
@@ -101,7 +102,7 @@ module _ (need : Usage) where
   no_new s p mode =
       no_first (walk s p) _ (no_walk_from s [] p)
       (no_first (error_if (is_some (seen s p)) Exists) _ (no_error_if (is_some (seen s p)) Exists not_exists)
-      (no_first (error_if (nat_lt 4095 mode) Invalid) [] (no_error_if (nat_lt 4095 mode) Invalid not_invalid) no_none))
+      (no_first (error_if (nat_lt most_mode mode) Invalid) [] (no_error_if (nat_lt most_mode mode) Invalid not_invalid) no_none))
 
   -- the tests of a rename that has something to do
   no_move : (u : Tree) (lowers : List Tree) (from to : Names) → first_error (move_tests u lowers from to) ≡ Some (NeedsCharge need) → ⊥
@@ -125,8 +126,8 @@ module _ (need : Usage) where
   no_test (Put p mode size digest) s =
       no_first (walk s p) _ (no_walk_from s [] p)
       (no_first (error_if (is_some (seen s p)) Exists) _ (no_error_if (is_some (seen s p)) Exists not_exists)
-      (no_first (error_if (nat_lt 4095 mode) Invalid) _ (no_error_if (nat_lt 4095 mode) Invalid not_invalid)
-      (no_first (error_if (nat_lt 1099511627776 size) TooBig) _ (no_error_if (nat_lt 1099511627776 size) TooBig not_big)
+      (no_first (error_if (nat_lt most_mode mode) Invalid) _ (no_error_if (nat_lt most_mode mode) Invalid not_invalid)
+      (no_first (error_if (nat_lt most_sized_bytes size) TooBig) _ (no_error_if (nat_lt most_sized_bytes size) TooBig not_big)
       (no_first (error_if (is_long_digest digest) TooBig) [] (no_error_if (is_long_digest digest) TooBig not_big) no_none))))
   no_test (Write p offset bytes) s =
       let big = nat_lt (most_of (seen s p)) (offset + length bytes) in
@@ -140,12 +141,12 @@ module _ (need : Usage) where
   no_test (SetMode p mode) s =
       no_first (walk s p) _ (no_walk_from s [] p)
       (no_first (mode_error (seen s p)) _ (no_mode_error (seen s p))
-      (no_first (error_if (nat_lt 4095 mode) Invalid) [] (no_error_if (nat_lt 4095 mode) Invalid not_invalid) no_none))
+      (no_first (error_if (nat_lt most_mode mode) Invalid) [] (no_error_if (nat_lt most_mode mode) Invalid not_invalid) no_none))
   no_test (Symlink p target) s =
       no_first (walk s p) _ (no_walk_from s [] p)
       (no_first (error_if (is_some (seen s p)) Exists) _ (no_error_if (is_some (seen s p)) Exists not_exists)
       (no_first (error_if (is_no_target target) Invalid) _ (no_error_if (is_no_target target) Invalid not_invalid)
-      (no_first (error_if (nat_lt 4095 (length target)) TooBig) [] (no_error_if (nat_lt 4095 (length target)) TooBig not_big) no_none)))
+      (no_first (error_if (nat_lt most_target_bytes (length target)) TooBig) [] (no_error_if (nat_lt most_target_bytes (length target)) TooBig not_big) no_none)))
   no_test (Link from to) s =
       no_first (walk s from) _ (no_walk_from s [] from)
       (no_first (walk s to) _ (no_walk_from s [] to)

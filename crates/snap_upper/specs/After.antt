@@ -3,6 +3,7 @@
 use Rattle.std.specs.Prelude.{ℕ, ◌+◌, ◌==◌, ◌||◌, ◌&&◌, Bool, true, false, nat_lt, not, List, [], ◌∷◌, length, Option, Some, None, is_some, if◌then◌else◌, Result, Ok, Err}
 use Rattle.std.specs.List.{list_any}
 use Rattle.std.specs.Option.{option_map_or}
+use Rattle.snap_path.specs.Limits.{most_file_bytes, most_mode, most_path_bytes, most_sized_bytes, most_target_bytes}
 use Rattle.snap_layer.specs.declared.node.Node.{Node}
 use Rattle.snap_layer.specs.declared.node.Node.TheVariants as node
 use Rattle.snap_layer.specs.declared.node.Body.TheVariants as body_kinds
@@ -41,7 +42,7 @@ error_by_kind of_dir of_file of_symlink (Some (symlink target)) = of_symlink
 -- how many bytes the file that is seen may have
 abbrev pub most_of : Option Object → ℕ
 most_of (Some (file mode content)) = most_bytes content
-most_of other = 1048576
+most_of other = most_file_bytes
 
 -- a digest of more than 1024 bytes
 abbrev pub is_long_digest : Option (List ℕ) → Bool
@@ -82,7 +83,7 @@ kind_error moved (Some other) = error_if (is_shown_dir moved) NotDir
 
 -- a path of the upper layer that moves with `from` would be longer than 4095 bytes (limits.h, PATH_MAX without the closing NUL)
 abbrev pub moves_too_long : Tree → Names → Names → Bool
-moves_too_long u from to = list_any (λ e. nat_lt 4095 (length (text_below (relocated from to e.0)))) (inside from u.entries)
+moves_too_long u from to = list_any (λ e. nat_lt most_path_bytes (length (text_below (relocated from to e.0)))) (inside from u.entries)
 
 -- the tests of a rename that has something to do; a directory that has one of a lower layer below it stays (overlayfs.rst, "renaming directories")
 abbrev pub move_tests : Tree → List Tree → Names → Names → List (Option FsError)
@@ -96,13 +97,13 @@ rename_tests u lowers from to = walk (u ∷ lowers) from ∷ walk (u ∷ lowers)
 
 -- the tests of an operation over the layers, in order (mkdir(2), open(2) with O_CREAT and O_EXCL, pwrite(2), truncate(2), chmod(2), symlink(2), link(2), unlink(2), rmdir(2); overlayfs.rst, "whiteouts and opaque directories"; OCI image specification, "Whiteouts")
 abbrev pub tests : Op → List Tree → List (Option FsError)
-tests (Mkdir path mode) s = walk s path ∷ error_if (is_some (seen s path)) Exists ∷ error_if (nat_lt 4095 mode) Invalid ∷ []
-tests (Create path mode) s = walk s path ∷ error_if (is_some (seen s path)) Exists ∷ error_if (nat_lt 4095 mode) Invalid ∷ []
-tests (Put path mode size digest) s = walk s path ∷ error_if (is_some (seen s path)) Exists ∷ error_if (nat_lt 4095 mode) Invalid ∷ error_if (nat_lt 1099511627776 size) TooBig ∷ error_if (is_long_digest digest) TooBig ∷ []
+tests (Mkdir path mode) s = walk s path ∷ error_if (is_some (seen s path)) Exists ∷ error_if (nat_lt most_mode mode) Invalid ∷ []
+tests (Create path mode) s = walk s path ∷ error_if (is_some (seen s path)) Exists ∷ error_if (nat_lt most_mode mode) Invalid ∷ []
+tests (Put path mode size digest) s = walk s path ∷ error_if (is_some (seen s path)) Exists ∷ error_if (nat_lt most_mode mode) Invalid ∷ error_if (nat_lt most_sized_bytes size) TooBig ∷ error_if (is_long_digest digest) TooBig ∷ []
 tests (Write path offset bytes) s = walk s path ∷ error_by_kind (Some IsDir) None (Some Invalid) (seen s path) ∷ error_if (nat_lt (most_of (seen s path)) (offset + length bytes)) TooBig ∷ []
 tests (Truncate path size) s = walk s path ∷ error_by_kind (Some IsDir) None (Some Invalid) (seen s path) ∷ error_if (nat_lt (most_of (seen s path)) size) TooBig ∷ []
-tests (SetMode path mode) s = walk s path ∷ error_by_kind None None (Some Invalid) (seen s path) ∷ error_if (nat_lt 4095 mode) Invalid ∷ []
-tests (Symlink path target) s = walk s path ∷ error_if (is_some (seen s path)) Exists ∷ error_if (is_no_target target) Invalid ∷ error_if (nat_lt 4095 (length target)) TooBig ∷ []
+tests (SetMode path mode) s = walk s path ∷ error_by_kind None None (Some Invalid) (seen s path) ∷ error_if (nat_lt most_mode mode) Invalid ∷ []
+tests (Symlink path target) s = walk s path ∷ error_if (is_some (seen s path)) Exists ∷ error_if (is_no_target target) Invalid ∷ error_if (nat_lt most_target_bytes (length target)) TooBig ∷ []
 tests (Link from to) s = walk s from ∷ walk s to ∷ error_by_kind (Some NotPermitted) None None (seen s from) ∷ error_if (is_some (seen s to)) Exists ∷ []
 tests (Unlink path) s = walk s path ∷ error_by_kind (Some IsDir) None None (seen s path) ∷ []
 tests (Rmdir path) s = walk s path ∷ error_if (is_root path) Invalid ∷ error_by_kind None (Some NotDir) (Some NotDir) (seen s path) ∷ error_if (has_names s path) NotEmpty ∷ []

@@ -2,6 +2,7 @@
 -- Cited by invariants and private clauses alone.
 use Rattle.std.specs.Prelude.{◌≡◌, ◌≤◌, ℕ, ◌∷◌, ◌++◌, [], Bool, true, false, List, Option, Some, None, Ok, is_some}
 use Rattle.std.specs.Option.{option_copied}
+use Rattle.snap_path.specs.Limits.{most_mode}
 use Rattle.snap_layer.specs.Tree.{Tree, at, body, IsDirAt}
 use Rattle.snap_layer.specs.declared.bytes.Edit.TheVariants.{Keep}
 use Rattle.snap_layer.specs.Contents.{edited, size_of, IsContent, IsShort}
@@ -64,7 +65,7 @@ abbrev pub IsReady : Change → Tree → List Tree → Type 0
 IsReady Nothing u lowers = Unit {0}
 IsReady (Put path new) u lowers = (walk (u ∷ lowers) path.now ≡ None) × CanStand (as_last new) u path.now × IsSound new
 IsReady (Fill number size edit) u lowers = (m : ℕ) × (old : Content) × (body u number ≡ Some (body_kinds.File m old)) × (size ≡ size_of old) × IsShort edit old × IsContent (edited edit old)
-IsReady (SetMode path mode) u lowers = HasMode (at u path.now) × (mode ≤ 4095)
+IsReady (SetMode path mode) u lowers = HasMode (at u path.now) × (mode ≤ most_mode)
 IsReady (SetOpaque path) u lowers = IsDirAt (at u path.now)
 IsReady (Erase path covers) u lowers = (walk (u ∷ lowers) path.now ≡ None) × (is_some (seen (u ∷ lowers) path.now) ≡ true) × (path.now ≡ [] → ⊥) × ((n : List ℕ) → IsFree (at u (path.now ++ n ∷ []))) × (covers ≡ is_some (below u lowers path.now))
 IsReady (EraseTree path covers) u lowers = IsInnerDir u path.now × (covers ≡ is_some (below u lowers path.now))

@@ -1,6 +1,7 @@
 // How much the upper layer takes after an operation.
 ghost use Rattle.std.specs.Prelude.{◌≡◌, [], ◌∷◌, ◌++◌, ◌+◌, ◌≤◌, ℕ, List, None, Some, Ok, is_some, true, false};
 ghost use Rattle.std.specs.Option.{option_map};
+ghost use Rattle.snap_path.specs.Limits.{most_mode};
 ghost use Rattle.snap_layer.specs.Tree.{Tree, at, body, IsDirAt};
 ghost use Rattle.snap_layer.specs.Counts.{block_count, inode_count, most_inodes};
 ghost use Rattle.snap_layer.specs.Edits.{IsFree, IsInnerDir, HasMode, with_mode, with_opaque, without};
@@ -90,7 +91,7 @@ fn counted(layer: &Layer) -> Planned
 /// What the layer takes, which a mode doesn't change.
 fn counted_with_mode(layer: &Layer, path: &Path, mode: u32) -> Planned
     requires there { HasMode (at layer.now path.now) }
-    requires low { mode ≤ 4095 }
+    requires low { mode ≤ most_mode }
     ensures { Ok result ≡ planned (limited (with_mode layer.now path.now (at layer.now path.now) mode)) }
 {
     let _ = &layer.is_layer;

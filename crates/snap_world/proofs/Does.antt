@@ -37,7 +37,7 @@ use Rattle.snap_world.specs.Move.{called, charged, committed_hand, with_outcome,
 use Rattle.snap_world.specs.Runs.{CanWant, DoesCall, Moves}
 use Rattle.snap_world.proofs.Ends.{ends}
 use Rattle.snap_world.proofs.Hold.{placed, under-id}
-use Rattle.snap_world.proofs.Places.{with_hand-twice, with_hand-again}
+use Rattle.snap_world.proofs.Places.{with_hand-twice, back_again}
 use Rattle.snap_world.proofs.Steps.{admits, charges, found, in_session, missed}
 
 pub charge_does : (old new : BookValue) (hands out after : List (Option HandValue)) (slot n id : ℕ) (need want : Usage) (a b : ActiveValue) (reply : Reply) → Fits (world_of old hands)
@@ -84,11 +84,6 @@ commit_does old new hands out after slot n id name lease h a reply at under is a
     (λ e. inl (found (world_of old hands) slot (is_under id) _ h at under ∙ e))
     (λ e. inr (ap answers.Reply e.0, inr (ap (meets (is_under id)) at ∙ under, e.1, λ i. world_of (e.2 i) ((left ∙ (ap f e.0 ∙ ap (λ (o : Option HandValue). with_hand slot (option_map (λ g. sealed_hand g.snapshot) o) hands) (sym at))) i))))
     (admits old new hands after (f (Refused JournalFull)) 1 n call (Layer h.snapshot.layer) f reply (ends old new n call (Layer h.snapshot.layer) reply here) full_here left refl)
-
--- a hand that comes back into its place
-pub back_again : (hands out after : List (Option HandValue)) (slot : ℕ) (h : HandValue) → hand_at slot hands ≡ Some h → out ≡ with_hand slot None hands → after ≡ with_hand slot (Some h) out → after ≡ hands
-back_again hands out after slot h at gone back =
-    back ∙ (ap (λ (l : List (Option HandValue)). with_hand slot (Some h) l) gone ∙ (with_hand-twice slot None (Some h) hands ∙ with_hand-again slot (Some h) hands at))
 
 pub plain_does : (old new : BookValue) (hands : List (Option HandValue)) (n : ℕ) (call : Call) (reply : Reply) → IsPlain call → AnsweredBy old new n call Nothing reply
     → (reply ≡ Refused JournalFull) ↔ (old.limit ≤ length old.journal + open_count old.state.records) → DoesCall (world_of old hands) n call (answers.Reply reply) (world_of new hands)

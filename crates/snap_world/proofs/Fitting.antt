@@ -26,7 +26,7 @@ use Rattle.snap_call.specs.declared.reply.Reply.TheVariants as replies
 use Rattle.snap_call.specs.declared.state.State.{State}
 use Rattle.snap_call.specs.Good.{Good}
 use Rattle.snap_call.specs.Journal.{entry}
-use Rattle.snap_call.specs.Records.{active_at, charge_of, has_children, has_key, is_active, is_committed, is_named, is_slot, recharged, record_at, relabelled, with_record, without_key, without_slot, committed_as}
+use Rattle.snap_call.specs.Records.{active_at, charge_of, has_children, has_key, is_active, is_committed, is_named, is_slot, recharged, record_at, relabelled, with_record, without_key, without_slot, committed_as, max_sessions}
 use Rattle.snap_call.specs.Forms.{is_key, is_limit, is_page, is_start}
 use Rattle.snap_call.specs.Reached.{unswept}
 use Rattle.snap_call.specs.State.{ancestors, layers_of, place_of, shown_layers}
@@ -44,6 +44,7 @@ use Rattle.snap_call.proofs.Replaying.{replays_push}
 use Rattle.snap_call.proofs.Sweeping.{active-ancestors, active_at-unswept}
 use Rattle.snap_call.proofs.Slots.{Active-is_slot, is_slot-other, active_at-with_record_own, active_at-with_record_other, active_at-without_slot_own, active_at-without_slot_other, active_at-without_idle, active_at-recharged_own, active_at-recharged_other, active_at-committed_own, active_at-committed_other}
 use Rattle.std.specs.Option.{option_map, option_map_or}
+use Rattle.snap_path.specs.Limits.{most_number}
 use Rattle.snap_merge.specs.declared.error.FsError.TheVariants.{NeedsCharge}
 use Rattle.snap_upper.specs.declared.op.Op.{Op}
 use Rattle.snap_upper.specs.After.{Outcome, after, within_share}
@@ -268,7 +269,7 @@ left_view_at : (s : State) (namespace key parent : Bytes) (labels : List Label) 
 left_view_at s namespace key parent labels place hands good agree is =
     let new : Record = new_record s place key parent labels (View (shown_layers place parent s.records)) in
     let ts : List Record = with_record new s.records in
-    cases_if (Left (λ reply. hands)) (nat_le s.next_id 4294967295) _ _
+    cases_if (Left (λ reply. hands)) (nat_le s.next_id most_number) _ _
     (λ few. agree_on s.records ts (same_where s.records ts good.chains (Keeps-with_record new s.records is.free)) hands agree (λ k. active_at-with_record_other k new s.records refl))
     (λ spent. agree)
 
@@ -342,7 +343,7 @@ left_sweep s hands namespace moment good agree =
     (λ place. agree_on s.records (unswept s namespace place moment) (λ k r e. ap layers_of (active-ancestors s namespace place moment good k r e)) hands agree (active_at-unswept s namespace place moment))
 
 left_session : (s : State) (hands : List (Option HandValue)) → AgreeAll hands s.records → Left (λ reply. hands) (session s)
-left_session s hands agree = cases_if (Left (λ reply. hands)) (nat_lt s.sessions 65536) _ _ (λ e. agree) (λ e. agree)
+left_session s hands agree = cases_if (Left (λ reply. hands)) (nat_lt s.sessions max_sessions) _ _ (λ e. agree) (λ e. agree)
 
 left_room : (s : State) (namespace key parent : Bytes) (labels : List Label) (place slot : ℕ) (hands : List (Option HandValue)) → Good s → AgreeAll hands s.records → length hands ≡ s.slots → IsPlace s namespace key parent place → IsSlotFor s place slot
     → Left (with_prepared s.layer_inodes (Some place) key parent s.records hands) (prepared_state s place key parent labels slot)
@@ -419,8 +420,8 @@ covered_under w slot id h r stands is under =
 fits_called : (w : WorldValue) (n : ℕ) (call : Call) → Fits w → Fits (called w n call).0
 fits_called w n calls.Session fit =
     fits_admitted w 1 w.hands _ fit
-    (cases_if (λ (p : WorldValue × Answer). Fits p.0) (nat_lt w.state.sessions 65536) _ _
-    (λ few. fits_recorded w n calls.Session Nothing (λ reply. w.hands) fit (ltb-true w.state.sessions 65536 few) (λ r. fit.places) (left_session w.state w.hands fit.hands))
+    (cases_if (λ (p : WorldValue × Answer). Fits p.0) (nat_lt w.state.sessions max_sessions) _ _
+    (λ few. fits_recorded w n calls.Session Nothing (λ reply. w.hands) fit (ltb-true w.state.sessions max_sessions few) (λ r. fit.places) (left_session w.state w.hands fit.hands))
     (λ spent. fit))
 fits_called w n (calls.Prepare namespace key parent labels) fit =
     fits_admitted w 2 w.hands _ fit

@@ -28,6 +28,11 @@ with_hand-same (suc k) (x ∷ xs) = ap (λ (l : List (Option HandValue)). x ∷ 
 pub with_hand-again : (slot : ℕ) (h : Option HandValue) (hands : List (Option HandValue)) → hand_at slot hands ≡ h → with_hand slot h hands ≡ hands
 with_hand-again slot h hands e = ap (λ (o : Option HandValue). with_hand slot o hands) (sym e) ∙ with_hand-same slot hands
 
+-- a hand that comes back into its place
+pub back_again : (hands out after : List (Option HandValue)) (slot : ℕ) (h : HandValue) → hand_at slot hands ≡ Some h → out ≡ with_hand slot None hands → after ≡ with_hand slot (Some h) out → after ≡ hands
+back_again hands out after slot h at gone back =
+    back ∙ (ap (λ (l : List (Option HandValue)). with_hand slot (Some h) l) gone ∙ (with_hand-twice slot None (Some h) hands ∙ with_hand-again slot (Some h) hands at))
+
 -- a hand stands in one of the places
 pub hand_at-low : (slot : ℕ) (h : HandValue) (hands : List (Option HandValue)) → hand_at slot hands ≡ Some h → slot < length hands
 hand_at-low zero h [] e = absurd (cc)

@@ -1,5 +1,5 @@
 -- The hand of an active snapshot, and the layers of a view, found by the snapshot's key.
-use Rattle.std.proofs.Common.{◌≡◌, ℕ, ◌<◌, List, [], ◌∷◌, Bool, true, false, true≢false, Option, None, Some, IsSome, eq-eqb, refl, sym, ap, ◌∙◌, subst}
+use Rattle.std.proofs.Common.{◌≡◌, ℕ, List, [], ◌∷◌, Bool, true, false, true≢false, Option, None, Some, IsSome, eq-eqb, refl, sym, ap, ◌∙◌, subst}
 use Rattle.std.specs.Prelude.{Result, Ok, Err, ok_or}
 use Rattle.std.specs.Option.{option_map_or}
 use Rattle.snap_layer.specs.Tree.{Tree}

@@ -14,7 +14,7 @@ use Rattle.snap_call.specs.declared.refusal.Refusal.TheVariants.{NumbersSpent, J
 use Rattle.snap_call.specs.declared.reply.Reply.{Reply}
 use Rattle.snap_call.specs.declared.reply.Reply.TheVariants as replies
 use Rattle.snap_call.specs.Journal.{entry}
-use Rattle.snap_call.specs.Records.{open_count}
+use Rattle.snap_call.specs.Records.{open_count, max_sessions}
 use Rattle.snap_call.specs.State.{place_of, ancestors, layers_of}
 use Rattle.snap_call.specs.Step.{step, one}
 use Rattle.snap_upper.specs.After.{Outcome}
@@ -105,7 +105,7 @@ recorded w n call given hands =
 -- a call in its session; after 65,536 sessions a further one is refused, without an entry
 abbrev pub called : WorldValue → ℕ → Call → WorldValue × Answer
 called w n calls.Session =
-    admitted w 1 w.hands (if nat_lt w.state.sessions 65536 then recorded w n calls.Session Nothing (λ reply. w.hands) else (w, answers.Reply (replies.Refused NumbersSpent)))
+    admitted w 1 w.hands (if nat_lt w.state.sessions max_sessions then recorded w n calls.Session Nothing (λ reply. w.hands) else (w, answers.Reply (replies.Refused NumbersSpent)))
 called w n (calls.Prepare namespace key parent labels) =
     admitted w 2 w.hands (recorded w n (calls.Prepare namespace key parent labels) Nothing (with_prepared w.state.layer_inodes (place_of namespace w.state.namespaces) key parent w.state.records w.hands))
 called w n (calls.Charge slot id need want) =

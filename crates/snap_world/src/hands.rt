@@ -1,5 +1,5 @@
 // The open snapshots of a world, each in the place of its slot. They have to be spent.
-ghost use Rattle.std.specs.Prelude.{◌≡◌, ◌<◌, false, true, replicate, Some, None, IfOk, IfErr, OnErr, IfSome, IsSome, MatchOption, option_copied, length};
+ghost use Rattle.std.specs.Prelude.{◌≡◌, ◌<◌, false, true, replicate, Some, None, IfOk, IfErr, OnErr, IfSome, MatchOption, option_copied, length};
 ghost use Rattle.snap_usage.specs.Counted.{count_of};
 ghost use Rattle.snap_book.specs.Held.{share_of};
 ghost use Rattle.snap_world.specs.World.{hand_at, with_hand};
@@ -64,15 +64,6 @@ impl<N: StoreName> Hand<N> {
         ensures { result ≡ is_under id self.now }
     {
         self.id == id
-    }
-
-    pub(crate) fn is_sealed(&self) -> bool
-        ensures { result ≡ self.now.sealed }
-    {
-        match &self.held {
-            Held::Active(_) => false,
-            Held::Sealed(_) => true,
-        }
     }
 
     // The place of its namespace.
@@ -141,17 +132,6 @@ impl<N: StoreName> Hand<N> {
     {
         let Hand { id: _, held } = self;
         held
-    }
-
-    pub(crate) fn into_active(self) -> Active<N>
-        requires { self.sealed ≡ false }
-        ensures { result ≡ self.snapshot }
-    {
-        let Hand { id: _, held } = self;
-        let Held::Active(active) = held else {
-            unreachable!()
-        };
-        active
     }
 
     // Its layer does not change any more. Where memory is refused it comes back as it was.
@@ -237,67 +217,29 @@ impl<N: StoreName> Hands<N> {
         }
     }
 
-    // Whether the hand of the snapshot of this id stands there.
-    pub(crate) fn has(&self, slot: u64, id: u32) -> bool
-        ensures { result ≡ meets (is_under id) (hand_at slot self.now) }
-    {
-        match self.get(slot) {
-            Some(hand) => hand.is_under(id),
-            None => false,
-        }
-    }
-
-    // Whether a hand stands there that isn't sealed.
-    pub(crate) fn has_unsealed(&self, slot: u64) -> bool
-        ensures { result ≡ meets is_unsealed (hand_at slot self.now) }
-    {
-        match self.get(slot) {
-            Some(hand) => !hand.is_sealed(),
-            None => false,
-        }
-    }
-
-    // Both.
-    pub(crate) fn has_working(&self, slot: u64, id: u32) -> bool
-        ensures { result ≡ meets (is_working id) (hand_at slot self.now) }
-    {
-        match self.get(slot) {
-            Some(hand) => hand.is_under(id) && !hand.is_sealed(),
-            None => false,
-        }
-    }
-
-    // The hand that stands there goes out of its place.
-    pub(crate) fn take_out(&mut self, slot: u64) -> Hand<N>
-        requires { IsSome (hand_at slot self.old) }
-        ensures hand { hand_at slot self.old ≡ Some result }
-        ensures low { slot < length self.new }
-        ensures rest { self.new ≡ with_hand slot None self.old }
-    {
-        let taken = self.take(slot);
-        let Some(hand) = taken else { unreachable!() };
-        hand
-    }
-
     // The snapshot of this id goes out of its place, if it stands there.
     pub(crate) fn take_under(&mut self, slot: u64, id: u32) -> Option<Hand<N>>
         ensures { MatchOption result ((meets (is_under id) (hand_at slot self.old) ≡ false) × (self.new ≡ self.old)) (λ h. (hand_at slot self.old ≡ Some h) × (is_under id h ≡ true) × (slot < length self.new) × (self.new ≡ with_hand slot None self.old)) }
     {
-        if self.has(slot, id) {
-            Some(self.take_out(slot))
-        } else {
-            None
+        let hand = self.take(slot)?;
+        if hand.is_under(id) {
+            return Some(hand);
         }
+        self.put(slot, hand);
+        None
     }
 
     // And if it isn't sealed.
     pub(crate) fn take_working(&mut self, slot: u64, id: u32) -> Option<Active<N>>
         ensures { MatchOption result ((meets (is_working id) (hand_at slot self.old) ≡ false) × (self.new ≡ self.old)) (λ a. (hand_at slot self.old ≡ Some (record { snapshot = a; sealed = false })) × (is_under id (record { snapshot = a; sealed = false }) ≡ true) × (slot < length self.new) × (self.new ≡ with_hand slot None self.old)) }
     {
-        if self.has_working(slot, id) {
-            Some(self.take_out(slot).into_active())
-        } else {
-            None
+        let Hand { id, held } = self.take_under(slot, id)?;
+        match held {
+            Held::Active(active) => Some(active),
+            Held::Sealed(sealed) => {
+                self.put(slot, Hand::of_sealed(id, sealed));
+                None
+            }
         }
     }
 
@@ -305,10 +247,13 @@ impl<N: StoreName> Hands<N> {
     pub(crate) fn take_unsealed(&mut self, slot: u64) -> Option<Active<N>>
         ensures { MatchOption result ((meets is_unsealed (hand_at slot self.old) ≡ false) × (self.new ≡ self.old)) (λ a. (hand_at slot self.old ≡ Some (record { snapshot = a; sealed = false })) × (slot < length self.new) × (self.new ≡ with_hand slot None self.old)) }
     {
-        if self.has_unsealed(slot) {
-            Some(self.take_out(slot).into_active())
-        } else {
-            None
+        let Hand { id, held } = self.take(slot)?;
+        match held {
+            Held::Active(active) => Some(active),
+            Held::Sealed(sealed) => {
+                self.put(slot, Hand::of_sealed(id, sealed));
+                None
+            }
         }
     }
 

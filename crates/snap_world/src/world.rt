@@ -60,7 +60,7 @@ impl<N: StoreName> Drop for World<N> {
 impl<N: StoreName> World<N> {
     /// A world with the namespaces of the configuration, without snapshots and hands.
     ///
-    /// `BadArgument` where a part of the configuration has not its form; `OutOfMemory` where memory is
+    /// `BadArgument` where a part of the configuration is malformed; `OutOfMemory` where memory is
     /// refused. Memory and cost are those of the book's, and a place for the hand of each slot.
     pub fn open(alloc: Global, table: NewTable, config: Config) -> Result<World<N>, Refusal>
         requires { table ≡ N.table }

@@ -64,6 +64,27 @@ fn a_name_that_is_dropped(rt: HostRuntime) {
 }
 
 #[test]
+fn what_is_told_of_a_lease(rt: HostRuntime) {
+    let mut leases = Leases::new(rt.alloc());
+    leases
+        .create("a", "L", Some(7))
+        .expect(&rt, "memory for a lease");
+    leases
+        .add("a", "L", "base")
+        .expect(&rt, "memory for a name");
+    let told = leases.infos("a").expect(&rt, "memory for a list").len();
+    prove!(told == 1);
+    let others = leases.infos("z").expect(&rt, "memory for a list").len();
+    prove!(others == 0);
+    let info = leases.info("a", "L").expect(&rt, "memory for texts");
+    let Some(info) = info else { unreachable!() };
+    let until = info.until();
+    prove!(until == Some(7));
+    let names = info.names().len();
+    prove!(names == 1);
+}
+
+#[test]
 fn the_last_moment(rt: HostRuntime) {
     let mut leases = Leases::new(rt.alloc());
     leases

@@ -1,9 +1,10 @@
-// What a stack shows, and what is below an upper layer, by layers of a root alone.
+// What a stack shows, what is below an upper layer and what that changes, by layers of a root alone.
 ghost use Rattle.std.specs.Prelude.{◌≡◌};
 ghost use Rattle.snap_layer.specs.Edits.{root_only};
 
 use crate::setup::{layer, path};
 use snap_copyup::{below, is_pure};
+use snap_diff::changes;
 use snap_layer::Shared;
 use snap_merge::{FsError, Seen, Stack, hides};
 use snap_path::Path;
@@ -61,6 +62,15 @@ fn the_root_takes_one_of_both(rt: HostRuntime) {
     let taken = Stack::over(&layer, &[]).taken(rt.alloc(), &Path::root(rt.alloc()));
     let taken = taken.expect(&rt, "memory for what is found");
     prove!(taken.blocks == 1 && taken.inodes == 1);
+}
+
+#[test]
+#[tactic(auto, using(crate::proofs::Counted::root_changed))]
+fn a_root_of_another_mode_is_changed(rt: HostRuntime) {
+    let (lowers, top) = ([lower(&rt, rt.alloc())], layer(&rt, rt.alloc(), 448));
+    let found = changes(rt.alloc(), &top, &lowers, None, 64);
+    let found = found.expect(&rt, "memory for changes").len();
+    prove!(found == 1);
 }
 
 #[test]

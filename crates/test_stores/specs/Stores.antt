@@ -19,3 +19,11 @@ new_store = opening one_namespace
 -- the store after its first call, the view q of nothing
 abbrev pub with_view : State
 with_view = (step new_store (calls.View (codes "a") (codes "q") [] []) Nothing).0
+
+-- a new store of one slot
+abbrev pub with_one_slot : State
+with_one_slot = opening (record one_namespace { slots = 1 })
+
+-- that store after its first call, which has taken the slot: the snapshot k of nothing
+abbrev pub with_taken_slot : State
+with_taken_slot = (step with_one_slot (calls.Prepare (codes "a") (codes "k") [] []) Nothing).0

@@ -1,11 +1,11 @@
-// Calls of a new store, and of one with a view. Witnesses: they are proved, and not run. Each has the book by
-// reference, since a book of its own is let go at each `?`, which is dear to prove.
-ghost use Rattle.std.specs.Prelude.{◌≡◌, ◌<◌, [], ◌∷◌, length, IfOk, true};
+// Calls of a new store, of one with a view, and of one whose slot is taken. Witnesses: they are proved, and not run.
+// Each has the book by reference, since a book of its own is let go at each `?`, which is dear to prove.
+ghost use Rattle.std.specs.Prelude.{◌≡◌, ◌+◌, ◌<◌, ◌≤◌, [], ◌∷◌, length, IfOk, true};
 ghost use Rattle.snap_layer.specs.Edits.{root_only};
-ghost use Rattle.test_stores.specs.Stores.{new_store, with_view};
+ghost use Rattle.test_stores.specs.Stores.{new_store, with_one_slot, with_taken_slot, with_view};
 
 use crate::setup::{config, text};
-use snap_book::{Book, Held, Viewed};
+use snap_book::{Active, Book, Held, Viewed};
 use snap_call::{Call, Refusal, Reply};
 use snap_ledger::{NewTable, StoreName};
 use snap_record::{Filter, Labels, Sequence, Text};
@@ -46,6 +46,34 @@ fn prepared<N: StoreName>(alloc: Global, book: &mut Book<N>) -> Result<(), Refus
     prove!(spare.blocks == 0);
     prove!(freed.blocks == 1);
     Ok(())
+}
+
+// The first snapshot of a store of one slot takes it.
+fn taken<N: StoreName>(alloc: Global, book: &mut Book<N>) -> Result<Active<N>, Refusal>
+    requires { book.old.state ≡ with_one_slot }
+    ensures { IfOk result (λ a. book.new.state ≡ with_taken_slot) }
+{
+    book.prepare(0, "a", "k", "", &Labels::new(alloc))
+}
+
+// Where the store's one slot is taken, a second snapshot is refused. While the journal has room, only memory can be
+// refused before.
+#[tactic(auto, using(crate::proofs::Slots::taken_open, crate::proofs::Slots::taken_refuses))]
+fn without_slot<N: StoreName>(alloc: Global, book: &mut Book<N>)
+    requires state { book.old.state ≡ with_taken_slot }
+    requires room { length book.old.journal + 3 ≤ book.old.limit }
+{
+    match book.prepare(0, "a", "l", "", &Labels::new(alloc)) {
+        Ok(active) => {
+            book.discard(0, Held::Active(active));
+            let granted = false;
+            prove!(granted);
+        }
+        Err(why) => {
+            let slots = matches!(why, Refusal::TooManyActives | Refusal::OutOfMemory(_));
+            prove!(slots);
+        }
+    }
 }
 
 // The view q of nothing in the namespace a has the first id and no ancestors; it is charged nothing, and takes no

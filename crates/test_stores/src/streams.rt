@@ -1,6 +1,6 @@
 // Streams that fail or have no end, and what a program that ends early is told.
 use crate::setup::equal;
-use snap_jobs::{JobsStop, write_jobs_within};
+use snap_jobs::{JobOptions, JobsStop, write_jobs_within};
 use snap_script::{Field, FieldRule, Shortage};
 use snap_session::{RunOptions, Stop, replay, replay_within};
 use std::io;
@@ -9,6 +9,12 @@ use std::io::BufWriter;
 const PLAIN: RunOptions = RunOptions {
     fields: FieldRule::Any,
     stops_at_refusal: false,
+};
+
+const JOBS: JobOptions = JobOptions {
+    workers: 4,
+    ends: true,
+    fields: FieldRule::Any,
 };
 
 const THREE: &[u8] = br#"{"do":"open","root":"/r","namespaces":[]}
@@ -119,7 +125,7 @@ fn streams_without_end(rt: HostRuntime) {
     let wanted = (Err(Stop::InputFailed), 0);
     equal(&rt, "a script", (ended, output.len()), wanted);
 
-    let ended = write_jobs_within(&rt, alloc, &mut spaces, &mut output, 4, true, 100);
+    let ended = write_jobs_within(&rt, alloc, &mut spaces, &mut output, JOBS, 100);
     let wanted = (Err(JobsStop::Lines(Stop::InputFailed)), 0);
     equal(&rt, "a script of jobs", (ended, output.len()), wanted);
 

@@ -77,8 +77,9 @@ impl Group {
                 None => None,
             };
         };
-        if alone.record().key.as_str() == key {
-            Some(alone.record())
+        let record = alone.record();
+        if record.key.as_str() == key {
+            Some(record)
         } else {
             None
         }

@@ -3,6 +3,7 @@ ghost use Rattle.std.specs.Prelude.{[], ◌≡◌, ◌∷◌, ◌++◌, ◌↔�
 ghost use Rattle.std.specs.List.{list_all, sum_by};
 ghost use Rattle.std.specs.List.Sorted.{IsStrictlySortedBy};
 ghost use Rattle.std.specs.Map.{keys_of, values_of};
+ghost use Rattle.snap_path.specs.Limits.{most_path_bytes};
 ghost use Rattle.snap_path.specs.Text.{Names, text_of, text_below};
 ghost use Rattle.snap_layer.specs.Tree.{Entries, at, has_number, is_dir, is_whiteout, names_below, IsDirAt};
 ghost use Rattle.snap_layer.specs.Counts.{body_blocks, dir_count, name_count, whiteout_count};
@@ -57,7 +58,7 @@ fn has_number(node: Node, number: u32) -> bool
 /// The path of the first so many names of a path, and the name.
 fn path_beside(path: &Path, names: usize, name: &Name) -> Result<Path, AllocError>
     requires names { names ≤ length path.now }
-    requires short { length (text_below (take names path.now ++ name.now ∷ [])) ≤ 4095 }
+    requires short { length (text_below (take names path.now ++ name.now ∷ [])) ≤ most_path_bytes }
     ensures { IfOk result (λ p. p ≡ take names path.now ++ name.now ∷ []) }
 {
     match path.front(names)?.join(name) {
@@ -298,7 +299,7 @@ impl Table {
     pub fn has_short_paths(&self, from: &Path, to: &Path) -> bool
         requires from { from.now ≡ [] → ⊥ }
         requires to { to.now ≡ [] → ⊥ }
-        ensures { IsTrue result ↔ ((r : Names) → IsSome (at self.now (from.now ++ r)) → length (text_below (to.now ++ r)) ≤ 4095) }
+        ensures { IsTrue result ↔ ((r : Names) → IsSome (at self.now (from.now ++ r)) → length (text_below (to.now ++ r)) ≤ most_path_bytes) }
     {
         let _ = self.next_number();
         let front = from.as_str().len();

@@ -1,5 +1,6 @@
 use Rattle.std.specs.Prelude.{Result, IfOk}
 use Rattle.std.proofs.Common.{◌≡◌, ◌≤◌, false, sym, ap, ◌∙◌, subst}
+use Rattle.snap_path.specs.Limits.{most_number}
 use Rattle.snap_call.specs.declared.refusal.Refusal.{Refusal}
 use Rattle.snap_call.specs.declared.reply.Reply.TheVariants.{Prepared}
 use Rattle.snap_call.specs.declared.state.State.{State}
@@ -12,7 +13,7 @@ pub chain-requires : goal.chain-requires
 chain-requires g c =
     let s = c.args.accounts.now in
     let parent = c.args.parent.now in
-    let fits = subst (λ (f : Result Vacancy Refusal). IfOk f (λ v. (is_too_deep v.place parent s.records ≡ false) × (s.next_id ≤ 4294967295))) c.in-Ok.is c.requires in
+    let fits = subst (λ (f : Result Vacancy Refusal). IfOk f (λ v. (is_too_deep v.place parent s.records ≡ false) × (s.next_id ≤ most_number))) c.in-Ok.is c.requires in
     ap (λ (t : State). is_too_deep c.in-Ok.vacancy.place parent t.records) c.state-state.ensures.same ∙ fits.0
 
 pub returns-clause-reply : goal.returns-clause-reply

@@ -1,4 +1,5 @@
 use Rattle.std.proofs.Common.{◌≡◌, ◌≤◌, ◌++◌, length}
+use Rattle.snap_path.specs.Limits.{most_path_bytes}
 use Rattle.snap_path.specs.Text.{Names}
 use Rattle.snap_layer.specs.Rows.{Frames, ahead, frames_text}
 use Rattle.snap_layer.proofs.rows.advance.Given as goal
@@ -10,7 +11,7 @@ invariant-loop-frame l = record {
   gone : (past : Frames) × (l.initial.frames.items ≡ l.frames.items ++ past);
   room : length l.frames.items ≤ 2048;
   text : l.text ≡ frames_text l.frames.items;
-  small : l.text ≤ 4095;
+  small : l.text ≤ most_path_bytes;
 }
 
 abbrev pub decreases-loop-frame : goal.decreases-loop-frame

@@ -1,4 +1,5 @@
 use Rattle.std.proofs.Common.{◌≡◌, ◌<◌, true, false, sym, ◌∙◌, arith}
+use Rattle.snap_path.specs.Limits.{most_number}
 use Rattle.snap_upper.proofs.Outcomes.{no_number_left, too_many, next_planned}
 use Rattle.snap_upper.proofs.usage.fitting.Goals as goal
 use Rattle.snap_upper.proofs.usage.fitting.Goals.{else-numbered-via-then-numbered+else-number, else-numbered-via-else-numbered}
@@ -13,7 +14,7 @@ pub returns : goal.returns
 returns c = λ next is.
     let u = c.args.layer.now in
     let ok = c.next_number-number.ensures.layer in
-    let below_last : c.args.numbered ≡ true → u.next < 4294967295 = elim c.else-numbered.branch [
+    let below_last : c.args.numbered ≡ true → u.next < most_number = elim c.else-numbered.branch [
       | else-numbered-via-then-numbered+else-number w ↦ λ one. omega (arith, ok.next.1, w.if-number.false, c.next_number-number.ensures.next)
       | else-numbered-via-else-numbered w ↦ λ one. absurd (no_bool (sym one ∙ w.if-numbered.false))
     ] in

@@ -4,7 +4,7 @@ use Rattle.snap_call.specs.declared.state.State.{State}
 use Rattle.snap_call.specs.declared.call.Call.TheVariants as calls
 use Rattle.snap_call.specs.declared.call.Given.TheVariants.{Nothing}
 use Rattle.snap_call.specs.declared.reply.Reply.TheVariants.{Opened}
-use Rattle.snap_call.specs.Records.{open_count}
+use Rattle.snap_call.specs.Records.{open_count, max_sessions}
 use Rattle.snap_book.specs.Book.{JournalValue}
 use Rattle.snap_book.proofs.Keeping.{kept_push, session_step}
 use Rattle.snap_book.proofs.book.Book.open_session.Goals as goal
@@ -12,7 +12,7 @@ use Rattle.snap_book.proofs.book.Book.open_session.Goals as goal
 pub invariant_of-self-2 : goal.invariant_of-self-2
 invariant_of-self-2 g c =
     let s = c.self.inside.accounts in
-    let few : s.sessions < 65536 = subst (λ (u : State). u.sessions < 65536) c.state.ensures.same c.if-number-ge-MAX_SESSIONS.false in
+    let few : s.sessions < max_sessions = subst (λ (u : State). u.sessions < max_sessions) c.state.ensures.same c.if-number-ge-MAX_SESSIONS.false in
     let same = ap (λ (u : State). open_count u.records) c.open_session.ensures in
     let j : JournalValue = c.self.inside.journal in
     let kept = c.take_session_room.ensures in

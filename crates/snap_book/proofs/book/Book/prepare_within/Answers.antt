@@ -1,5 +1,6 @@
 use Rattle.std.specs.Prelude.{Result, Ok, Err, IfOk}
 use Rattle.std.proofs.Common.{◌≡◌, ◌≤◌, false, sym, ap, ◌∙◌, subst, arith}
+use Rattle.snap_path.specs.Limits.{most_number}
 use Rattle.snap_record.specs.Labels.{Bytes}
 use Rattle.snap_call.specs.declared.call.Call.TheVariants as calls
 use Rattle.snap_call.specs.declared.call.Given.TheVariants.{Nothing}
@@ -19,7 +20,7 @@ use Rattle.snap_book.proofs.Keeping.{kept_push, recorded_push}
 use Rattle.snap_book.proofs.book.Book.prepare_within.Goals as goal
 
 -- where it is granted, the chain leaves room, and there is an id
-has_chain : (s : State) (key parent : Bytes) (found : Result Vacancy Refusal) → IfOk found (λ v. IsVacant s v key parent) → IfOk found (λ v. (is_too_deep v.place parent s.records ≡ false) × (s.next_id ≤ 4294967295))
+has_chain : (s : State) (key parent : Bytes) (found : Result Vacancy Refusal) → IfOk found (λ v. IsVacant s v key parent) → IfOk found (λ v. (is_too_deep v.place parent s.records ≡ false) × (s.next_id ≤ most_number))
 has_chain s key parent (Ok v) vacant = (vacant.site.deep, vacant.site.numbers)
 has_chain s key parent (Err why) vacant = tt
 

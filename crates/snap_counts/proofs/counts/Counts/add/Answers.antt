@@ -1,4 +1,4 @@
-use Rattle.std.proofs.Common.{◌∙◌, ◌≡◌, ◌+◌, ◌<◌, ◌^◌, None, Some, ap, arith, refl, sym, unwrap_or}
+use Rattle.std.proofs.Common.{◌∙◌, ◌≡◌, ◌+◌, None, Some, ap, arith, refl, sym, unwrap_or}
 use Rattle.std.specs.BTreeMap.{get_by_text}
 use Rattle.std.specs.Option.{option_copied_mut}
 use Rattle.snap_counts.specs.Counts.{count_in}

@@ -7,6 +7,7 @@ use Rattle.snap_layer.specs.Tree.{leaf_node}
 use Rattle.snap_layer.specs.Edits.{with_new}
 use Rattle.snap_layer.proofs.Bounds.{body_small}
 use Rattle.std.specs.Prelude.{◌<◌}
+use Rattle.snap_path.specs.Limits.{most_number}
 use Rattle.snap_layer.proofs.Rooms.{costs_full, costs_layer, costs_counted, costs_memory, costs_done, fits_next, path_node, new_costs}
 use Rattle.snap_layer.proofs.layer.Layer.add_body.Goals as goal
 
@@ -51,4 +52,4 @@ pub room_for-requires : goal.room_for-requires
 room_for-requires c = omega (arith, c.blocks-2.ensures, body_small c.args.body c.requires.fits)
 
 pub put_leaf-requires-clause-last : goal.put_leaf-requires-clause-last
-put_leaf-requires-clause-last c = subst (λ (u : Tree). u.next < 4294967295) (sym c.self.view_is) (omega (arith, fits_next c.args.self.now c.args.path.now 1 1 c.in_ok-room.ensures.fits))
+put_leaf-requires-clause-last c = subst (λ (u : Tree). u.next < most_number) (sym c.self.view_is) (omega (arith, fits_next c.args.self.now c.args.path.now 1 1 c.in_ok-room.ensures.fits))

@@ -1,8 +1,5 @@
-use Rattle.std.proofs.Common.{◌≡◌, ◌+◌, ◌<◌, ◌≤◌, ◌^◌, ap, subst, sym, ◌∙◌, arith}
-use Rattle.snap_path.specs.Text.{Names}
-use Rattle.snap_layer.specs.Tree.{Tree, at, IsDirAt}
-use Rattle.snap_layer.specs.Totals.{Counts, path_count}
-use Rattle.snap_layer.proofs.Ending.{IsTreeLeft, tree_left}
+use Rattle.std.proofs.Common.{arith}
+use Rattle.snap_layer.proofs.Ending.{tree_left}
 use Rattle.snap_layer.proofs.layer.Layer.left_without_tree.Goals as goal
 
 pub overflow_sub-result : goal.overflow_sub-result

@@ -4,7 +4,7 @@ use Rattle.snap_path.specs.Text.{Names}
 use Rattle.snap_layer.specs.Tree.{Tree, at, IsDirAt}
 use Rattle.snap_layer.specs.Edits.{inside, without, without_tree}
 use Rattle.snap_layer.specs.Layers.{IsLayer}
-use Rattle.snap_layer.proofs.Trees.{Step, last_step, alone_paths}
+use Rattle.snap_layer.proofs.Trees.{last_step, alone_paths}
 use Rattle.snap_layer.proofs.layer.Layer.take_below.Goals as goal
 
 pub loop-paths-init : goal.loop-paths-init

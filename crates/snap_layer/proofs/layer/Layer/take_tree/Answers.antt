@@ -1,8 +1,8 @@
-use Rattle.std.proofs.Common.{◌≡◌, true, false, sym, ap, subst, ◌∙◌}
+use Rattle.std.proofs.Common.{true, false, sym, ap, subst, ◌∙◌}
 use Rattle.std.specs.Prelude.{Bool}
 use Rattle.snap_layer.specs.declared.node.Node.TheVariants.{Whiteout}
-use Rattle.snap_layer.specs.Tree.{Tree, at, IsDirAt}
-use Rattle.snap_layer.specs.Edits.{with_entry, with_node, with_tree_taken, without, without_tree}
+use Rattle.snap_layer.specs.Tree.{Tree, IsDirAt}
+use Rattle.snap_layer.specs.Edits.{with_entry, with_tree_taken}
 use Rattle.snap_layer.specs.Layers.{IsLayer}
 use Rattle.snap_layer.proofs.TreeLayers.{covered_done}
 use Rattle.snap_layer.proofs.Trees.{alone_place, alone_takeable, alone_without}

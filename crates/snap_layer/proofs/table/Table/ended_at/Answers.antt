@@ -1,9 +1,9 @@
-use Rattle.std.proofs.Common.{◌≡◌, ◌+◌, ◌++◌, ◌∷◌, [], ◌≤◌, ℕ, Some, take, sym, ap, subst, ◌∙◌, arith}
+use Rattle.std.proofs.Common.{◌≡◌, ◌+◌, ◌++◌, ◌≤◌, take, sym, ap, subst, ◌∙◌, arith}
 use Rattle.std.specs.Option.{option_copied}
 use Rattle.snap_layer.specs.Tree.{Entries, at, body}
 use Rattle.snap_layer.specs.Counts.{name_count}
 use Rattle.snap_layer.specs.Rows.{own}
-use Rattle.snap_layer.proofs.Ending.{all_end, has_last, names_append, start_entries, names_inside_few}
+use Rattle.snap_layer.proofs.Ending.{all_end, has_last, start_entries, names_inside_few}
 use Rattle.snap_layer.proofs.table.Table.ended_at.Goals.{else-links-gt1-via-then-links-gt1+else-names_among-links, else-links-gt1-via-else-links-gt1}
 use Rattle.snap_layer.proofs.table.Table.ended_at.Goals as goal
 

@@ -1,4 +1,4 @@
-use Rattle.std.proofs.Common.{◌≡◌, ◌+◌, ◌<◌, ◌≤◌, ◌^◌, ◌++◌, ◌∷◌, [], ℕ, length, take, refl, sym, ap, subst, ◌∙◌, arith, append_assoc, append-nil, length-append}
+use Rattle.std.proofs.Common.{◌≡◌, ◌+◌, ◌++◌, ◌∷◌, [], ℕ, length, take, refl, sym, ap, ◌∙◌, arith, append_assoc, append-nil, length-append}
 use Rattle.std.specs.List.{sum_by}
 use Rattle.std.specs.Map.{values_of}
 use Rattle.std.proofs.lemmas.List.{take_at}
@@ -7,7 +7,7 @@ use Rattle.snap_layer.specs.declared.node.Node.{Node}
 use Rattle.snap_layer.specs.Tree.{Entries, Bodies, at}
 use Rattle.snap_layer.specs.Counts.{body_blocks}
 use Rattle.snap_layer.specs.Edits.{inside}
-use Rattle.snap_layer.specs.Ended.{ended, ended_in}
+use Rattle.snap_layer.specs.Ended.{ended}
 use Rattle.snap_layer.specs.Rows.{own}
 use Rattle.snap_layer.proofs.Bounds.{blocks_of_bodies}
 use Rattle.snap_layer.proofs.Ending.{ended_all, ended_few, ended_light, ended_start, few_among, few_fit, step_blocks, step_inodes}

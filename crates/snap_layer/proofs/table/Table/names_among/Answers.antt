@@ -1,5 +1,4 @@
-use Rattle.std.proofs.Common.{◌≡◌, ◌+◌, ◌-◌, ◌++◌, ◌∷◌, ℕ, take, sym, ap, ◌∙◌, arith}
-use Rattle.snap_layer.specs.Tree.{Entries}
+use Rattle.std.proofs.Common.{◌≡◌, ◌+◌, ◌-◌, ◌∷◌, take, sym, arith}
 use Rattle.snap_layer.specs.Counts.{name_count}
 use Rattle.snap_layer.proofs.Ending.{counted_one}
 use Rattle.snap_layer.proofs.table.Table.names_among.Goals as goal

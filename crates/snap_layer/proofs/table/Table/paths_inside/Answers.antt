@@ -1,4 +1,5 @@
 use Rattle.std.proofs.Common.{◌≡◌, ◌≤◌, ◌++◌, ◌∷◌, [], List, length, take, sym, ap, subst, ◌∙◌}
+use Rattle.snap_path.specs.Limits.{most_path_bytes}
 use Rattle.snap_path.specs.Text.{Names, text_below}
 use Rattle.snap_layer.specs.Tree.{at}
 use Rattle.snap_layer.specs.Edits.{inside}
@@ -20,6 +21,6 @@ loop-row-init c =
 
 pub path_beside-requires-clause-short : goal.path_beside-requires-clause-short
 path_beside-requires-clause-short c =
-    subst (λ (q : Names). length (text_below q) ≤ 4095)
+    subst (λ (q : Names). length (text_below q) ≤ most_path_bytes)
     (c.in-Some.ensures.path ∙ ap (λ (q : Names). take c.in-Some.row.above q ++ c.in-Some.row.name.now ∷ []) (sym c.loop-row.invariant.last))
     (next_path c.args.self.now c.next_number.ensures.layer c.args.front.now c.loop-row.paths.items c.loop-row.last c.next.new.self.path c.in-Some.row.node c.loop-row.rows.rest c.next.new.self.rest c.loop-row.invariant.listed c.in-Some.ensures.row).1

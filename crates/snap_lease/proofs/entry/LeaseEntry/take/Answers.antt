@@ -1,9 +1,9 @@
-use Rattle.std.proofs.Common.{◌∙◌, ◌≡◌, ap, is_some, map, string_bytes, subst, sym}
+use Rattle.std.proofs.Common.{◌∙◌, ap, is_some, map, string_bytes, subst, sym}
 use Rattle.std.proofs.lemmas.Map.Made.{is_some-lookup}
 use Rattle.std.specs.List.{IsDistinct}
 use Rattle.std.specs.Map.{keys_of}
 use Rattle.std.specs.Str.{bytes_eq}
-use Rattle.snap_lease.specs.Lease.{Lease, does_name, without_lease_name}
+use Rattle.snap_lease.specs.Lease.{Lease, without_lease_name}
 use Rattle.snap_lease.specs.contracts.entry.LeaseEntry.{the_view}
 use Rattle.snap_lease.proofs.DropLemmas.{names-removed}
 use Rattle.snap_lease.proofs.LeaseLemmas.{list_any-names}

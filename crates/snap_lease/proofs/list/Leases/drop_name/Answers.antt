@@ -8,15 +8,14 @@ use Rattle.std.specs.Ordering.{nat_cmp}
 use Rattle.snap_counts.specs.Counts.{count_within}
 use Rattle.snap_lease.specs.Index.{AreNameCounts}
 use Rattle.snap_lease.specs.Lease.{Lease, NamesOnce, does_name, is_lease}
-use Rattle.snap_lease.specs.Leases.{AreDistinct, CountsDropped, has_lease, lease_names, with_name_dropped}
-use Rattle.snap_lease.specs.Numbers.{AreNumbers}
+use Rattle.snap_lease.specs.Leases.{AreDistinct, CountsDropped, has_lease, with_name_dropped}
 use Rattle.snap_lease.specs.declared.error.LeaseNameError.{LeaseNameError}
 use Rattle.snap_lease.specs.declared.error.LeaseNameError.TheVariants.{NoLease, NoName}
 use Rattle.snap_lease.proofs.CountLemmas.{lease_names-none}
 use Rattle.snap_lease.proofs.DropLemmas.{AreDistinct-with_name_dropped, CountsDropped-with_name_dropped, NamesOnce-with_name_dropped, counted_at, lease_names_at_number, numbers-dropped, values-dropped, without_name-absent}
 use Rattle.snap_lease.proofs.IndexLemmas.{counts-changed}
 use Rattle.snap_lease.proofs.ListLemmas.{is_lease-parts}
-use Rattle.snap_lease.proofs.NumberLemmas.{Stands, found_at_number, has_lease_at_number, on_err, stands_at_number}
+use Rattle.snap_lease.proofs.NumberLemmas.{Stands, found_at_number, has_lease_at_number, stands_at_number}
 use Rattle.snap_lease.proofs.list.Leases.drop_name.Goals as goal
 use Rattle.snap_lease.proofs.list.Leases.drop_name.Goals.{then-drop_name, else-drop_name}
 

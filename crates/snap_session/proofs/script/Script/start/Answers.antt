@@ -1,15 +1,11 @@
 use Rattle.std.proofs.Common.{◌≡◌, Option, None, Some, Bool, sym, ap, ◌∙◌}
 use Rattle.std.specs.Prelude.{if◌then◌else◌, map}
-use Rattle.snap_call.specs.declared.call.Call.TheVariants as calls
 use Rattle.snap_call.specs.declared.config.Namespace.{Namespace}
-use Rattle.snap_call.specs.declared.refusal.Refusal.TheVariants.{BadArgument}
 use Rattle.snap_call.specs.declared.reply.Reply.TheVariants as replies
 use Rattle.snap_script.specs.declared.answer.Answer.{Answer}
 use Rattle.snap_script.specs.declared.answer.Answer.TheVariants as answers
-use Rattle.snap_world.specs.declared.step.Step.TheVariants.{Locked}
-use Rattle.snap_world.specs.Move.{move}
-use Rattle.snap_session.specs.Opened.{OpenedValue, new_world}
-use Rattle.snap_session.specs.Commands.{started, store_opened, told}
+use Rattle.snap_session.specs.Opened.{OpenedValue}
+use Rattle.snap_session.specs.Commands.{started, store_begun, told}
 use Rattle.snap_session.proofs.script.Script.start.Goals as goal
 
 pub returns-in-Ok-clause-store : goal.returns-in-Ok-clause-store
@@ -17,9 +13,7 @@ returns-in-Ok-clause-store g c =
     let config = c.args.config in
     let begun = c.in-Ok.ensures in
     let names : map (λ (n : Namespace). n.name) config.namespaces ≡ c.in_ok-names.names = ap (map (λ (n : Namespace). n.name)) (sym c.as_slice.ensures) ∙ sym c.in_ok-names.ensures in
-    let first : store_opened config ≡ started (map (λ (n : Namespace). n.name) config.namespaces) (move (new_world config) (Locked 0 calls.Session)) =
-    ap (λ (b : Bool). if b then started (map (λ (n : Namespace). n.name) config.namespaces) (move (new_world config) (Locked 0 calls.Session)) else (None, answers.Reply (replies.Refused BadArgument))) c.requires.valid in
-    let made : store_opened config ≡ started c.in_ok-names.names (c.in-Ok.world, begun.0) = first ∙ (λ i. started (names i) (begun.2 i)) in
+    let made : store_begun config ≡ started c.in_ok-names.names (c.in-Ok.world, begun.0) = (λ i. started (names i) (begun.2 i)) in
     let stands : started c.in_ok-names.names (c.in-Ok.world, begun.0) ≡ (Some (record { world = c.in-Ok.world; names = c.in_ok-names.names }), answers.Reply replies.Done) =
     ap (λ (t : Bool). let z : Option OpenedValue × Answer = if t then (Some (record { world = c.in-Ok.world; names = c.in_ok-names.names }), answers.Reply replies.Done) else (None, told 0 0 c.in-Ok.world begun.0) in z) begun.1 in
     made ∙ stands

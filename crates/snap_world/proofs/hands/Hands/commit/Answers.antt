@@ -2,7 +2,8 @@ use Rattle.std.proofs.Common.{Some, List, Option, inl, inr, refl, ap, ◌∙◌}
 use Rattle.std.specs.Prelude.{not, ◌&&◌}
 use Rattle.snap_world.specs.World.{HandValue, with_hand, world_of}
 use Rattle.snap_world.specs.Move.{is_working, meets}
-use Rattle.snap_world.proofs.Does.{commit_does, back_again}
+use Rattle.snap_world.proofs.Does.{commit_does}
+use Rattle.snap_world.proofs.Places.{back_again}
 use Rattle.snap_world.proofs.hands.Hands.commit.Goals as goal
 
 pub returns-in-Ok : goal.returns-in-Ok

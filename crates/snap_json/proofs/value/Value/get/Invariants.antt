@@ -1,10 +1,10 @@
 use Rattle.std.proofs.Common.{◌≡◌, ◌≤◌, length, take}
 use Rattle.serde_json.specs.Find.{get_member}
 use Rattle.snap_json.specs.View.{members_view}
-use Rattle.snap_json.proofs.value.member.Given as goal
+use Rattle.snap_json.proofs.value.Value.get.Given as goal
 
 abbrev pub invariant-loop-left : goal.invariant-loop-left
-invariant-loop-left l = (l.left ≤ length l.members) × (get_member l.name (members_view l.members) ≡ get_member l.name (members_view (take l.left l.members)))
+invariant-loop-left l = (l.left ≤ length l.members.items) × (get_member l.name (members_view l.members.items) ≡ get_member l.name (members_view (take l.left l.members.items)))
 
 abbrev pub decreases-loop-left : goal.decreases-loop-left
 decreases-loop-left l = l.left

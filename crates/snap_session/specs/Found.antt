@@ -1,0 +1,16 @@
+-- The answer where something may not be found.
+-- Cited by `Runner::new`, `Runner as TakeLine`, `replay_within` and others.
+use Rattle.std.specs.Prelude.{Result, Ok, Err}
+use Rattle.snap_call.specs.declared.refusal.Refusal.{Refusal}
+use Rattle.snap_call.specs.declared.reply.Reply.TheVariants as replies
+use Rattle.snap_script.specs.declared.answer.Answer.{Answer}
+use Rattle.snap_script.specs.declared.answer.Answer.TheVariants as answers
+
+-- the answer of a refusal
+abbrev pub refused : Refusal → Answer
+refused why = answers.Reply (replies.Refused why)
+
+-- the answer for what was found, or else for why nothing was
+abbrev pub found_or_else : {A E : Type 0} → (A → Answer) → (E → Answer) → Result A E → Answer
+found_or_else answer other (Ok found) = answer found
+found_or_else answer other (Err why) = other why
