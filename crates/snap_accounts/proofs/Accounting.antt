@@ -14,7 +14,7 @@ use Rattle.snap_call.specs.State.{limit_at}
 use Rattle.snap_call.proofs.Sums.{charge_of-recharged_own, charge_of-recharged_other, charge_of-without_own, charge_of-without_other, charge_of-committed_own, charge_of-committed_other, charge_of-with_record_own, charge_of-with_record_other}
 use Rattle.std.specs.Prelude.{nat_le, ◌&&◌}
 use Rattle.std.proofs.lemmas.Bool.{le-leb}
-use Rattle.snap_call.specs.Step.{fits}
+use Rattle.snap_call.specs.Step.{fits_limit}
 use Rattle.snap_call.proofs.Sums.{charge_of-covers, charge_with}
 use Rattle.snap_call.proofs.Lists.{active_at-all}
 use Rattle.snap_call.proofs.Slots.{is_slot-other, charge_at-Some, charge_at-recharged_own, charge_at-recharged_other, charge_at-without_slot_own, charge_at-without_slot_other, charge_at-committed_own, charge_at-committed_other, charge_at-with_record_own, charge_at-with_record_other}
@@ -189,7 +189,7 @@ covers-true : (a b : Usage) → b.blocks ≤ a.blocks → b.inodes ≤ a.inodes 
 covers-true a b h k = (λ i. le-leb b.blocks a.blocks h i && nat_le b.inodes a.inodes) ∙ le-leb b.inodes a.inodes k
 
 -- less than what is held fits where that fits
-pub fits_less : (s : State) (place : ℕ) (held to : Usage) → Covers (limit_at place s.namespaces) (charge_of place s.records) → Covers (charge_of place s.records) held → Covers held to → fits s place held to ≡ true
+pub fits_less : (s : State) (place : ℕ) (held to : Usage) → Covers (limit_at place s.namespaces) (charge_of place s.records) → Covers (charge_of place s.records) held → Covers held to → fits_limit s place held to ≡ true
 fits_less s place held to limit total less =
     covers-true (limit_at place s.namespaces) (plus (minus (charge_of place s.records) held) to)
     (omega (arith, limit.blocks, total.blocks, less.blocks)) (omega (arith, limit.inodes, total.inodes, less.inodes))

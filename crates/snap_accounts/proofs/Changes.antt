@@ -30,7 +30,7 @@ use Rattle.snap_call.proofs.Lists.{record_at-is_named, active_one}
 use Rattle.snap_call.proofs.Slots.{charge_at-with_record_other, charge_at-without_idle}
 use Rattle.snap_call.proofs.Sums.{plus-none, charge_of-covers, charge_of-with_record}
 use Rattle.snap_accounts.specs.Accounts.{AreAccounts}
-use Rattle.snap_accounts.specs.Changes.{IsLimitFor, IsName, IsNewView, IsSpace, IsUnused}
+use Rattle.snap_accounts.specs.Changes.{IsLimitFor, IsLeaseName, IsNewView, IsSpace, IsUnused}
 use Rattle.snap_accounts.proofs.Accounting.{accounts_kept, accounts_total}
 
 -- ---- a view more
@@ -133,7 +133,7 @@ accounts_created s us cs n namespace lease until accounts space = by (place_of n
     by None e is = absurd (true≢false (sym is))
     by (Some place) e is = leases_kept s us cs n _ accounts (good_created s namespace lease until place accounts.good e)
 
-pub accounts_named : (s : State) (us : List Usage) (cs : List ChargeState) (n : ℕ) (namespace lease name : Bytes) → AreAccounts s us cs n → IsName s namespace lease name → AreAccounts (leasing s (with_name_added s.leases namespace lease name)) us cs n
+pub accounts_named : (s : State) (us : List Usage) (cs : List ChargeState) (n : ℕ) (namespace lease name : Bytes) → AreAccounts s us cs n → IsLeaseName s namespace lease name → AreAccounts (leasing s (with_name_added s.leases namespace lease name)) us cs n
 accounts_named s us cs n namespace lease name accounts is = by (place_of namespace s.namespaces) refl is.committed
   where
     by : (o : Option ℕ) → place_of namespace s.namespaces ≡ o → IsSomeAnd o (λ place. IsSome (committed_at place name s.records)) → AreAccounts (leasing s (with_name_added s.leases namespace lease name)) us cs n

@@ -12,10 +12,10 @@ use Rattle.snap_call.proofs.Gathered.{without_keys-unswept}
 use Rattle.snap_call.proofs.Keeping.{place_of-below}
 use Rattle.snap_call.proofs.Sweeping.{charge_at-unswept, good_swept, open_count-unswept, swept_others, swept_total}
 use Rattle.snap_accounts.specs.Accounts.{AreAccounts}
-use Rattle.snap_accounts.specs.Changes.{IsSweep}
+use Rattle.snap_accounts.specs.Changes.{IsSweepAt}
 use Rattle.snap_accounts.proofs.Accounting.{accounts_total}
 
-module _ (s : State) (place : ℕ) (namespace : Bytes) (moment : ℕ) (keys : List Bytes) (freed : Usage) (is : IsSweep s place namespace moment keys freed) where
+module _ (s : State) (place : ℕ) (namespace : Bytes) (moment : ℕ) (keys : List Bytes) (freed : Usage) (is : IsSweepAt s place namespace moment keys freed) where
   -- the records that stay
   pub stay : Good s → without_keys place keys s.records ≡ unswept s namespace place moment
   stay good = ap (λ ks. without_keys place ks s.records) is.swept ∙ without_keys-unswept s namespace place moment good

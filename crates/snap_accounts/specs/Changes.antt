@@ -20,17 +20,17 @@ use Rattle.snap_accounts.specs.declared.change.Change.TheVariants.{Nothing, View
 use Rattle.snap_accounts.specs.Vacant.{IsSite}
 
 -- the state after the change, with one entry more
-abbrev pub changed : State → Change → State
-changed s Nothing = counted s
-changed s (View r) = added s r
-changed s (Removal place key) = removed_at s place key
-changed s (Labels place key labels) = relabelled_at s place key labels
-changed s (Limit place n) = limited_at s place n.limit
-changed s (Lease namespace lease until) = leasing s (s.leases ++ empty_lease namespace lease until ∷ [])
-changed s (LeaseName namespace lease name) = leasing s (with_name_added s.leases namespace lease name)
-changed s (LeaseNameEnd namespace lease name) = leasing s (with_name_dropped s.leases namespace lease name)
-changed s (LeaseEnd namespace lease) = leasing s (without_lease s.leases namespace lease)
-changed s (Sweep place namespace moment keys freed) = swept_at s namespace place moment
+abbrev pub changed_state : State → Change → State
+changed_state s Nothing = counted s
+changed_state s (View r) = added s r
+changed_state s (Removal place key) = removed_at s place key
+changed_state s (Labels place key labels) = relabelled_at s place key labels
+changed_state s (Limit place n) = limited_at s place n.limit
+changed_state s (Lease namespace lease until) = leasing s (s.leases ++ empty_lease namespace lease until ∷ [])
+changed_state s (LeaseName namespace lease name) = leasing s (with_name_added s.leases namespace lease name)
+changed_state s (LeaseNameEnd namespace lease name) = leasing s (with_name_dropped s.leases namespace lease name)
+changed_state s (LeaseEnd namespace lease) = leasing s (without_lease s.leases namespace lease)
+changed_state s (Sweep place namespace moment keys freed) = swept_at s namespace place moment
 
 -- the record is that of a view, under the next id, and can be added
 pub record IsNewView (s : State) (r : Record) : Type 0 where
@@ -58,12 +58,12 @@ abbrev pub IsSpace : State → Bytes → Type 0
 IsSpace s namespace = IsSome (place_of namespace s.namespaces)
 
 -- the namespace's lease can be given the name: the name is that of a committed snapshot
-pub record IsName (s : State) (namespace lease name : Bytes) : Type 0 where
+pub record IsLeaseName (s : State) (namespace lease name : Bytes) : Type 0 where
   pub there : has_lease s.leases namespace lease ≡ true
   pub committed : IsSomeAnd (place_of namespace s.namespaces) (λ place. IsSome (committed_at place name s.records))
 
 -- the keys are those of what a sweep of the namespace at the place takes away at the moment, for which it is charged so much
-pub record IsSweep (s : State) (place : ℕ) (namespace : Bytes) (moment : ℕ) (keys : List Bytes) (freed : Usage) : Type 0 where
+pub record IsSweepAt (s : State) (place : ℕ) (namespace : Bytes) (moment : ℕ) (keys : List Bytes) (freed : Usage) : Type 0 where
   pub named : place_of namespace s.namespaces ≡ Some place
   pub swept : keys ≡ swept_keys s namespace place moment
   pub charged : freed ≡ charge_of place (swept_records s namespace place moment)
@@ -74,8 +74,8 @@ CanChange s (View r) = IsNewView s r
 CanChange s (Removal place key) = IsUnused s place key
 CanChange s (Limit place n) = IsLimitFor s place n
 CanChange s (Lease namespace lease until) = IsSpace s namespace × (has_lease s.leases namespace lease ≡ false)
-CanChange s (LeaseName namespace lease name) = IsName s namespace lease name
+CanChange s (LeaseName namespace lease name) = IsLeaseName s namespace lease name
 CanChange s (LeaseNameEnd namespace lease name) = lease_names s.leases namespace lease name ≡ true
 CanChange s (LeaseEnd namespace lease) = has_lease s.leases namespace lease ≡ true
-CanChange s (Sweep place namespace moment keys freed) = IsSweep s place namespace moment keys freed
+CanChange s (Sweep place namespace moment keys freed) = IsSweepAt s place namespace moment keys freed
 CanChange s change = Unit {0}

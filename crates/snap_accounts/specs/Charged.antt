@@ -8,7 +8,7 @@ use Rattle.snap_call.specs.Records.{charge_of, charge_at, active_at, max_slots}
 use Rattle.snap_accounts.specs.Totals.{place_if}
 
 -- the slot is charged what the share holds, and its snapshot is of the namespace at the place
-pub record IsCharged (s : State) (place : ℕ) (share : ShareState) : Type 0 where
+pub record IsShareCharged (s : State) (place : ℕ) (share : ShareState) : Type 0 where
   pub low : share.slot < max_slots
   pub met : Meets (charge_at share.slot s.records) share
   pub namespace : place ≡ place_if (active_at share.slot s.records)

@@ -6,10 +6,10 @@ ghost use Rattle.snap_usage.specs.Counted.{no_usage};
 ghost use Rattle.snap_record.specs.Records.{info_of, usage_of};
 ghost use Rattle.snap_call.specs.Records.{is_active, open_count, with_labels};
 ghost use Rattle.snap_call.specs.State.{or_empty};
-ghost use Rattle.snap_call.specs.Step.{added, refused, relabelled_at, remove, removed_at, step, update, update_record, view, viewed};
+ghost use Rattle.snap_call.specs.Step.{added, refused, relabelled_at, remove, removed_at, step, update, update_record, prepare_view, viewed};
 ghost use Rattle.snap_call.specs.declared.call.Given.TheVariants.{Nothing};
 ghost use Rattle.snap_call.specs.declared.reply.Reply.TheVariants as replies;
-ghost use Rattle.snap_accounts.specs.Changes.{CanChange, IsNewView, IsUnused, changed};
+ghost use Rattle.snap_accounts.specs.Changes.{CanChange, IsNewView, IsUnused, changed_state};
 ghost use Rattle.snap_accounts.specs.Entries.{IsAsk, IsPlain, IsInEntry, IsRecorded};
 ghost use Rattle.snap_accounts.specs.Vacant.{IsSite};
 
@@ -162,10 +162,10 @@ impl<N: StoreName> Accounts<N> {
         parent: &str,
         labels: &Labels,
     ) -> Result<usize, Refusal>
-        ensures ok { IfOk result (λ place. view self.now namespace.now key.now parent.now labels.now ≡ viewed self.now place key.now parent.now labels.now) }
+        ensures ok { IfOk result (λ place. prepare_view self.now namespace.now key.now parent.now labels.now ≡ viewed self.now place key.now parent.now labels.now) }
         ensures site { IfOk result (λ place. IsSite self.now place key.now parent.now) }
         ensures recorded { IfErr result IsRecorded }
-        ensures refused { IfErr result (λ why. view self.now namespace.now key.now parent.now labels.now ≡ refused self.now why) }
+        ensures refused { IfErr result (λ why. prepare_view self.now namespace.now key.now parent.now labels.now ≡ refused self.now why) }
     {
         let place = self.place_for(namespace, key, parent, labels)?;
         if self.state.next_id > MAX_ID {
@@ -185,7 +185,7 @@ impl<N: StoreName> Accounts<N> {
     ) -> Result<(Reply, Change), AllocError>
         requires site { IsSite self.now place key.now parent.now }
         requires entries { self.now.entries < 2 ^ 63 }
-        ensures reply { IfOk result (λ p. viewed self.now place key.now parent.now labels.now ≡ (changed self.now p.1, p.0)) }
+        ensures reply { IfOk result (λ p. viewed self.now place key.now parent.now labels.now ≡ (changed_state self.now p.1, p.0)) }
         ensures recorded { IfOk result (λ p. IsInEntry p.0) }
         ensures possible { IfOk result (λ p. CanChange self.now p.1) }
     {
@@ -210,7 +210,7 @@ impl<N: StoreName> Accounts<N> {
         labels: &Labels,
     ) -> Result<(Reply, Change), AllocError>
         requires entries { self.now.entries < 2 ^ 63 }
-        ensures reply { IfOk result (λ p. view self.now namespace.now key.now parent.now labels.now ≡ (changed self.now p.1, p.0)) }
+        ensures reply { IfOk result (λ p. prepare_view self.now namespace.now key.now parent.now labels.now ≡ (changed_state self.now p.1, p.0)) }
         ensures recorded { IfOk result (λ p. IsInEntry p.0) }
         ensures possible { IfOk result (λ p. CanChange self.now p.1) }
     {
@@ -252,7 +252,7 @@ impl<N: StoreName> Accounts<N> {
 
     // A snapshot less, and the reply with what it was charged, or why it stays.
     fn plan_removal(&self, namespace: &str, key: &Text) -> Result<(Reply, Change), AllocError>
-        ensures reply { IfOk result (λ p. remove self.now namespace.now key.now ≡ (changed self.now p.1, p.0)) }
+        ensures reply { IfOk result (λ p. remove self.now namespace.now key.now ≡ (changed_state self.now p.1, p.0)) }
         ensures recorded { IfOk result (λ p. IsInEntry p.0) }
         ensures possible { IfOk result (λ p. CanChange self.now p.1) }
     {
@@ -275,7 +275,7 @@ impl<N: StoreName> Accounts<N> {
         paths: &[Text],
     ) -> Result<(Reply, Change), AllocError>
         requires entries { self.now.entries < 2 ^ 63 }
-        ensures reply { IfOk result (λ p. update_record self.now key.now given.now paths.now place snapshot.now ≡ (changed self.now p.1, p.0)) }
+        ensures reply { IfOk result (λ p. update_record self.now key.now given.now paths.now place snapshot.now ≡ (changed_state self.now p.1, p.0)) }
         ensures recorded { IfOk result (λ p. IsInEntry p.0) }
         ensures possible { IfOk result (λ p. CanChange self.now p.1) }
     {
@@ -300,7 +300,7 @@ impl<N: StoreName> Accounts<N> {
         paths: &[Text],
     ) -> Result<(Reply, Change), AllocError>
         requires entries { self.now.entries < 2 ^ 63 }
-        ensures reply { IfOk result (λ p. update self.now namespace.now key.now given.now paths.now ≡ (changed self.now p.1, p.0)) }
+        ensures reply { IfOk result (λ p. update self.now namespace.now key.now given.now paths.now ≡ (changed_state self.now p.1, p.0)) }
         ensures recorded { IfOk result (λ p. IsInEntry p.0) }
         ensures possible { IfOk result (λ p. CanChange self.now p.1) }
     {
@@ -319,7 +319,7 @@ impl<N: StoreName> Accounts<N> {
     // The reply to a call that changes nothing.
     fn plan_ask(&self, alloc: Global, call: &Call) -> Result<(Reply, Change), AllocError>
         requires ask { IsAsk call.now }
-        ensures reply { IfOk result (λ p. step self.now call.now Nothing ≡ (changed self.now p.1, p.0)) }
+        ensures reply { IfOk result (λ p. step self.now call.now Nothing ≡ (changed_state self.now p.1, p.0)) }
         ensures recorded { IfOk result (λ p. IsInEntry p.0) }
         ensures possible { IfOk result (λ p. CanChange self.now p.1) }
     {
@@ -369,7 +369,7 @@ impl<N: StoreName> Accounts<N> {
     pub fn plan(&self, alloc: Global, call: &Call) -> Result<(Reply, Change), AllocError>
         requires plain { IsPlain call.now }
         requires entries { self.now.entries < 2 ^ 63 }
-        ensures reply { IfOk result (λ p. step self.now call.now Nothing ≡ (changed self.now p.1, p.0)) }
+        ensures reply { IfOk result (λ p. step self.now call.now Nothing ≡ (changed_state self.now p.1, p.0)) }
         ensures recorded { IfOk result (λ p. IsInEntry p.0) }
         ensures possible { IfOk result (λ p. CanChange self.now p.1) }
     {
@@ -470,7 +470,7 @@ impl<N: StoreName> Accounts<N> {
     pub fn carry_out(&mut self, alloc: Global, change: Change) -> Result<Removed, AllocError>
         requires possible { CanChange self.old change }
         requires entries { self.old.entries < 2 ^ 63 }
-        ensures done { OnOk result (self.new ≡ changed self.old change) }
+        ensures done { OnOk result (self.new ≡ changed_state self.old change) }
         ensures open { OnOk result (open_count self.new.records ≡ open_count self.old.records) }
         ensures err { OnErr result (self.new ≡ self.old) }
     {

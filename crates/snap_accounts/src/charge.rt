@@ -4,11 +4,11 @@ ghost use Rattle.snap_usage.specs.Counted.{Covers, covers as covers_of};
 ghost use Rattle.snap_ledger.specs.States.{CoversOne, Meets, minus, plus};
 ghost use Rattle.snap_call.specs.Records.{charge_of, charge_at, active_at, recharged, open_count, max_slots};
 ghost use Rattle.snap_call.specs.State.{limit_at, over_limit};
-ghost use Rattle.snap_call.specs.Step.{charge as charge_step, trim as trim_step, discard as discard_step, greater, fits, granted, IsOpen, IsCovered};
+ghost use Rattle.snap_call.specs.Step.{charge as charge_step, trim as trim_step, discard as discard_step, greater, fits_limit, granted, IsOpenSlot, IsCovered};
 ghost use Rattle.snap_call.specs.declared.call.Given.TheVariants.{Count};
 ghost use Rattle.snap_call.specs.declared.reply.Reply.TheVariants.{Charged, Trimmed, Discarded, Refused};
 ghost use Rattle.snap_call.specs.declared.refusal.Refusal.TheVariants.{OverLimit};
-ghost use Rattle.snap_accounts.specs.Charged.{IsCharged};
+ghost use Rattle.snap_accounts.specs.Charged.{IsShareCharged};
 ghost use Rattle.snap_accounts.specs.Totals.{place_if};
 
 use crate::accounts::Accounts;
@@ -90,7 +90,7 @@ impl<N: StoreName> Accounts<N> {
     fn fits(&self, place: usize, held: Usage, to: Usage) -> bool
         requires place { place < length self.now.namespaces }
         requires held { Covers (charge_of place self.now.records) held }
-        ensures { result ≡ fits self.now place held to }
+        ensures { result ≡ fits_limit self.now place held to }
     {
         has_room(
             self.state.limit_at(place),
@@ -118,8 +118,8 @@ impl<N: StoreName> Accounts<N> {
 
     // Charges the slot so.
     fn recharge(&mut self, share: &mut Share<N>, place: usize, to: Usage)
-        requires charged { IsCharged self.old place share.old }
-        requires fits { fits self.old place share.old.usage to ≡ true }
+        requires charged { IsShareCharged self.old place share.old }
+        requires fits { fits_limit self.old place share.old.usage to ≡ true }
         requires covers { CoversOne to }
         requires entries { self.old.entries < 2 ^ 63 }
         ensures state { self.new ≡ record self.old { records = recharged share.old.slot to self.old.records; entries = self.old.entries + 1 } }
@@ -141,7 +141,7 @@ impl<N: StoreName> Accounts<N> {
     pub fn charge(&mut self, share: &mut Share<N>, need: Usage, want: Usage) -> Result<Usage, Usage>
         requires slot { share.old.slot < max_slots }
         requires entries { self.old.entries < 2 ^ 63 }
-        ensures allowed { IsOpen share.old.id (active_at share.old.slot self.old.records) }
+        ensures allowed { IsOpenSlot share.old.id (active_at share.old.slot self.old.records) }
         ensures granted { IfOk result (λ now. charge_step self.old share.old.slot need want (active_at share.old.slot self.old.records) ≡ (self.new, Charged now)) }
         ensures refused { IfErr result (λ free. charge_step self.old share.old.slot need want (active_at share.old.slot self.old.records) ≡ (self.new, Refused (OverLimit free.blocks free.inodes))) }
         ensures share { IfOk result (λ now. share.new ≡ record share.old { usage = now }) }
@@ -170,7 +170,7 @@ impl<N: StoreName> Accounts<N> {
         requires place { place < length self.now.namespaces }
         requires held { Covers (charge_of place self.now.records) held }
         requires count { Covers held count }
-        ensures { fits self.now place held count ≡ true }
+        ensures { fits_limit self.now place held count ≡ true }
     {
         let _ = self.total(place);
     }
@@ -198,7 +198,7 @@ impl<N: StoreName> Accounts<N> {
     pub fn discard(&mut self, share: Share<N>) -> Usage
         requires slot { share.slot < max_slots }
         requires entries { self.old.entries < 2 ^ 63 }
-        ensures allowed { IsOpen share.id (active_at share.slot self.old.records) }
+        ensures allowed { IsOpenSlot share.id (active_at share.slot self.old.records) }
         ensures step { discard_step self.old share.slot (active_at share.slot self.old.records) ≡ (self.new, Discarded result) }
         ensures held { result ≡ share.usage }
         ensures open { open_count self.new.records + 1 ≡ open_count self.old.records }

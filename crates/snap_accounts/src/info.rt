@@ -5,7 +5,7 @@ ghost use Rattle.snap_record.specs.declared.record.Record.{Record};
 ghost use Rattle.snap_record.specs.declared.kind.Kind.TheVariants.{Committed};
 ghost use Rattle.snap_mount.specs.Mounts.{mounts_of};
 ghost use Rattle.snap_call.specs.State.{ancestors, ids_of, is_too_deep};
-ghost use Rattle.snap_call.specs.Step.{ask, counted, mounts, refused, walk};
+ghost use Rattle.snap_call.specs.Step.{ask, counted, mounts, refused, walk_infos};
 ghost use Rattle.snap_call.specs.declared.reply.Reply.{Reply};
 ghost use Rattle.snap_call.specs.declared.reply.Reply.TheVariants as replies;
 ghost use Rattle.snap_accounts.specs.Entries.{IsInEntry, IsRecorded};
@@ -122,7 +122,7 @@ impl<N: StoreName> Accounts<N> {
         most: u64,
         asked: &Filter,
     ) -> Result<Reply, AllocError>
-        ensures reply { IfOk result (λ r. walk self.now namespace.now after.now most asked.now ≡ (counted self.now, r)) }
+        ensures reply { IfOk result (λ r. walk_infos self.now namespace.now after.now most asked.now ≡ (counted self.now, r)) }
         ensures recorded { IfOk result IsInEntry }
     {
         if !(is_start(after) && is_page(most)) {

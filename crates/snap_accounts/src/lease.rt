@@ -5,7 +5,7 @@ ghost use Rattle.snap_lease.specs.Leases.{has_lease, lease_names, with_name_adde
 ghost use Rattle.snap_call.specs.Records.{open_count};
 ghost use Rattle.snap_call.specs.Step.{lease_add, lease_create, lease_drop, lease_release, leasing, limited_at, refused, set_limit};
 ghost use Rattle.snap_call.specs.declared.reply.Reply.TheVariants.{Done};
-ghost use Rattle.snap_accounts.specs.Changes.{CanChange, IsLimitFor, IsName, IsSpace, changed};
+ghost use Rattle.snap_accounts.specs.Changes.{CanChange, IsLimitFor, IsLeaseName, IsSpace, changed_state};
 ghost use Rattle.snap_accounts.specs.Entries.{IsInEntry, IsRecorded};
 
 use crate::accounts::Accounts;
@@ -43,7 +43,7 @@ impl<N: StoreName> Accounts<N> {
         namespace: &Text,
         limit: Usage,
     ) -> Result<(Reply, Change), AllocError>
-        ensures reply { IfOk result (λ p. set_limit self.now namespace.now limit ≡ (changed self.now p.1, p.0)) }
+        ensures reply { IfOk result (λ p. set_limit self.now namespace.now limit ≡ (changed_state self.now p.1, p.0)) }
         ensures recorded { IfOk result (λ p. IsInEntry p.0) }
         ensures possible { IfOk result (λ p. CanChange self.now p.1) }
     {
@@ -84,7 +84,7 @@ impl<N: StoreName> Accounts<N> {
         lease: &Text,
         until: Option<u64>,
     ) -> Result<(Reply, Change), AllocError>
-        ensures reply { IfOk result (λ p. lease_create self.now namespace.now lease.now until ≡ (changed self.now p.1, p.0)) }
+        ensures reply { IfOk result (λ p. lease_create self.now namespace.now lease.now until ≡ (changed_state self.now p.1, p.0)) }
         ensures recorded { IfOk result (λ p. IsInEntry p.0) }
         ensures possible { IfOk result (λ p. CanChange self.now p.1) }
     {
@@ -108,7 +108,7 @@ impl<N: StoreName> Accounts<N> {
     // Whether the lease can be given the name, or why it can't.
     fn check_lease_name(&self, namespace: &str, lease: &str, name: &str) -> Result<(), Refusal>
         ensures ok { OnOk result (lease_add self.now namespace.now lease.now name.now ≡ (leasing self.now (with_name_added self.now.leases namespace.now lease.now name.now), Done)) }
-        ensures name { OnOk result (IsName self.now namespace.now lease.now name.now) }
+        ensures name { OnOk result (IsLeaseName self.now namespace.now lease.now name.now) }
         ensures recorded { IfErr result IsRecorded }
         ensures refused { IfErr result (λ why. lease_add self.now namespace.now lease.now name.now ≡ refused self.now why) }
     {
@@ -137,7 +137,7 @@ impl<N: StoreName> Accounts<N> {
         lease: &Text,
         name: &Text,
     ) -> Result<(Reply, Change), AllocError>
-        ensures reply { IfOk result (λ p. lease_add self.now namespace.now lease.now name.now ≡ (changed self.now p.1, p.0)) }
+        ensures reply { IfOk result (λ p. lease_add self.now namespace.now lease.now name.now ≡ (changed_state self.now p.1, p.0)) }
         ensures recorded { IfOk result (λ p. IsInEntry p.0) }
         ensures possible { IfOk result (λ p. CanChange self.now p.1) }
     {
@@ -186,7 +186,7 @@ impl<N: StoreName> Accounts<N> {
         lease: &Text,
         name: &Text,
     ) -> Result<(Reply, Change), AllocError>
-        ensures reply { IfOk result (λ p. lease_drop self.now namespace.now lease.now name.now ≡ (changed self.now p.1, p.0)) }
+        ensures reply { IfOk result (λ p. lease_drop self.now namespace.now lease.now name.now ≡ (changed_state self.now p.1, p.0)) }
         ensures recorded { IfOk result (λ p. IsInEntry p.0) }
         ensures possible { IfOk result (λ p. CanChange self.now p.1) }
     {
@@ -233,7 +233,7 @@ impl<N: StoreName> Accounts<N> {
         namespace: &Text,
         lease: &Text,
     ) -> Result<(Reply, Change), AllocError>
-        ensures reply { IfOk result (λ p. lease_release self.now namespace.now lease.now ≡ (changed self.now p.1, p.0)) }
+        ensures reply { IfOk result (λ p. lease_release self.now namespace.now lease.now ≡ (changed_state self.now p.1, p.0)) }
         ensures recorded { IfOk result (λ p. IsInEntry p.0) }
         ensures possible { IfOk result (λ p. CanChange self.now p.1) }
     {
@@ -289,7 +289,7 @@ impl<N: StoreName> Accounts<N> {
         lease: &str,
         name: &str,
     ) -> Result<(), AllocError>
-        requires name { IsName self.old namespace.now lease.now name.now }
+        requires name { IsLeaseName self.old namespace.now lease.now name.now }
         requires entries { self.old.entries < 2 ^ 63 }
         ensures done { OnOk result (self.new ≡ leasing self.old (with_name_added self.old.leases namespace.now lease.now name.now)) }
         ensures open { OnOk result (open_count self.new.records ≡ open_count self.old.records) }

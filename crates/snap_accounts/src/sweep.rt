@@ -3,7 +3,7 @@ ghost use Rattle.std.specs.Prelude.{◌≡◌, ◌<◌, ◌^◌, ◌+◌, IfOk, 
 ghost use Rattle.snap_call.specs.Records.{open_count};
 ghost use Rattle.snap_call.specs.State.{place_of};
 ghost use Rattle.snap_call.specs.Step.{sweep, sweep_at, swept_at};
-ghost use Rattle.snap_accounts.specs.Changes.{CanChange, IsSweep, changed};
+ghost use Rattle.snap_accounts.specs.Changes.{CanChange, IsSweepAt, changed_state};
 ghost use Rattle.snap_accounts.specs.Entries.{IsInEntry};
 
 use crate::accounts::Accounts;
@@ -24,7 +24,7 @@ impl<N: StoreName> Accounts<N> {
         moment: u64,
     ) -> Result<(Reply, Change), AllocError>
         requires named { place_of namespace.now self.now.namespaces ≡ Some place }
-        ensures reply { IfOk result (λ p. sweep_at self.now namespace.now moment place ≡ (changed self.now p.1, p.0)) }
+        ensures reply { IfOk result (λ p. sweep_at self.now namespace.now moment place ≡ (changed_state self.now p.1, p.0)) }
         ensures recorded { IfOk result (λ p. IsInEntry p.0) }
         ensures possible { IfOk result (λ p. CanChange self.now p.1) }
     {
@@ -55,7 +55,7 @@ impl<N: StoreName> Accounts<N> {
         namespace: &Text,
         moment: u64,
     ) -> Result<(Reply, Change), AllocError>
-        ensures reply { IfOk result (λ p. sweep self.now namespace.now moment ≡ (changed self.now p.1, p.0)) }
+        ensures reply { IfOk result (λ p. sweep self.now namespace.now moment ≡ (changed_state self.now p.1, p.0)) }
         ensures recorded { IfOk result (λ p. IsInEntry p.0) }
         ensures possible { IfOk result (λ p. CanChange self.now p.1) }
     {
@@ -76,7 +76,7 @@ impl<N: StoreName> Accounts<N> {
         freed: Usage,
         removed: &mut Removed,
     )
-        requires possible { IsSweep self.old place namespace.now moment keys.now freed }
+        requires possible { IsSweepAt self.old place namespace.now moment keys.now freed }
         requires entries { self.old.entries < 2 ^ 63 }
         ensures done { self.new ≡ swept_at self.old namespace.now place moment }
         ensures open { open_count self.new.records ≡ open_count self.old.records }

@@ -14,7 +14,7 @@ use Rattle.snap_call.specs.declared.entry.Entry.{Entry}
 use Rattle.snap_call.specs.declared.refusal.Refusal.{Refusal}
 use Rattle.snap_call.specs.declared.reply.Reply.TheVariants.{Committed, Refused}
 use Rattle.snap_call.specs.declared.state.State.{State}
-use Rattle.snap_call.specs.Journal.{entry}
+use Rattle.snap_call.specs.Journal.{call_entry}
 use Rattle.snap_call.specs.Records.{active_at, charge_at}
 use Rattle.snap_call.specs.Step.{commit_as, counted, refused, IsCovered}
 use Rattle.snap_call.proofs.Slots.{charge_at-issued}
@@ -44,12 +44,12 @@ met_covered rs share now met covers =
 -- a commit that is refused: its entry, its condition and its step, where meeting changed neither the state nor the share
 pub refused_commit : (s t u : State) (share was : ShareState) (slot n : ℕ) (name : Bytes) (lease : Option Bytes) (layer : Tree) (checked : Result (Unit {0}) Refusal) (why : Refusal) (x : Entry) → s ≡ u → share ≡ was → slot ≡ share.slot
     → Meets (charge_at was.slot u.records) was → Covers was.usage (count_of layer)
-    → x ≡ entry n (calls.Commit share.slot share.id name lease) (Layer layer) (commit_reply checked share.id (count_of layer)) → checked ≡ Err why
+    → x ≡ call_entry n (calls.Commit share.slot share.id name lease) (Layer layer) (commit_reply checked share.id (count_of layer)) → checked ≡ Err why
     → commit_as s slot name lease layer (active_at slot s.records) ≡ refused s why → t ≡ counted s
-    → (x ≡ entry n (calls.Commit share.slot share.id name lease) (Layer layer) (Refused why)) × IsCovered share.id (count_of layer) (active_at share.slot s.records)
+    → (x ≡ call_entry n (calls.Commit share.slot share.id name lease) (Layer layer) (Refused why)) × IsCovered share.id (count_of layer) (active_at share.slot s.records)
     × (commit_as s share.slot name lease layer (active_at share.slot s.records) ≡ (t, Refused why))
 refused_commit s t u share was slot n name lease layer checked why x same held at met covers made is refuses done = (
-  made ∙ ap (λ (r : Result (Unit {0}) Refusal). entry n (calls.Commit share.slot share.id name lease) (Layer layer) (commit_reply r share.id (count_of layer))) is,
+  made ∙ ap (λ (r : Result (Unit {0}) Refusal). call_entry n (calls.Commit share.slot share.id name lease) (Layer layer) (commit_reply r share.id (count_of layer))) is,
   subst (λ (v : State). IsCovered share.id (count_of layer) (active_at share.slot v.records)) (sym same)
       (subst (λ (h : ShareState). IsCovered h.id (count_of layer) (active_at h.slot u.records)) (sym held) (met_covered u.records was (count_of layer) met covers)),
   ap (λ (k : ℕ). commit_as s k name lease layer (active_at k s.records)) (sym at) ∙ (refuses ∙ ap (λ (v : State). (v, Refused why)) (sym done)),
@@ -57,12 +57,12 @@ refused_commit s t u share was slot n name lease layer checked why x same held a
 
 -- a commit that is granted: its entry and its step
 pub granted_commit : (s t : State) (share : ShareState) (n a b : ℕ) (name x : Bytes) (lease l : Option Bytes) (layer : Tree) (now : Usage) (checked : Result (Unit {0}) Refusal) (done : Unit {0}) (e : Entry)
-    → e ≡ entry n (calls.Commit share.slot share.id name lease) (Layer layer) (commit_reply checked share.id (count_of layer)) → checked ≡ Ok done → now ≡ count_of layer
+    → e ≡ call_entry n (calls.Commit share.slot share.id name lease) (Layer layer) (commit_reply checked share.id (count_of layer)) → checked ≡ Ok done → now ≡ count_of layer
     → calls.Commit a b x l ≡ calls.Commit share.slot share.id name lease → commit_as s share.slot x l layer (active_at share.slot s.records) ≡ (t, Committed share.id now)
-    → (e ≡ entry n (calls.Commit share.slot share.id name lease) (Layer layer) (Committed share.id now)) × (commit_as s share.slot name lease layer (active_at share.slot s.records) ≡ (t, Committed share.id now))
+    → (e ≡ call_entry n (calls.Commit share.slot share.id name lease) (Layer layer) (Committed share.id now)) × (commit_as s share.slot name lease layer (active_at share.slot s.records) ≡ (t, Committed share.id now))
 granted_commit s t share n a b name x lease l layer now checked done e made is count call did = (
   made
-      ∙ (ap (λ (r : Result (Unit {0}) Refusal). entry n (calls.Commit share.slot share.id name lease) (Layer layer) (commit_reply r share.id (count_of layer))) is
-      ∙ ap (λ (u : Usage). entry n (calls.Commit share.slot share.id name lease) (Layer layer) (Committed share.id u)) (sym count)),
+      ∙ (ap (λ (r : Result (Unit {0}) Refusal). call_entry n (calls.Commit share.slot share.id name lease) (Layer layer) (commit_reply r share.id (count_of layer))) is
+      ∙ ap (λ (u : Usage). call_entry n (calls.Commit share.slot share.id name lease) (Layer layer) (Committed share.id u)) (sym count)),
   (λ i. commit_as s share.slot (sym (same_name a b share.slot share.id x name l lease call) i) (sym (same_lease a b share.slot share.id x name l lease call) i) layer (active_at share.slot s.records)) ∙ did,
 )

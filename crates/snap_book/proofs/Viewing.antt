@@ -19,16 +19,16 @@ use Rattle.snap_call.specs.declared.refusal.Refusal.TheVariants.{NumbersSpent}
 use Rattle.snap_call.specs.declared.reply.Reply.{Reply}
 use Rattle.snap_call.specs.declared.reply.Reply.TheVariants as replies
 use Rattle.snap_call.specs.declared.state.State.{State}
-use Rattle.snap_call.specs.Journal.{entry}
+use Rattle.snap_call.specs.Journal.{call_entry}
 use Rattle.snap_call.specs.Records.{has_key, is_named, record_cmp, with_record}
 use Rattle.snap_call.specs.State.{place_of, ancestors, ids_of, shown_layers}
-use Rattle.snap_call.specs.Step.{added, place_for, refused, step, unless_refused, view, view_at, viewed, new_record}
+use Rattle.snap_call.specs.Step.{added, place_for, refused, step, unless_refused, prepare_view, view_at, viewed, new_record}
 use Rattle.snap_call.proofs.Lists.{all-map, all-with_record, none-passes}
 use Rattle.snap_call.proofs.InOrder.{record_cmp_total, tied-is_named}
 use Rattle.snap_call.proofs.Places.{place_for-Ok}
 use Rattle.snap_accounts.specs.declared.change.Change.{Change}
 use Rattle.snap_accounts.specs.declared.change.Change.TheVariants.{View}
-use Rattle.snap_accounts.specs.Changes.{CanChange, changed}
+use Rattle.snap_accounts.specs.Changes.{CanChange, changed_state}
 use Rattle.snap_accounts.specs.Entries.{IsInEntry}
 use Rattle.snap_book.specs.Book.{BookValue, Recorded, RefusedBy}
 use Rattle.snap_book.proofs.Keeping.{refused_by}
@@ -96,13 +96,13 @@ granted_placed s namespace key parent labels r reply v (Err why) at e can is = a
 
 -- the reply to a call View that adds this view, and the layers that the view shows
 pub granted_view : (s : State) (namespace key parent : Bytes) (labels : List Label) (change : Change) (reply : Reply) (v : ViewedValue)
-    → view s namespace key parent labels ≡ (changed s change, reply) → CanChange s change → IsViewOf change v → IsGranted s namespace parent reply v
+    → prepare_view s namespace key parent labels ≡ (changed_state s change, reply) → CanChange s change → IsViewOf change v → IsGranted s namespace parent reply v
 granted_view s namespace key parent labels (View r) reply v e can is = granted_placed s namespace key parent labels r reply v (place_for s namespace key parent labels) refl e can is
 granted_view s namespace key parent labels change reply v e can is = absurd is
 
 -- what the caller of a call View gets by its reply and its change
 pub granted_answer : (s : State) (namespace key parent : Bytes) (labels : List Label) (call : Call) (change : Change) (reply : Reply) (answer : Result ViewedValue Refusal) → call ≡ calls.View namespace key parent labels
-    → step s call givens.Nothing ≡ (changed s change, reply) → CanChange s change → IfOk answer (IsViewOf change) → IfOk answer (IsGranted s namespace parent reply)
+    → step s call givens.Nothing ≡ (changed_state s change, reply) → CanChange s change → IfOk answer (IsViewOf change) → IfOk answer (IsGranted s namespace parent reply)
 granted_answer s namespace key parent labels call change reply (Err why) is e can made = tt
 granted_answer s namespace key parent labels call change reply (Ok v) is e can made =
     granted_view s namespace key parent labels change reply v (ap (λ (o : Call). step s o givens.Nothing) (sym is) ∙ e) can made
@@ -110,7 +110,7 @@ granted_answer s namespace key parent labels call change reply (Ok v) is e can m
 -- ---- the view that comes with a reply
 
 -- no other change takes an id
-adds_view : (s : State) (change : Change) → CanChange s change → (changed s change).next_id ≡ s.next_id + 1 → HasView change
+adds_view : (s : State) (change : Change) → CanChange s change → (changed_state s change).next_id ≡ s.next_id + 1 → HasView change
 adds_view s (View r) can next = subst IsView (sym can.view) tt
 adds_view s change can next = absurd (omega (arith, next))
 
@@ -121,24 +121,24 @@ refuses : (s t : State) (why : Refusal) (reply : Reply) → refused s why ≡ (t
 refuses s t why reply e not = not why (sym (ap (λ (p : State × Reply). p.1) e))
 
 numbered_view : (s : State) (key parent : Bytes) (labels : List Label) (place : ℕ) (change : Change) (reply : Reply) (few : Bool)
-    → (if few then viewed s place key parent labels else refused s NumbersSpent) ≡ (changed s change, reply) → CanChange s change → IsNoRefusal reply → HasView change
+    → (if few then viewed s place key parent labels else refused s NumbersSpent) ≡ (changed_state s change, reply) → CanChange s change → IsNoRefusal reply → HasView change
 numbered_view s key parent labels place change reply true e can not = adds_view s change can (sym (ap (λ (p : State × Reply). p.0.next_id) e))
-numbered_view s key parent labels place change reply false e can not = absurd (refuses s (changed s change) NumbersSpent reply e not)
+numbered_view s key parent labels place change reply false e can not = absurd (refuses s (changed_state s change) NumbersSpent reply e not)
 
 placed_view : (s : State) (key parent : Bytes) (labels : List Label) (change : Change) (reply : Reply) (found : Result ℕ Refusal)
-    → unless_refused s found (view_at s key parent labels) ≡ (changed s change, reply) → CanChange s change → IsNoRefusal reply → HasView change
+    → unless_refused s found (view_at s key parent labels) ≡ (changed_state s change, reply) → CanChange s change → IsNoRefusal reply → HasView change
 placed_view s key parent labels change reply (Ok place) e can not = numbered_view s key parent labels place change reply (nat_le s.next_id most_number) e can not
-placed_view s key parent labels change reply (Err why) e can not = absurd (refuses s (changed s change) why reply e not)
+placed_view s key parent labels change reply (Err why) e can not = absurd (refuses s (changed_state s change) why reply e not)
 
 replied_view : (s : State) (namespace key parent : Bytes) (labels : List Label) (change : Change) (reply : Reply)
-    → view s namespace key parent labels ≡ (changed s change, reply) → CanChange s change → ComesWith reply change
+    → prepare_view s namespace key parent labels ≡ (changed_state s change, reply) → CanChange s change → ComesWith reply change
 replied_view s namespace key parent labels change (replies.Refused why) e can = tt
 replied_view s namespace key parent labels change reply e can =
     placed_view s key parent labels change reply (place_for s namespace key parent labels) e can (λ why is. absurd (cc))
 
 -- a call View that is not refused adds a view
 pub comes_with : (s : State) (namespace key parent : Bytes) (labels : List Label) (call : Call) (change : Change) (reply : Reply) → call ≡ calls.View namespace key parent labels
-    → step s call givens.Nothing ≡ (changed s change, reply) → CanChange s change → ComesWith reply change
+    → step s call givens.Nothing ≡ (changed_state s change, reply) → CanChange s change → ComesWith reply change
 comes_with s namespace key parent labels call change reply is e can =
     replied_view s namespace key parent labels change reply (ap (λ (o : Call). step s o givens.Nothing) (sym is) ∙ e) can
 
@@ -149,7 +149,7 @@ some_other P Q None f is = absurd is
 some_other P Q (Some n) f is = f n is
 
 -- what is granted where the book is as it was when the call began, and the entry is that of the call
-pub granted_at : (mid old new : BookValue) (n : ℕ) (namespace parent : Bytes) (call : Call) (e : Entry) (answer : Result ViewedValue Refusal) → mid ≡ old → e ≡ entry n call givens.Nothing e.reply
+pub granted_at : (mid old new : BookValue) (n : ℕ) (namespace parent : Bytes) (call : Call) (e : Entry) (answer : Result ViewedValue Refusal) → mid ≡ old → e ≡ call_entry n call givens.Nothing e.reply
     → Recorded mid new e.session e.call e.given e.reply → IfOk answer (IsGranted mid.state namespace parent e.reply)
     → IfOk answer (λ v. IsSomeAnd (place_of namespace old.state.namespaces) (λ place. Recorded old new n call givens.Nothing (replies.Viewed v.id (ids_of (ancestors place parent old.state.records)))))
 granted_at mid old new n namespace parent call e (Err why) same is noted granted = tt

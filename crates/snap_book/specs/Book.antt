@@ -12,7 +12,7 @@ use Rattle.snap_call.specs.declared.reply.Reply.{Reply}
 use Rattle.snap_call.specs.declared.reply.Reply.TheVariants.{Committed, Prepared, Refused}
 use Rattle.snap_call.specs.declared.state.State.{State}
 use Rattle.snap_call.specs.Good.{Good}
-use Rattle.snap_call.specs.Journal.{entry, Replays}
+use Rattle.snap_call.specs.Journal.{call_entry, Replays}
 use Rattle.snap_call.specs.Records.{open_count}
 use Rattle.snap_call.specs.State.{ancestors, ids_of}
 use Rattle.snap_call.specs.Step.{step, IsAllowed}
@@ -39,10 +39,10 @@ pub record Recorded (old new : BookValue) (n : ℕ) (call : Call) (given : Given
   pub allowed : IsAllowed old.state call given
   pub state : new.state ≡ (step old.state call given).0
   pub answer : reply ≡ (step old.state call given).1
-  pub journal : new.journal ≡ old.journal ++ entry n call given reply ∷ []
+  pub journal : new.journal ≡ old.journal ++ call_entry n call given reply ∷ []
   pub opening : new.opening ≡ old.opening
   pub limit : new.limit ≡ old.limit
-  pub copy : new.copy ≡ Some (entry n call given reply)
+  pub copy : new.copy ≡ Some (call_entry n call given reply)
 
 -- a refused call is recorded, but where the journal is full or memory is refused: then all is as before
 abbrev pub RefusedBy : BookValue → BookValue → ℕ → Call → Given → Refusal → Type 0

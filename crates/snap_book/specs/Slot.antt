@@ -17,14 +17,14 @@ abbrev pub found_of : State → Bytes → Bytes → Result Record Refusal
 found_of s namespace key = option_map_or (λ place. ok_or (record_at place key s.records) NotFound) (place_of namespace s.namespaces) (Err NoNamespace)
 
 -- the slot and the id of an active snapshot
-abbrev pub slot_in : ℕ → Content → Result (ℕ × ℕ) Refusal
-slot_in id (Active slot charged) = Ok (slot, id)
-slot_in id content = Err NotActive
+abbrev pub slot_and_id_in : ℕ → Content → Result (ℕ × ℕ) Refusal
+slot_and_id_in id (Active slot charged) = Ok (slot, id)
+slot_and_id_in id content = Err NotActive
 
 abbrev pub slot_if : Result Record Refusal → Result (ℕ × ℕ) Refusal
-slot_if (Ok r) = slot_in r.id r.content
+slot_if (Ok r) = slot_and_id_in r.id r.content
 slot_if (Err why) = Err why
 
 -- the slot and the id of the active snapshot of this key in the namespace, or why there is none
-abbrev pub slot_of : State → Bytes → Bytes → Result (ℕ × ℕ) Refusal
-slot_of s namespace key = slot_if (found_of s namespace key)
+abbrev pub slot_and_id_of : State → Bytes → Bytes → Result (ℕ × ℕ) Refusal
+slot_and_id_of s namespace key = slot_if (found_of s namespace key)

@@ -15,5 +15,5 @@ abbrev pub more : ℕ → ℕ → ℕ
 more need extra = min (need + min extra 1099511627776) 18446744073709551615
 
 -- more of both quantities
-abbrev pub wanted : Usage → Usage → Usage
-wanted need extra = record { blocks = more need.blocks extra.blocks; inodes = more need.inodes extra.inodes }
+abbrev pub wanted_charge : Usage → Usage → Usage
+wanted_charge need extra = record { blocks = more need.blocks extra.blocks; inodes = more need.inodes extra.inodes }

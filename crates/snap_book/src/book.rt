@@ -10,12 +10,12 @@ ghost use Rattle.snap_call.specs.declared.refusal.Refusal.TheVariants.{JournalFu
 ghost use Rattle.snap_book.specs.Book.{IsBeginning, IsLast, Recorded};
 ghost use Rattle.snap_call.specs.Forms.{is_config, is_layer_limit};
 ghost use Rattle.snap_call.specs.State.{opening, limit_at, place_of, name_at};
-ghost use Rattle.snap_call.specs.Totals.{taken_by};
+ghost use Rattle.snap_call.specs.Totals.{usage_taken};
 ghost use Rattle.snap_accounts.specs.Entries.{IsUnrecorded};
 ghost use Rattle.std.specs.Option.{option_map};
 ghost use Rattle.snap_path.specs.Memory.{no_memory};
 ghost use Rattle.snap_usage.specs.Counted.{Covers};
-ghost use Rattle.snap_book.specs.Slot.{found_of, slot_of};
+ghost use Rattle.snap_book.specs.Slot.{found_of, slot_and_id_of};
 ghost use Rattle.snap_history.specs.Open.{shares_of};
 
 use crate::journal::{Journal, session_entry};
@@ -200,7 +200,7 @@ impl<N: StoreName> Book<N> {
     pub fn totals(&self, namespace: &str) -> Option<Usage>
         ensures charge { result ≡ option_map (λ place. charge_of place self.now.state.records) (place_of namespace.now self.now.state.namespaces) }
         // The counts over its committed layers, and its open shares.
-        ensures counts { result ≡ option_map (λ place. sum_of taken_by place self.now.state.records) (place_of namespace.now self.now.state.namespaces) }
+        ensures counts { result ≡ option_map (λ place. sum_of usage_taken place self.now.state.records) (place_of namespace.now self.now.state.namespaces) }
     {
         match self.accounts.state().place_of(namespace) {
             Some(place) => Some(self.accounts.total(place)),
@@ -247,7 +247,7 @@ impl<N: StoreName> Book<N> {
     /// such namespace, then `NotFound`, then `NotActive` for a view or a committed snapshot. It leaves
     /// no entry. Takes no memory. The cost grows with the logarithm of the number of records.
     pub fn slot_of(&self, namespace: &str, key: &str) -> Result<(u64, u32), Refusal>
-        ensures { result ≡ slot_of self.now.state namespace.now key.now }
+        ensures { result ≡ slot_and_id_of self.now.state namespace.now key.now }
     {
         let found = self.record(namespace, key)?;
         match &found.content {

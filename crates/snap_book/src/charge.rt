@@ -9,7 +9,7 @@ ghost use Rattle.snap_call.specs.declared.reply.Reply.TheVariants.{Charged, Trim
 ghost use Rattle.snap_call.specs.declared.refusal.Refusal.TheVariants.{JournalFull};
 ghost use Rattle.snap_book.specs.Book.{Recorded, RefusedBy};
 ghost use Rattle.snap_book.specs.Held.{share_of};
-ghost use Rattle.snap_book.specs.Wanted.{more, needed_by, wanted};
+ghost use Rattle.snap_book.specs.Wanted.{more, needed_by, wanted_charge};
 
 use crate::active::{Active, Held, Released};
 use crate::book::Book;
@@ -42,7 +42,7 @@ fn more(need: u64, extra: u64) -> u64
 /// blocks of 4096 bytes and inodes. Of the extra at most 2^40 of each quantity count, the greatest limit
 /// of a namespace, and a sum past 2^64 - 1 is that number. Takes no memory. The cost is constant.
 pub fn wanted(need: Usage, extra: Usage) -> Usage
-    ensures { result ≡ wanted need extra }
+    ensures { result ≡ wanted_charge need extra }
 {
     Usage {
         blocks: more(need.blocks, extra.blocks),

@@ -5,7 +5,7 @@ ghost use Rattle.snap_ledger.specs.States.{Meets};
 ghost use Rattle.snap_call.specs.Records.{charge_at, active_at, open_count};
 ghost use Rattle.snap_call.specs.Step.{commit_as, IsCovered};
 ghost use Rattle.snap_call.specs.declared.reply.Reply.TheVariants.{Committed};
-ghost use Rattle.snap_call.specs.Journal.{entry};
+ghost use Rattle.snap_call.specs.Journal.{call_entry};
 ghost use Rattle.snap_call.specs.declared.call.Call.TheVariants as calls;
 ghost use Rattle.snap_call.specs.declared.call.Given.TheVariants.{Layer as LayerGiven};
 ghost use Rattle.snap_call.specs.declared.refusal.Refusal.TheVariants.{JournalFull};
@@ -33,7 +33,7 @@ impl<N: StoreName> Sealed<N> {
         lease: &Option<Text>,
         checked: Result<(), Refusal>,
     ) -> Result<(SharedEntry, SharedEntry), AllocError>
-        ensures first { IfOk result (λ p. p.0 ≡ entry session (calls.Commit self.now.share.slot self.now.share.id name.now lease.now) (LayerGiven self.now.layer) (commit_reply checked self.now.share.id (count_of self.now.layer))) }
+        ensures first { IfOk result (λ p. p.0 ≡ call_entry session (calls.Commit self.now.share.slot self.now.share.id name.now lease.now) (LayerGiven self.now.layer) (commit_reply checked self.now.share.id (count_of self.now.layer))) }
         ensures second { IfOk result (λ p. p.1 ≡ p.0) }
     {
         let id = self.share.id();

@@ -2,7 +2,7 @@
 ghost use Rattle.std.specs.Prelude.{◌≡◌, ◌↔◌, ◌<◌, ◌≤◌, ◌+◌, ◌++◌, ◌∷◌, [], length, None, Some, OnOk, IfErr, IsErrOf, IfOk};
 ghost use Rattle.snap_call.specs.declared.refusal.Refusal.TheVariants.{JournalFull};
 ghost use Rattle.snap_accounts.specs.Entries.{IsUnrecorded};
-ghost use Rattle.snap_call.specs.Journal.{entry};
+ghost use Rattle.snap_call.specs.Journal.{call_entry};
 ghost use Rattle.snap_call.specs.Records.{max_journal};
 ghost use Rattle.snap_history.specs.Open.{open_shares};
 ghost use Rattle.snap_call.specs.declared.call.Call.TheVariants as calls;
@@ -224,7 +224,7 @@ pub(crate) fn shared(
     given: Given,
     reply: Reply,
 ) -> Result<(SharedEntry, SharedEntry), AllocError>
-    ensures { IfOk result (λ p. (p.0 ≡ entry session call given reply) × (p.1 ≡ entry session call given reply)) }
+    ensures { IfOk result (λ p. (p.0 ≡ call_entry session call given reply) × (p.1 ≡ call_entry session call given reply)) }
 {
     let entry = Entry {
         session,
@@ -236,7 +236,7 @@ pub(crate) fn shared(
 }
 
 pub(crate) fn session_entry(session: u64) -> Entry
-    ensures { result ≡ entry session calls.Session Nothing Opened }
+    ensures { result ≡ call_entry session calls.Session Nothing Opened }
 {
     Entry {
         session,
@@ -254,7 +254,7 @@ pub(crate) fn charge_entry(
     want: Usage,
     reply: Reply,
 ) -> Entry
-    ensures { result ≡ entry session (calls.Charge slot id need want) Nothing reply }
+    ensures { result ≡ call_entry session (calls.Charge slot id need want) Nothing reply }
 {
     Entry {
         session,
@@ -270,7 +270,7 @@ pub(crate) fn charge_entry(
 }
 
 pub(crate) fn trim_entry(session: u64, slot: u64, id: u32, count: Usage) -> Entry
-    ensures { result ≡ entry session (calls.Trim slot id) (Count count) Trimmed }
+    ensures { result ≡ call_entry session (calls.Trim slot id) (Count count) Trimmed }
 {
     Entry {
         session,
@@ -281,7 +281,7 @@ pub(crate) fn trim_entry(session: u64, slot: u64, id: u32, count: Usage) -> Entr
 }
 
 pub(crate) fn discard_entry(session: u64, slot: u64, id: u32, held: Usage) -> Entry
-    ensures { result ≡ entry session (calls.Discard slot id) Nothing (Discarded held) }
+    ensures { result ≡ call_entry session (calls.Discard slot id) Nothing (Discarded held) }
 {
     Entry {
         session,

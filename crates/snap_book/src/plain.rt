@@ -1,12 +1,12 @@
 // The plain calls: those that take no snapshot out of its writer's hands and put none into them.
 ghost use Rattle.std.specs.Prelude.{◌≡◌, ◌≤◌, ◌<◌, ◌+◌, ◌^◌, ◌↔◌, length, IfOk, OnErr, IfErr, IsErrOf};
-ghost use Rattle.snap_call.specs.Journal.{entry};
+ghost use Rattle.snap_call.specs.Journal.{call_entry};
 ghost use Rattle.snap_call.specs.Records.{open_count};
 ghost use Rattle.snap_call.specs.Step.{step};
 ghost use Rattle.snap_call.specs.declared.call.Given.TheVariants.{Nothing};
 ghost use Rattle.snap_call.specs.declared.refusal.Refusal.TheVariants.{JournalFull};
 ghost use Rattle.snap_call.specs.declared.reply.Reply.TheVariants as replies;
-ghost use Rattle.snap_accounts.specs.Changes.{CanChange, changed};
+ghost use Rattle.snap_accounts.specs.Changes.{CanChange, changed_state};
 ghost use Rattle.snap_accounts.specs.Entries.{IsPlain, IsInEntry, IsUnrecorded};
 ghost use Rattle.snap_book.specs.Book.{AnsweredBy, Recorded};
 
@@ -35,9 +35,9 @@ pub(crate) fn planned<N: StoreName>(
 ) -> Result<Plan, AllocError>
     requires plain { IsPlain call }
     requires entries { accounts.now.entries < 2 ^ 63 }
-    ensures entry { IfOk result (λ p. p.entry ≡ entry session call Nothing p.reply) }
+    ensures entry { IfOk result (λ p. p.entry ≡ call_entry session call Nothing p.reply) }
     ensures copy { IfOk result (λ p. p.copy ≡ p.entry) }
-    ensures changed { IfOk result (λ p. step accounts.now call Nothing ≡ (changed accounts.now p.change, p.reply)) }
+    ensures changed { IfOk result (λ p. step accounts.now call Nothing ≡ (changed_state accounts.now p.change, p.reply)) }
     ensures recorded { IfOk result (λ p. IsInEntry p.reply) }
     ensures possible { IfOk result (λ p. CanChange accounts.now p.change) }
 {

@@ -30,9 +30,9 @@ status_at (Ok done) = 0
 status_at (Err stop) = status_of stop
 
 -- the number of the line at which it ended; they are counted from 1
-abbrev pub line_at : Result (Unit {0}) Stop → ℕ
-line_at (Err (Line fault)) = fault.line
-line_at ended = 0
+abbrev pub line_number_of : Result (Unit {0}) Stop → ℕ
+line_number_of (Err (Line fault)) = fault.line
+line_number_of ended = 0
 
 -- the status where the room is too small
 abbrev pub no_room : ℕ
@@ -40,7 +40,7 @@ no_room = 6
 
 -- what the caller gets of an end and its text: in a room that is long enough the text, and what was behind it
 pub record Given (ended : Result (Unit {0}) Stop) (text : List ℕ) (status line written : ℕ) (before after : List ℕ) : Type 0 where
-  pub place : line ≡ line_at ended
+  pub place : line ≡ line_number_of ended
   pub size : written ≡ length text
   pub fits : length text ≤ length before → (status ≡ status_at ended) × (after ≡ text ++ drop (length text) before)
   pub lacks : length before < length text → (status ≡ no_room) × (after ≡ before)

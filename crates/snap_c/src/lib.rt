@@ -5,7 +5,7 @@
 #![tactic(auto)]
 
 ghost use Rattle.std.specs.Prelude.{◌≡◌};
-ghost use Rattle.snap_c.specs.Run.{Given, GivesRun, line_at, options_of, status_at};
+ghost use Rattle.snap_c.specs.Run.{Given, GivesRun, line_number_of, options_of, status_at};
 
 use snap_script::FieldRule;
 use snap_session::{RunOptions, Stop, replay};
@@ -40,7 +40,7 @@ fn status_at(ended: &Result<(), Stop>) -> u32
 
 // The number of the line at which it ended, or 0.
 fn line_at(ended: &Result<(), Stop>) -> u64
-    ensures { result ≡ line_at ended.now }
+    ensures { result ≡ line_number_of ended.now }
 {
     match ended {
         Ok(()) => 0,

@@ -10,7 +10,7 @@ use Rattle.snap_record.specs.Labels.{Bytes}
 use Rattle.snap_record.specs.declared.record.Content.{Content}
 use Rattle.snap_record.specs.declared.record.Content.TheVariants.{View, Active, Committed}
 use Rattle.snap_record.specs.declared.record.Record.{Record}
-use Rattle.snap_call.specs.Records.{record_cmp, has_slot, is_slot, is_active, active_at, open_count, with_record, without, without_slot, recharged, committed_as, AllPairwise, AreApart, HasLowSlot}
+use Rattle.snap_call.specs.Records.{record_cmp, has_slot, is_slot, is_active, active_at, open_count, with_record, without_first, without_slot, recharged, committed_as, AllPairwise, AreApart, HasLowSlot}
 use Rattle.snap_call.proofs.Lists.{active_at-is_slot, all-without, pairwise-without, active_one, open_count-cons}
 use Rattle.snap_call.proofs.Sums.{find-here, find-past}
 use Rattle.snap_call.proofs.Slots.{active_at-without_slot_own}
@@ -49,13 +49,13 @@ open_count-recharged slot to (t ∷ ts) = at (is_slot slot t) refl (open_count-r
     at false is next = rw is (omega (arith, open_count-cons t (recharged slot to ts), open_count-cons t ts))
 
 -- the record that is found less
-pub open_count-without : (p : Record → Bool) (rs : List Record) (r : Record) → find p rs ≡ Some r → open_count (without p rs) + active_one r.content ≡ open_count rs
+pub open_count-without : (p : Record → Bool) (rs : List Record) (r : Record) → find p rs ≡ Some r → open_count (without_first p rs) + active_one r.content ≡ open_count rs
 open_count-without p [] r e = absurd (cc)
 open_count-without p (t ∷ ts) r e = at (p t) refl (open_count-without p ts r)
   where
-    at : (b : Bool) → p t ≡ b → (find p ts ≡ Some r → open_count (without p ts) + active_one r.content ≡ open_count ts) → open_count (without p (t ∷ ts)) + active_one r.content ≡ open_count (t ∷ ts)
+    at : (b : Bool) → p t ≡ b → (find p ts ≡ Some r → open_count (without_first p ts) + active_one r.content ≡ open_count ts) → open_count (without_first p (t ∷ ts)) + active_one r.content ≡ open_count (t ∷ ts)
     at true is next = rw is (let one : active_one t.content ≡ active_one r.content = ap (λ (x : Record). active_one x.content) (find-here p t ts r is e) in omega (arith, open_count-cons t ts))
-    at false is next = rw is (let less = next (find-past p t ts r is e) in omega (arith, open_count-cons t (without p ts), open_count-cons t ts))
+    at false is next = rw is (let less = next (find-past p t ts r is e) in omega (arith, open_count-cons t (without_first p ts), open_count-cons t ts))
 
 -- a record less that isn't active
 idle_none : (c : Content) → is_active c ≡ false → active_one c ≡ 0
@@ -63,7 +63,7 @@ idle_none (View layers) e = refl
 idle_none (Active s u) e = absurd (true≢false e)
 idle_none (Committed layer u) e = refl
 
-pub open_count-without_idle : (p : Record → Bool) (rs : List Record) (r : Record) → find p rs ≡ Some r → is_active r.content ≡ false → open_count (without p rs) ≡ open_count rs
+pub open_count-without_idle : (p : Record → Bool) (rs : List Record) (r : Record) → find p rs ≡ Some r → is_active r.content ≡ false → open_count (without_first p rs) ≡ open_count rs
 open_count-without_idle p rs r e idle =
     let all = open_count-without p rs r e in
     let none = idle_none r.content idle in

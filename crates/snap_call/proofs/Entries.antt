@@ -22,8 +22,8 @@ use Rattle.snap_record.specs.Records.{info_of}
 use Rattle.snap_record.specs.declared.filter.Filter.{Filter}
 use Rattle.snap_record.specs.declared.info.Info.{Info}
 use Rattle.snap_record.specs.declared.record.Record.{Record}
-use Rattle.snap_call.specs.Records.{record_cmp, is_named, record_at, has_key, is_child, child_count, with_record, without, with_labels, relabelled, is_walked, page}
-use Rattle.snap_call.specs.Spaces.{IsOf, IsKeyed, AreParentCounts, amended, edited, is_after, is_asked, infos_of}
+use Rattle.snap_call.specs.Records.{record_cmp, is_named, record_at, has_key, is_child, child_count, with_record, without_first, with_labels, relabelled, is_walked, info_page}
+use Rattle.snap_call.specs.Spaces.{IsOf, IsKeyed, AreParentCounts, amended, edited_record, is_key_after, is_asked, infos_of}
 use Rattle.snap_call.specs.declared.record_edit.RecordEdit.{RecordEdit}
 use Rattle.snap_call.specs.declared.record_edit.RecordEdit.TheVariants as edits
 use Rattle.snap_call.proofs.Lists.{some_same}
@@ -39,11 +39,11 @@ amended-none p f (r ∷ rs) none = step (p r) none (amended-none p f rs)
     step true none next = absurd (cc)
     step false none next = ap (λ l. r ∷ l) (next none)
 
-pub without-none : (p : Record → Bool) (rs : List Record) → find p rs ≡ None → without p rs ≡ rs
+pub without-none : (p : Record → Bool) (rs : List Record) → find p rs ≡ None → without_first p rs ≡ rs
 without-none p [] none = refl
 without-none p (r ∷ rs) none = step (p r) none (without-none p rs)
   where
-    step : (b : Bool) → cond b (Some r) (find p rs) ≡ None → (find p rs ≡ None → without p rs ≡ rs) → (if b then rs else r ∷ without p rs) ≡ r ∷ rs
+    step : (b : Bool) → cond b (Some r) (find p rs) ≡ None → (find p rs ≡ None → without_first p rs ≡ rs) → (if b then rs else r ∷ without_first p rs) ≡ r ∷ rs
     step true none next = absurd (cc)
     step false none next = ap (λ l. r ∷ l) (next none)
 
@@ -53,15 +53,15 @@ amended-relabelled place key labels number (r ∷ rs) = ap (λ l. if is_named pl
 
 -- ---- an edit leaves a record where it stands
 
-pub edited-namespace : (edit : RecordEdit) (r : Record) → (edited edit r).namespace ≡ r.namespace
+pub edited-namespace : (edit : RecordEdit) (r : Record) → (edited_record edit r).namespace ≡ r.namespace
 edited-namespace (edits.Content content) r = refl
 edited-namespace (edits.Labels labels number) r = refl
 
-pub edited-key : (edit : RecordEdit) (r : Record) → (edited edit r).key ≡ r.key
+pub edited-key : (edit : RecordEdit) (r : Record) → (edited_record edit r).key ≡ r.key
 edited-key (edits.Content content) r = refl
 edited-key (edits.Labels labels number) r = refl
 
-pub edited-parent : (edit : RecordEdit) (r : Record) → (edited edit r).parent ≡ r.parent
+pub edited-parent : (edit : RecordEdit) (r : Record) → (edited_record edit r).parent ≡ r.parent
 edited-parent (edits.Content content) r = refl
 edited-parent (edits.Labels labels number) r = refl
 
@@ -86,13 +86,13 @@ module _ {Z : Type 0} where
       ap (λ b. cond b (Some e.1) (lookup (by_text key) es)) (at_named place key e keyed.0 of.0)
       ∙ ap (λ o. cond (is_named place key e.1) (Some e.1) o) (lookup-named place key es keyed.1 of.1)
 
-  pub remove-named : (place : ℕ) (key : Bytes) (es : List (String Z × Record)) → IsKeyed es → IsOf place (values_of es) → values_of (remove_entry (by_text key) es) ≡ without (is_named place key) (values_of es)
+  pub remove-named : (place : ℕ) (key : Bytes) (es : List (String Z × Record)) → IsKeyed es → IsOf place (values_of es) → values_of (remove_entry (by_text key) es) ≡ without_first (is_named place key) (values_of es)
   remove-named place key [] keyed of = refl
   remove-named place key (e ∷ es) keyed of =
       ap (λ b. values_of (cond b es (e ∷ remove_entry (by_text key) es))) (at_named place key e keyed.0 of.0)
       ∙ step (is_named place key e.1) (remove-named place key es keyed.1 of.1)
     where
-      step : (b : Bool) → values_of (remove_entry (by_text key) es) ≡ without (is_named place key) (values_of es) → values_of (cond b es (e ∷ remove_entry (by_text key) es)) ≡ (if b then values_of es else e.1 ∷ without (is_named place key) (values_of es))
+      step : (b : Bool) → values_of (remove_entry (by_text key) es) ≡ without_first (is_named place key) (values_of es) → values_of (cond b es (e ∷ remove_entry (by_text key) es)) ≡ (if b then values_of es else e.1 ∷ without_first (is_named place key) (values_of es))
       step true next = refl
       step false next = ap (λ l. e.1 ∷ l) next
 
@@ -159,14 +159,14 @@ module _ {Z : Type 0} where
   -- ---- those that pass a test
 
   pub values-after : (start : String Z) (es : List (String Z × Record)) → IsKeyed es
-      → values_of (filter (λ (e : String Z × Record). is_lt (string_cmp start e.0) && not false) es) ≡ filter (is_after (string_bytes start)) (values_of es)
+      → values_of (filter (λ (e : String Z × Record). is_lt (string_cmp start e.0) && not false) es) ≡ filter (is_key_after (string_bytes start)) (values_of es)
   values-after start [] keyed = refl
   values-after start (e ∷ es) keyed =
       step (is_lt (string_cmp start e.0)) (values-after start es keyed.1)
-      ∙ ap (λ k. cond (is_lt (slice_cmp nat_cmp (string_bytes start) k)) (e.1 ∷ filter (is_after (string_bytes start)) (values_of es)) (filter (is_after (string_bytes start)) (values_of es))) keyed.0
+      ∙ ap (λ k. cond (is_lt (slice_cmp nat_cmp (string_bytes start) k)) (e.1 ∷ filter (is_key_after (string_bytes start)) (values_of es)) (filter (is_key_after (string_bytes start)) (values_of es))) keyed.0
     where
-      step : (b : Bool) → values_of (filter (λ (x : String Z × Record). is_lt (string_cmp start x.0) && not false) es) ≡ filter (is_after (string_bytes start)) (values_of es)
-          → values_of (cond (b && not false) (e ∷ filter (λ (x : String Z × Record). is_lt (string_cmp start x.0) && not false) es) (filter (λ (x : String Z × Record). is_lt (string_cmp start x.0) && not false) es)) ≡ cond b (e.1 ∷ filter (is_after (string_bytes start)) (values_of es)) (filter (is_after (string_bytes start)) (values_of es))
+      step : (b : Bool) → values_of (filter (λ (x : String Z × Record). is_lt (string_cmp start x.0) && not false) es) ≡ filter (is_key_after (string_bytes start)) (values_of es)
+          → values_of (cond (b && not false) (e ∷ filter (λ (x : String Z × Record). is_lt (string_cmp start x.0) && not false) es) (filter (λ (x : String Z × Record). is_lt (string_cmp start x.0) && not false) es)) ≡ cond b (e.1 ∷ filter (is_key_after (string_bytes start)) (values_of es)) (filter (is_key_after (string_bytes start)) (values_of es))
       step true next = ap (λ l. e.1 ∷ l) next
       step false next = next
 
@@ -203,16 +203,16 @@ children-alike place key (r ∷ rs) of =
 pub children-count : (place : ℕ) (key : Bytes) (rs : List Record) (counts : List (Bytes × ℕ)) → IsOf place rs → AreParentCounts rs counts → count_in key counts ≡ child_count place key rs
 children-count place key rs counts of counted = counted key ∙ children-alike place key rs of
 
-count-without : (p test : Record → Bool) (rs : List Record) (r : Record) → find test rs ≡ Some r → count_by p (without test rs) + one_if (p r) ≡ count_by p rs
+count-without : (p test : Record → Bool) (rs : List Record) (r : Record) → find test rs ≡ Some r → count_by p (without_first test rs) + one_if (p r) ≡ count_by p rs
 count-without p test [] r found = absurd (cc)
 count-without p test (t ∷ ts) r found = step (test t) found (count-without p test ts r)
   where
-    step : (b : Bool) → cond b (Some t) (find test ts) ≡ Some r → (find test ts ≡ Some r → count_by p (without test ts) + one_if (p r) ≡ count_by p ts) → count_by p (if b then ts else t ∷ without test ts) + one_if (p r) ≡ count_by p (t ∷ ts)
+    step : (b : Bool) → cond b (Some t) (find test ts) ≡ Some r → (find test ts ≡ Some r → count_by p (without_first test ts) + one_if (p r) ≡ count_by p ts) → count_by p (if b then ts else t ∷ without_first test ts) + one_if (p r) ≡ count_by p (t ∷ ts)
     step true here next = let is : one_if (p t) ≡ one_if (p r) = ap (ones p) (some_same t r here) in omega (arith, is, sum_by-cons (ones p) t ts)
-    step false here next = let h = next here in omega (arith, h, sum_by-cons (ones p) t (without test ts), sum_by-cons (ones p) t ts)
+    step false here next = let h = next here in omega (arith, h, sum_by-cons (ones p) t (without_first test ts), sum_by-cons (ones p) t ts)
 
 pub parents-removed : (test : Record → Bool) (rs ts : List Record) (r : Record) (old new : List (Bytes × ℕ)) → find test rs ≡ Some r → AreParentCounts rs old
-    → ((q : Bytes) → count_in q new ≡ count_in q old - one_if (bytes_eq q r.parent)) → ts ≡ without test rs → AreParentCounts ts new
+    → ((q : Bytes) → count_in q new ≡ count_in q old - one_if (bytes_eq q r.parent)) → ts ≡ without_first test rs → AreParentCounts ts new
 parents-removed test rs ts r old new found counted less is q =
     let e = ap (count_by (has_parent q)) is in
     omega (arith, e, count-without (has_parent q) test rs r found, counted q, less q)
@@ -231,20 +231,20 @@ parents-kept test f rs ts counts same counted is q = counted q ∙ sym (ap (coun
 
 -- ---- pages
 
-walked-twice : (place : ℕ) (after : Bytes) (asked : Filter) (rs : List Record) → IsOf place rs → filter (is_walked place after asked) rs ≡ filter (is_asked asked) (filter (is_after after) rs)
+walked-twice : (place : ℕ) (after : Bytes) (asked : Filter) (rs : List Record) → IsOf place rs → filter (is_walked place after asked) rs ≡ filter (is_asked asked) (filter (is_key_after after) rs)
 walked-twice place after asked [] of = refl
 walked-twice place after asked (r ∷ rs) of =
-    ap (λ b. cond (b && is_after after r && is_asked asked r) (r ∷ filter (is_walked place after asked) rs) (filter (is_walked place after asked) rs)) (eq-eqb r.namespace place of.0)
-    ∙ step (is_after after r) (is_asked asked r) refl (walked-twice place after asked rs of.1)
+    ap (λ b. cond (b && is_key_after after r && is_asked asked r) (r ∷ filter (is_walked place after asked) rs) (filter (is_walked place after asked) rs)) (eq-eqb r.namespace place of.0)
+    ∙ step (is_key_after after r) (is_asked asked r) refl (walked-twice place after asked rs of.1)
   where
-    step : (a b : Bool) → is_asked asked r ≡ b → filter (is_walked place after asked) rs ≡ filter (is_asked asked) (filter (is_after after) rs)
-        → cond (true && a && b) (r ∷ filter (is_walked place after asked) rs) (filter (is_walked place after asked) rs) ≡ filter (is_asked asked) (cond a (r ∷ filter (is_after after) rs) (filter (is_after after) rs))
-    step true true is next = ap (λ l. r ∷ l) next ∙ sym (ap (λ b. cond b (r ∷ filter (is_asked asked) (filter (is_after after) rs)) (filter (is_asked asked) (filter (is_after after) rs))) is)
-    step true false is next = next ∙ sym (ap (λ b. cond b (r ∷ filter (is_asked asked) (filter (is_after after) rs)) (filter (is_asked asked) (filter (is_after after) rs))) is)
+    step : (a b : Bool) → is_asked asked r ≡ b → filter (is_walked place after asked) rs ≡ filter (is_asked asked) (filter (is_key_after after) rs)
+        → cond (true && a && b) (r ∷ filter (is_walked place after asked) rs) (filter (is_walked place after asked) rs) ≡ filter (is_asked asked) (cond a (r ∷ filter (is_key_after after) rs) (filter (is_key_after after) rs))
+    step true true is next = ap (λ l. r ∷ l) next ∙ sym (ap (λ b. cond b (r ∷ filter (is_asked asked) (filter (is_key_after after) rs)) (filter (is_asked asked) (filter (is_key_after after) rs))) is)
+    step true false is next = next ∙ sym (ap (λ b. cond b (r ∷ filter (is_asked asked) (filter (is_key_after after) rs)) (filter (is_asked asked) (filter (is_key_after after) rs))) is)
     step false true is next = next
     step false false is next = next
 
-pub page-infos : (place : ℕ) (after : Bytes) (most : ℕ) (asked : Filter) (rs : List Record) → IsOf place rs → page place after most asked rs ≡ infos_of most asked (filter (is_after after) rs)
+pub page-infos : (place : ℕ) (after : Bytes) (most : ℕ) (asked : Filter) (rs : List Record) → IsOf place rs → info_page place after most asked rs ≡ infos_of most asked (filter (is_key_after after) rs)
 page-infos place after most asked rs of = ap (λ l. map info_of (take most l)) (walked-twice place after asked rs of)
 
 pub take-nil : {X : Type 0} (n : ℕ) → ◌≡◌ {A = List X} (take n []) []

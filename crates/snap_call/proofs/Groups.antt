@@ -22,8 +22,8 @@ use Rattle.snap_record.specs.Records.{info_of}
 use Rattle.snap_record.specs.declared.filter.Filter.{Filter}
 use Rattle.snap_record.specs.declared.info.Info.{Info}
 use Rattle.snap_record.specs.declared.record.Record.{Record}
-use Rattle.snap_call.specs.Records.{record_cmp, is_named, record_at, has_key, with_record, without, without_key}
-use Rattle.snap_call.specs.Spaces.{IsOf, AreOfOne, place_of, AreGroups, joined, beginning, beginning_cmp, is_after, is_asked, infos_of, amended}
+use Rattle.snap_call.specs.Records.{record_cmp, is_named, record_at, has_key, with_record, without_first, without_key}
+use Rattle.snap_call.specs.Spaces.{IsOf, AreOfOne, first_place_of, AreGroups, joined_records, beginning, beginning_cmp, is_key_after, is_asked, infos_of, amended}
 use Rattle.snap_call.proofs.Lists.{all-map, all-with_record, all-without, list_any-none, none-passes, some_same, none_some}
 use Rattle.snap_call.proofs.Entries.{without-none, infos-begin}
 use Rattle.snap_call.proofs.Joined.{all-append, all-amended, amended-stops, without-stops, find-others, find-stops, filter-append, filter-none}
@@ -75,10 +75,10 @@ begun-by o p b rs is all = all-map (λ r. beginning r.key ≡ b.items) (λ r. sl
 abbrev AreLater : ArrayVec ℕ → List Entry → Type 0
 AreLater p es = AllByRecursion (λ k. beginning_cmp p k ≡ Less) (keys_of es)
 
-later-begun : (p : ArrayVec ℕ) (es : List Entry) → AreLater p es → AreBegun es → AreBegunBy Less p (joined (values_of es))
+later-begun : (p : ArrayVec ℕ) (es : List Entry) → AreLater p es → AreBegun es → AreBegunBy Less p (joined_records (values_of es))
 later-begun p [] later begun = tt
 later-begun p (e ∷ es) later begun =
-    all-append (λ r. slice_cmp nat_cmp p.items (beginning r.key) ≡ Less) e.1 (joined (values_of es)) (begun-by Less p e.0 e.1 later.0 begun.0) (later-begun p es later.1 begun.1)
+    all-append (λ r. slice_cmp nat_cmp p.items (beginning r.key) ≡ Less) e.1 (joined_records (values_of es)) (begun-by Less p e.0 e.1 later.0 begun.0) (later-begun p es later.1 begun.1)
 
 later-than : (p : ArrayVec ℕ) (b : ArrayVec ℕ) (es : List Entry) → beginning_cmp p b ≡ Less → AreLater b es → AreLater p es
 later-than p b [] is later = tt
@@ -102,7 +102,7 @@ all-split P (r ∷ rs) ts all = let h = all-split P rs ts all.1 in ((all.0, h.0)
 
 -- the records of all groups
 abbrev pub all_of : List Entry → List Record
-all_of es = joined (values_of es)
+all_of es = joined_records (values_of es)
 
 -- ---- a change of what one group has
 
@@ -155,12 +155,12 @@ module _ (place : ℕ) (key : Bytes) (p : ArrayVec ℕ) (own : p.items ≡ begin
   abbrev named : Record → Bool
   named r = is_named place key r
 
-  without-skips : (rs ts : List Record) → IsOf place rs → AreBegunBy Greater p rs → without named (rs ++ ts) ≡ rs ++ without named ts
+  without-skips : (rs ts : List Record) → IsOf place rs → AreBegunBy Greater p rs → without_first named (rs ++ ts) ≡ rs ++ without_first named ts
   without-skips [] ts of all = refl
   without-skips (r ∷ rs) ts of all =
-      ap (λ b. if b then rs ++ ts else r ∷ without named (rs ++ ts)) (unnamed Greater (r ∷ []) greater-equal (all.0, tt)).0 ∙ ap (λ l. r ∷ l) (without-skips rs ts of.1 all.1)
+      ap (λ b. if b then rs ++ ts else r ∷ without_first named (rs ++ ts)) (unnamed Greater (r ∷ []) greater-equal (all.0, tt)).0 ∙ ap (λ l. r ∷ l) (without-skips rs ts of.1 all.1)
 
-  without-ends : (rs ts : List Record) → IsOf place ts → AreBegunBy Less p ts → without named (rs ++ ts) ≡ without named rs ++ ts
+  without-ends : (rs ts : List Record) → IsOf place ts → AreBegunBy Less p ts → without_first named (rs ++ ts) ≡ without_first named rs ++ ts
   without-ends rs ts of all = without-stops named rs ts (unnamed Less ts less-equal all)
 
   module _ (f : Record → Record) where
@@ -173,11 +173,11 @@ module _ (place : ℕ) (key : Bytes) (p : ArrayVec ℕ) (own : p.items ≡ begin
     amended-ends rs ts of all = amended-stops named f rs ts (unnamed Less ts less-equal all)
 
   module _ (es : List Entry) (groups : AreGroups es) (of : IsOf place (all_of es)) where
-    pub groups-without : (g : List Record) → lookup (at_beginning p) es ≡ Some g → all_of (set_value (at_beginning p) es (without named g)) ≡ without named (all_of es)
-    groups-without g found = changed place p (without named) without-skips without-ends es g groups.ordered groups.begun of found
+    pub groups-without : (g : List Record) → lookup (at_beginning p) es ≡ Some g → all_of (set_value (at_beginning p) es (without_first named g)) ≡ without_first named (all_of es)
+    groups-without g found = changed place p (without_first named) without-skips without-ends es g groups.ordered groups.begun of found
 
-    pub groups-without_none : lookup (at_beginning p) es ≡ None → without named (all_of es) ≡ all_of es
-    groups-without_none absent = unchanged place p (without named) without-skips without-ends es refl groups.ordered groups.begun of absent
+    pub groups-without_none : lookup (at_beginning p) es ≡ None → without_first named (all_of es) ≡ all_of es
+    groups-without_none absent = unchanged place p (without_first named) without-skips without-ends es refl groups.ordered groups.begun of absent
 
     pub groups-amended : (f : Record → Record) (g : List Record) → lookup (at_beginning p) es ≡ Some g → all_of (set_value (at_beginning p) es (amended named f g)) ≡ amended named f (all_of es)
     groups-amended f g found = changed place p (amended named f) (amended-skips f) (amended-ends f) es g groups.ordered groups.begun of found
@@ -337,7 +337,7 @@ module _ (es ts : List Entry) (p : ArrayVec ℕ) (g w : List Record) (groups : A
   of-group place of = all-found (λ r. r.namespace ≡ place) (at_beginning p) es g found of
 
   abbrev here : ℕ
-  here = place_of (all_of es)
+  here = first_place_of (all_of es)
 
   module _ (f : Record → Record) (changes : (place : ℕ) → IsOf place g → w ≡ amended (is_named place key) f g) where
     pub put-amended : (place : ℕ) → IsOf place (all_of es) → all_of ts ≡ amended (is_named place key) f (all_of es)
@@ -490,23 +490,23 @@ is_from start e = is_le (beginning_cmp start e.0) && not false
 
 -- the groups before that of the text have no key after it
 pub groups-after : (after : Bytes) (start : ArrayVec ℕ) (es : List Entry) → start.items ≡ beginning after → AreBegun es
-    → filter (is_after after) (all_of (filter (λ (e : Entry). is_le (beginning_cmp start e.0) && not false) es)) ≡ filter (is_after after) (all_of es)
+    → filter (is_key_after after) (all_of (filter (λ (e : Entry). is_le (beginning_cmp start e.0) && not false) es)) ≡ filter (is_key_after after) (all_of es)
 groups-after after start [] own begun = refl
 groups-after after start (e ∷ es) own begun = step (beginning_cmp start e.0) refl (groups-after after start es own begun.1)
   where
-    none : beginning_cmp start e.0 ≡ Greater → AllByRecursion (λ r. is_after after r ≡ false) e.1
-    none is = all-map (λ r. beginning r.key ≡ e.0.items) (λ r. is_after after r ≡ false)
+    none : beginning_cmp start e.0 ≡ Greater → AllByRecursion (λ r. is_key_after after r ≡ false) e.1
+    none is = all-map (λ r. beginning r.key ≡ e.0.items) (λ r. is_key_after after r ≡ false)
         (λ r b. ap is_lt (begun-apart 16 after r.key Greater greater-equal (ap (λ x. slice_cmp nat_cmp x (beginning r.key)) (sym own) ∙ ap (slice_cmp nat_cmp start.items) b ∙ is)))
         e.1 begun.0
 
-    kept : filter (is_after after) (all_of (filter (is_from start) es)) ≡ filter (is_after after) (all_of es) → filter (is_after after) (e.1 ++ all_of (filter (is_from start) es)) ≡ filter (is_after after) (e.1 ++ all_of es)
-    kept next = filter-append (is_after after) e.1 (all_of (filter (is_from start) es)) ∙ ap (λ l. filter (is_after after) e.1 ++ l) next ∙ sym (filter-append (is_after after) e.1 (all_of es))
+    kept : filter (is_key_after after) (all_of (filter (is_from start) es)) ≡ filter (is_key_after after) (all_of es) → filter (is_key_after after) (e.1 ++ all_of (filter (is_from start) es)) ≡ filter (is_key_after after) (e.1 ++ all_of es)
+    kept next = filter-append (is_key_after after) e.1 (all_of (filter (is_from start) es)) ∙ ap (λ l. filter (is_key_after after) e.1 ++ l) next ∙ sym (filter-append (is_key_after after) e.1 (all_of es))
 
-    step : (o : Ordering) → beginning_cmp start e.0 ≡ o → filter (is_after after) (all_of (filter (is_from start) es)) ≡ filter (is_after after) (all_of es)
-        → filter (is_after after) (all_of (cond (is_le o && not false) (e ∷ filter (is_from start) es) (filter (is_from start) es))) ≡ filter (is_after after) (e.1 ++ all_of es)
+    step : (o : Ordering) → beginning_cmp start e.0 ≡ o → filter (is_key_after after) (all_of (filter (is_from start) es)) ≡ filter (is_key_after after) (all_of es)
+        → filter (is_key_after after) (all_of (cond (is_le o && not false) (e ∷ filter (is_from start) es) (filter (is_from start) es))) ≡ filter (is_key_after after) (e.1 ++ all_of es)
     step Less is next = kept next
     step Equal is next = kept next
-    step Greater is next = next ∙ sym (filter-append (is_after after) e.1 (all_of es) ∙ ap (λ l. l ++ filter (is_after after) (all_of es)) (filter-none (is_after after) e.1 (none is)))
+    step Greater is next = next ∙ sym (filter-append (is_key_after after) e.1 (all_of es) ∙ ap (λ l. l ++ filter (is_key_after after) (all_of es)) (filter-none (is_key_after after) e.1 (none is)))
 
 take-append : {X : Type 0} (n : ℕ) (xs ys : List X) → take n (xs ++ ys) ≡ take n xs ++ take (n - length (take n xs)) ys
 take-append zero xs ys = refl
@@ -525,18 +525,18 @@ infos-append n asked rs ts =
 
 -- a walk: the infos so far, and those of the groups that are left
 pub page-begin : (most : ℕ) (asked : Filter) (after : Bytes) (start : ArrayVec ℕ) (es ts : List Entry) (infos : List Info) → start.items ≡ beginning after → AreGroups es → infos ≡ []
-    → ts ≡ filter (λ (e : Entry). is_le (beginning_cmp start e.0) && not false) es → infos ++ infos_of (most - length infos) asked (filter (is_after after) (all_of ts)) ≡ infos_of most asked (filter (is_after after) (all_of es))
+    → ts ≡ filter (λ (e : Entry). is_le (beginning_cmp start e.0) && not false) es → infos ++ infos_of (most - length infos) asked (filter (is_key_after after) (all_of ts)) ≡ infos_of most asked (filter (is_key_after after) (all_of es))
 page-begin most asked after start es ts infos own groups none is =
-    infos-begin most asked (filter (is_after after) (all_of ts)) (filter (is_after after) (all_of es)) infos none (ap (λ l. filter (is_after after) (all_of l)) is ∙ groups-after after start es own groups.begun)
+    infos-begin most asked (filter (is_key_after after) (all_of ts)) (filter (is_key_after after) (all_of es)) infos none (ap (λ l. filter (is_key_after after) (all_of l)) is ∙ groups-after after start es own groups.begun)
 
-pub page-next : (most : ℕ) (asked : Filter) (after : Bytes) (g rest : List Record) (infos more all : List Info) → more ≡ infos ++ infos_of (most - length infos) asked (filter (is_after after) g)
-    → infos ++ infos_of (most - length infos) asked (filter (is_after after) (g ++ rest)) ≡ all → more ++ infos_of (most - length more) asked (filter (is_after after) rest) ≡ all
+pub page-next : (most : ℕ) (asked : Filter) (after : Bytes) (g rest : List Record) (infos more all : List Info) → more ≡ infos ++ infos_of (most - length infos) asked (filter (is_key_after after) g)
+    → infos ++ infos_of (most - length infos) asked (filter (is_key_after after) (g ++ rest)) ≡ all → more ++ infos_of (most - length more) asked (filter (is_key_after after) rest) ≡ all
 page-next most asked after g rest infos more all is so_far =
-    let added = infos_of (most - length infos) asked (filter (is_after after) g) in
+    let added = infos_of (most - length infos) asked (filter (is_key_after after) g) in
     let left : most - length (infos ++ added) ≡ most - length infos - length added = omega (arith, length-append infos added) in
-    ap (λ l. l ++ infos_of (most - length l) asked (filter (is_after after) rest)) is
-    ∙ append_assoc infos added (infos_of (most - length (infos ++ added)) asked (filter (is_after after) rest))
-    ∙ ap (λ n. infos ++ (added ++ infos_of n asked (filter (is_after after) rest))) left
-    ∙ ap (λ l. infos ++ l) (sym (infos-append (most - length infos) asked (filter (is_after after) g) (filter (is_after after) rest)))
-    ∙ sym (ap (λ l. infos ++ infos_of (most - length infos) asked l) (filter-append (is_after after) g rest))
+    ap (λ l. l ++ infos_of (most - length l) asked (filter (is_key_after after) rest)) is
+    ∙ append_assoc infos added (infos_of (most - length (infos ++ added)) asked (filter (is_key_after after) rest))
+    ∙ ap (λ n. infos ++ (added ++ infos_of n asked (filter (is_key_after after) rest))) left
+    ∙ ap (λ l. infos ++ l) (sym (infos-append (most - length infos) asked (filter (is_key_after after) g) (filter (is_key_after after) rest)))
+    ∙ sym (ap (λ l. infos ++ infos_of (most - length infos) asked l) (filter-append (is_key_after after) g rest))
     ∙ so_far

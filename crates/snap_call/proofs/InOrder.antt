@@ -16,7 +16,7 @@ use Rattle.snap_usage.specs.declared.usage.Usage.{Usage}
 use Rattle.snap_lease.proofs.ListLemmas.{all-filter}
 use Rattle.snap_record.specs.Labels.{Bytes}
 use Rattle.snap_record.specs.declared.record.Record.{Record}
-use Rattle.snap_call.specs.Records.{record_cmp, is_named, record_at, has_key, is_slot, with_record, without, recharged}
+use Rattle.snap_call.specs.Records.{record_cmp, is_named, record_at, has_key, is_slot, with_record, without_first, recharged}
 use Rattle.snap_call.proofs.Lists.{all-map, all-both, none-passes, list_any-none, with_charge, all-with_record, all-without, all-recharged}
 
 pub record_cmp_total : IsTotalOrder record_cmp
@@ -86,11 +86,11 @@ sorted-with_record r (t ∷ ts) none sorted = by (record_cmp r t) refl (sorted-w
     by Equal e next = absurd (true≢false (sym (tied-is_named r t e) ∙ rest.0))
     by Greater e next = (all-with_record r (λ u. record_cmp t u ≡ Less) ts (record_cmp_total.antisymm t r ∙ ap ordering_reverse e) sorted.0, next)
 
-pub sorted-without : (p : Record → Bool) (rs : List Record) → IsStrictlySortedBy record_cmp rs → IsStrictlySortedBy record_cmp (without p rs)
+pub sorted-without : (p : Record → Bool) (rs : List Record) → IsStrictlySortedBy record_cmp rs → IsStrictlySortedBy record_cmp (without_first p rs)
 unfolding IsStrictlySortedBy
 sorted-without p [] sorted = tt
 sorted-without p (r ∷ rs) sorted =
-    elim (p r) as (λ b. IsStrictlySortedBy record_cmp (if b then rs else r ∷ without p rs)) [
+    elim (p r) as (λ b. IsStrictlySortedBy record_cmp (if b then rs else r ∷ without_first p rs)) [
       | true ↦ sorted.1
       | false ↦ (all-without p (λ u. record_cmp r u ≡ Less) rs sorted.0, sorted-without p rs sorted.1)
     ]
@@ -114,14 +114,14 @@ sorted-recharged slot to (r ∷ rs) sorted =
     ]
 
 -- a key that is free stays free where a record goes
-pub has_key-without : (p : Record → Bool) (place : ℕ) (key : Bytes) (rs : List Record) → has_key place key rs ≡ false → has_key place key (without p rs) ≡ false
+pub has_key-without : (p : Record → Bool) (place : ℕ) (key : Bytes) (rs : List Record) → has_key place key rs ≡ false → has_key place key (without_first p rs) ≡ false
 has_key-without p place key rs none =
-    list_any-none (is_named place key) (without p rs) (all-without p (λ r. is_named place key r ≡ false) rs (none-passes (is_named place key) rs none))
+    list_any-none (is_named place key) (without_first p rs) (all-without p (λ r. is_named place key r ≡ false) rs (none-passes (is_named place key) rs none))
 
 -- ---- a record comes and another goes
 
 -- a record that doesn't pass a test comes to the same place before and after that which passes goes
-pub without-with_record : (p : Record → Bool) (c : Record) (rs : List Record) → p c ≡ false → IsStrictlySortedBy record_cmp rs → without p (with_record c rs) ≡ with_record c (without p rs)
+pub without-with_record : (p : Record → Bool) (c : Record) (rs : List Record) → p c ≡ false → IsStrictlySortedBy record_cmp rs → without_first p (with_record c rs) ≡ with_record c (without_first p rs)
 unfolding IsStrictlySortedBy
 without-with_record p c [] out sorted = ap (λ b. if b then [] else c ∷ []) out
 without-with_record p c (t ∷ ts) out sorted = by (record_cmp c t) refl (p t) refl (without-with_record p c ts out sorted.1)
@@ -131,20 +131,20 @@ without-with_record p c (t ∷ ts) out sorted = by (record_cmp c t) refl (p t) r
     first e [] all = refl
     first e (u ∷ us) all = ap (λ o. if is_lt o then c ∷ u ∷ us else u ∷ with_record c us) (record_cmp_total.trans c t u e all.0)
 
-    by : (o : Ordering) → record_cmp c t ≡ o → (b : Bool) → p t ≡ b → without p (with_record c ts) ≡ with_record c (without p ts)
-        → without p (if is_lt o then c ∷ t ∷ ts else t ∷ with_record c ts) ≡ with_record c (if b then ts else t ∷ without p ts)
-    by Less e true is next = ap (λ b. if b then t ∷ ts else c ∷ without p (t ∷ ts)) out ∙ ap (λ b. c ∷ (if b then ts else t ∷ without p ts)) is ∙ sym (first e ts sorted.0)
-    by Less e false is next = ap (λ b. if b then t ∷ ts else c ∷ without p (t ∷ ts)) out ∙ ap (λ b. c ∷ (if b then ts else t ∷ without p ts)) is ∙ sym (ap (λ o. if is_lt o then c ∷ t ∷ without p ts else t ∷ with_record c (without p ts)) e)
-    by Equal e true is next = ap (λ b. if b then with_record c ts else t ∷ without p (with_record c ts)) is
-    by Equal e false is next = ap (λ b. if b then with_record c ts else t ∷ without p (with_record c ts)) is ∙ ap (λ l. t ∷ l) next ∙ sym (ap (λ o. if is_lt o then c ∷ t ∷ without p ts else t ∷ with_record c (without p ts)) e)
-    by Greater e true is next = ap (λ b. if b then with_record c ts else t ∷ without p (with_record c ts)) is
-    by Greater e false is next = ap (λ b. if b then with_record c ts else t ∷ without p (with_record c ts)) is ∙ ap (λ l. t ∷ l) next ∙ sym (ap (λ o. if is_lt o then c ∷ t ∷ without p ts else t ∷ with_record c (without p ts)) e)
+    by : (o : Ordering) → record_cmp c t ≡ o → (b : Bool) → p t ≡ b → without_first p (with_record c ts) ≡ with_record c (without_first p ts)
+        → without_first p (if is_lt o then c ∷ t ∷ ts else t ∷ with_record c ts) ≡ with_record c (if b then ts else t ∷ without_first p ts)
+    by Less e true is next = ap (λ b. if b then t ∷ ts else c ∷ without_first p (t ∷ ts)) out ∙ ap (λ b. c ∷ (if b then ts else t ∷ without_first p ts)) is ∙ sym (first e ts sorted.0)
+    by Less e false is next = ap (λ b. if b then t ∷ ts else c ∷ without_first p (t ∷ ts)) out ∙ ap (λ b. c ∷ (if b then ts else t ∷ without_first p ts)) is ∙ sym (ap (λ o. if is_lt o then c ∷ t ∷ without_first p ts else t ∷ with_record c (without_first p ts)) e)
+    by Equal e true is next = ap (λ b. if b then with_record c ts else t ∷ without_first p (with_record c ts)) is
+    by Equal e false is next = ap (λ b. if b then with_record c ts else t ∷ without_first p (with_record c ts)) is ∙ ap (λ l. t ∷ l) next ∙ sym (ap (λ o. if is_lt o then c ∷ t ∷ without_first p ts else t ∷ with_record c (without_first p ts)) e)
+    by Greater e true is next = ap (λ b. if b then with_record c ts else t ∷ without_first p (with_record c ts)) is
+    by Greater e false is next = ap (λ b. if b then with_record c ts else t ∷ without_first p (with_record c ts)) is ∙ ap (λ l. t ∷ l) next ∙ sym (ap (λ o. if is_lt o then c ∷ t ∷ without_first p ts else t ∷ with_record c (without_first p ts)) e)
 
 -- a record that came goes again
-pub without-with_record_own : (p : Record → Bool) (c : Record) (rs : List Record) → p c ≡ true → AllByRecursion (λ t. p t ≡ false) rs → without p (with_record c rs) ≡ rs
+pub without-with_record_own : (p : Record → Bool) (c : Record) (rs : List Record) → p c ≡ true → AllByRecursion (λ t. p t ≡ false) rs → without_first p (with_record c rs) ≡ rs
 without-with_record_own p c [] is none = ap (λ b. if b then [] else c ∷ []) is
 without-with_record_own p c (t ∷ ts) is none =
-    elim (is_lt (record_cmp c t)) as (λ b. without p (if b then c ∷ t ∷ ts else t ∷ with_record c ts) ≡ t ∷ ts) [
-      | true ↦ ap (λ b. if b then t ∷ ts else c ∷ without p (t ∷ ts)) is
-      | false ↦ ap (λ b. if b then with_record c ts else t ∷ without p (with_record c ts)) none.0 ∙ ap (λ l. t ∷ l) (without-with_record_own p c ts is none.1)
+    elim (is_lt (record_cmp c t)) as (λ b. without_first p (if b then c ∷ t ∷ ts else t ∷ with_record c ts) ≡ t ∷ ts) [
+      | true ↦ ap (λ b. if b then t ∷ ts else c ∷ without_first p (t ∷ ts)) is
+      | false ↦ ap (λ b. if b then with_record c ts else t ∷ without_first p (with_record c ts)) none.0 ∙ ap (λ l. t ∷ l) (without-with_record_own p c ts is none.1)
     ]

@@ -12,8 +12,8 @@ use Rattle.snap_record.specs.Labels.{Bytes, Label}
 use Rattle.snap_record.specs.declared.record.Content.{Content}
 use Rattle.snap_record.specs.declared.record.Content.TheVariants.{View, Active, Committed}
 use Rattle.snap_record.specs.declared.record.Record.{Record}
-use Rattle.snap_call.specs.Indexes.{AreIndexed, name_in, name_of, slot_of}
-use Rattle.snap_call.specs.Records.{is_named, record_at, has_key, has_slot, is_slot, is_active, active_at, with_record, without, without_slot, without_key, recharged, relabelled, AllPairwise, AreApart, HasLowSlot, max_slots}
+use Rattle.snap_call.specs.Indexes.{AreIndexed, name_in, record_name_of, slot_of}
+use Rattle.snap_call.specs.Records.{is_named, record_at, has_key, has_slot, is_slot, is_active, active_at, with_record, without_first, without_slot, without_key, recharged, relabelled, AllPairwise, AreApart, HasLowSlot, max_slots}
 use Rattle.snap_call.specs.Spaces.{edited_at}
 use Rattle.snap_call.specs.declared.open_slots.Name.{Name}
 use Rattle.snap_call.specs.declared.record_edit.RecordEdit.TheVariants as edits
@@ -65,23 +65,23 @@ slot_of-none k (Active s u) e = absurd (none_some s (sym e))
 slot_of-none k (Committed layer u) e = refl
 
 -- two tests that find the same record take the same away
-pub without-same : (p q : Record → Bool) (rs : List Record) (r : Record) → p r ≡ true → q r ≡ true → find p rs ≡ Some r → find q rs ≡ Some r → without p rs ≡ without q rs
+pub without-same : (p q : Record → Bool) (rs : List Record) (r : Record) → p r ≡ true → q r ≡ true → find p rs ≡ Some r → find q rs ≡ Some r → without_first p rs ≡ without_first q rs
 without-same p q [] r at here e f = refl
 without-same p q (t ∷ ts) r at here e f = by (p t) refl (q t) refl e f (without-same p q ts r at here)
   where
-    by : (b : Bool) → p t ≡ b → (c : Bool) → q t ≡ c → cond b (Some t) (find p ts) ≡ Some r → cond c (Some t) (find q ts) ≡ Some r → (find p ts ≡ Some r → find q ts ≡ Some r → without p ts ≡ without q ts)
-        → (if b then ts else t ∷ without p ts) ≡ (if c then ts else t ∷ without q ts)
+    by : (b : Bool) → p t ≡ b → (c : Bool) → q t ≡ c → cond b (Some t) (find p ts) ≡ Some r → cond c (Some t) (find q ts) ≡ Some r → (find p ts ≡ Some r → find q ts ≡ Some r → without_first p ts ≡ without_first q ts)
+        → (if b then ts else t ∷ without_first p ts) ≡ (if c then ts else t ∷ without_first q ts)
     by true is true are found other next = refl
     by true is false are found other next = absurd (true≢false (sym here ∙ ap q (sym (some_same t r found)) ∙ are))
     by false is true are found other next = absurd (true≢false (sym at ∙ ap p (sym (some_same t r other)) ∙ is))
     by false is false are found other next = ap (λ l. t ∷ l) (next found other)
 
 -- where nothing is found, nothing is taken away
-pub without-none : (p : Record → Bool) (rs : List Record) → find p rs ≡ None → without p rs ≡ rs
+pub without-none : (p : Record → Bool) (rs : List Record) → find p rs ≡ None → without_first p rs ≡ rs
 without-none p [] e = refl
 without-none p (t ∷ ts) e = by (p t) e (without-none p ts)
   where
-    by : (b : Bool) → cond b (Some t) (find p ts) ≡ None → (find p ts ≡ None → without p ts ≡ ts) → (if b then ts else t ∷ without p ts) ≡ t ∷ ts
+    by : (b : Bool) → cond b (Some t) (find p ts) ≡ None → (find p ts ≡ None → without_first p ts ≡ ts) → (if b then ts else t ∷ without_first p ts) ≡ t ∷ ts
     by true found next = absurd (none_some t (sym found))
     by false found next = ap (λ l. t ∷ l) (next found)
 
@@ -122,19 +122,19 @@ slot-found p slot (t ∷ ts) r apart e is = by (p t) e (λ found. slot-found p s
 
 module _ (rs : List Record) (names : List (Option Name)) (at : AreIndexed rs names) where
   -- the name of a slot is that of the record that is active in it
-  pub named : (slot : ℕ) (n : Name) → name_in slot names ≡ Some n → (r : Record) × (active_at slot rs ≡ Some r) × (n ≡ name_of r)
+  pub named : (slot : ℕ) (n : Name) → name_in slot names ≡ Some n → (r : Record) × (active_at slot rs ≡ Some r) × (n ≡ record_name_of r)
   named slot n e = by (active_at slot rs) refl (sym (at.slots slot) ∙ e)
     where
-      by : (o : Option Record) → active_at slot rs ≡ o → option_map name_of o ≡ Some n → (r : Record) × (active_at slot rs ≡ Some r) × (n ≡ name_of r)
+      by : (o : Option Record) → active_at slot rs ≡ o → option_map record_name_of o ≡ Some n → (r : Record) × (active_at slot rs ≡ Some r) × (n ≡ record_name_of r)
       by None is f = absurd (none_some n f)
-      by (Some r) is f = (r, is, sym (some_same (name_of r) n f))
+      by (Some r) is f = (r, is, sym (some_same (record_name_of r) n f))
 
   pub unnamed : (slot : ℕ) → name_in slot names ≡ None → active_at slot rs ≡ None
   unnamed slot e = by (active_at slot rs) refl (sym (at.slots slot) ∙ e)
     where
-      by : (o : Option Record) → active_at slot rs ≡ o → option_map name_of o ≡ None → active_at slot rs ≡ None
+      by : (o : Option Record) → active_at slot rs ≡ o → option_map record_name_of o ≡ None → active_at slot rs ≡ None
       by None is f = is
-      by (Some r) is f = absurd (none_some (name_of r) (sym f))
+      by (Some r) is f = absurd (none_some (record_name_of r) (sym f))
 
   -- and by that name it is found
   pub by_name : (slot : ℕ) (r : Record) → active_at slot rs ≡ Some r → record_at r.namespace r.key rs ≡ Some r
@@ -149,7 +149,7 @@ module _ (rs : List Record) (names : List (Option Name)) (at : AreIndexed rs nam
   pub open_named : (slot : ℕ) → is_some (name_in slot names) ≡ list_any (is_slot slot) rs
   open_named slot = ap is_some (at.slots slot) ∙ mapped (active_at slot rs) ∙ sym (any-found_some (is_slot slot) rs)
     where
-      mapped : (o : Option Record) → is_some (option_map name_of o) ≡ is_some o
+      mapped : (o : Option Record) → is_some (option_map record_name_of o) ≡ is_some o
       mapped None = refl
       mapped (Some r) = refl
 
@@ -207,7 +207,7 @@ module _ (rs : List Record) (names : List (Option Name)) (at : AreIndexed rs nam
 
   -- a record more
   module _ (r : Record) (new : has_key r.namespace r.key rs ≡ false) (few : HasLowSlot max_slots r.content) (free : (slot : ℕ) → is_slot slot r ≡ true → active_at slot rs ≡ None) where
-    indexed-more : (others : List (Option Name)) → ((k : ℕ) → name_in k others ≡ option_map name_of (active_at k (with_record r rs))) → AreIndexed (with_record r rs) others
+    indexed-more : (others : List (Option Name)) → ((k : ℕ) → name_in k others ≡ option_map record_name_of (active_at k (with_record r rs))) → AreIndexed (with_record r rs) others
     indexed-more others slots = record {
       sorted = sorted-with_record r rs new at.sorted;
       apart = pairwise-with_record r AreApart rs (apart_all r rs free) (apart_back r rs (apart_all r rs free)) at.apart;
@@ -216,16 +216,16 @@ module _ (rs : List Record) (names : List (Option Name)) (at : AreIndexed rs nam
     }
 
     pub indexed-with_idle : ((k : ℕ) → is_slot k r ≡ false) → AreIndexed (with_record r rs) names
-    indexed-with_idle idle = indexed-more names (λ k. at.slots k ∙ ap (option_map name_of) (sym (active_at-with_record_other k r rs (idle k))))
+    indexed-with_idle idle = indexed-more names (λ k. at.slots k ∙ ap (option_map record_name_of) (sym (active_at-with_record_other k r rs (idle k))))
 
-    pub indexed-with_active : (slot : ℕ) (others : List (Option Name)) → is_slot slot r ≡ true → ((k : ℕ) → name_in k others ≡ name_after k slot (Some (name_of r)) names) → AreIndexed (with_record r rs) others
+    pub indexed-with_active : (slot : ℕ) (others : List (Option Name)) → is_slot slot r ≡ true → ((k : ℕ) → name_in k others ≡ name_after k slot (Some (record_name_of r)) names) → AreIndexed (with_record r rs) others
     indexed-with_active slot others is put = indexed-more others
-        (at_slot (λ k. name_in k others ≡ option_map name_of (active_at k (with_record r rs))) slot
-        (put slot ∙ after_own slot (Some (name_of r)) names ∙ ap (option_map name_of) (sym (active_at-with_record_own slot r rs is (free slot is))))
-        (λ k other ne. put k ∙ after_other k slot (Some (name_of r)) names other ∙ at.slots k ∙ ap (option_map name_of) (sym (active_at-with_record_other k r rs (is_slot-other slot k r ne is)))))
+        (at_slot (λ k. name_in k others ≡ option_map record_name_of (active_at k (with_record r rs))) slot
+        (put slot ∙ after_own slot (Some (record_name_of r)) names ∙ ap (option_map record_name_of) (sym (active_at-with_record_own slot r rs is (free slot is))))
+        (λ k other ne. put k ∙ after_other k slot (Some (record_name_of r)) names other ∙ at.slots k ∙ ap (option_map record_name_of) (sym (active_at-with_record_other k r rs (is_slot-other slot k r ne is)))))
 
   -- a record less
-  indexed-less : (p : Record → Bool) (others : List (Option Name)) → ((k : ℕ) → name_in k others ≡ option_map name_of (active_at k (without p rs))) → AreIndexed (without p rs) others
+  indexed-less : (p : Record → Bool) (others : List (Option Name)) → ((k : ℕ) → name_in k others ≡ option_map record_name_of (active_at k (without_first p rs))) → AreIndexed (without_first p rs) others
   indexed-less p others slots = record {
     sorted = sorted-without p rs at.sorted;
     apart = pairwise-without p AreApart rs at.apart;
@@ -235,17 +235,17 @@ module _ (rs : List Record) (names : List (Option Name)) (at : AreIndexed rs nam
 
   pub indexed-without_slot : (slot : ℕ) (others : List (Option Name)) → ((k : ℕ) → name_in k others ≡ name_after k slot None names) → AreIndexed (without_slot slot rs) others
   indexed-without_slot slot others freed = indexed-less (is_slot slot) others
-      (at_slot (λ k. name_in k others ≡ option_map name_of (active_at k (without_slot slot rs))) slot
-      (freed slot ∙ after_own slot None names ∙ ap (option_map name_of) (sym (active_at-without_slot_own slot rs at.apart)))
-      (λ k other ne. freed k ∙ after_other k slot None names other ∙ at.slots k ∙ ap (option_map name_of) (sym (active_at-without_slot_other slot k rs ne))))
+      (at_slot (λ k. name_in k others ≡ option_map record_name_of (active_at k (without_slot slot rs))) slot
+      (freed slot ∙ after_own slot None names ∙ ap (option_map record_name_of) (sym (active_at-without_slot_own slot rs at.apart)))
+      (λ k other ne. freed k ∙ after_other k slot None names other ∙ at.slots k ∙ ap (option_map record_name_of) (sym (active_at-without_slot_other slot k rs ne))))
 
-  pub indexed-without_active : (p : Record → Bool) (r : Record) (slot : ℕ) (others : List (Option Name)) → find p rs ≡ Some r → p r ≡ true → is_slot slot r ≡ true → ((k : ℕ) → name_in k others ≡ name_after k slot None names) → AreIndexed (without p rs) others
+  pub indexed-without_active : (p : Record → Bool) (r : Record) (slot : ℕ) (others : List (Option Name)) → find p rs ≡ Some r → p r ≡ true → is_slot slot r ≡ true → ((k : ℕ) → name_in k others ≡ name_after k slot None names) → AreIndexed (without_first p rs) others
   indexed-without_active p r slot others e here is freed =
-      let same : without p rs ≡ without_slot slot rs = without-same p (is_slot slot) rs r here is e (slot-found p slot rs r at.apart e is) in
+      let same : without_first p rs ≡ without_slot slot rs = without-same p (is_slot slot) rs r here is e (slot-found p slot rs r at.apart e is) in
       subst (λ ts. AreIndexed ts others) (sym same) (indexed-without_slot slot others freed)
 
-  pub indexed-without_idle : (p : Record → Bool) (r : Record) → find p rs ≡ Some r → is_active r.content ≡ false → AreIndexed (without p rs) names
-  indexed-without_idle p r e idle = indexed-less p names (λ k. at.slots k ∙ ap (option_map name_of) (sym (active_at-without_idle k p rs r e idle)))
+  pub indexed-without_idle : (p : Record → Bool) (r : Record) → find p rs ≡ Some r → is_active r.content ≡ false → AreIndexed (without_first p rs) names
+  indexed-without_idle p r e idle = indexed-less p names (λ k. at.slots k ∙ ap (option_map record_name_of) (sym (active_at-without_idle k p rs r e idle)))
 
   -- another charge
   pub indexed-recharged : (slot : ℕ) (to : Usage) (n : Name) → name_in slot names ≡ Some n → AreIndexed (recharged slot to rs) names
@@ -256,14 +256,14 @@ module _ (rs : List Record) (names : List (Option Name)) (at : AreIndexed rs nam
         (λ t u is h k out. same_slot slot k to u.content is ∙ h k out)
         at.apart;
     low = all-recharged slot to (λ t. HasLowSlot max_slots t.content) rs (λ t is h. place_anew slot to max_slots t.content is h) at.low;
-    slots = at_slot (λ k. name_in k names ≡ option_map name_of (active_at k (recharged slot to rs))) slot own
-        (λ k other ne. at.slots k ∙ ap (option_map name_of) (sym (active_at-recharged_other slot k to rs ne)));
+    slots = at_slot (λ k. name_in k names ≡ option_map record_name_of (active_at k (recharged slot to rs))) slot own
+        (λ k other ne. at.slots k ∙ ap (option_map record_name_of) (sym (active_at-recharged_other slot k to rs ne)));
   }
     where
-      own : name_in slot names ≡ option_map name_of (active_at slot (recharged slot to rs))
+      own : name_in slot names ≡ option_map record_name_of (active_at slot (recharged slot to rs))
       own =
           let h = named rs names at slot n e in
-          at.slots slot ∙ ap (option_map name_of) h.1 ∙ ap (option_map name_of) (sym (active_at-recharged_own slot to rs h.0 h.1))
+          at.slots slot ∙ ap (option_map record_name_of) h.1 ∙ ap (option_map record_name_of) (sym (active_at-recharged_own slot to rs h.0 h.1))
 
   -- other labels
   pub indexed-relabelled : (place : ℕ) (key : Bytes) (labels : List Label) (number : ℕ) → AreIndexed (relabelled place key labels number rs) names
@@ -277,14 +277,14 @@ module _ (rs : List Record) (names : List (Option Name)) (at : AreIndexed rs nam
       alike : AreAlike rs (relabelled place key labels number rs)
       alike = bare-relabelled place key labels number rs
 
-      bare_name : (r t : Record) → bare t ≡ bare r → name_of r ≡ name_of t
-      bare_name r t e = sym (ap name_of e)
+      bare_name : (r t : Record) → bare t ≡ bare r → record_name_of r ≡ record_name_of t
+      bare_name r t e = sym (ap record_name_of e)
 
-      same : (k : ℕ) (o : Option Record) → active_at k rs ≡ o → option_map name_of (active_at k rs) ≡ option_map name_of (active_at k (relabelled place key labels number rs))
-      same k None e = ap (option_map name_of) (e ∙ sym (alike-active_at_None rs (relabelled place key labels number rs) alike k e))
+      same : (k : ℕ) (o : Option Record) → active_at k rs ≡ o → option_map record_name_of (active_at k rs) ≡ option_map record_name_of (active_at k (relabelled place key labels number rs))
+      same k None e = ap (option_map record_name_of) (e ∙ sym (alike-active_at_None rs (relabelled place key labels number rs) alike k e))
       same k (Some r) e =
           let h = alike-active_at rs (relabelled place key labels number rs) alike k r e in
-          ap (option_map name_of) e ∙ ap (λ (n : Name). Some n) (bare_name r h.0 h.2) ∙ ap (option_map name_of) (sym h.1)
+          ap (option_map record_name_of) e ∙ ap (λ (n : Name). Some n) (bare_name r h.0 h.2) ∙ ap (option_map record_name_of) (sym h.1)
 
 -- no records
 pub indexed-none : AreIndexed [] []
@@ -307,12 +307,12 @@ module _ (rs : List Record) (names : List (Option Name)) (at : AreIndexed rs nam
 
   -- an active one came
   pub indexed-came : {E : Type 0} (r : Record) (slot : ℕ) (n : Name) (done : Result (Unit {0}) E) (ts : List Record) (middle others : List (Option Name)) → has_key r.namespace r.key rs ≡ false → HasLowSlot max_slots r.content → ((k : ℕ) → is_slot k r ≡ true → active_at k rs ≡ None)
-      → slot_of r.content ≡ Some slot → n ≡ name_of r → is_ok done ≡ true → OnOk done (ts ≡ with_record r rs)
+      → slot_of r.content ≡ Some slot → n ≡ record_name_of r → is_ok done ≡ true → OnOk done (ts ≡ with_record r rs)
       → ((k : ℕ) → name_in k middle ≡ name_in k names) → ((k : ℕ) → name_in k others ≡ name_after k slot (Some n) middle) → AreIndexed ts others
   indexed-came r slot n (Err e) ts middle others new few free own is done ok same put = absurd (true≢false (sym done))
   indexed-came r slot n (Ok u) ts middle others new few free own is done ok same put =
       subst (λ l. AreIndexed l others) (sym ok) (indexed-with_active rs names at r new few free slot others (slot_of-has slot r.content own)
-      (λ k. put k ∙ ap (λ (m : Name). name_after k slot (Some m) middle) is ∙ ap (λ (o : Option Name). if eqb k slot then Some (name_of r) else o) (same k)))
+      (λ k. put k ∙ ap (λ (m : Name). name_after k slot (Some m) middle) is ∙ ap (λ (o : Option Name). if eqb k slot then Some (record_name_of r) else o) (same k)))
 
   -- the record of a key goes
   module _ (place : ℕ) (key : Bytes) (ts : List Record) (taken : Option Record) (left : ts ≡ without_key place key rs) (gone : taken ≡ record_at place key rs) where

@@ -16,8 +16,8 @@ use Rattle.snap_record.specs.declared.record.Record.{Record}
 use Rattle.snap_record.specs.declared.filter.Filter.{Filter}
 use Rattle.snap_record.specs.Filters.{is_match}
 use Rattle.snap_record.specs.Records.{info_of}
-use Rattle.snap_call.specs.Records.{record_cmp, is_named, record_at, has_key, is_child, has_children, child_count, with_record, without, without_key, is_walked, page}
-use Rattle.snap_call.specs.Spaces.{IsOf, AreFrom, AreCounted, joined, amended, edited, edited_at}
+use Rattle.snap_call.specs.Records.{record_cmp, is_named, record_at, has_key, is_child, has_children, child_count, with_record, without_first, without_key, is_walked, info_page}
+use Rattle.snap_call.specs.Spaces.{IsOf, AreFrom, AreCounted, joined_records, amended, edited_record, edited_at}
 use Rattle.snap_call.specs.declared.record_edit.RecordEdit.{RecordEdit}
 use Rattle.snap_call.proofs.Lists.{all-map, all-with_record, all-without}
 use Rattle.snap_call.proofs.Lengths.{length-with_record, length-without_found}
@@ -40,17 +40,17 @@ pub all-append : (P : Record → Type 0) (rs ts : List Record) → AllByRecursio
 all-append P [] ts p q = q
 all-append P (r ∷ rs) ts p q = (p.0, all-append P rs ts p.1 q)
 
-above-from : (i place : ℕ) (rss : List (List Record)) → place < i → AreFrom i rss → AreAbove place (joined rss)
+above-from : (i place : ℕ) (rss : List (List Record)) → place < i → AreFrom i rss → AreAbove place (joined_records rss)
 above-from i place [] lt from = tt
 above-from i place (rs ∷ rss) lt from =
-    all-append (λ r. place < r.namespace) rs (joined rss)
+    all-append (λ r. place < r.namespace) rs (joined_records rss)
     (all-map (λ r. r.namespace ≡ i) (λ r. place < r.namespace) (λ r e. omega (arith, e)) rs from.0)
     (above-from (suc i) place rss (omega arith) from.1)
 
-below-from : (i place : ℕ) (rss : List (List Record)) → i + length rss ≤ place → AreFrom i rss → AreBelow place (joined rss)
+below-from : (i place : ℕ) (rss : List (List Record)) → i + length rss ≤ place → AreFrom i rss → AreBelow place (joined_records rss)
 below-from i place [] le from = tt
 below-from i place (rs ∷ rss) le from =
-    all-append (λ r. r.namespace < place) rs (joined rss) (below-of i place rs (omega arith) from.0) (below-from (suc i) place rss (omega arith) from.1)
+    all-append (λ r. r.namespace < place) rs (joined_records rss) (below-of i place rs (omega arith) from.0) (below-from (suc i) place rss (omega arith) from.1)
 
 -- the records of one namespace
 pub of-at : (i k : ℕ) (rss : List (List Record)) (d : List Record) → AreFrom i rss → k < length rss → IsOf (i + k) (get_or rss k d)
@@ -72,19 +72,19 @@ module _ (f : List Record → List Record) (place : ℕ)
   skip-all [] ts below = refl
   skip-all (r ∷ rs) ts below = skips r (rs ++ ts) below.0 ∙ ap (λ l. r ∷ l) (skip-all rs ts below.1)
 
-  changed : (i k : ℕ) (rss : List (List Record)) (d : List Record) → AreFrom i rss → k < length rss → i + k ≡ place → joined (set rss k (f (get_or rss k d))) ≡ f (joined rss)
+  changed : (i k : ℕ) (rss : List (List Record)) (d : List Record) → AreFrom i rss → k < length rss → i + k ≡ place → joined_records (set rss k (f (get_or rss k d))) ≡ f (joined_records rss)
   changed i k [] d from lt at = absurd (omega arith)
-  changed i zero (rs ∷ rss) d from lt at = sym (stops rs (joined rss) (above-from (suc i) place rss (omega arith) from.1))
+  changed i zero (rs ∷ rss) d from lt at = sym (stops rs (joined_records rss) (above-from (suc i) place rss (omega arith) from.1))
   changed i (suc k) (rs ∷ rss) d from lt at =
       ap (λ l. rs ++ l) (changed (suc i) k rss d from.1 (omega arith) (omega arith))
-      ∙ sym (skip-all rs (joined rss) (below-of i place rs (omega arith) from.0))
+      ∙ sym (skip-all rs (joined_records rss) (below-of i place rs (omega arith) from.0))
 
-  untouched : (rss : List (List Record)) → f [] ≡ [] → AreFrom 0 rss → length rss ≤ place → f (joined rss) ≡ joined rss
+  untouched : (rss : List (List Record)) → f [] ≡ [] → AreFrom 0 rss → length rss ≤ place → f (joined_records rss) ≡ joined_records rss
   untouched rss none from le =
-      ap f (sym (append-nil (joined rss)))
-      ∙ skip-all (joined rss) [] (below-from 0 place rss (omega arith) from)
-      ∙ ap (λ l. joined rss ++ l) none
-      ∙ append-nil (joined rss)
+      ap f (sym (append-nil (joined_records rss)))
+      ∙ skip-all (joined_records rss) [] (below-from 0 place rss (omega arith) from)
+      ∙ ap (λ l. joined_records rss ++ l) none
+      ∙ append-nil (joined_records rss)
 
 -- ---- the first record that passes a test, of one namespace
 
@@ -113,17 +113,17 @@ module _ (p : Record → Bool) (f : Record → Record) where
   all-amended P (r ∷ rs) g all = elim (p r) as (λ b. AllByRecursion P (if b then f r ∷ rs else r ∷ amended p f rs)) [ true ↦ (g r all.0, all.1) | false ↦ (all.0, all-amended P rs g all.1) ]
 
 module _ (p : Record → Bool) where
-  without-skips : (r : Record) (rs : List Record) → p r ≡ false → without p (r ∷ rs) ≡ r ∷ without p rs
-  without-skips r rs other = ap (λ b. if b then rs else r ∷ without p rs) other
+  without-skips : (r : Record) (rs : List Record) → p r ≡ false → without_first p (r ∷ rs) ≡ r ∷ without_first p rs
+  without-skips r rs other = ap (λ b. if b then rs else r ∷ without_first p rs) other
 
-  pub without-others : (rs : List Record) → AllByRecursion (λ r. p r ≡ false) rs → without p rs ≡ rs
+  pub without-others : (rs : List Record) → AllByRecursion (λ r. p r ≡ false) rs → without_first p rs ≡ rs
   without-others [] all = refl
   without-others (r ∷ rs) all = without-skips r rs all.0 ∙ ap (λ l. r ∷ l) (without-others rs all.1)
 
-  pub without-stops : (rs ts : List Record) → AllByRecursion (λ r. p r ≡ false) ts → without p (rs ++ ts) ≡ without p rs ++ ts
+  pub without-stops : (rs ts : List Record) → AllByRecursion (λ r. p r ≡ false) ts → without_first p (rs ++ ts) ≡ without_first p rs ++ ts
   without-stops [] ts all = without-others ts all
   without-stops (r ∷ rs) ts all =
-      elim (p r) as (λ b. (if b then rs ++ ts else r ∷ without p (rs ++ ts)) ≡ (if b then rs else r ∷ without p rs) ++ ts) [
+      elim (p r) as (λ b. (if b then rs ++ ts else r ∷ without_first p (rs ++ ts)) ≡ (if b then rs else r ∷ without_first p rs) ++ ts) [
         | true ↦ refl
         | false ↦ ap (λ l. r ∷ l) (without-stops rs ts all)
       ]
@@ -154,10 +154,10 @@ module _ (place : ℕ) (key : Bytes) where
   stops-without : (rs ts : List Record) → AreAbove place ts → without_key place key (rs ++ ts) ≡ without_key place key rs ++ ts
   stops-without rs ts above = without-stops (is_named place key) rs ts (unnamed-above place key ts above)
 
-  pub joined-without : (rss : List (List Record)) (d : List Record) → AreFrom 0 rss → place < length rss → joined (set rss place (without_key place key (get_or rss place d))) ≡ without_key place key (joined rss)
+  pub joined-without : (rss : List (List Record)) (d : List Record) → AreFrom 0 rss → place < length rss → joined_records (set rss place (without_key place key (get_or rss place d))) ≡ without_key place key (joined_records rss)
   joined-without rss d from lt = changed (without_key place key) place skips-without stops-without 0 place rss d from lt (omega arith)
 
-  pub joined-without-past : (rss : List (List Record)) → AreFrom 0 rss → length rss ≤ place → without_key place key (joined rss) ≡ joined rss
+  pub joined-without-past : (rss : List (List Record)) → AreFrom 0 rss → length rss ≤ place → without_key place key (joined_records rss) ≡ joined_records rss
   joined-without-past rss from le = untouched (without_key place key) place skips-without stops-without rss refl from le
 
   module _ (f : Record → Record) where
@@ -167,27 +167,27 @@ module _ (place : ℕ) (key : Bytes) where
     stops-amended : (rs ts : List Record) → AreAbove place ts → amended (is_named place key) f (rs ++ ts) ≡ amended (is_named place key) f rs ++ ts
     stops-amended rs ts above = amended-stops (is_named place key) f rs ts (unnamed-above place key ts above)
 
-    pub joined-amended : (rss : List (List Record)) (d : List Record) → AreFrom 0 rss → place < length rss → joined (set rss place (amended (is_named place key) f (get_or rss place d))) ≡ amended (is_named place key) f (joined rss)
+    pub joined-amended : (rss : List (List Record)) (d : List Record) → AreFrom 0 rss → place < length rss → joined_records (set rss place (amended (is_named place key) f (get_or rss place d))) ≡ amended (is_named place key) f (joined_records rss)
     joined-amended rss d from lt = changed (amended (is_named place key) f) place skips-amended stops-amended 0 place rss d from lt (omega arith)
 
-    pub joined-amended-past : (rss : List (List Record)) → AreFrom 0 rss → length rss ≤ place → amended (is_named place key) f (joined rss) ≡ joined rss
+    pub joined-amended-past : (rss : List (List Record)) → AreFrom 0 rss → length rss ≤ place → amended (is_named place key) f (joined_records rss) ≡ joined_records rss
     joined-amended-past rss from le = untouched (amended (is_named place key) f) place skips-amended stops-amended rss refl from le
 
   -- what is found in all is found in the namespace
-  found-from : (i k : ℕ) (rss : List (List Record)) (d : List Record) → AreFrom i rss → k < length rss → i + k ≡ place → record_at place key (joined rss) ≡ record_at place key (get_or rss k d)
+  found-from : (i k : ℕ) (rss : List (List Record)) (d : List Record) → AreFrom i rss → k < length rss → i + k ≡ place → record_at place key (joined_records rss) ≡ record_at place key (get_or rss k d)
   found-from i k [] d from lt at = absurd (omega arith)
-  found-from i zero (rs ∷ rss) d from lt at = find-stops (is_named place key) rs (joined rss) (unnamed-above place key (joined rss) (above-from (suc i) place rss (omega arith) from.1))
+  found-from i zero (rs ∷ rss) d from lt at = find-stops (is_named place key) rs (joined_records rss) (unnamed-above place key (joined_records rss) (above-from (suc i) place rss (omega arith) from.1))
   found-from i (suc k) (rs ∷ rss) d from lt at =
-      find-others (is_named place key) rs (joined rss) (unnamed-below place key rs (below-of i place rs (omega arith) from.0))
+      find-others (is_named place key) rs (joined_records rss) (unnamed-below place key rs (below-of i place rs (omega arith) from.0))
       ∙ found-from (suc i) k rss d from.1 (omega arith) (omega arith)
 
-  pub joined-found : (rss : List (List Record)) (d : List Record) → AreFrom 0 rss → place < length rss → record_at place key (joined rss) ≡ record_at place key (get_or rss place d)
+  pub joined-found : (rss : List (List Record)) (d : List Record) → AreFrom 0 rss → place < length rss → record_at place key (joined_records rss) ≡ record_at place key (get_or rss place d)
   joined-found rss d from lt = found-from 0 place rss d from lt (omega arith)
 
-  pub joined-found-past : (rss : List (List Record)) → AreFrom 0 rss → length rss ≤ place → record_at place key (joined rss) ≡ None
+  pub joined-found-past : (rss : List (List Record)) → AreFrom 0 rss → length rss ≤ place → record_at place key (joined_records rss) ≡ None
   joined-found-past rss from le =
-      ap (record_at place key) (sym (append-nil (joined rss)))
-      ∙ find-others (is_named place key) (joined rss) [] (unnamed-below place key (joined rss) (below-from 0 place rss (omega arith) from))
+      ap (record_at place key) (sym (append-nil (joined_records rss)))
+      ∙ find-others (is_named place key) (joined_records rss) [] (unnamed-below place key (joined_records rss) (below-from 0 place rss (omega arith) from))
 
 -- ---- by parent
 
@@ -210,21 +210,21 @@ module _ (place : ℕ) (key : Bytes) where
   none-counted : (rs : List Record) → has_children place key rs ≡ false → child_count place key rs ≡ 0
   none-counted rs none = let e = is_positive-count_by (is_child place key) rs ∙ none in grind (arith, nat_tests, e)
 
-  count-from : (i k : ℕ) (rss : List (List Record)) (d : List Record) → AreFrom i rss → k < length rss → i + k ≡ place → child_count place key (joined rss) ≡ child_count place key (get_or rss k d)
+  count-from : (i k : ℕ) (rss : List (List Record)) (d : List Record) → AreFrom i rss → k < length rss → i + k ≡ place → child_count place key (joined_records rss) ≡ child_count place key (get_or rss k d)
   count-from i k [] d from lt at = absurd (omega arith)
   count-from i zero (rs ∷ rss) d from lt at =
-      let later = none-counted (joined rss) (childless-above place key (joined rss) (above-from (suc i) place rss (omega arith) from.1)) in
-      omega (arith, later, sum_by-append (ones (is_child place key)) rs (joined rss))
+      let later = none-counted (joined_records rss) (childless-above place key (joined_records rss) (above-from (suc i) place rss (omega arith) from.1)) in
+      omega (arith, later, sum_by-append (ones (is_child place key)) rs (joined_records rss))
   count-from i (suc k) (rs ∷ rss) d from lt at =
       let before = none-counted rs (childless-below place key rs (below-of i place rs (omega arith) from.0)) in
       let rest = count-from (suc i) k rss d from.1 (omega arith) (omega arith) in
-      omega (arith, before, rest, sum_by-append (ones (is_child place key)) rs (joined rss))
+      omega (arith, before, rest, sum_by-append (ones (is_child place key)) rs (joined_records rss))
 
-  pub joined-count : (rss : List (List Record)) (d : List Record) → AreFrom 0 rss → place < length rss → child_count place key (joined rss) ≡ child_count place key (get_or rss place d)
+  pub joined-count : (rss : List (List Record)) (d : List Record) → AreFrom 0 rss → place < length rss → child_count place key (joined_records rss) ≡ child_count place key (get_or rss place d)
   joined-count rss d from lt = count-from 0 place rss d from lt (omega arith)
 
-  pub joined-count-past : (rss : List (List Record)) → AreFrom 0 rss → length rss ≤ place → child_count place key (joined rss) ≡ 0
-  joined-count-past rss from le = none-counted (joined rss) (childless-below place key (joined rss) (below-from 0 place rss (omega arith) from))
+  pub joined-count-past : (rss : List (List Record)) → AreFrom 0 rss → length rss ≤ place → child_count place key (joined_records rss) ≡ 0
+  joined-count-past rss from le = none-counted (joined_records rss) (childless-below place key (joined_records rss) (below-from 0 place rss (omega arith) from))
 
 -- ---- one record more
 
@@ -260,7 +260,7 @@ module _ (r : Record) where
         | false ↦ ap (λ l. t ∷ l) (stops-with_record rs ts above)
       ]
 
-  pub joined-with_record : (rss : List (List Record)) (d : List Record) → AreFrom 0 rss → r.namespace < length rss → joined (set rss r.namespace (with_record r (get_or rss r.namespace d))) ≡ with_record r (joined rss)
+  pub joined-with_record : (rss : List (List Record)) (d : List Record) → AreFrom 0 rss → r.namespace < length rss → joined_records (set rss r.namespace (with_record r (get_or rss r.namespace d))) ≡ with_record r (joined_records rss)
   joined-with_record rss d from lt = changed (with_record r) r.namespace skips-with_record stops-with_record 0 r.namespace rss d from lt (omega arith)
 
 any-append : (p : Record → Bool) (rs ts : List Record) → list_any p (rs ++ ts) ≡ false → (list_any p rs ≡ false) × (list_any p ts ≡ false)
@@ -275,19 +275,19 @@ any-append p (r ∷ rs) ts none =
     or_none false b x y = y
 
 -- a key that no record has, none of one namespace has
-pub joined-absent : (p : Record → Bool) (rss : List (List Record)) (k : ℕ) (d : List Record) → k < length rss → list_any p (joined rss) ≡ false → list_any p (get_or rss k d) ≡ false
+pub joined-absent : (p : Record → Bool) (rss : List (List Record)) (k : ℕ) (d : List Record) → k < length rss → list_any p (joined_records rss) ≡ false → list_any p (get_or rss k d) ≡ false
 joined-absent p [] k d lt none = absurd (omega arith)
-joined-absent p (rs ∷ rss) zero d lt none = (any-append p rs (joined rss) none).0
-joined-absent p (rs ∷ rss) (suc k) d lt none = joined-absent p rss k d (omega arith) (any-append p rs (joined rss) none).1
+joined-absent p (rs ∷ rss) zero d lt none = (any-append p rs (joined_records rss) none).0
+joined-absent p (rs ∷ rss) (suc k) d lt none = joined-absent p rss k d (omega arith) (any-append p rs (joined_records rss) none).1
 
 -- ---- room for one namespace more
 
-pub joined-append : (rss tss : List (List Record)) → joined (rss ++ tss) ≡ joined rss ++ joined tss
+pub joined-append : (rss tss : List (List Record)) → joined_records (rss ++ tss) ≡ joined_records rss ++ joined_records tss
 joined-append [] tss = refl
-joined-append (rs ∷ rss) tss = ap (λ l. rs ++ l) (joined-append rss tss) ∙ sym (append_assoc rs (joined rss) (joined tss))
+joined-append (rs ∷ rss) tss = ap (λ l. rs ++ l) (joined-append rss tss) ∙ sym (append_assoc rs (joined_records rss) (joined_records tss))
 
-pub joined-more : (rss : List (List Record)) → joined (rss ++ [] ∷ []) ≡ joined rss
-joined-more rss = joined-append rss ([] ∷ []) ∙ append-nil (joined rss)
+pub joined-more : (rss : List (List Record)) → joined_records (rss ++ [] ∷ []) ≡ joined_records rss
+joined-more rss = joined-append rss ([] ∷ []) ∙ append-nil (joined_records rss)
 
 pub from-more : (i : ℕ) (rss : List (List Record)) → AreFrom i rss → AreFrom i (rss ++ [] ∷ [])
 from-more i [] from = (tt, tt)
@@ -304,21 +304,21 @@ module _ (rss : List (List Record)) (count : ℕ) (o : AreCounted rss count) (pl
   put-from ts of = let e : place ≡ 0 + place = omega arith in from-set 0 place rss ts o.from (subst (λ n. IsOf n ts) e of)
 
   module _ (key : Bytes) where
-    pub lent-found : record_at place key rs ≡ record_at place key (joined rss)
+    pub lent-found : record_at place key rs ≡ record_at place key (joined_records rss)
     lent-found = ap (record_at place key) at ∙ sym (joined-found place key rss rs o.from lt)
 
-    pub lent-count : child_count place key rs ≡ child_count place key (joined rss)
+    pub lent-count : child_count place key rs ≡ child_count place key (joined_records rss)
     lent-count = ap (child_count place key) at ∙ sym (joined-count place key rss rs o.from lt)
 
     module _ (ts : List Record) (taken : (p : ℕ) → IsOf p rs → ts ≡ without_key p key rs) where
-      pub put-without : joined (set rss place ts) ≡ without_key place key (joined rss)
-      put-without = ap (λ l. joined (set rss place l)) (taken place lent-of ∙ ap (without_key place key) at) ∙ joined-without place key rss rs o.from lt
+      pub put-without : joined_records (set rss place ts) ≡ without_key place key (joined_records rss)
+      put-without = ap (λ l. joined_records (set rss place l)) (taken place lent-of ∙ ap (without_key place key) at) ∙ joined-without place key rss rs o.from lt
 
       put-of : IsOf place ts
       put-of = subst (IsOf place) (sym (taken place lent-of)) (all-without (is_named place key) (λ r. r.namespace ≡ place) rs lent-of)
 
-      less : (r : Record) → record_at place key rs ≡ Some r → length (joined (set rss place ts)) + 1 ≡ count
-      less r found = ap (λ l. length l + 1) put-without ∙ length-without_found (is_named place key) (joined rss) r (sym lent-found ∙ found) ∙ sym o.counted
+      less : (r : Record) → record_at place key rs ≡ Some r → length (joined_records (set rss place ts)) + 1 ≡ count
+      less r found = ap (λ l. length l + 1) put-without ∙ length-without_found (is_named place key) (joined_records rss) r (sym lent-found ∙ found) ∙ sym o.counted
 
       pub counted-less : (r : Record) → record_at place key rs ≡ Some r → AreCounted (set rss place ts) (count - 1)
       counted-less r found = record { from = put-from ts put-of; counted = (let e = less r found in omega (arith, e)) }
@@ -327,16 +327,16 @@ module _ (rss : List (List Record)) (count : ℕ) (o : AreCounted rss count) (pl
       counted-some r found = let e = less r found in omega (arith, e)
 
       pub counted-unfound : record_at place key rs ≡ None → AreCounted (set rss place ts) count
-      counted-unfound none = record { from = put-from ts put-of; counted = o.counted ∙ sym (ap length (put-without ∙ without-none (is_named place key) (joined rss) (sym lent-found ∙ none))) }
+      counted-unfound none = record { from = put-from ts put-of; counted = o.counted ∙ sym (ap length (put-without ∙ without-none (is_named place key) (joined_records rss) (sym lent-found ∙ none))) }
 
     module _ (edit : RecordEdit) (ts : List Record) (changed : (p : ℕ) → IsOf p rs → ts ≡ edited_at p key edit rs) where
-      pub put-edited : joined (set rss place ts) ≡ edited_at place key edit (joined rss)
-      put-edited = ap (λ l. joined (set rss place l)) (changed place lent-of ∙ ap (edited_at place key edit) at) ∙ joined-amended place key (edited edit) rss rs o.from lt
+      pub put-edited : joined_records (set rss place ts) ≡ edited_at place key edit (joined_records rss)
+      put-edited = ap (λ l. joined_records (set rss place l)) (changed place lent-of ∙ ap (edited_at place key edit) at) ∙ joined-amended place key (edited_record edit) rss rs o.from lt
 
       pub counted-edited : AreCounted (set rss place ts) count
       counted-edited = record {
-        from = put-from ts (subst (IsOf place) (sym (changed place lent-of)) (all-amended (is_named place key) (edited edit) (λ r. r.namespace ≡ place) rs (λ r e. edited-namespace edit r ∙ e) lent-of));
-        counted = o.counted ∙ sym (ap length put-edited ∙ length-amended (is_named place key) (edited edit) (joined rss));
+        from = put-from ts (subst (IsOf place) (sym (changed place lent-of)) (all-amended (is_named place key) (edited_record edit) (λ r. r.namespace ≡ place) rs (λ r e. edited-namespace edit r ∙ e) lent-of));
+        counted = o.counted ∙ sym (ap length put-edited ∙ length-amended (is_named place key) (edited_record edit) (joined_records rss));
       }
 
 -- one record more, where there is room for its namespace
@@ -344,24 +344,24 @@ module _ (rss : List (List Record)) (count : ℕ) (o : AreCounted rss count) (r 
   pub added-of : IsOf r.namespace rs
   added-of = lent-of rss count o r.namespace lt rs at
 
-  pub added-absent : has_key r.namespace r.key (joined rss) ≡ false → has_key r.namespace r.key rs ≡ false
+  pub added-absent : has_key r.namespace r.key (joined_records rss) ≡ false → has_key r.namespace r.key rs ≡ false
   added-absent none = ap (has_key r.namespace r.key) at ∙ joined-absent (is_named r.namespace r.key) rss r.namespace rs lt none
 
-  pub put-added : (ts : List Record) → ts ≡ with_record r rs → joined (set rss r.namespace ts) ≡ with_record r (joined rss)
-  put-added ts is = ap (λ l. joined (set rss r.namespace l)) (is ∙ ap (with_record r) at) ∙ joined-with_record r rss rs o.from lt
+  pub put-added : (ts : List Record) → ts ≡ with_record r rs → joined_records (set rss r.namespace ts) ≡ with_record r (joined_records rss)
+  put-added ts is = ap (λ l. joined_records (set rss r.namespace l)) (is ∙ ap (with_record r) at) ∙ joined-with_record r rss rs o.from lt
 
   pub counted-added : (ts : List Record) → ts ≡ with_record r rs → AreCounted (set rss r.namespace ts) (count + 1)
   counted-added ts is = record {
     from = put-from rss count o r.namespace lt rs at ts (subst (IsOf r.namespace) (sym is) (all-with_record r (λ t. t.namespace ≡ r.namespace) rs refl added-of));
-    counted = ap (λ n. n + 1) o.counted ∙ sym (ap length (put-added ts is) ∙ length-with_record r (joined rss));
+    counted = ap (λ n. n + 1) o.counted ∙ sym (ap length (put-added ts is) ∙ length-with_record r (joined_records rss));
   }
 
-pub counted-grown : (rss tss : List (List Record)) (count : ℕ) → AreCounted rss count → AreFrom 0 tss → joined tss ≡ joined rss → AreCounted tss count
+pub counted-grown : (rss tss : List (List Record)) (count : ℕ) → AreCounted rss count → AreFrom 0 tss → joined_records tss ≡ joined_records rss → AreCounted tss count
 counted-grown rss tss count o from same = record { from = from; counted = o.counted ∙ sym (ap length same) }
 
 -- the list so far, and the next namespace's
-pub joined-next : (rss : List (List Record)) (k : ℕ) (rs : List Record) → k < length rss → rs ≡ get_or rss k rs → joined (take (k + 1) rss) ≡ joined (take k rss) ++ rs
-joined-next rss k rs lt at = ap joined (take_more rss k rs lt) ∙ joined-append (take k rss) (get_or rss k rs ∷ []) ∙ ap (λ l. joined (take k rss) ++ l) (append-nil (get_or rss k rs) ∙ sym at)
+pub joined-next : (rss : List (List Record)) (k : ℕ) (rs : List Record) → k < length rss → rs ≡ get_or rss k rs → joined_records (take (k + 1) rss) ≡ joined_records (take k rss) ++ rs
+joined-next rss k rs lt at = ap joined_records (take_more rss k rs lt) ∙ joined-append (take k rss) (get_or rss k rs ∷ []) ∙ ap (λ l. joined_records (take k rss) ++ l) (append-nil (get_or rss k rs) ∙ sym at)
 
 -- ---- the records of one namespace that pass a test
 
@@ -387,19 +387,19 @@ module _ (place : ℕ) (after : Bytes) (asked : Filter) where
   unwalked-above : (rs : List Record) → AreAbove place rs → filter (is_walked place after asked) rs ≡ []
   unwalked-above rs above = filter-none (is_walked place after asked) rs (all-map (λ r. place < r.namespace) (λ r. is_walked place after asked r ≡ false) (λ r lt. unwalked r (λ e. omega (arith, e, lt))) rs above)
 
-  walked-from : (i k : ℕ) (rss : List (List Record)) (d : List Record) → AreFrom i rss → k < length rss → i + k ≡ place → filter (is_walked place after asked) (joined rss) ≡ filter (is_walked place after asked) (get_or rss k d)
+  walked-from : (i k : ℕ) (rss : List (List Record)) (d : List Record) → AreFrom i rss → k < length rss → i + k ≡ place → filter (is_walked place after asked) (joined_records rss) ≡ filter (is_walked place after asked) (get_or rss k d)
   walked-from i k [] d from lt at = absurd (omega arith)
   walked-from i zero (rs ∷ rss) d from lt at =
-      filter-append (is_walked place after asked) rs (joined rss)
-      ∙ ap (λ l. filter (is_walked place after asked) rs ++ l) (unwalked-above (joined rss) (above-from (suc i) place rss (omega arith) from.1))
+      filter-append (is_walked place after asked) rs (joined_records rss)
+      ∙ ap (λ l. filter (is_walked place after asked) rs ++ l) (unwalked-above (joined_records rss) (above-from (suc i) place rss (omega arith) from.1))
       ∙ append-nil (filter (is_walked place after asked) rs)
   walked-from i (suc k) (rs ∷ rss) d from lt at =
-      filter-append (is_walked place after asked) rs (joined rss)
-      ∙ ap (λ l. l ++ filter (is_walked place after asked) (joined rss)) (unwalked-below rs (below-of i place rs (omega arith) from.0))
+      filter-append (is_walked place after asked) rs (joined_records rss)
+      ∙ ap (λ l. l ++ filter (is_walked place after asked) (joined_records rss)) (unwalked-below rs (below-of i place rs (omega arith) from.0))
       ∙ walked-from (suc i) k rss d from.1 (omega arith) (omega arith)
 
-  pub joined-page : (most : ℕ) (rss : List (List Record)) (d : List Record) → AreFrom 0 rss → place < length rss → page place after most asked (get_or rss place d) ≡ page place after most asked (joined rss)
+  pub joined-page : (most : ℕ) (rss : List (List Record)) (d : List Record) → AreFrom 0 rss → place < length rss → info_page place after most asked (get_or rss place d) ≡ info_page place after most asked (joined_records rss)
   joined-page most rss d from lt = ap (λ l. map info_of (take most l)) (sym (walked-from 0 place rss d from lt (omega arith)))
 
-  pub joined-page-past : (most : ℕ) (rss : List (List Record)) → AreFrom 0 rss → length rss ≤ place → [] ≡ page place after most asked (joined rss)
-  joined-page-past most rss from le = sym (ap (λ l. map info_of (take most l)) (unwalked-below (joined rss) (below-from 0 place rss (omega arith) from)) ∙ ap (map info_of) (take-nil most))
+  pub joined-page-past : (most : ℕ) (rss : List (List Record)) → AreFrom 0 rss → length rss ≤ place → [] ≡ info_page place after most asked (joined_records rss)
+  joined-page-past most rss from le = sym (ap (λ l. map info_of (take most l)) (unwalked-below (joined_records rss) (below-from 0 place rss (omega arith) from)) ∙ ap (map info_of) (take-nil most))

@@ -22,7 +22,7 @@ use Rattle.snap_call.specs.declared.config.Namespace.{Namespace}
 use Rattle.snap_call.specs.declared.state.State.{State}
 use Rattle.snap_call.specs.Records.{has_key, has_children, has_slot, is_named, is_slot, record_at, committed_at, active_at, charge_of, with_record, without_slot, without_key, recharged, relabelled, committed_as, HasLowSlot, AreApart}
 use Rattle.snap_call.specs.State.{place_of, name_at, limit_at, is_base, is_too_deep, ancestors, layers_of, or_empty, shown_layers}
-use Rattle.snap_call.specs.Good.{IsGuarding, IsCounted, IsShown, Good}
+use Rattle.snap_call.specs.Good.{IsGuarding, IsUsageCounted, IsShown, Good}
 use Rattle.snap_call.specs.Step.{counted, one, prepared, committed, leases_after, added, viewed, removed_at, new_record}
 use Rattle.snap_call.proofs.Leasing.{place_of-name_at, guarding-with_name}
 use Rattle.snap_call.proofs.Lengths.{length-with_record, length-without, length-without_found, length-recharged, length-relabelled}
@@ -156,7 +156,7 @@ good_counted s good = good_counters s s.sessions (s.entries + 1) good
 
 -- of a free key, on a base that is there, with the next id, in no slot of another, and within the limit
 pub good_added : (s : State) (r : Record) → Good s → r.namespace < length s.namespaces → has_key r.namespace r.key s.records ≡ false
-    → is_base r.namespace r.parent s.records ≡ true → is_too_deep r.namespace r.parent s.records ≡ false → r.id ≡ s.next_id → IsCounted r.content → HasLowSlot s.slots r.content → IsShown s.records r.namespace r.parent r.content
+    → is_base r.namespace r.parent s.records ≡ true → is_too_deep r.namespace r.parent s.records ≡ false → r.id ≡ s.next_id → IsUsageCounted r.content → HasLowSlot s.slots r.content → IsShown s.records r.namespace r.parent r.content
     → AllByRecursion (AreApart r) s.records → AllByRecursion (λ t. AreApart t r) s.records
     → Covers (limit_at r.namespace s.namespaces) (plus (charge_of r.namespace s.records) (usage_of r.content)) → Good (added s r)
 good_added s r good low free base deep next count few shown apart beside room = record {
@@ -164,7 +164,7 @@ good_added s r good low free base deep next count few shown apart beside room = 
   parents = stand_parents ns rs ts keeps ts (all-with_record r (HasParent rs) rs base good.parents);
   leased = stand_leases ns rs ts keeps s.leases good.leased;
   named_once = good.named_once;
-  counted = all-with_record r (λ t. IsCounted t.content) rs count good.counted;
+  counted = all-with_record r (λ t. IsUsageCounted t.content) rs count good.counted;
   within = within_after ns rs ts r.namespace good.within (subst (λ (u : Usage). Covers (limit_at r.namespace ns) u) (sym (charge_of-with_record_own r rs)) room) (λ p apart. charge_of-with_record_other p r rs apart);
   limits = good.limits;
   distinct = good.distinct;
@@ -222,7 +222,7 @@ nothing_more limit total a = record { blocks = omega (arith, a.blocks); inodes =
 pub good_view_added : (s : State) (r : Record) → Good s → r.content ≡ View (shown_layers r.namespace r.parent s.records) → r.id ≡ s.next_id → r.namespace < length s.namespaces → has_key r.namespace r.key s.records ≡ false
     → is_base r.namespace r.parent s.records ≡ true → is_too_deep r.namespace r.parent s.records ≡ false → Good (added s r)
 good_view_added s r good is next low free base deep =
-    good_added s r good low free base deep next (subst IsCounted (sym is) tt) (subst (HasLowSlot s.slots) (sym is) tt) (subst (IsShown s.records r.namespace r.parent) (sym is) refl)
+    good_added s r good low free base deep next (subst IsUsageCounted (sym is) tt) (subst (HasLowSlot s.slots) (sym is) tt) (subst (IsShown s.records r.namespace r.parent) (sym is) refl)
     (all-map (λ t. HasLowSlot s.slots t.content) (AreApart r) (λ t h k held. absurd (true≢false (sym held ∙ ap (has_slot k) is))) s.records good.open_slots)
     (all-map (λ t. HasLowSlot s.slots t.content) (λ t. AreApart t r) (λ t h k held. ap (has_slot k) is) s.records good.open_slots)
     (subst (λ (u : Usage). Covers (limit_at r.namespace s.namespaces) (plus (charge_of r.namespace s.records) u)) (sym (ap usage_of is)) (nothing_more (limit_at r.namespace s.namespaces) (charge_of r.namespace s.records) (good.within r.namespace low)))
@@ -246,7 +246,7 @@ module _ (slot : ℕ) (to : Usage) where
     parents = stand_parents ns rs ts keeps ts (all-recharged slot to (HasParent rs) rs (λ t is h. h) good.parents);
     leased = stand_leases ns rs ts keeps s.leases good.leased;
     named_once = good.named_once;
-    counted = all-recharged slot to (λ t. IsCounted t.content) rs (λ t is h. tt) good.counted;
+    counted = all-recharged slot to (λ t. IsUsageCounted t.content) rs (λ t is h. tt) good.counted;
     within = within_after ns rs ts r.namespace good.within (subst (λ (u : Usage). Covers (limit_at r.namespace ns) u) (sym (charge_of-recharged_own slot to rs r e)) room) (λ p apart. charge_of-recharged_other p slot to rs r e apart);
     limits = good.limits;
     distinct = good.distinct;
@@ -296,7 +296,7 @@ good_discarded s slot r good e = record {
   parents = stand_parents ns rs ts keeps ts (all-without (is_slot slot) (HasParent rs) rs good.parents);
   leased = stand_leases ns rs ts keeps s.leases good.leased;
   named_once = good.named_once;
-  counted = all-without (is_slot slot) (λ t. IsCounted t.content) rs good.counted;
+  counted = all-without (is_slot slot) (λ t. IsUsageCounted t.content) rs good.counted;
   within = within_after ns rs ts r.namespace good.within
       (subst (λ (u : Usage). Covers (limit_at r.namespace ns) u) (sym (charge_of-without_own (is_slot slot) rs r e)) (covers_gone (limit_at r.namespace ns) (charge_of r.namespace rs) (usage_of r.content) (good.within r.namespace low)))
       (λ p apart. charge_of-without_other p (is_slot slot) rs r e apart);
@@ -388,7 +388,7 @@ module _ (s : State) (place : ℕ) (key : Bytes) (r : Record) (good : Good s) (e
     parents = parents_on P rs ts keeps ts on (all-without p (HasParent rs) rs good.parents);
     leased = leases_on P rs ts keeps ns s.leases (leases_other namespace key ns place spaced s.leases unleased) good.leased;
     named_once = good.named_once;
-    counted = all-without p (λ t. IsCounted t.content) rs good.counted;
+    counted = all-without p (λ t. IsUsageCounted t.content) rs good.counted;
     within = within_after ns rs ts place good.within
         (subst (λ (u : Usage). Covers (limit_at place ns) u) (sym removed_total) (covers_gone (limit_at place ns) (charge_of place rs) (usage_of r.content) (good.within place low)))
         removed_others;
@@ -443,7 +443,7 @@ good_committed s slot name lease layer r good e free less = record {
   parents = stand_parents ns rs ts keeps ts (all-with_record c (HasParent rs) us (active_at-all (HasParent rs) slot rs r e good.parents) (all-without (is_slot slot) (HasParent rs) rs good.parents));
   leased = guarding lease;
   named_once = once lease;
-  counted = all-with_record c (λ t. IsCounted t.content) us refl (all-without (is_slot slot) (λ t. IsCounted t.content) rs good.counted);
+  counted = all-with_record c (λ t. IsUsageCounted t.content) us refl (all-without (is_slot slot) (λ t. IsUsageCounted t.content) rs good.counted);
   within = within_after ns rs ts r.namespace good.within
       (subst (λ (u : Usage). Covers (limit_at r.namespace ns) u) (sym (charge_of-committed_own slot name layer (s.entries + 1) rs r e)) (covered s slot r (count_of layer) good e less))
       (λ p apart. charge_of-committed_other p slot name layer (s.entries + 1) rs r e apart);
@@ -524,7 +524,7 @@ good_relabelled s place key labels good = record {
   parents = all-relabelled place key labels n (HasParent ts) rs (λ t h. h) (all-map (HasParent rs) (HasParent ts) (alike-HasParent rs ts alike) rs good.parents);
   leased = all-map (IsGuarding ns rs) (IsGuarding ns ts) (alike-IsGuarding rs ts alike ns) s.leases good.leased;
   named_once = good.named_once;
-  counted = all-relabelled place key labels n (λ t. IsCounted t.content) rs (λ t h. h) good.counted;
+  counted = all-relabelled place key labels n (λ t. IsUsageCounted t.content) rs (λ t h. h) good.counted;
   within = λ p low. subst (λ (u : Usage). Covers (limit_at p ns) u) (sym (alike-charge_of rs ts alike p)) (good.within p low);
   limits = good.limits;
   distinct = good.distinct;

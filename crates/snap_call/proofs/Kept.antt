@@ -32,7 +32,7 @@ use Rattle.snap_call.specs.Forms.{is_limit, is_layer_limit, is_namespace, is_slo
 use Rattle.snap_call.specs.Records.{charge_of, has_key, has_children, is_active, is_committed, record_at, active_at, max_slots, max_journal, max_sessions}
 use Rattle.snap_call.specs.State.{opening, place_of, limit_at}
 use Rattle.snap_call.specs.Good.{Good}
-use Rattle.snap_call.specs.Step.{refused, session, prepared, prepare_at, prepare, greater, fits, charge_to, charge, trim, commit_as, commit, discard, ask, step, IsCovered, IsAllowed, place_for, slot_for, unless_refused, view_at, view, remove_record, remove, update_record, update, walk, in_namespace, has_named, set_limit_at, set_limit, lease_create, lease_add_record, lease_add, lease_drop, lease_drop_at, lease_release, at_record}
+use Rattle.snap_call.specs.Step.{refused, session, prepared, prepare_at, prepare, greater, fits_limit, charge_to, charge, trim, commit_as, commit, discard, ask, step, IsCovered, IsAllowed, place_for, slot_for, unless_refused, view_at, prepare_view, remove_record, remove, update_record, update, walk_infos, in_namespace, has_named, set_limit_at, set_limit, lease_create, lease_add_record, lease_add, lease_drop, lease_drop_at, lease_release, at_record}
 use Rattle.snap_call.specs.Journal.{Replays}
 use Rattle.snap_call.proofs.Leasing.{good_limited, good_created, good_dropped, good_named, good_released}
 use Rattle.snap_call.proofs.Lists.{committed-from}
@@ -73,13 +73,13 @@ good_view_at s namespace key parent labels place good is =
     (λ few. good_viewed s place key parent labels good (place_of-below namespace s.namespaces place is.named) is.free is.base is.deep)
     (λ spent. good_counted s good)
 
-pub good_view : (s : State) (namespace key parent : Bytes) (labels : List Label) → Good s → Good (view s namespace key parent labels).0
+pub good_view : (s : State) (namespace key parent : Bytes) (labels : List Label) → Good s → Good (prepare_view s namespace key parent labels).0
 good_view s namespace key parent labels good =
     good_unless_refused s good (place_for s namespace key parent labels) (view_at s key parent labels)
     (λ place e. good_view_at s namespace key parent labels place good (place_for-Ok s namespace key parent labels place e))
 
 -- the choice was tested
-good_charge_to : (s : State) (slot : ℕ) (r : Record) → Good s → active_at slot s.records ≡ Some r → (a b : Bool) (needed wanted : Usage) → fits s r.namespace (usage_of r.content) wanted ≡ a → fits s r.namespace (usage_of r.content) needed ≡ b
+good_charge_to : (s : State) (slot : ℕ) (r : Record) → Good s → active_at slot s.records ≡ Some r → (a b : Bool) (needed wanted : Usage) → fits_limit s r.namespace (usage_of r.content) wanted ≡ a → fits_limit s r.namespace (usage_of r.content) needed ≡ b
     → Good (charge_to s slot r (if a then Some wanted else if b then Some needed else None)).0
 good_charge_to s slot r good e true b needed wanted first second = good_recharged slot wanted s r good e (covers-Covers _ _ first)
 good_charge_to s slot r good e false true needed wanted first second = good_recharged slot needed s r good e (covers-Covers _ _ second)
@@ -151,7 +151,7 @@ pub good_update : (s : State) (namespace key : Bytes) (given : List Label) (path
 good_update s namespace key given paths good =
     either (is_key key && is_well_formed given paths) _ _ (λ e. good_at_record s namespace key _ good (λ place r spaced f. good_update_record s place key given paths good r)) (λ e. good_counted s good)
 
-pub good_walk : (s : State) (namespace after : Bytes) (most : ℕ) (asked : Filter) → Good s → Good (walk s namespace after most asked).0
+pub good_walk : (s : State) (namespace after : Bytes) (most : ℕ) (asked : Filter) → Good s → Good (walk_infos s namespace after most asked).0
 good_walk s namespace after most asked good =
     either (is_start after && is_page most) _ _ (λ e. good_in_namespace s namespace _ good (λ place e. good_counted s good)) (λ e. good_counted s good)
 

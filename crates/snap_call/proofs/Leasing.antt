@@ -19,7 +19,7 @@ use Rattle.snap_call.specs.declared.state.State.{State}
 use Rattle.snap_call.specs.Forms.{have_distinct_names, is_limit}
 use Rattle.snap_call.specs.Good.{IsGuarding, Good}
 use Rattle.snap_call.specs.Records.{charge_of, committed_at}
-use Rattle.snap_call.specs.State.{place_of, name_at, limit_at, limited}
+use Rattle.snap_call.specs.State.{place_of, name_at, limit_at, with_limit}
 use Rattle.snap_call.specs.Step.{limited_at, leasing}
 use Rattle.snap_call.proofs.Chains.{NamesStand}
 use Rattle.snap_call.proofs.Lists.{all-map, some_same}
@@ -85,43 +85,43 @@ name_at-place name (n ∷ ns) place e = by (has_name name n) refl (name_at-place
 -- ---- another limit
 
 module _ (limit : Usage) where
-  pub length-limited : (place : ℕ) (ns : List Namespace) → length (limited place limit ns) ≡ length ns
+  pub length-limited : (place : ℕ) (ns : List Namespace) → length (with_limit place limit ns) ≡ length ns
   length-limited place [] = refl
   length-limited zero (n ∷ ns) = refl
   length-limited (suc place) (n ∷ ns) = ap suc (length-limited place ns)
 
   -- the namespace of the name, with the limit, in its place
-  pub set-limited : (place : ℕ) (ns : List Namespace) (n : Namespace) → place < length ns → n.name ≡ name_at place ns → n.limit ≡ limit → slice_set ns place n ≡ limited place limit ns
+  pub set-limited : (place : ℕ) (ns : List Namespace) (n : Namespace) → place < length ns → n.name ≡ name_at place ns → n.limit ≡ limit → slice_set ns place n ≡ with_limit place limit ns
   set-limited place [] n low same is = absurd (omega arith)
   set-limited zero (m ∷ ns) n low same is = λ i. record { name = same i; limit = is i } ∷ ns
   set-limited (suc place) (m ∷ ns) n low same is = ap (λ l. m ∷ l) (set-limited place ns n (omega arith) same is)
 
   -- a test of the names alone
-  any-limited : (p : Namespace → Bool) → ((n : Namespace) → p (record n { limit = limit }) ≡ p n) → (place : ℕ) (ns : List Namespace) → list_any p (limited place limit ns) ≡ list_any p ns
+  any-limited : (p : Namespace → Bool) → ((n : Namespace) → p (record n { limit = limit }) ≡ p n) → (place : ℕ) (ns : List Namespace) → list_any p (with_limit place limit ns) ≡ list_any p ns
   any-limited p same place [] = refl
   any-limited p same zero (n ∷ ns) = rw (same n) refl
   any-limited p same (suc place) (n ∷ ns) = ap (λ b. p n || b) (any-limited p same place ns)
 
-  pub place_of-limited : (name : Bytes) (place : ℕ) (ns : List Namespace) → place_of name (limited place limit ns) ≡ place_of name ns
+  pub place_of-limited : (name : Bytes) (place : ℕ) (ns : List Namespace) → place_of name (with_limit place limit ns) ≡ place_of name ns
   place_of-limited name place [] = refl
   place_of-limited name zero (n ∷ ns) = refl
   place_of-limited name (suc place) (n ∷ ns) = by (has_name name n) refl (place_of-limited name place ns)
     where
-      by : (b : Bool) → has_name name n ≡ b → place_of name (limited place limit ns) ≡ place_of name ns → place_of name (n ∷ limited place limit ns) ≡ place_of name (n ∷ ns)
+      by : (b : Bool) → has_name name n ≡ b → place_of name (with_limit place limit ns) ≡ place_of name ns → place_of name (n ∷ with_limit place limit ns) ≡ place_of name (n ∷ ns)
       by true is next = position-here (has_name name) n _ is ∙ sym (position-here (has_name name) n ns is)
       by false out next = position-past (has_name name) n _ out ∙ (ap (option_map (λ k. suc k)) next ∙ sym (position-past (has_name name) n ns out))
 
-  distinct-limited : (place : ℕ) (ns : List Namespace) → have_distinct_names (limited place limit ns) ≡ have_distinct_names ns
+  distinct-limited : (place : ℕ) (ns : List Namespace) → have_distinct_names (with_limit place limit ns) ≡ have_distinct_names ns
   distinct-limited place [] = refl
   distinct-limited zero (n ∷ ns) = refl
   distinct-limited (suc place) (n ∷ ns) = λ i. not (any-limited (has_name n.name) (λ m. refl) place ns i) && distinct-limited place ns i
 
-  pub limit_at-limited_own : (place : ℕ) (ns : List Namespace) → place < length ns → limit_at place (limited place limit ns) ≡ limit
+  pub limit_at-limited_own : (place : ℕ) (ns : List Namespace) → place < length ns → limit_at place (with_limit place limit ns) ≡ limit
   limit_at-limited_own place [] low = absurd (omega arith)
   limit_at-limited_own zero (n ∷ ns) low = refl
   limit_at-limited_own (suc place) (n ∷ ns) low = limit_at-limited_own place ns (omega arith)
 
-  pub limit_at-limited_other : (p place : ℕ) (ns : List Namespace) → p ≢ place → limit_at p (limited place limit ns) ≡ limit_at p ns
+  pub limit_at-limited_other : (p place : ℕ) (ns : List Namespace) → p ≢ place → limit_at p (with_limit place limit ns) ≡ limit_at p ns
   limit_at-limited_other p place [] apart = refl
   limit_at-limited_other zero zero (n ∷ ns) apart = absurd (apart refl)
   limit_at-limited_other (suc p) zero (n ∷ ns) apart = refl
@@ -130,9 +130,9 @@ module _ (limit : Usage) where
 
   -- what is true of the limits of all places is true of the new one and of the others
   limits_anew : (P : ℕ → Usage → Type 0) (place : ℕ) (ns : List Namespace) → place < length ns → P place limit → ((p : ℕ) → p < length ns → P p (limit_at p ns))
-      → (p : ℕ) → p < length (limited place limit ns) → P p (limit_at p (limited place limit ns))
+      → (p : ℕ) → p < length (with_limit place limit ns) → P p (limit_at p (with_limit place limit ns))
   limits_anew P place ns inside new all p low = elim (cases_eq p place) [
-    | inl same ↦ subst (λ k. P k (limit_at k (limited place limit ns))) (sym same) (subst (P place) (sym (limit_at-limited_own place ns inside)) new)
+    | inl same ↦ subst (λ k. P k (limit_at k (with_limit place limit ns))) (sym same) (subst (P place) (sym (limit_at-limited_own place ns inside)) new)
     | inr apart ↦ subst (P p) (sym (limit_at-limited_other p place ns apart)) (all p (subst (λ (m : ℕ). p < m) (length-limited place ns) low))
   ]
 
@@ -140,7 +140,7 @@ module _ (limit : Usage) where
   good_limited s place good low is covered = record {
     root = good.root;
     parents = good.parents;
-    leased = all-map (IsGuarding s.namespaces s.records) (IsGuarding (limited place limit s.namespaces) s.records) (λ l h. subst (λ (o : Option ℕ). NamesStand s.records o l.names) (sym (place_of-limited l.namespace place s.namespaces)) h) s.leases good.leased;
+    leased = all-map (IsGuarding s.namespaces s.records) (IsGuarding (with_limit place limit s.namespaces) s.records) (λ l h. subst (λ (o : Option ℕ). NamesStand s.records o l.names) (sym (place_of-limited l.namespace place s.namespaces)) h) s.leases good.leased;
     named_once = good.named_once;
     counted = good.counted;
     within = limits_anew (λ p u. Covers u (charge_of p s.records)) place s.namespaces low covered good.within;

@@ -9,8 +9,8 @@ use Rattle.snap_usage.specs.declared.usage.Usage.{Usage}
 use Rattle.snap_record.specs.Labels.{Bytes, Label}
 use Rattle.snap_record.specs.declared.record.Content.TheVariants.{Active}
 use Rattle.snap_record.specs.declared.record.Record.{Record}
-use Rattle.snap_call.specs.Records.{record_cmp, is_named, is_slot, with_record, with_labels, without, recharged, relabelled}
-use Rattle.snap_call.specs.Spaces.{joined}
+use Rattle.snap_call.specs.Records.{record_cmp, is_named, is_slot, with_record, with_labels, without_first, recharged, relabelled}
+use Rattle.snap_call.specs.Spaces.{joined_records}
 use Rattle.snap_call.proofs.Lists.{none_some}
 
 pub length-with_record : (r : Record) (rs : List Record) → length (with_record r rs) ≡ length rs + 1
@@ -21,20 +21,20 @@ length-with_record r (t ∷ ts) = by (is_lt (record_cmp r t)) (length-with_recor
     by true more = omega arith
     by false more = omega (arith, more)
 
-pub length-without : (p : Record → Bool) (rs : List Record) → length (without p rs) ≤ length rs
+pub length-without : (p : Record → Bool) (rs : List Record) → length (without_first p rs) ≤ length rs
 length-without p [] = omega arith
 length-without p (r ∷ rs) = by (p r) (length-without p rs)
   where
-    by : (b : Bool) → length (without p rs) ≤ length rs → length (if b then rs else r ∷ without p rs) ≤ length (r ∷ rs)
+    by : (b : Bool) → length (without_first p rs) ≤ length rs → length (if b then rs else r ∷ without_first p rs) ≤ length (r ∷ rs)
     by true less = omega arith
     by false less = omega (arith, less)
 
 -- what is found is one less
-pub length-without_found : (p : Record → Bool) (rs : List Record) (r : Record) → find p rs ≡ Some r → length (without p rs) + 1 ≡ length rs
+pub length-without_found : (p : Record → Bool) (rs : List Record) (r : Record) → find p rs ≡ Some r → length (without_first p rs) + 1 ≡ length rs
 length-without_found p [] r e = absurd (none_some r e)
 length-without_found p (t ∷ ts) r e = by (p t) e (length-without_found p ts r)
   where
-    by : (b : Bool) → cond b (Some t) (find p ts) ≡ Some r → (find p ts ≡ Some r → length (without p ts) + 1 ≡ length ts) → length (if b then ts else t ∷ without p ts) + 1 ≡ length (t ∷ ts)
+    by : (b : Bool) → cond b (Some t) (find p ts) ≡ Some r → (find p ts ≡ Some r → length (without_first p ts) + 1 ≡ length ts) → length (if b then ts else t ∷ without_first p ts) + 1 ≡ length (t ∷ ts)
     by true found next = omega arith
     by false found next = omega (arith, next found)
 
@@ -58,7 +58,7 @@ pub length-filtered : (p : Record → Bool) (rs : List Record) → length (filte
 length-filtered p rs = omega (arith, length-filter p rs, count_by-le-length p rs)
 
 -- one list is no longer than all of them
-pub length-joined : (rss : List (List Record)) (k : ℕ) (d : List Record) → k < length rss → length (get_or rss k d) ≤ length (joined rss)
+pub length-joined : (rss : List (List Record)) (k : ℕ) (d : List Record) → k < length rss → length (get_or rss k d) ≤ length (joined_records rss)
 length-joined [] k d lt = absurd (omega arith)
-length-joined (rs ∷ rss) zero d lt = omega (arith, length-append rs (joined rss))
-length-joined (rs ∷ rss) (suc k) d lt = omega (arith, length-append rs (joined rss), length-joined rss k d (omega arith))
+length-joined (rs ∷ rss) zero d lt = omega (arith, length-append rs (joined_records rss))
+length-joined (rs ∷ rss) (suc k) d lt = omega (arith, length-append rs (joined_records rss), length-joined rss k d (omega arith))

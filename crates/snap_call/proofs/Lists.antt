@@ -11,7 +11,7 @@ use Rattle.snap_record.specs.Labels.{Bytes}
 use Rattle.snap_record.specs.declared.record.Content.{Content}
 use Rattle.snap_record.specs.declared.record.Content.TheVariants.{View, Active, Committed}
 use Rattle.snap_record.specs.declared.record.Record.{Record}
-use Rattle.snap_call.specs.Records.{record_cmp, is_named, record_at, has_slot, is_slot, active_at, is_committed, committed_at, with_record, without, recharged, AllPairwise, is_active, open_count}
+use Rattle.snap_call.specs.Records.{record_cmp, is_named, record_at, has_slot, is_slot, active_at, is_committed, committed_at, with_record, without_first, recharged, AllPairwise, is_active, open_count}
 
 -- ---- any list
 
@@ -217,44 +217,44 @@ module _ (r : Record) where
 -- ---- the first record that passes a test less
 
 module _ (p : Record → Bool) where
-  pub all-without : (P : Record → Type 0) (rs : List Record) → AllByRecursion P rs → AllByRecursion P (without p rs)
+  pub all-without : (P : Record → Type 0) (rs : List Record) → AllByRecursion P rs → AllByRecursion P (without_first p rs)
   all-without P [] all = tt
   all-without P (r ∷ rs) all =
-      elim (p r) as (λ b. AllByRecursion P (if b then rs else r ∷ without p rs)) [ true ↦ all.1 | false ↦ (all.0, all-without P rs all.1) ]
+      elim (p r) as (λ b. AllByRecursion P (if b then rs else r ∷ without_first p rs)) [ true ↦ all.1 | false ↦ (all.0, all-without P rs all.1) ]
 
-  pub pairwise-without : (R : Record → Record → Type 0) (rs : List Record) → AllPairwise R rs → AllPairwise R (without p rs)
+  pub pairwise-without : (R : Record → Record → Type 0) (rs : List Record) → AllPairwise R rs → AllPairwise R (without_first p rs)
   pairwise-without R [] all = tt
   pairwise-without R (r ∷ rs) all =
-      elim (p r) as (λ b. AllPairwise R (if b then rs else r ∷ without p rs)) [ true ↦ all.1 | false ↦ (all-without (R r) rs all.0, pairwise-without R rs all.1) ]
+      elim (p r) as (λ b. AllPairwise R (if b then rs else r ∷ without_first p rs)) [ true ↦ all.1 | false ↦ (all-without (R r) rs all.0, pairwise-without R rs all.1) ]
 
   -- those that are left, beside the one that goes
   pub all-beside : (R : Record → Record → Type 0) (S : Record → Type 0) (rs : List Record) (r : Record) → find p rs ≡ Some r
-      → ((t : Record) → R r t → S t) → ((t : Record) → R t r → S t) → AllPairwise R rs → AllByRecursion S (without p rs)
+      → ((t : Record) → R r t → S t) → ((t : Record) → R t r → S t) → AllPairwise R rs → AllByRecursion S (without_first p rs)
   all-beside R S [] r e after before all = absurd (none_some r e)
   all-beside R S (t ∷ ts) r e after before all = by (p t) e (λ found. all-beside R S ts r found after before all.1)
     where
-      by : (b : Bool) → cond b (Some t) (find p ts) ≡ Some r → (find p ts ≡ Some r → AllByRecursion S (without p ts)) → AllByRecursion S (if b then ts else t ∷ without p ts)
+      by : (b : Bool) → cond b (Some t) (find p ts) ≡ Some r → (find p ts ≡ Some r → AllByRecursion S (without_first p ts)) → AllByRecursion S (if b then ts else t ∷ without_first p ts)
       by true found next = all-map (R t) S (λ u h. after u (subst (λ z. R z u) (some_same t r found) h)) ts all.0
       by false found next = (before t (find-all (R t) p ts r found all.0), next found)
 
   -- what is found by another test, and doesn't pass this one, stays
-  pub find-without : (q : Record → Bool) (rs : List Record) (r : Record) → p r ≡ false → find q rs ≡ Some r → find q (without p rs) ≡ Some r
+  pub find-without : (q : Record → Bool) (rs : List Record) (r : Record) → p r ≡ false → find q rs ≡ Some r → find q (without_first p rs) ≡ Some r
   find-without q [] r out e = absurd (none_some r e)
   find-without q (t ∷ ts) r out e = by (q t) refl e (find-without q ts r out)
     where
-      by : (c : Bool) → q t ≡ c → cond c (Some t) (find q ts) ≡ Some r → (find q ts ≡ Some r → find q (without p ts) ≡ Some r) → find q (without p (t ∷ ts)) ≡ Some r
+      by : (c : Bool) → q t ≡ c → cond c (Some t) (find q ts) ≡ Some r → (find q ts ≡ Some r → find q (without_first p ts) ≡ Some r) → find q (without_first p (t ∷ ts)) ≡ Some r
       by true is found next =
           let apart : p t ≡ false = ap p (some_same t r found) ∙ out in
-          ap (λ b. find q (if b then ts else t ∷ without p ts)) apart ∙ ap (λ c. cond c (Some t) (find q (without p ts))) is ∙ found
+          ap (λ b. find q (if b then ts else t ∷ without_first p ts)) apart ∙ ap (λ c. cond c (Some t) (find q (without_first p ts))) is ∙ found
       by false is found next =
-          elim (p t) as (λ b. find q (if b then ts else t ∷ without p ts) ≡ Some r) [ true ↦ found | false ↦ ap (λ c. cond c (Some t) (find q (without p ts))) is ∙ next found ]
+          elim (p t) as (λ b. find q (if b then ts else t ∷ without_first p ts) ≡ Some r) [ true ↦ found | false ↦ ap (λ c. cond c (Some t) (find q (without_first p ts))) is ∙ next found ]
 
   -- a test that doesn't find the one that goes finds what it found before
-  pub find-without_other : (q : Record → Bool) (rs : List Record) (r : Record) → find p rs ≡ Some r → q r ≡ false → find q (without p rs) ≡ find q rs
+  pub find-without_other : (q : Record → Bool) (rs : List Record) (r : Record) → find p rs ≡ Some r → q r ≡ false → find q (without_first p rs) ≡ find q rs
   find-without_other q [] r e out = refl
   find-without_other q (t ∷ ts) r e out = by (p t) e (λ found. find-without_other q ts r found out)
     where
-      by : (b : Bool) → cond b (Some t) (find p ts) ≡ Some r → (find p ts ≡ Some r → find q (without p ts) ≡ find q ts) → find q (if b then ts else t ∷ without p ts) ≡ cond (q t) (Some t) (find q ts)
+      by : (b : Bool) → cond b (Some t) (find p ts) ≡ Some r → (find p ts ≡ Some r → find q (without_first p ts) ≡ find q ts) → find q (if b then ts else t ∷ without_first p ts) ≡ cond (q t) (Some t) (find q ts)
       by true found next = ap (λ c. cond c (Some t) (find q ts)) (sym (ap q (some_same t r found) ∙ out))
       by false found next = ap (λ o. cond (q t) (Some t) o) (next found)
 

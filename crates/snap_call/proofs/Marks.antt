@@ -18,7 +18,7 @@ use Rattle.snap_record.specs.declared.record.Record.{Record}
 use Rattle.snap_call.specs.declared.state.State.{State}
 use Rattle.snap_call.specs.Good.{Good}
 use Rattle.snap_call.specs.Marked.{base_place, parent_place, is_kept, marked}
-use Rattle.snap_call.specs.Reached.{is_root, is_above, is_reached, is_swept, swept}
+use Rattle.snap_call.specs.Reached.{is_in_use, is_ancestor, is_reached, is_swept, swept}
 use Rattle.snap_call.specs.Records.{record_cmp, is_named, is_committed, committed_at}
 use Rattle.snap_call.specs.State.{chain_from}
 use Rattle.snap_call.proofs.Lists.{some_same, none_some, committed-parts, find-passes}
@@ -179,7 +179,7 @@ module _ (place : ℕ) (rs : List Record) (sorted : IsStrictlySortedBy record_cm
 
     -- a record of the key is in use, or is an ancestor of one that is
     abbrev reaches : Bytes → Record → Bool
-    reaches key t = (t.namespace == place) && root t && (bytes_eq t.key key || is_above rs key t)
+    reaches key t = (t.namespace == place) && root t && (bytes_eq t.key key || is_ancestor rs key t)
 
     abbrev Chain : Record → Type 0
     Chain t = (chain : List Record) × (chain_from 64 rs t.namespace t.parent ≡ Some chain)
@@ -191,14 +191,14 @@ module _ (place : ℕ) (rs : List Record) (sorted : IsStrictlySortedBy record_cm
     chain_of : (k : ℕ) (t : Record) → slice_get rs k ≡ Some t → Chain t
     chain_of k t at = some_of (chain_from 64 rs t.namespace t.parent) (all-at (λ r. IsSome (chain_from 64 rs r.namespace r.parent)) rs k t at chains)
 
-    above_is : (key : Bytes) (t : Record) (chain : List Record) → chain_from 64 rs t.namespace t.parent ≡ Some chain → is_above rs key t ≡ list_any (λ u. bytes_eq u.key key) chain
+    above_is : (key : Bytes) (t : Record) (chain : List Record) → chain_from 64 rs t.namespace t.parent ≡ Some chain → is_ancestor rs key t ≡ list_any (λ u. bytes_eq u.key key) chain
     above_is key t chain e = ap (λ o. list_any (λ u. bytes_eq u.key key) (unwrap_or o [])) e
 
     module _ (k : ℕ) (r : Record) (here : slice_get rs k ≡ Some r) (own : (r.namespace == place) ≡ true) where
       named_here : is_named place r.key r ≡ true
       named_here = and_from _ _ own ((bytes_eq-Decides r.key r.key).1 refl)
 
-      reached_from : (j n : ℕ) (t : Record) → slice_get rs j ≡ Some t → (t.namespace == place) ≡ true → ancestor places_of n j ≡ Some k → (bytes_eq t.key r.key || is_above rs r.key t) ≡ true
+      reached_from : (j n : ℕ) (t : Record) → slice_get rs j ≡ Some t → (t.namespace == place) ≡ true → ancestor places_of n j ≡ Some k → (bytes_eq t.key r.key || is_ancestor rs r.key t) ≡ true
       reached_from j zero t at in_place walk =
           let same : t ≡ r = some_same t r (sym at ∙ ap (slice_get rs) (some_same j k walk) ∙ here) in
           or_left _ _ ((bytes_eq-Decides t.key r.key).1 (ap (λ (u : Record). u.key) same))
@@ -220,10 +220,10 @@ module _ (place : ℕ) (rs : List Record) (sorted : IsStrictlySortedBy record_cm
           let found = list_any-place (reaches r.key) rs some in
           let j = found.0 in
           let t = found.1 in
-          let parts = and_parts (is_own_root t) (bytes_eq t.key r.key || is_above rs r.key t) found.3 in
+          let parts = and_parts (is_own_root t) (bytes_eq t.key r.key || is_ancestor rs r.key t) found.3 in
           let in_place = (and_parts (t.namespace == place) (root t) parts.0).0 in
           let is_root_at : slice_get roots_of j ≡ Some true = slice_get-mapped is_own_root rs j t found.2 ∙ ap Some parts.0 in
-          elim (or_cases (bytes_eq t.key r.key) (is_above rs r.key t) parts.1) [
+          elim (or_cases (bytes_eq t.key r.key) (is_ancestor rs r.key t) parts.1) [
             | inl same ↦ (j, 0, is_root_at, ap Some (one_place j k t r r.key found.2 here (and_from _ _ in_place same) named_here))
             | inr above ↦ (
                 let chain = chain_of j t found.2 in
@@ -254,7 +254,7 @@ mark_law true committed true reached out kept = let h = kept refl refl in sym (a
 module _ (s : State) (namespace : Bytes) (place moment : ℕ) where
   -- a record of the namespace that is in use for what it is
   abbrev is_used : Record → Bool
-  is_used t = (t.namespace == place) && is_root s namespace moment t
+  is_used t = (t.namespace == place) && is_in_use s namespace moment t
 
   abbrev parents_of : List (Option ℕ)
   parents_of = map (parent_place place s.records) s.records
@@ -269,7 +269,7 @@ module _ (s : State) (namespace : Bytes) (place moment : ℕ) where
       law k r b here mark = mark_law (r.namespace == place) (is_committed r.content) b (is_reached s namespace place moment r.key) out kept
         where
           out : (r.namespace == place) ≡ true → b ≡ false → is_reached s namespace place moment r.key ≡ true
-          out own e = reached-is_reached place s.records good.sorted good.chains (is_root s namespace moment) k r here own ((set.reached k).0 (mark ∙ ap Some e))
+          out own e = reached-is_reached place s.records good.sorted good.chains (is_in_use s namespace moment) k r here own ((set.reached k).0 (mark ∙ ap Some e))
 
           free : b ≡ true → IsReached parents_of used_of k → ⊥
           free e = ((set.unreached k).0 (mark ∙ ap Some e)).1
@@ -280,7 +280,7 @@ module _ (s : State) (namespace : Bytes) (place moment : ℕ) where
           kept : (r.namespace == place) ≡ true → b ≡ true → (is_committed r.content ≡ true) × (is_reached s namespace place moment r.key ≡ false)
           kept own e = (
             true_from_ne_false (is_committed r.content) (λ h. free e (reached_itself own h)),
-            false_from_ne_true (is_reached s namespace place moment r.key) (λ h. free e (is_reached-reached place s.records good.sorted good.chains (is_root s namespace moment) k r here own h)),
+            false_from_ne_true (is_reached s namespace place moment r.key) (λ h. free e (is_reached-reached place s.records good.sorted good.chains (is_in_use s namespace moment) k r here own h)),
           )
 
 -- ---- the lists that the code makes

@@ -12,8 +12,8 @@ use Rattle.snap_record.specs.Labels.{Bytes}
 use Rattle.snap_record.specs.Records.{info_of}
 use Rattle.snap_record.specs.declared.filter.Filter.{Filter}
 use Rattle.snap_record.specs.declared.record.Record.{Record}
-use Rattle.snap_call.specs.Records.{record_cmp, is_named, record_at, is_walked, page}
-use Rattle.snap_call.specs.Spaces.{is_after, is_asked}
+use Rattle.snap_call.specs.Records.{record_cmp, is_named, record_at, is_walked, info_page}
+use Rattle.snap_call.specs.Spaces.{is_key_after, is_asked}
 use Rattle.snap_call.proofs.Entries.{take-nil}
 use Rattle.snap_call.proofs.InOrder.{unnamed_before}
 use Rattle.snap_call.proofs.Joined.{filter-none}
@@ -29,8 +29,8 @@ module _ (place : ℕ) (after key : Bytes) (asked : Filter) (names : asked.name 
 
   unwalked : (r : Record) → is_named place key r ≡ false → is_walked place after asked r ≡ false
   unwalked r other =
-      ap (λ part. (r.namespace == place) && is_after after r && (is_text_asked part (info_of r).name && parent && kind && labels)) names
-      ∙ left_out (r.namespace == place) (is_after after r) (bytes_eq r.key key) parent kind labels other
+      ap (λ part. (r.namespace == place) && is_key_after after r && (is_text_asked part (info_of r).name && parent && kind && labels)) names
+      ∙ left_out (r.namespace == place) (is_key_after after r) (bytes_eq r.key key) parent kind labels other
     where
       parent : Bool
       parent = is_text_asked asked.parent (info_of r).parent
@@ -67,33 +67,33 @@ module _ (place : ℕ) (after key : Bytes) (asked : Filter) (names : asked.name 
           (all-map (λ t. record_cmp r t ≡ Less) (λ t. is_walked place after asked t ≡ false) (λ t less. unwalked t (unnamed_after r t is less)) ts sorted.0)))
       by false is next = next ∙ sym (ap (λ b. cond b (r ∷ walked ts) (walked ts)) (unwalked r is))
 
-  pub page-named : (most : ℕ) (rs : List Record) → IsStrictlySortedBy record_cmp rs → page place after most asked (option_to_list (record_at place key rs)) ≡ page place after most asked rs
+  pub page-named : (most : ℕ) (rs : List Record) → IsStrictlySortedBy record_cmp rs → info_page place after most asked (option_to_list (record_at place key rs)) ≡ info_page place after most asked rs
   page-named most rs sorted = ap (λ l. map info_of (take most l)) (walked-named rs sorted)
 
 -- the page of one record of the namespace
 module _ (place : ℕ) (after : Bytes) (most : ℕ) (asked : Filter) (r : Record) (of : r.namespace ≡ place) where
-  walked-one : is_walked place after asked r ≡ (is_after after r && is_asked asked r)
-  walked-one = ap (λ b. b && is_after after r && is_asked asked r) (eq-eqb r.namespace place of)
+  walked-one : is_walked place after asked r ≡ (is_key_after after r && is_asked asked r)
+  walked-one = ap (λ b. b && is_key_after after r && is_asked asked r) (eq-eqb r.namespace place of)
 
-  page-by : (b : Bool) → (is_after after r && is_asked asked r) ≡ b → page place after most asked (r ∷ []) ≡ map info_of (take most (cond b (r ∷ []) []))
+  page-by : (b : Bool) → (is_key_after after r && is_asked asked r) ≡ b → info_page place after most asked (r ∷ []) ≡ map info_of (take most (cond b (r ∷ []) []))
   page-by b is = ap (λ b. map info_of (take most (cond b (r ∷ []) []))) (walked-one ∙ is)
 
-  pub page-one : 0 < most → is_after after r ≡ true → is_asked asked r ≡ true → page place after most asked (r ∷ []) ≡ info_of r ∷ []
-  page-one some later passes = page-by true (and_from (is_after after r) (is_asked asked r) later passes) ∙ first most some
+  pub page-one : 0 < most → is_key_after after r ≡ true → is_asked asked r ≡ true → info_page place after most asked (r ∷ []) ≡ info_of r ∷ []
+  page-one some later passes = page-by true (and_from (is_key_after after r) (is_asked asked r) later passes) ∙ first most some
     where
       first : (n : ℕ) → 0 < n → map info_of (take n (r ∷ [])) ≡ info_of r ∷ []
       first zero lt = absurd (omega (arith, lt))
       first (suc n) lt = ap (λ l. info_of r ∷ map info_of l) (take-nil n)
 
-  pub page-unasked : is_asked asked r ≡ false → page place after most asked (r ∷ []) ≡ []
-  page-unasked fails = page-by false (neither (is_after after r) (is_asked asked r) fails) ∙ ap (map info_of) (take-nil most)
+  pub page-unasked : is_asked asked r ≡ false → info_page place after most asked (r ∷ []) ≡ []
+  page-unasked fails = page-by false (neither (is_key_after after r) (is_asked asked r) fails) ∙ ap (map info_of) (take-nil most)
     where
       neither : (a b : Bool) → b ≡ false → (a && b) ≡ false
       neither true b e = e
       neither false b e = refl
 
-  pub page-before : is_after after r ≡ false → page place after most asked (r ∷ []) ≡ []
+  pub page-before : is_key_after after r ≡ false → info_page place after most asked (r ∷ []) ≡ []
   page-before before = page-by false (ap (λ b. b && is_asked asked r) before) ∙ ap (map info_of) (take-nil most)
 
-  pub page-none : most ≡ 0 → page place after most asked (r ∷ []) ≡ []
-  page-none none = ap (λ n. page place after n asked (r ∷ [])) none
+  pub page-none : most ≡ 0 → info_page place after most asked (r ∷ []) ≡ []
+  page-none none = ap (λ n. info_page place after n asked (r ∷ [])) none

@@ -13,7 +13,7 @@ use Rattle.snap_call.specs.declared.state.State.{State}
 use Rattle.snap_call.specs.Forms.{is_key, is_parent}
 use Rattle.snap_call.specs.Records.{charge_of, has_key, lowest_free}
 use Rattle.snap_call.specs.State.{place_of, limit_at, over_limit, is_present, is_base, is_too_deep}
-use Rattle.snap_call.specs.Step.{one, place_on, place_for, slot_in, slot_for}
+use Rattle.snap_call.specs.Step.{one, place_on, place_for, slot_or_refusal, slot_for}
 
 -- a snapshot of the key on the parent can stand at the place of the namespace
 pub record IsPlace (s : State) (namespace key parent : Bytes) (place : ℕ) : Type 0 where
@@ -61,7 +61,7 @@ roomy-Ok s place k slot true true e = (cc, refl, refl)
 roomy-Ok s place k slot true false e = absurd (cc)
 roomy-Ok s place k slot false few e = absurd (cc)
 
-slot_in-Ok : (s : State) (place slot : ℕ) (o : Option ℕ) → lowest_free s.slots s.records ≡ o → slot_in s place o ≡ Ok slot → IsSlotFor s place slot
+slot_in-Ok : (s : State) (place slot : ℕ) (o : Option ℕ) → lowest_free s.slots s.records ≡ o → slot_or_refusal s place o ≡ Ok slot → IsSlotFor s place slot
 slot_in-Ok s place slot None low e = absurd (cc)
 slot_in-Ok s place slot (Some k) low e =
     let h = roomy-Ok s place k slot (covers (limit_at place s.namespaces) (plus (charge_of place s.records) one)) (nat_le s.next_id most_number) e in

@@ -26,8 +26,8 @@ use Rattle.snap_call.specs.declared.state.State.{State}
 use Rattle.snap_call.specs.Forms.{is_key, is_limit, is_page, is_start}
 use Rattle.snap_call.specs.Records.{record_at, has_key, has_children, is_active, is_committed, active_at, charge_of, max_sessions}
 use Rattle.snap_call.specs.State.{place_of}
-use Rattle.snap_call.specs.Step.{refused, session, prepared, prepare_at, prepare, granted, charge_to, charge, trim, commit_as, commit, discard, ask, step, IsAllowed, place_for, slot_for, unless_refused, mounts, view_at, view, remove_record, remove, update_record, update, walk, in_namespace, has_named, set_limit_at, set_limit, lease_create, lease_add_record, lease_add, lease_drop, lease_drop_at, lease_release, sweep_at, at_record}
-use Rattle.snap_call.specs.Journal.{Replays, own}
+use Rattle.snap_call.specs.Step.{refused, session, prepared, prepare_at, prepare, granted, charge_to, charge, trim, commit_as, commit, discard, ask, step, IsAllowed, place_for, slot_for, unless_refused, mounts, view_at, prepare_view, remove_record, remove, update_record, update, walk_infos, in_namespace, has_named, set_limit_at, set_limit, lease_create, lease_add_record, lease_add, lease_drop, lease_drop_at, lease_release, sweep_at, at_record}
+use Rattle.snap_call.specs.Journal.{Replays, session_entries}
 
 -- one entry more
 abbrev IsNext : State → State → Type 0
@@ -50,7 +50,7 @@ preparing s namespace key parent labels = unless_refusing s (place_for s namespa
 viewing_at : (s : State) (key parent : Bytes) (labels : List Label) (place : ℕ) → IsNext s (view_at s key parent labels place).0
 viewing_at s key parent labels place = either s (nat_le s.next_id most_number) _ _ refl refl
 
-viewing : (s : State) (namespace key parent : Bytes) (labels : List Label) → IsNext s (view s namespace key parent labels).0
+viewing : (s : State) (namespace key parent : Bytes) (labels : List Label) → IsNext s (prepare_view s namespace key parent labels).0
 viewing s namespace key parent labels = unless_refusing s (place_for s namespace key parent labels) (view_at s key parent labels) (viewing_at s key parent labels)
 
 charging_to : (s : State) (slot : ℕ) (r : Record) (o : Option Usage) → IsNext s (charge_to s slot r o).0
@@ -117,7 +117,7 @@ updating_record s key given paths place r =
 updating : (s : State) (namespace key : Bytes) (given : List Label) (paths : List Bytes) → IsNext s (update s namespace key given paths).0
 updating s namespace key given paths = either s (is_key key && is_well_formed given paths) _ _ (on_record s namespace key _ (updating_record s key given paths)) refl
 
-walking : (s : State) (namespace after : Bytes) (most : ℕ) (asked : Filter) → IsNext s (walk s namespace after most asked).0
+walking : (s : State) (namespace after : Bytes) (most : ℕ) (asked : Filter) → IsNext s (walk_infos s namespace after most asked).0
 walking s namespace after most asked = either s (is_start after && is_page most) _ _ (in_place s namespace _ (λ place. refl)) refl
 
 limiting : (s : State) (namespace : Bytes) (limit : Usage) → IsNext s (set_limit s namespace limit).0
@@ -194,15 +194,15 @@ replays_step s j t u e h allowed is =
     (replays_push s j t e h allowed (sym (ap (λ (p : State × Reply). p.1) is)))
 
 -- the entry is its session's alone
-pub own-push : (j : List Entry) (e : Entry) (n : ℕ) → e.session ≡ n → own (j ++ e ∷ []) n ≡ own j n ++ e ∷ []
+pub own-push : (j : List Entry) (e : Entry) (n : ℕ) → e.session ≡ n → session_entries (j ++ e ∷ []) n ≡ session_entries j n ++ e ∷ []
 own-push [] e n is = rw (eq-eqb e.session n is) refl
 own-push (x ∷ xs) e n is = at (x.session == n) refl (own-push xs e n is)
   where
-    at : (b : Bool) → (x.session == n) ≡ b → own (xs ++ e ∷ []) n ≡ own xs n ++ e ∷ [] → own (x ∷ xs ++ e ∷ []) n ≡ own (x ∷ xs) n ++ e ∷ []
+    at : (b : Bool) → (x.session == n) ≡ b → session_entries (xs ++ e ∷ []) n ≡ session_entries xs n ++ e ∷ [] → session_entries (x ∷ xs ++ e ∷ []) n ≡ session_entries (x ∷ xs) n ++ e ∷ []
     at true here next = rw here (ap (λ l. x ∷ l) next)
     at false here next = rw here next
 
-pub own-push_other : (j : List Entry) (e : Entry) (n : ℕ) → e.session ≢ n → own (j ++ e ∷ []) n ≡ own j n
+pub own-push_other : (j : List Entry) (e : Entry) (n : ℕ) → e.session ≢ n → session_entries (j ++ e ∷ []) n ≡ session_entries j n
 own-push_other [] e n ne =
     ⊎_elim
     (λ (h : ((e.session == n) ≡ true) × (e.session ≡ n)). absurd (ne h.1))
@@ -210,6 +210,6 @@ own-push_other [] e n ne =
     (eqb_tells e.session n)
 own-push_other (x ∷ xs) e n ne = at (x.session == n) refl (own-push_other xs e n ne)
   where
-    at : (b : Bool) → (x.session == n) ≡ b → own (xs ++ e ∷ []) n ≡ own xs n → own (x ∷ xs ++ e ∷ []) n ≡ own (x ∷ xs) n
+    at : (b : Bool) → (x.session == n) ≡ b → session_entries (xs ++ e ∷ []) n ≡ session_entries xs n → session_entries (x ∷ xs ++ e ∷ []) n ≡ session_entries (x ∷ xs) n
     at true here next = rw here (ap (λ l. x ∷ l) next)
     at false here next = rw here next

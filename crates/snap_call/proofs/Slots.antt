@@ -13,7 +13,7 @@ use Rattle.snap_record.specs.Records.{usage_of}
 use Rattle.snap_record.specs.declared.record.Content.{Content}
 use Rattle.snap_record.specs.declared.record.Content.TheVariants.{View, Active, Committed}
 use Rattle.snap_record.specs.declared.record.Record.{Record}
-use Rattle.snap_call.specs.Records.{record_cmp, has_slot, is_slot, is_active, active_at, charge_if, charge_at, with_record, without, without_slot, recharged, committed_as, AllPairwise, AreApart}
+use Rattle.snap_call.specs.Records.{record_cmp, has_slot, is_slot, is_active, active_at, charge_if, charge_at, with_record, without_first, without_slot, recharged, committed_as, AllPairwise, AreApart}
 use Rattle.snap_call.proofs.Sums.{find-here, find-past}
 use Rattle.snap_call.proofs.Lists.{active_at-is_slot, find-filter_same, find-without_other}
 
@@ -93,7 +93,7 @@ idle_no_slot k (Active s u) e = absurd (true≢false e)
 idle_no_slot k (Committed layer u) e = refl
 
 -- where a record goes that isn't active, all slots stay as they are
-pub active_at-without_idle : (k : ℕ) (p : Record → Bool) (rs : List Record) (r : Record) → find p rs ≡ Some r → is_active r.content ≡ false → active_at k (without p rs) ≡ active_at k rs
+pub active_at-without_idle : (k : ℕ) (p : Record → Bool) (rs : List Record) (r : Record) → find p rs ≡ Some r → is_active r.content ≡ false → active_at k (without_first p rs) ≡ active_at k rs
 active_at-without_idle k p rs r e idle = find-without_other p (is_slot k) rs r e (idle_no_slot k r.content idle)
 
 -- and where records go that aren't active
@@ -165,7 +165,7 @@ charge_at-without_slot_own slot rs apart = ap (charge_if slot) (active_at-withou
 pub charge_at-without_slot_other : (slot k : ℕ) (rs : List Record) → k ≢ slot → charge_at k (without_slot slot rs) ≡ charge_at k rs
 charge_at-without_slot_other slot k rs ne = ap (charge_if k) (active_at-without_slot_other slot k rs ne)
 
-pub charge_at-without_idle : (k : ℕ) (p : Record → Bool) (rs : List Record) (r : Record) → find p rs ≡ Some r → is_active r.content ≡ false → charge_at k (without p rs) ≡ charge_at k rs
+pub charge_at-without_idle : (k : ℕ) (p : Record → Bool) (rs : List Record) (r : Record) → find p rs ≡ Some r → is_active r.content ≡ false → charge_at k (without_first p rs) ≡ charge_at k rs
 charge_at-without_idle k p rs r e idle = ap (charge_if k) (active_at-without_idle k p rs r e idle)
 
 pub charge_at-filter : (k : ℕ) (keep : Record → Bool) → ((r : Record) → keep r ≡ false → is_active r.content ≡ false) → (rs : List Record) → charge_at k (filter keep rs) ≡ charge_at k rs

@@ -12,7 +12,7 @@ use Rattle.snap_record.specs.Labels.{Bytes}
 use Rattle.snap_record.specs.Records.{usage_of}
 use Rattle.snap_record.specs.declared.record.Content.TheVariants.{Active}
 use Rattle.snap_record.specs.declared.record.Record.{Record}
-use Rattle.snap_call.specs.Records.{record_cmp, is_slot, active_at, charge_of, with_record, without, without_slot, recharged, committed_as}
+use Rattle.snap_call.specs.Records.{record_cmp, is_slot, active_at, charge_of, with_record, without_first, without_slot, recharged, committed_as}
 
 -- what the record adds to the charge of the namespace at this place
 abbrev pub part_of : ℕ → Record → Usage
@@ -79,13 +79,13 @@ pub find-past : (p : Record → Bool) (t : Record) (ts : List Record) (r : Recor
 find-past p t ts r is e = rw is at e
 
 -- the record that is found less
-pub charge_of-without : (place : ℕ) (p : Record → Bool) (rs : List Record) (r : Record) → find p rs ≡ Some r → charge_of place rs ≡ plus (charge_of place (without p rs)) (part_of place r)
+pub charge_of-without : (place : ℕ) (p : Record → Bool) (rs : List Record) (r : Record) → find p rs ≡ Some r → charge_of place rs ≡ plus (charge_of place (without_first p rs)) (part_of place r)
 charge_of-without place p [] r e = absurd (cc)
 charge_of-without place p (t ∷ ts) r e = at (p t) refl (charge_of-without place p ts r)
   where
-    at : (b : Bool) → p t ≡ b → (find p ts ≡ Some r → charge_of place ts ≡ plus (charge_of place (without p ts)) (part_of place r)) → charge_of place (t ∷ ts) ≡ plus (charge_of place (without p (t ∷ ts))) (part_of place r)
+    at : (b : Bool) → p t ≡ b → (find p ts ≡ Some r → charge_of place ts ≡ plus (charge_of place (without_first p ts)) (part_of place r)) → charge_of place (t ∷ ts) ≡ plus (charge_of place (without_first p (t ∷ ts))) (part_of place r)
     at true is next = rw is (ap (λ (x : Record). plus (part_of place x) (charge_of place ts)) (find-here p t ts r is e) ∙ plus-turned (part_of place r) (charge_of place ts))
-    at false is next = rw is (ap (plus (part_of place t)) (next (find-past p t ts r is e)) ∙ plus-joined (part_of place t) (charge_of place (without p ts)) (part_of place r))
+    at false is next = rw is (ap (plus (part_of place t)) (next (find-past p t ts r is e)) ∙ plus-joined (part_of place t) (charge_of place (without_first p ts)) (part_of place r))
 
 -- the record of a slot charged anew
 pub charge_of-recharged : (place slot : ℕ) (to : Usage) (rs : List Record) (r : Record) → active_at slot rs ≡ Some r
@@ -130,17 +130,17 @@ pub charge_of-with_record_other : (place : ℕ) (r : Record) (rs : List Record) 
 charge_of-with_record_other place r rs ne = charge_of-with_record place r rs ∙ ap (plus (charge_of place rs)) (part_of-other place r ne) ∙ plus-none (charge_of place rs)
 
 -- a record less
-charge_of-without_sum : (p : Record → Bool) (rs : List Record) (r : Record) → find p rs ≡ Some r → charge_of r.namespace rs ≡ plus (charge_of r.namespace (without p rs)) (usage_of r.content)
-charge_of-without_sum p rs r e = charge_of-without r.namespace p rs r e ∙ ap (plus (charge_of r.namespace (without p rs))) (part_of-own r)
+charge_of-without_sum : (p : Record → Bool) (rs : List Record) (r : Record) → find p rs ≡ Some r → charge_of r.namespace rs ≡ plus (charge_of r.namespace (without_first p rs)) (usage_of r.content)
+charge_of-without_sum p rs r e = charge_of-without r.namespace p rs r e ∙ ap (plus (charge_of r.namespace (without_first p rs))) (part_of-own r)
 
 pub charge_of-covers : (p : Record → Bool) (rs : List Record) (r : Record) → find p rs ≡ Some r → Covers (charge_of r.namespace rs) (usage_of r.content)
-charge_of-covers p rs r e = subst (λ (u : Usage). Covers u (usage_of r.content)) (sym (charge_of-without_sum p rs r e)) (Covers-plus (charge_of r.namespace (without p rs)) (usage_of r.content))
+charge_of-covers p rs r e = subst (λ (u : Usage). Covers u (usage_of r.content)) (sym (charge_of-without_sum p rs r e)) (Covers-plus (charge_of r.namespace (without_first p rs)) (usage_of r.content))
 
-pub charge_of-without_own : (p : Record → Bool) (rs : List Record) (r : Record) → find p rs ≡ Some r → charge_of r.namespace (without p rs) ≡ minus (charge_of r.namespace rs) (usage_of r.content)
-charge_of-without_own p rs r e = sym (ap (λ (u : Usage). minus u (usage_of r.content)) (charge_of-without_sum p rs r e) ∙ minus-plus (charge_of r.namespace (without p rs)) (usage_of r.content))
+pub charge_of-without_own : (p : Record → Bool) (rs : List Record) (r : Record) → find p rs ≡ Some r → charge_of r.namespace (without_first p rs) ≡ minus (charge_of r.namespace rs) (usage_of r.content)
+charge_of-without_own p rs r e = sym (ap (λ (u : Usage). minus u (usage_of r.content)) (charge_of-without_sum p rs r e) ∙ minus-plus (charge_of r.namespace (without_first p rs)) (usage_of r.content))
 
-pub charge_of-without_other : (place : ℕ) (p : Record → Bool) (rs : List Record) (r : Record) → find p rs ≡ Some r → place ≢ r.namespace → charge_of place (without p rs) ≡ charge_of place rs
-charge_of-without_other place p rs r e ne = sym (charge_of-without place p rs r e ∙ ap (plus (charge_of place (without p rs))) (part_of-other place r ne) ∙ plus-none (charge_of place (without p rs)))
+pub charge_of-without_other : (place : ℕ) (p : Record → Bool) (rs : List Record) (r : Record) → find p rs ≡ Some r → place ≢ r.namespace → charge_of place (without_first p rs) ≡ charge_of place rs
+charge_of-without_other place p rs r e ne = sym (charge_of-without place p rs r e ∙ ap (plus (charge_of place (without_first p rs))) (part_of-other place r ne) ∙ plus-none (charge_of place (without_first p rs)))
 
 -- recharged
 pub charge_of-recharged_own : (slot : ℕ) (to : Usage) (rs : List Record) (r : Record) → active_at slot rs ≡ Some r → charge_of r.namespace (recharged slot to rs) ≡ charge_with r to rs

@@ -20,8 +20,8 @@ use Rattle.snap_call.specs.declared.refusal.Refusal.TheVariants.{NoNamespace}
 use Rattle.snap_call.specs.declared.state.State.{State}
 use Rattle.snap_call.specs.Records.{is_named, is_active, is_committed, has_slot, is_slot, record_at, active_at, committed_at, charge_of, charge_at, open_count, HasLowSlot, AreApart}
 use Rattle.snap_call.specs.State.{place_of, limit_at, ancestors}
-use Rattle.snap_call.specs.Reached.{is_above, is_reached, is_swept, swept, unswept}
-use Rattle.snap_call.specs.Good.{IsGuarding, IsCounted, IsShown, Good}
+use Rattle.snap_call.specs.Reached.{is_ancestor, is_reached, is_swept, swept, unswept}
+use Rattle.snap_call.specs.Good.{IsGuarding, IsUsageCounted, IsShown, Good}
 use Rattle.snap_call.specs.Step.{refused, swept_at, sweep_at, sweep}
 use Rattle.snap_call.proofs.Lengths.{length-filtered}
 use Rattle.snap_call.proofs.Lists.{all-each, all-map, all-both, all-any, all-kept, pairwise-filter, find-all, find-filter, find-passes, committed-parts, committed-from}
@@ -205,7 +205,7 @@ module _ (s : State) (namespace : Bytes) (place moment : ℕ) where
               member (λ m. guards namespace t.key m && is_live moment m)
               (and_from (guards namespace t.key l) (is_live moment l) (and_from (is_of namespace l) (does_name t.key l) of (subst (λ (k : Bytes). does_name k l ≡ true) key named)) live) in
               reached_by s namespace place moment (is_named place name) t h.0 own.0 (or_right (not (is_committed t.content)) (is_guarded_at s.leases namespace t.key moment) guarded)
-              name (or_left (bytes_eq t.key name) (is_above s.records name t) own.1)
+              name (or_left (bytes_eq t.key name) (is_ancestor s.records name t) own.1)
 
       names_reached : (p : ℕ) → AllByRecursion (λ name. IsSome (committed_at place name s.records)) l.names → AllByRecursion (Stays s namespace place moment p) l.names
       names_reached p some =
@@ -243,7 +243,7 @@ module _ (s : State) (namespace : Bytes) (place moment : ℕ) where
         parents = parents_on P rs ts keeps ts on (all-filter (HasParent rs) stays rs good.parents);
         leased = leases_on P rs ts keeps ns ls all_leases (all-filter (IsGuarding ns rs) (λ l. not (has_ended namespace moment l)) s.leases good.leased);
         named_once = all-filter NamesOnce (λ l. not (has_ended namespace moment l)) s.leases good.named_once;
-        counted = all-filter (λ t. IsCounted t.content) stays rs good.counted;
+        counted = all-filter (λ t. IsUsageCounted t.content) stays rs good.counted;
         within = within_after ns rs ts place good.within
             (subst (λ (u : Usage). Covers (limit_at place ns) u) (sym swept_total)
             (covers_gone (limit_at place ns) (charge_of place rs) (charge_of place (swept s namespace place moment)) (good.within place (place_of-below namespace ns place spaced))))

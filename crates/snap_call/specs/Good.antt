@@ -21,9 +21,9 @@ abbrev pub IsGuarding : List Namespace → List Record → Lease → Type 0
 IsGuarding ns rs l = IsSomeAnd (place_of l.namespace ns) (λ place. AllByRecursion (λ name. IsSome (committed_at place name rs)) l.names)
 
 -- a committed snapshot's stored usage is the count over its layer
-abbrev pub IsCounted : Content → Type 0
-IsCounted (Committed layer usage) = usage ≡ count_of layer
-IsCounted content = Unit {0}
+abbrev pub IsUsageCounted : Content → Type 0
+IsUsageCounted (Committed layer usage) = usage ≡ count_of layer
+IsUsageCounted content = Unit {0}
 
 -- a view's layers are those of its committed ancestors, or one empty layer
 abbrev pub IsShown : List Record → ℕ → Bytes → Content → Type 0
@@ -41,7 +41,7 @@ pub record Good (s : State) : Type 0 where
   -- a lease names each snapshot once
   pub named_once : AllByRecursion NamesOnce s.leases
   -- each stored usage is the count over the stored layer
-  pub counted : AllByRecursion (λ r. IsCounted r.content) s.records
+  pub counted : AllByRecursion (λ r. IsUsageCounted r.content) s.records
   -- each namespace is charged within its limit, which is at most 2^40 of each quantity
   pub within : (place : ℕ) → place < length s.namespaces → Covers (limit_at place s.namespaces) (charge_of place s.records)
   pub limits : (place : ℕ) → place < length s.namespaces → is_limit (limit_at place s.namespaces) ≡ true

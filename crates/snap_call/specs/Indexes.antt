@@ -33,12 +33,12 @@ slot_of (Active slot charged) = Some slot
 slot_of content = None
 
 -- a record's name
-abbrev pub name_of : Record → Name
-name_of r = record { place = r.namespace; key = r.key }
+abbrev pub record_name_of : Record → Name
+record_name_of r = record { place = r.namespace; key = r.key }
 
 -- each record has a key of its own and, where it is active, a low slot of its own, and the table has for each slot the name of the record that is active there
 pub record AreIndexed (rs : List Record) (names : List (Option Name)) : Type 0 where
   pub sorted : IsStrictlySortedBy record_cmp rs
   pub apart : AllPairwise AreApart rs
   pub low : AllByRecursion (λ r. HasLowSlot max_slots r.content) rs
-  pub slots : (slot : ℕ) → name_in slot names ≡ option_map name_of (active_at slot rs)
+  pub slots : (slot : ℕ) → name_in slot names ≡ option_map record_name_of (active_at slot rs)

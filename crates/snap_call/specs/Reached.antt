@@ -10,16 +10,16 @@ use Rattle.snap_call.specs.Records.{is_committed}
 use Rattle.snap_call.specs.State.{ancestors}
 
 -- the snapshot is in use at the moment: it is active, or a view, or a lease of its namespace that is live at the moment names it
-abbrev pub is_root : State → Bytes → ℕ → Record → Bool
-is_root s namespace moment r = not (is_committed r.content) || is_guarded_at s.leases namespace r.key moment
+abbrev pub is_in_use : State → Bytes → ℕ → Record → Bool
+is_in_use s namespace moment r = not (is_committed r.content) || is_guarded_at s.leases namespace r.key moment
 
 -- a snapshot of this key is one of the record's committed ancestors
-abbrev pub is_above : List Record → Bytes → Record → Bool
-is_above rs key r = list_any (λ t. bytes_eq t.key key) (ancestors r.namespace r.parent rs)
+abbrev pub is_ancestor : List Record → Bytes → Record → Bool
+is_ancestor rs key r = list_any (λ t. bytes_eq t.key key) (ancestors r.namespace r.parent rs)
 
 -- the snapshot of this key in the namespace is in use, or is an ancestor of one that is
 abbrev pub is_reached : State → Bytes → ℕ → ℕ → Bytes → Bool
-is_reached s namespace place moment key = list_any (λ r. (r.namespace == place) && is_root s namespace moment r && (bytes_eq r.key key || is_above s.records key r)) s.records
+is_reached s namespace place moment key = list_any (λ r. (r.namespace == place) && is_in_use s namespace moment r && (bytes_eq r.key key || is_ancestor s.records key r)) s.records
 
 -- a sweep takes the snapshot away: it is a committed one of the namespace, and is not reached
 abbrev pub is_swept : State → Bytes → ℕ → ℕ → Record → Bool

@@ -103,17 +103,17 @@ with_record r [] = r ∷ []
 with_record r (t ∷ ts) = if is_lt (record_cmp r t) then r ∷ t ∷ ts else t ∷ with_record r ts
 
 -- the records without the first that passes a test
-abbrev pub without : (Record → Bool) → List Record → List Record
-without p [] = []
-without p (r ∷ rs) = if p r then rs else r ∷ without p rs
+abbrev pub without_first : (Record → Bool) → List Record → List Record
+without_first p [] = []
+without_first p (r ∷ rs) = if p r then rs else r ∷ without_first p rs
 
 -- without the one that is active in the slot
 abbrev pub without_slot : ℕ → List Record → List Record
-without_slot slot rs = without (is_slot slot) rs
+without_slot slot rs = without_first (is_slot slot) rs
 
 -- without the one of this key in the namespace
 abbrev pub without_key : ℕ → Bytes → List Record → List Record
-without_key place key rs = without (is_named place key) rs
+without_key place key rs = without_first (is_named place key) rs
 
 -- without those of these keys in the namespace
 abbrev pub without_keys : ℕ → List Bytes → List Record → List Record
@@ -139,8 +139,8 @@ abbrev pub is_walked : ℕ → Bytes → Filter → Record → Bool
 is_walked place after asked r = (r.namespace == place) && is_lt (slice_cmp nat_cmp after r.key) && is_match (info_of r) asked
 
 -- the infos of the first so many of these, in the order of their keys
-abbrev pub page : ℕ → Bytes → ℕ → Filter → List Record → List Info
-page place after most asked rs = map info_of (take most (filter (is_walked place after asked) rs))
+abbrev pub info_page : ℕ → Bytes → ℕ → Filter → List Record → List Info
+info_page place after most asked rs = map info_of (take most (filter (is_walked place after asked) rs))
 
 -- a record as it is once it is committed under a name, by the entry of this number
 abbrev pub committed_as : Bytes → Tree → ℕ → Record → Record

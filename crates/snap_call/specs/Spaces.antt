@@ -25,13 +25,13 @@ abbrev pub IsOf : ℕ → List Record → Type 0
 IsOf place rs = AllByRecursion (λ r. r.namespace ≡ place) rs
 
 -- the place of the first record's namespace
-abbrev pub place_of : List Record → ℕ
-place_of [] = 0
-place_of (r ∷ rs) = r.namespace
+abbrev pub first_place_of : List Record → ℕ
+first_place_of [] = 0
+first_place_of (r ∷ rs) = r.namespace
 
 -- the records are of one namespace
 abbrev pub AreOfOne : List Record → Type 0
-AreOfOne rs = IsOf (place_of rs) rs
+AreOfOne rs = IsOf (first_place_of rs) rs
 
 -- the lists are those of the namespaces from a place on
 abbrev pub AreFrom : ℕ → List (List Record) → Type 0
@@ -39,14 +39,14 @@ AreFrom place [] = Unit {0}
 AreFrom place (rs ∷ rss) = IsOf place rs × AreFrom (suc place) rss
 
 -- the records of all lists
-abbrev pub joined : List (List Record) → List Record
-joined [] = []
-joined (rs ∷ rss) = rs ++ joined rss
+abbrev pub joined_records : List (List Record) → List Record
+joined_records [] = []
+joined_records (rs ∷ rss) = rs ++ joined_records rss
 
 -- the lists are those of the namespaces, and have so many records
 pub record AreCounted (rss : List (List Record)) (count : ℕ) : Type 0 where
   pub from : AreFrom 0 rss
-  pub counted : count ≡ length (joined rss)
+  pub counted : count ≡ length (joined_records rss)
 
 -- the bytes that a key begins with
 abbrev pub beginning : Bytes → Bytes
@@ -61,7 +61,7 @@ pub record AreGroups (es : List (ArrayVec ℕ × List Record)) : Type 0 where
   pub begun : AllByRecursion (λ e. AllByRecursion (λ r. beginning r.key ≡ e.0.items) e.1) es
   pub full : AllByRecursion (λ e. e.1 ≢ []) es
   pub ordered : IsStrictlySortedBy beginning_cmp (keys_of es)
-  pub alike : AreOfOne (joined (values_of es))
+  pub alike : AreOfOne (joined_records (values_of es))
 
 -- each record stands at its own key
 abbrev pub IsKeyed : {Z : Type 0} → List (String Z × Record) → Type 0
@@ -72,9 +72,9 @@ abbrev pub AreParentCounts : List Record → List (Bytes × ℕ) → Type 0
 AreParentCounts rs counts = (q : Bytes) → count_in q counts ≡ count_by (λ r. bytes_eq q r.parent) rs
 
 -- the record after the edit
-abbrev pub edited : RecordEdit → Record → Record
-edited (edits.Content content) r = record r { content = content }
-edited (edits.Labels labels number) r = with_labels labels number r
+abbrev pub edited_record : RecordEdit → Record → Record
+edited_record (edits.Content content) r = record r { content = content }
+edited_record (edits.Labels labels number) r = with_labels labels number r
 
 -- the records after the first that passes a test is changed
 abbrev pub amended : (Record → Bool) → (Record → Record) → List Record → List Record
@@ -83,11 +83,11 @@ amended p f (r ∷ rs) = if p r then f r ∷ rs else r ∷ amended p f rs
 
 -- the records after the edit of that of the key in the namespace
 abbrev pub edited_at : ℕ → Bytes → RecordEdit → List Record → List Record
-edited_at place key edit rs = amended (is_named place key) (edited edit) rs
+edited_at place key edit rs = amended (is_named place key) (edited_record edit) rs
 
 -- the record's key comes after the text
-abbrev pub is_after : Bytes → Record → Bool
-is_after after r = is_lt (slice_cmp nat_cmp after r.key)
+abbrev pub is_key_after : Bytes → Record → Bool
+is_key_after after r = is_lt (slice_cmp nat_cmp after r.key)
 
 -- the record has every part of the filter
 abbrev pub is_asked : Filter → Record → Bool
@@ -99,4 +99,4 @@ infos_of most asked rs = map info_of (take most (filter (is_asked asked) rs))
 
 -- the infos, and up to so many with those of the records whose keys come after the text and that have every part of the filter
 abbrev pub page_after : Bytes → ℕ → Filter → List Info → List Record → List Info
-page_after after most asked infos rs = infos ++ infos_of (most - length infos) asked (filter (is_after after) rs)
+page_after after most asked infos rs = infos ++ infos_of (most - length infos) asked (filter (is_key_after after) rs)

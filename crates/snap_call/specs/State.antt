@@ -35,10 +35,10 @@ abbrev pub name_at : ℕ → List Namespace → Bytes
 name_at place ns = option_map_or (λ n. n.name) (slice_get ns place) []
 
 -- the namespaces once the one at a place has this limit
-abbrev pub limited : ℕ → Usage → List Namespace → List Namespace
-limited place limit [] = []
-limited zero limit (n ∷ ns) = record n { limit = limit } ∷ ns
-limited (suc place) limit (n ∷ ns) = n ∷ limited place limit ns
+abbrev pub with_limit : ℕ → Usage → List Namespace → List Namespace
+with_limit place limit [] = []
+with_limit zero limit (n ∷ ns) = record n { limit = limit } ∷ ns
+with_limit (suc place) limit (n ∷ ns) = n ∷ with_limit place limit ns
 
 -- the refusal of an amount that the limit doesn't cover, with what is free: the limit less the charge
 abbrev pub over_limit : State → ℕ → Refusal

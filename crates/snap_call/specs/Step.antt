@@ -27,8 +27,8 @@ use Rattle.snap_call.specs.declared.reply.Reply.{Reply}
 use Rattle.snap_call.specs.declared.reply.Reply.TheVariants.{Opened, Prepared, Viewed, Charged, Trimmed, Committed, Discarded, Removed, Info, Page, Usage as UsageReply, Mounts as MountsReply, Done, Swept, Refused}
 use Rattle.snap_call.specs.declared.state.State.{State}
 use Rattle.snap_call.specs.Forms.{is_key, is_parent, is_page, is_start, is_limit}
-use Rattle.snap_call.specs.Records.{record_at, has_key, has_children, is_active, is_committed, active_at, charge_of, with_record, without_slot, without_key, recharged, relabelled, with_labels, page, committed_as, lowest_free, max_sessions}
-use Rattle.snap_call.specs.State.{place_of, name_at, limit_at, limited, over_limit, is_present, is_base, is_too_deep, ancestors, ids_of, shown_layers}
+use Rattle.snap_call.specs.Records.{record_at, has_key, has_children, is_active, is_committed, active_at, charge_of, with_record, without_slot, without_key, recharged, relabelled, with_labels, info_page, committed_as, lowest_free, max_sessions}
+use Rattle.snap_call.specs.State.{place_of, name_at, limit_at, with_limit, over_limit, is_present, is_base, is_too_deep, ancestors, ids_of, shown_layers}
 use Rattle.snap_call.specs.Reached.{swept, swept_keys, unswept}
 
 -- one entry more
@@ -84,15 +84,15 @@ abbrev pub one : Usage
 one = record { blocks = 1; inodes = 1 }
 
 -- its slot, or the first refusal of one
-abbrev pub slot_in : State → ℕ → Option ℕ → Result ℕ Refusal
-slot_in s place None = Err TooManyActives
-slot_in s place (Some slot) =
+abbrev pub slot_or_refusal : State → ℕ → Option ℕ → Result ℕ Refusal
+slot_or_refusal s place None = Err TooManyActives
+slot_or_refusal s place (Some slot) =
     if covers (limit_at place s.namespaces) (plus (charge_of place s.records) one)
     then if nat_le s.next_id most_number then Ok slot else Err NumbersSpent
     else Err (over_limit s place)
 
 abbrev pub slot_for : State → ℕ → Result ℕ Refusal
-slot_for s place = slot_in s place (lowest_free s.slots s.records)
+slot_for s place = slot_or_refusal s place (lowest_free s.slots s.records)
 
 abbrev pub prepared : State → ℕ → Bytes → Bytes → List Label → ℕ → State × Reply
 prepared s place key parent labels slot = (added s (new_record s place key parent labels (Active slot one)), Prepared s.next_id slot (ids_of (ancestors place parent s.records)))
@@ -110,23 +110,23 @@ viewed s place key parent labels = (added s (new_record s place key parent label
 abbrev pub view_at : State → Bytes → Bytes → List Label → ℕ → State × Reply
 view_at s key parent labels place = if nat_le s.next_id most_number then viewed s place key parent labels else refused s NumbersSpent
 
-abbrev pub view : State → Bytes → Bytes → Bytes → List Label → State × Reply
-view s namespace key parent labels = unless_refused s (place_for s namespace key parent labels) (view_at s key parent labels)
+abbrev pub prepare_view : State → Bytes → Bytes → Bytes → List Label → State × Reply
+prepare_view s namespace key parent labels = unless_refused s (place_for s namespace key parent labels) (view_at s key parent labels)
 
 -- Charge: the greater in each quantity
 abbrev pub greater : Usage → Usage → Usage
 greater a b = record { blocks = max a.blocks b.blocks; inodes = max a.inodes b.inodes }
 
 -- the limit of the namespace at a place covers its charge, once what is charged the one amount is charged the other
-abbrev pub fits : State → ℕ → Usage → Usage → Bool
-fits s place held to = covers (limit_at place s.namespaces) (plus (minus (charge_of place s.records) held) to)
+abbrev pub fits_limit : State → ℕ → Usage → Usage → Bool
+fits_limit s place held to = covers (limit_at place s.namespaces) (plus (minus (charge_of place s.records) held) to)
 
 -- the wanted amount where the limit covers it, else the needed one where the limit covers that
 abbrev pub granted : State → ℕ → Usage → Usage → Usage → Option Usage
 granted s place held need want =
     let needed = greater held need in
     let wanted = greater needed want in
-    if fits s place held wanted then Some wanted else if fits s place held needed then Some needed else None
+    if fits_limit s place held wanted then Some wanted else if fits_limit s place held needed then Some needed else None
 
 abbrev pub charge_to : State → ℕ → Record → Option Usage → State × Reply
 charge_to s slot r (Some to) = (record s { records = recharged slot to s.records; entries = s.entries + 1 }, Charged to)
@@ -206,12 +206,12 @@ abbrev pub update : State → Bytes → Bytes → List Label → List Bytes → 
 update s namespace key given paths = if is_key key && is_well_formed given paths then at_record s namespace key (update_record s key given paths) else refused s BadArgument
 
 -- Walk: the infos of the snapshots of a namespace that come after a key and have every part of a filter, at most so many (containerd's Snapshotter.Walk, page by page)
-abbrev pub walk : State → Bytes → Bytes → ℕ → Filter → State × Reply
-walk s namespace after most asked = if is_start after && is_page most then in_namespace s namespace (λ place. (counted s, Page (page place after most asked s.records))) else refused s BadArgument
+abbrev pub walk_infos : State → Bytes → Bytes → ℕ → Filter → State × Reply
+walk_infos s namespace after most asked = if is_start after && is_page most then in_namespace s namespace (λ place. (counted s, Page (info_page place after most asked s.records))) else refused s BadArgument
 
 -- SetLimit: another limit of a namespace, which has to cover what it is charged
 abbrev pub limited_at : State → ℕ → Usage → State
-limited_at s place limit = record s { namespaces = limited place limit s.namespaces; entries = s.entries + 1 }
+limited_at s place limit = record s { namespaces = with_limit place limit s.namespaces; entries = s.entries + 1 }
 
 abbrev pub set_limit_at : State → Usage → ℕ → State × Reply
 set_limit_at s limit place = if covers limit (charge_of place s.records) then (limited_at s place limit, Done) else refused s BelowCharge
@@ -281,10 +281,10 @@ step s (calls.Discard slot id) given = discard s slot (active_at slot s.records)
 step s (calls.Stat namespace key) given = ask s (λ r. Info (info_of r)) namespace key
 step s (calls.Usage namespace key) given = ask s (λ r. UsageReply (usage_of r.content)) namespace key
 step s (calls.Mounts namespace key) given = ask s (mounts s) namespace key
-step s (calls.View namespace key parent labels) given = view s namespace key parent labels
+step s (calls.View namespace key parent labels) given = prepare_view s namespace key parent labels
 step s (calls.Remove namespace key) given = remove s namespace key
 step s (calls.Update namespace key labels paths) given = update s namespace key labels paths
-step s (calls.Walk namespace after most asked) given = walk s namespace after most asked
+step s (calls.Walk namespace after most asked) given = walk_infos s namespace after most asked
 step s (calls.SetLimit namespace limit) given = set_limit s namespace limit
 step s (calls.LeaseCreate namespace lease until) given = lease_create s namespace lease until
 step s (calls.LeaseAdd namespace lease name) given = lease_add s namespace lease name
@@ -293,8 +293,8 @@ step s (calls.LeaseRelease namespace lease) given = lease_release s namespace le
 step s (calls.Sweep namespace moment) given = sweep s namespace moment
 
 -- the slot is open under the id
-abbrev pub IsOpen : ℕ → Option Record → Type 0
-IsOpen id o = IsSomeAnd o (λ r. r.id ≡ id)
+abbrev pub IsOpenSlot : ℕ → Option Record → Type 0
+IsOpenSlot id o = IsSomeAnd o (λ r. r.id ≡ id)
 
 -- and its charge covers so much
 abbrev pub IsCovered : ℕ → Usage → Option Record → Type 0
@@ -303,10 +303,10 @@ IsCovered id now o = IsSomeAnd o (λ r. (r.id ≡ id) × Covers (usage_of r.cont
 -- the condition of a call: its slot is open under its id, and the charge covers what the value has; a session is opened only where one is left
 abbrev pub IsAllowed : State → Call → Given → Type 0
 IsAllowed s calls.Session given = s.sessions < max_sessions
-IsAllowed s (calls.Charge slot id need want) given = IsOpen id (active_at slot s.records)
+IsAllowed s (calls.Charge slot id need want) given = IsOpenSlot id (active_at slot s.records)
 IsAllowed s (calls.Trim slot id) (Count now) = IsCovered id now (active_at slot s.records)
 IsAllowed s (calls.Trim slot id) given = ⊥
 IsAllowed s (calls.Commit slot id name lease) (Layer layer) = IsCovered id (count_of layer) (active_at slot s.records)
 IsAllowed s (calls.Commit slot id name lease) given = ⊥
-IsAllowed s (calls.Discard slot id) given = IsOpen id (active_at slot s.records)
+IsAllowed s (calls.Discard slot id) given = IsOpenSlot id (active_at slot s.records)
 IsAllowed s call given = Unit {0}

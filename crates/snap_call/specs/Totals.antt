@@ -12,6 +12,6 @@ counted_in (Committed layer usage) = count_of layer
 counted_in content = no_usage
 
 -- what a snapshot takes: what is counted over the layer of a committed one, and the share of an open one
-abbrev pub taken_by : Content → Usage
-taken_by (Committed layer usage) = count_of layer
-taken_by content = usage_of content
+abbrev pub usage_taken : Content → Usage
+usage_taken (Committed layer usage) = count_of layer
+usage_taken content = usage_of content

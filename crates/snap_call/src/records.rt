@@ -1,7 +1,7 @@
 ghost use Rattle.std.specs.Prelude.{◌≡◌, ◌<◌, ◌+◌, ◌^◌, [], true, false, map, length, option_copied, None, OnOk, OnErr, IfErr, IfOk, IsTrue, ◌↔◌, ℕ};
 ghost use Rattle.std.specs.List.{list_any};
 ghost use Rattle.std.specs.Option.{option_map, option_to_list};
-ghost use Rattle.snap_call.specs.Records.{record_at, has_key, has_children, child_count, is_slot, active_at, with_record, without_key, without_keys, without_slot, recharged, relabelled, page, lowest_free, HasLowSlot, max_slots};
+ghost use Rattle.snap_call.specs.Records.{record_at, has_key, has_children, child_count, is_slot, active_at, with_record, without_key, without_keys, without_slot, recharged, relabelled, info_page, lowest_free, HasLowSlot, max_slots};
 ghost use Rattle.snap_call.specs.Indexes.{slot_of};
 
 use crate::open_slots::{Name, OpenSlots};
@@ -32,11 +32,11 @@ impl Model for Records {
     ghost Value = { List Record };
 
     ghost use Rattle.snap_call.specs.Indexes.{AreIndexed};
-    ghost use Rattle.snap_call.specs.Spaces.{AreCounted, joined};
+    ghost use Rattle.snap_call.specs.Spaces.{AreCounted, joined_records};
 
-    ghost view = { λ r. joined r.spaces.list.items };
+    ghost view = { λ r. joined_records r.spaces.list.items };
 
-    ghost invariant = { λ r. AreCounted r.spaces.list.items r.spaces.count × AreIndexed (joined r.spaces.list.items) r.slots };
+    ghost invariant = { λ r. AreCounted r.spaces.list.items r.spaces.count × AreIndexed (joined_records r.spaces.list.items) r.slots };
 }
 
 // The slot of an active snapshot.
@@ -271,7 +271,7 @@ impl Records {
         most: usize,
         asked: &Filter,
     ) -> Result<Sequence<Info>, AllocError>
-        ensures { IfOk result (λ infos. infos ≡ page place after.now most asked.now self.now) }
+        ensures { IfOk result (λ infos. infos ≡ info_page place after.now most asked.now self.now) }
     {
         match self.spaces.list.get(place) {
             Some(space) => space.page(alloc, after, most, asked),
@@ -291,7 +291,7 @@ impl Records {
         most: usize,
         asked: &Filter,
     ) -> Result<Sequence<Info>, AllocError>
-        ensures { IfOk result (λ infos. infos ≡ page place after.now most asked.now (option_to_list (record_at place key.now self.now))) }
+        ensures { IfOk result (λ infos. infos ≡ info_page place after.now most asked.now (option_to_list (record_at place key.now self.now))) }
     {
         let mut infos = Sequence::new(alloc);
         let Some(record) = self.record_at(place, key) else {

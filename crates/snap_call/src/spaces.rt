@@ -1,7 +1,7 @@
 // The records of all namespaces.
 ghost use Rattle.std.specs.Prelude.{◌≡◌, ◌<◌, ◌+◌, ◌^◌, false, length, OnOk, OnErr, IfErr, vec_len};
 ghost use Rattle.snap_call.specs.Records.{record_at, has_key, with_record, without_key};
-ghost use Rattle.snap_call.specs.Spaces.{AreCounted, AreFrom, joined, edited_at};
+ghost use Rattle.snap_call.specs.Spaces.{AreCounted, AreFrom, joined_records, edited_at};
 
 use crate::record_edit::RecordEdit;
 use snap_path::NoMemory;
@@ -35,11 +35,11 @@ impl Spaces {
     /// own where there are such.
     pub(crate) fn put(&mut self, added: Record) -> Result<(), (NoMemory, Record)>
         requires counted { AreCounted self.old.list.items self.old.count }
-        requires new { has_key added.namespace added.key (joined self.old.list.items) ≡ false }
-        requires few { length (joined self.old.list.items) + 1 < 2 ^ 64 }
+        requires new { has_key added.namespace added.key (joined_records self.old.list.items) ≡ false }
+        requires few { length (joined_records self.old.list.items) + 1 < 2 ^ 64 }
         ensures counted { AreCounted self.new.list.items self.new.count }
-        ensures ok { OnOk result (joined self.new.list.items ≡ with_record added (joined self.old.list.items)) }
-        ensures err { OnErr result (joined self.new.list.items ≡ joined self.old.list.items) }
+        ensures ok { OnOk result (joined_records self.new.list.items ≡ with_record added (joined_records self.old.list.items)) }
+        ensures err { OnErr result (joined_records self.new.list.items ≡ joined_records self.old.list.items) }
         ensures value_returned { IfErr result (λ back. back.1 ≡ added) }
     {
         let place = added.namespace;
@@ -57,8 +57,8 @@ impl Spaces {
     pub(crate) fn take_out(&mut self, place: usize, key: &str) -> Option<Record>
         requires { AreCounted self.old.list.items self.old.count }
         ensures counted { AreCounted self.new.list.items self.new.count }
-        ensures taken { joined self.new.list.items ≡ without_key place key.now (joined self.old.list.items) }
-        ensures record_taken { result ≡ record_at place key.now (joined self.old.list.items) }
+        ensures taken { joined_records self.new.list.items ≡ without_key place key.now (joined_records self.old.list.items) }
+        ensures record_taken { result ≡ record_at place key.now (joined_records self.old.list.items) }
     {
         if place >= self.list.len() {
             return None;
@@ -74,7 +74,7 @@ impl Spaces {
     pub(crate) fn edit_at(&mut self, place: usize, key: &str, edit: RecordEdit)
         requires { AreCounted self.old.list.items self.old.count }
         ensures counted { AreCounted self.new.list.items self.new.count }
-        ensures edited { joined self.new.list.items ≡ edited_at place key.now edit (joined self.old.list.items) }
+        ensures edited { joined_records self.new.list.items ≡ edited_at place key.now edit (joined_records self.old.list.items) }
     {
         if place >= self.list.len() {
             return;
@@ -89,7 +89,7 @@ impl Spaces {
 fn grow(spaces: &mut Vec<Space>, place: usize) -> Result<(), AllocError>
     requires { AreFrom 0 spaces.old.items }
     ensures from { AreFrom 0 spaces.new.items }
-    ensures same { joined spaces.new.items ≡ joined spaces.old.items }
+    ensures same { joined_records spaces.new.items ≡ joined_records spaces.old.items }
     ensures room { OnOk result (place < vec_len spaces.new) }
 {
     let alloc = *spaces.allocator();

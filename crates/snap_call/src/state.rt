@@ -1,8 +1,8 @@
 ghost use Rattle.std.specs.Prelude.{◌≡◌, ◌<◌, ◌+◌, ◌^◌, length, true, false, Some, IsSome, OnOk, OnErr, IfOk};
 ghost use Rattle.snap_call.specs.Forms.{is_config};
 ghost use Rattle.snap_call.specs.Good.{Good};
-ghost use Rattle.snap_call.specs.Records.{active_at, committed_as, has_key, page, with_record, without_slot};
-ghost use Rattle.snap_call.specs.State.{opening, place_of, name_at, limit_at, limited};
+ghost use Rattle.snap_call.specs.Records.{active_at, committed_as, has_key, info_page, with_record, without_slot};
+ghost use Rattle.snap_call.specs.State.{opening, place_of, name_at, limit_at, with_limit};
 ghost use Rattle.snap_call.specs.Step.{IsAllowed, step, has_named, leases_after};
 ghost use Rattle.snap_call.specs.declared.call.Call.{Call};
 ghost use Rattle.snap_call.specs.declared.call.Given.{Given};
@@ -104,7 +104,7 @@ impl State {
     pub fn set_limit(&mut self, place: usize, namespace: Namespace)
         requires inside { place < length self.old.namespaces }
         requires same { namespace.name ≡ name_at place self.old.namespaces }
-        ensures { self.new ≡ record self.old { namespaces = limited place namespace.limit self.old.namespaces } }
+        ensures { self.new ≡ record self.old { namespaces = with_limit place namespace.limit self.old.namespaces } }
     {
         self.namespaces.set(place, namespace);
     }
@@ -200,7 +200,7 @@ impl State {
         asked: &Filter,
     ) -> Result<Sequence<Info>, AllocError>
         requires { Good self.now }
-        ensures { IfOk result (λ infos. infos ≡ page place after.now most asked.now self.now.records) }
+        ensures { IfOk result (λ infos. infos ≡ info_page place after.now most asked.now self.now.records) }
     {
         match &asked.name {
             Some(key) => self

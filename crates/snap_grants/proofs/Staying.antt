@@ -25,7 +25,7 @@ use Rattle.snap_call.specs.declared.state.State.{State}
 use Rattle.snap_call.specs.Forms.{is_key, is_limit, is_page, is_start}
 use Rattle.snap_call.specs.Records.{record_at, is_slot, is_committed, active_at, charge_of, recharged, max_sessions}
 use Rattle.snap_call.specs.State.{place_of, shown_layers}
-use Rattle.snap_call.specs.Step.{counted, refused, session, unless_refused, place_for, granted, charge_to, charge, trim, discard, ask, mounts, viewed, view_at, view, update_record, update, walk, in_namespace, limited_at, set_limit_at, set_limit, lease_create, lease_add_record, lease_add, lease_drop, lease_drop_at, lease_release, step, at_record, new_record, relabelled_at}
+use Rattle.snap_call.specs.Step.{counted, refused, session, unless_refused, place_for, granted, charge_to, charge, trim, discard, ask, mounts, viewed, view_at, prepare_view, update_record, update, walk_infos, in_namespace, limited_at, set_limit_at, set_limit, lease_create, lease_add_record, lease_add, lease_drop, lease_drop_at, lease_release, step, at_record, new_record, relabelled_at}
 use Rattle.snap_call.proofs.Lists.{all-with_record, all-without}
 use Rattle.snap_grants.specs.Grants.{Stored, Origin, worth}
 use Rattle.snap_grants.proofs.Weights.{Comes, AllCome, weights-with_record, weights-without_slot, weights-recharged, weights-relabelled, weights-limited, comes-recharged, comes-relabelled, comes-limited}
@@ -114,7 +114,7 @@ module _ (s : State) where
   stays_ask : (answer : Record → Reply) (namespace key : Bytes) → P (ask s answer namespace key)
   stays_ask answer namespace key = either P (is_key key) _ _ (on_record namespace key _ (λ place r. counts)) counts
 
-  stays_walk : (namespace after : Bytes) (most : ℕ) (asked : Filter) → P (walk s namespace after most asked)
+  stays_walk : (namespace after : Bytes) (most : ℕ) (asked : Filter) → P (walk_infos s namespace after most asked)
   stays_walk namespace after most asked = either P (is_start after && is_page most) _ _ (in_place namespace _ (λ place. counts)) counts
 
   -- a view isn't active, and weighs nothing
@@ -128,7 +128,7 @@ module _ (s : State) where
       new : Record
       new = new_record s place key parent labels (View (shown_layers place parent s.records))
 
-  stays_view : (namespace key parent : Bytes) (labels : List Label) → P (view s namespace key parent labels)
+  stays_view : (namespace key parent : Bytes) (labels : List Label) → P (prepare_view s namespace key parent labels)
   stays_view namespace key parent labels =
       unless P s (λ why. counts) (place_for s namespace key parent labels) (view_at s key parent labels)
       (λ place e. either P (nat_le s.next_id most_number) _ _ (stays_viewed place key parent labels) counts)

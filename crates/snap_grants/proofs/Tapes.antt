@@ -7,7 +7,7 @@ use Rattle.snap_lease.proofs.ListLemmas.{all-filter}
 use Rattle.snap_call.specs.declared.entry.Entry.{Entry}
 use Rattle.snap_call.specs.declared.state.State.{State}
 use Rattle.snap_call.specs.Records.{open_count}
-use Rattle.snap_call.specs.Journal.{Replays, own}
+use Rattle.snap_call.specs.Journal.{Replays, session_entries}
 use Rattle.snap_grants.specs.Grants.{Stored, Origin, AreKeeping, IsOrigin, AreOrigins, grants, grant_of, sum_below, AreBelow, TapesLaw}
 use Rattle.snap_grants.proofs.Law.{committed_law}
 
@@ -42,13 +42,13 @@ pub nothing : (n : ℕ) → sum_below n (λ k. 0) ≡ 0
 nothing zero = refl
 nothing (suc n) = let a = nothing n in omega (arith, a)
 
-pub split : (n : ℕ) (h : Stored → ℕ) (origin : ℕ → Origin) (es : List Entry) → AreBelow n es → grants h origin es ≡ sum_below n (λ k. grants h origin (own es k))
+pub split : (n : ℕ) (h : Stored → ℕ) (origin : ℕ → Origin) (es : List Entry) → AreBelow n es → grants h origin es ≡ sum_below n (λ k. grants h origin (session_entries es k))
 split n h origin [] below = sym (nothing n)
 split n h origin (e ∷ es) below =
     let rest = split n h origin es (All-tail (λ x. x.session < n) e es below) in
-    let all = sum_more n e.session (grant_of h origin e.call e.given e.reply) (λ k. grants h origin (own (e ∷ es) k)) (λ k. grants h origin (own es k)) (All-head (λ x. x.session < n) e es below)
-    (ap (λ (b : Bool). grants h origin (cond b (e ∷ own es e.session) (own es e.session))) (eq-eqb e.session e.session refl))
-    (λ k other. ap (λ (b : Bool). grants h origin (cond b (e ∷ own es k) (own es k))) other) in
+    let all = sum_more n e.session (grant_of h origin e.call e.given e.reply) (λ k. grants h origin (session_entries (e ∷ es) k)) (λ k. grants h origin (session_entries es k)) (All-head (λ x. x.session < n) e es below)
+    (ap (λ (b : Bool). grants h origin (cond b (e ∷ session_entries es e.session) (session_entries es e.session))) (eq-eqb e.session e.session refl))
+    (λ k other. ap (λ (b : Bool). grants h origin (cond b (e ∷ session_entries es k) (session_entries es k))) other) in
     omega (arith, rest, all)
 
 pub tapes_law : (n : ℕ) (s : State) (es : List Entry) (t : State) → open_count s.records ≡ 0 → AreKeeping es → AreBelow n es → Replays s es t → TapesLaw n s es t
@@ -58,5 +58,5 @@ tapes_law n s es t idle keeps below replay origin are h =
     omega (arith, a, b)
 
 -- what is true of the whole journal's origins is true of those of one session
-pub own_origins : (origin : ℕ → Origin) (es : List Entry) → AreOrigins origin es → (k : ℕ) → AreOrigins origin (own es k)
+pub own_origins : (origin : ℕ → Origin) (es : List Entry) → AreOrigins origin es → (k : ℕ) → AreOrigins origin (session_entries es k)
 own_origins origin es are k = all-filter (λ e. IsOrigin origin e.call e.reply) (λ e. e.session == k) es are

@@ -11,7 +11,7 @@ use Rattle.snap_record.specs.declared.record.Record.{Record}
 use Rattle.snap_call.specs.declared.config.Namespace.{Namespace}
 use Rattle.snap_call.specs.declared.state.State.{State}
 use Rattle.snap_call.specs.Records.{record_cmp, has_slot, is_slot, open_count, active_at, with_record, without_slot, recharged, is_named, with_labels, relabelled}
-use Rattle.snap_call.specs.State.{name_at, limited}
+use Rattle.snap_call.specs.State.{name_at, with_limit}
 use Rattle.snap_call.proofs.Alike.{all-relabelled}
 use Rattle.snap_call.proofs.Lists.{all-map, all-recharged, active_at-is_slot, active_at-all, active_one, open_count-cons}
 use Rattle.snap_grants.specs.Grants.{Stored, Origin, weight, weights}
@@ -64,7 +64,7 @@ weights-relabelled h ns place key labels number (r ∷ rs) =
     ]
 
 -- nor do limits, which leave the names
-name_at-limited : (limit : Usage) (place : ℕ) (ns : List Namespace) (p : ℕ) → name_at p (limited place limit ns) ≡ name_at p ns
+name_at-limited : (limit : Usage) (place : ℕ) (ns : List Namespace) (p : ℕ) → name_at p (with_limit place limit ns) ≡ name_at p ns
 name_at-limited limit place [] p = refl
 name_at-limited limit zero (n ∷ ns) zero = refl
 name_at-limited limit zero (n ∷ ns) (suc p) = refl
@@ -76,10 +76,10 @@ limit_weighs h ns ms r (View layers) same = refl
 limit_weighs h ns ms r (Active slot charged) same = refl
 limit_weighs h ns ms r (Committed layer usage) same = ap (λ (n : Bytes). h (record { namespace = n; name = r.key; parent = r.parent; id = r.id; layer = layer })) same
 
-pub weights-limited : (h : Stored → ℕ) (limit : Usage) (place : ℕ) (ns : List Namespace) (rs : List Record) → weights h (limited place limit ns) rs ≡ weights h ns rs
+pub weights-limited : (h : Stored → ℕ) (limit : Usage) (place : ℕ) (ns : List Namespace) (rs : List Record) → weights h (with_limit place limit ns) rs ≡ weights h ns rs
 weights-limited h limit place ns [] = refl
 weights-limited h limit place ns (r ∷ rs) =
-    let here = limit_weighs h ns (limited place limit ns) r r.content (name_at-limited limit place ns r.namespace) in
+    let here = limit_weighs h ns (with_limit place limit ns) r r.content (name_at-limited limit place ns r.namespace) in
     let rest = weights-limited h limit place ns rs in
     omega (arith, here, rest)
 
@@ -125,9 +125,9 @@ limit_comes origin ns ms r (View layers) same here = tt
 limit_comes origin ns ms r (Active slot charged) same here = here ∙ ap (λ (n : Bytes). record { namespace = n; parent = r.parent }) (sym same)
 limit_comes origin ns ms r (Committed layer usage) same here = tt
 
-pub comes-limited : (origin : ℕ → Origin) (limit : Usage) (place : ℕ) (ns : List Namespace) (rs : List Record) → AllByRecursion (Comes origin ns) rs → AllByRecursion (Comes origin (limited place limit ns)) rs
+pub comes-limited : (origin : ℕ → Origin) (limit : Usage) (place : ℕ) (ns : List Namespace) (rs : List Record) → AllByRecursion (Comes origin ns) rs → AllByRecursion (Comes origin (with_limit place limit ns)) rs
 comes-limited origin limit place ns rs all =
-    all-map (Comes origin ns) (Comes origin (limited place limit ns)) (λ r here. limit_comes origin ns (limited place limit ns) r r.content (name_at-limited limit place ns r.namespace) here) rs all
+    all-map (Comes origin ns) (Comes origin (with_limit place limit ns)) (λ r here. limit_comes origin ns (with_limit place limit ns) r r.content (name_at-limited limit place ns r.namespace) here) rs all
 
 -- where none is active
 none_comes : (origin : ℕ → Origin) (ns : List Namespace) (r : Record) (c : Content) → active_one c ≡ 0 → ComesBy origin ns r c

@@ -11,7 +11,7 @@ use Rattle.snap_call.specs.declared.state.State.{State}
 use Rattle.snap_call.specs.Records.{default_slots, lowest_free}
 use Rattle.snap_call.specs.State.{opening}
 use Rattle.snap_call.specs.Step.{step}
-use Rattle.snap_call.specs.Journal.{entry, Replays}
+use Rattle.snap_call.specs.Journal.{call_entry, Replays}
 use Rattle.snap_grants.specs.Grants.{Stored, worth, origin_in}
 use Rattle.snap_grants.proofs.Law.{committed_law}
 use Rattle.snap_grants.proofs.Origins.{origins}
@@ -23,13 +23,13 @@ abbrev start : State
 start = opening (record { root = 47 ∷ 114 ∷ []; namespaces = record { name = 97 ∷ []; limit = record { blocks = 10; inodes = 10 } } ∷ []; slots = default_slots; journal = 100; first_id = 1; layer_inodes = 65536 })
 
 abbrev opened : Entry
-opened = entry 0 calls.Session Nothing Opened
+opened = call_entry 0 calls.Session Nothing Opened
 
 abbrev made : Entry
-made = entry 0 (calls.Prepare (97 ∷ []) (107 ∷ []) [] []) Nothing (Prepared 1 0 [])
+made = call_entry 0 (calls.Prepare (97 ∷ []) (107 ∷ []) [] []) Nothing (Prepared 1 0 [])
 
 abbrev stored : Entry
-stored = entry 0 (calls.Commit 0 1 (110 ∷ []) None) (Layer layer) (Committed 1 (count_of layer))
+stored = call_entry 0 (calls.Commit 0 1 (110 ∷ []) None) (Layer layer) (Committed 1 (count_of layer))
 
 abbrev es : List Entry
 es = opened ∷ made ∷ stored ∷ []

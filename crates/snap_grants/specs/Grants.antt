@@ -17,7 +17,7 @@ use Rattle.snap_call.specs.declared.reply.Reply.{Reply}
 use Rattle.snap_call.specs.declared.reply.Reply.TheVariants.{Prepared, Committed}
 use Rattle.snap_call.specs.declared.state.State.{State}
 use Rattle.snap_call.specs.State.{name_at}
-use Rattle.snap_call.specs.Journal.{own}
+use Rattle.snap_call.specs.Journal.{session_entries}
 
 -- a committed snapshot: the texts of its namespace, its name and its parent, its id and its layer
 pub record Stored : Type 0 where
@@ -125,4 +125,4 @@ AreBelow n es = All (λ e. e.session < n) es
 
 -- and so by sessions: those of the start, and what the entries of each session were granted
 abbrev pub TapesLaw : ℕ → State → List Entry → State → Type 0
-TapesLaw n s es t = (origin : ℕ → Origin) → AreOrigins origin es → (h : Stored → ℕ) → worth h t ≡ worth h s + sum_below n (λ k. grants h origin (own es k))
+TapesLaw n s es t = (origin : ℕ → Origin) → AreOrigins origin es → (h : Stored → ℕ) → worth h t ≡ worth h s + sum_below n (λ k. grants h origin (session_entries es k))

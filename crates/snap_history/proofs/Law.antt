@@ -22,8 +22,8 @@ use Rattle.snap_call.proofs.Kept.{good_step}
 use Rattle.snap_call.proofs.Replaying.{step-entries}
 use Rattle.snap_call.proofs.Sums.{usage, minus-plus}
 use Rattle.snap_history.specs.Entries.{entry_info}
-use Rattle.snap_history.specs.History.{history, is_of, namespace_in, slot_in}
-use Rattle.snap_history.specs.Changes.{change_by, change_of, changes_of, charge_before, infos_of, is_own, share_in, shares_after, shares_by, turned}
+use Rattle.snap_history.specs.History.{history, is_call_of, namespace_in, slot_in}
+use Rattle.snap_history.specs.Changes.{change_by, change_of, changes_of, charge_before, entry_infos_of, is_own, share_of_slot, shares_after, shares_by, turned}
 use Rattle.snap_history.specs.Open.{open_below, open_share, share_for, shares_of}
 use Rattle.snap_history.specs.declared.change.Change.{Change}
 use Rattle.snap_history.specs.declared.open.OpenShare.{OpenShare}
@@ -81,7 +81,7 @@ charge_back name place s shares (e ∷ es) t good held h =
 
 -- the entries of the namespace, each with the charge after it
 infos_are : (name : Bytes) (place : ℕ) (s : State) (shares : List (Option Usage)) (es : List Entry) (t : State) → Good s → Holds name place shares s → Replays s es t
-    → infos_of name s.entries shares (charge_of place s.records) es ≡ history place s es
+    → entry_infos_of name s.entries shares (charge_of place s.records) es ≡ history place s es
 infos_are name place s shares [] t good held h = refl
 infos_are name place s shares (e ∷ es) t good held h =
     let after : State = (step s e.call e.given).0 in
@@ -91,10 +91,10 @@ infos_are name place s shares (e ∷ es) t good held h =
     let charge : turned (charge_of place s.records) c.found c.left ≡ charge_of place after.records =
     turned-is here.rest c.found c.left _ _ here.before here.after (small_charge name place after sound here.holds.named) in
     let number : s.entries + 1 ≡ after.entries = sym (step-entries s e.call e.given h.0) in
-    let later : infos_of name after.entries (shares_after name shares e) (charge_of place after.records) es ≡ history place after es = infos_are name place after (shares_after name shares e) es t sound here.holds h.2 in
-    let rest : infos_of name (s.entries + 1) (shares_after name shares e) (turned (charge_of place s.records) c.found c.left) es ≡ history place after es =
-    (λ i. infos_of name (number i) (shares_after name shares e) (charge i) es) ∙ later in
-    let mine : is_own name shares e.call ≡ is_of place s e.call = sym (own name place s shares good held e.call e.given h.0) in
+    let later : entry_infos_of name after.entries (shares_after name shares e) (charge_of place after.records) es ≡ history place after es = infos_are name place after (shares_after name shares e) es t sound here.holds h.2 in
+    let rest : entry_infos_of name (s.entries + 1) (shares_after name shares e) (turned (charge_of place s.records) c.found c.left) es ≡ history place after es =
+    (λ i. entry_infos_of name (number i) (shares_after name shares e) (charge i) es) ∙ later in
+    let mine : is_own name shares e.call ≡ is_call_of place s e.call = sym (own name place s shares good held e.call e.given h.0) in
     λ i. if mine i then entry_info (number i) e (charge i) ∷ rest i else rest i
 
 -- ---- the shares that a round begins with
@@ -107,12 +107,12 @@ share_by-is : (place : ℕ) (found : Option Record) → share_for place (option_
 share_by-is place None = refl
 share_by-is place (Some r) = refl
 
-share_in-append_low : (slot : ℕ) (l : List (Option Usage)) (x : Option Usage) → slot < length l → share_in slot (l ++ x ∷ []) ≡ share_in slot l
+share_in-append_low : (slot : ℕ) (l : List (Option Usage)) (x : Option Usage) → slot < length l → share_of_slot slot (l ++ x ∷ []) ≡ share_of_slot slot l
 share_in-append_low slot [] x low = absurd (omega (arith, low))
 share_in-append_low zero (y ∷ l) x low = refl
 share_in-append_low (suc slot) (y ∷ l) x low = share_in-append_low slot l x (omega (arith, low))
 
-share_in-append_last : (l : List (Option Usage)) (x : Option Usage) → share_in (length l) (l ++ x ∷ []) ≡ x
+share_in-append_last : (l : List (Option Usage)) (x : Option Usage) → share_of_slot (length l) (l ++ x ∷ []) ≡ x
 share_in-append_last [] x = refl
 share_in-append_last (y ∷ l) x = share_in-append_last l x
 
@@ -128,15 +128,15 @@ shares_below-length : (place n : ℕ) (rs : List Record) → length (map (share_
 shares_below-length place n rs = map-length place (open_below n rs) ∙ open_below-length n rs
 
 -- each place has the share of its slot
-shares_below-in : (place n slot : ℕ) (rs : List Record) → slot < n → share_in slot (map (share_for place) (open_below n rs)) ≡ share_by place (active_at slot rs)
+shares_below-in : (place n slot : ℕ) (rs : List Record) → slot < n → share_of_slot slot (map (share_for place) (open_below n rs)) ≡ share_by place (active_at slot rs)
 shares_below-in place zero slot rs low = absurd (omega (arith, low))
 shares_below-in place (suc n) slot rs low =
     let last : Option OpenShare = option_map open_share (active_at n rs) in
     let before : List (Option Usage) = map (share_for place) (open_below n rs) in
     let long : length before ≡ n = shares_below-length place n rs in
-    ap (share_in slot) (map-append_last place (open_below n rs) last)
+    ap (share_of_slot slot) (map-append_last place (open_below n rs) last)
     ∙ elim (cases_eq slot n) [
-      | inl same ↦ ap (λ (k : ℕ). share_in k (before ++ share_for place last ∷ [])) (same ∙ sym long)
+      | inl same ↦ ap (λ (k : ℕ). share_of_slot k (before ++ share_for place last ∷ [])) (same ∙ sym long)
           ∙ share_in-append_last before (share_for place last) ∙ share_by-is place (active_at n rs) ∙ ap (λ (k : ℕ). share_by place (active_at k rs)) (sym same)
       | inr apart ↦ (let below : slot < n = omega (arith, low, apart) in share_in-append_low slot before (share_for place last) (omega (arith, below, long)) ∙ shares_below-in place n slot rs below)
     ]
@@ -145,13 +145,13 @@ opening_holds : (name : Bytes) (place : ℕ) (shares : List (Option Usage)) (s :
 opening_holds name place shares s are named = record {
   named = named;
   places = ap (λ (l : List (Option Usage)). length l) are ∙ shares_below-length place s.slots s.records;
-  agrees = λ slot low. ap (share_in slot) are ∙ shares_below-in place s.slots slot s.records low;
+  agrees = λ slot low. ap (share_of_slot slot) are ∙ shares_below-in place s.slots slot s.records low;
 }
 
 -- what the entries of a round tell, from the charge after them all
 pub told_history : (name : Bytes) (place : ℕ) (shares : List (Option Usage)) (s : State) (es : List Entry) (t : State) → Good s → shares ≡ shares_of s.slots place s.records → Replays s es t → place_of name t.namespaces ≡ Some place
-    → infos_of name s.entries shares (charge_before (charge_of place t.records) (changes_of name shares es)) es ≡ history place s es
+    → entry_infos_of name s.entries shares (charge_before (charge_of place t.records) (changes_of name shares es)) es ≡ history place s es
 told_history name place shares s es t good are h named =
     let held = opening_holds name place shares s are (sym (Replays-names s es t h name) ∙ named) in
-    ap (λ (u : Usage). infos_of name s.entries shares u es) (charge_back name place s shares es t good held h)
+    ap (λ (u : Usage). entry_infos_of name s.entries shares u es) (charge_back name place s shares es t good held h)
     ∙ infos_are name place s shares es t good held h

@@ -26,7 +26,7 @@ use Rattle.snap_call.specs.declared.state.State.{State}
 use Rattle.snap_call.specs.Forms.{is_key, is_limit, is_page, is_start}
 use Rattle.snap_call.specs.Records.{record_at, has_key, has_children, is_active, is_committed, active_at, charge_of, max_sessions}
 use Rattle.snap_call.specs.State.{place_of}
-use Rattle.snap_call.specs.Step.{refused, session, prepared, prepare_at, prepare, granted, charge_to, charge, trim, commit_as, commit, discard, ask, step, IsAllowed, place_for, slot_for, unless_refused, mounts, view_at, view, remove_record, remove, update_record, update, walk, in_namespace, has_named, set_limit_at, set_limit, lease_create, lease_add_record, lease_add, lease_drop, lease_drop_at, lease_release, sweep_at, at_record}
+use Rattle.snap_call.specs.Step.{refused, session, prepared, prepare_at, prepare, granted, charge_to, charge, trim, commit_as, commit, discard, ask, step, IsAllowed, place_for, slot_for, unless_refused, mounts, view_at, prepare_view, remove_record, remove, update_record, update, walk_infos, in_namespace, has_named, set_limit_at, set_limit, lease_create, lease_add_record, lease_add, lease_drop, lease_drop_at, lease_release, sweep_at, at_record}
 use Rattle.snap_call.specs.Journal.{Replays}
 use Rattle.snap_call.proofs.Leasing.{place_of-limited}
 
@@ -51,7 +51,7 @@ preparing s namespace key parent labels = unless_refusing s (place_for s namespa
 viewing_at : (s : State) (key parent : Bytes) (labels : List Label) (place : ℕ) → IsNext s (view_at s key parent labels place).0
 viewing_at s key parent labels place = either s (nat_le s.next_id most_number) _ _ (λ name. refl) (λ name. refl)
 
-viewing : (s : State) (namespace key parent : Bytes) (labels : List Label) → IsNext s (view s namespace key parent labels).0
+viewing : (s : State) (namespace key parent : Bytes) (labels : List Label) → IsNext s (prepare_view s namespace key parent labels).0
 viewing s namespace key parent labels = unless_refusing s (place_for s namespace key parent labels) (view_at s key parent labels) (viewing_at s key parent labels)
 
 charging_to : (s : State) (slot : ℕ) (r : Record) (o : Option Usage) → IsNext s (charge_to s slot r o).0
@@ -118,7 +118,7 @@ updating_record s key given paths place r =
 updating : (s : State) (namespace key : Bytes) (given : List Label) (paths : List Bytes) → IsNext s (update s namespace key given paths).0
 updating s namespace key given paths = either s (is_key key && is_well_formed given paths) _ _ (on_record s namespace key _ (updating_record s key given paths)) (λ name. refl)
 
-walking : (s : State) (namespace after : Bytes) (most : ℕ) (asked : Filter) → IsNext s (walk s namespace after most asked).0
+walking : (s : State) (namespace after : Bytes) (most : ℕ) (asked : Filter) → IsNext s (walk_infos s namespace after most asked).0
 walking s namespace after most asked = either s (is_start after && is_page most) _ _ (in_place s namespace _ (λ place. (λ name. refl))) (λ name. refl)
 
 limiting : (s : State) (namespace : Bytes) (limit : Usage) → IsNext s (set_limit s namespace limit).0

@@ -7,7 +7,7 @@ use Rattle.std.specs.Prelude.{◌&&◌, filter, nat_lt, if◌then◌else◌}
 use Rattle.snap_usage.specs.declared.usage.Usage.{Usage}
 use Rattle.snap_record.specs.Labels.{Bytes}
 use Rattle.snap_call.specs.declared.entry.Entry.{Entry}
-use Rattle.snap_history.specs.Changes.{change_of, charge_before, infos_of, is_own, shares_after, turned}
+use Rattle.snap_history.specs.Changes.{change_of, charge_before, entry_infos_of, is_own, shares_after, turned}
 use Rattle.snap_history.specs.Entries.{entry_info}
 use Rattle.snap_history.specs.declared.change.Change.{Change}
 use Rattle.snap_history.specs.declared.info.EntryInfo.{EntryInfo}
@@ -66,18 +66,18 @@ page_if after most infos rest x false = refl
 -- one step over the entries, where these are the entry's change, the charge and the shares after it, and whether it is one of the namespace
 pub next_page : (after most number : ℕ) (name : Bytes) (shares : List (Option Usage)) (charge : Usage) (infos : List EntryInfo) (e : Entry) (es : List Entry) (change : Change) (now : Usage) (later : List (Option Usage)) (own : Bool)
     → change ≡ change_of name shares e → now ≡ turned charge change.found change.left → later ≡ shares_after name shares e → own ≡ is_own name shares e.call
-    → page_with after most infos (infos_of name number shares charge (e ∷ es))
-    ≡ page_with after most (next_infos infos (entry_info (number + 1) e now) (own && nat_lt after (number + 1) && nat_lt (length infos) most)) (infos_of name (number + 1) later now es)
+    → page_with after most infos (entry_infos_of name number shares charge (e ∷ es))
+    ≡ page_with after most (next_infos infos (entry_info (number + 1) e now) (own && nat_lt after (number + 1) && nat_lt (length infos) most)) (entry_infos_of name (number + 1) later now es)
 next_page after most number name shares charge infos e es change now later own is_change is_now is_later_shares mine =
     let amount : Usage = turned charge (change_of name shares e).found (change_of name shares e).left in
     let charged : amount ≡ now = sym (is_now ∙ ap (λ (c : Change). turned charge c.found c.left) is_change) in
     let shared : shares_after name shares e ≡ later = sym is_later_shares in
     let belongs : is_own name shares e.call ≡ own = sym mine in
     let x : EntryInfo = entry_info (number + 1) e amount in
-    let rest : List EntryInfo = infos_of name (number + 1) (shares_after name shares e) amount es in
+    let rest : List EntryInfo = entry_infos_of name (number + 1) (shares_after name shares e) amount es in
     page_step after most infos (is_own name shares e.call) x rest
     ∙ page_if after most infos rest x _
-    ∙ (λ j. page_with after most (next_infos infos (entry_info (number + 1) e (charged j)) (belongs j && nat_lt after (number + 1) && nat_lt (length infos) most)) (infos_of name (number + 1) (shared j) (charged j) es))
+    ∙ (λ j. page_with after most (next_infos infos (entry_info (number + 1) e (charged j)) (belongs j && nat_lt after (number + 1) && nat_lt (length infos) most)) (entry_infos_of name (number + 1) (shared j) (charged j) es))
 
 -- the changes from the last one on
 charge_before-append : (now : Usage) (cs : List Change) (c : Change) → charge_before now (cs ++ c ∷ []) ≡ charge_before (turned now c.left c.found) cs

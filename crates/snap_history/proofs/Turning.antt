@@ -33,7 +33,7 @@ use Rattle.snap_call.specs.Good.{Good}
 use Rattle.snap_call.specs.Reached.{swept, unswept}
 use Rattle.snap_call.specs.Records.{active_at, charge_of, committed_as, has_children, has_key, is_active, is_committed, is_named, is_slot, record_at, recharged, relabelled, with_record, without_key, without_slot, HasLowSlot, max_sessions}
 use Rattle.snap_call.specs.State.{place_of, shown_layers}
-use Rattle.snap_call.specs.Step.{IsAllowed, IsCovered, IsOpen, ask, charge, charge_to, counted, commit_as, committed as committed_state, discard, has_named, in_namespace, lease_add, lease_add_record, lease_create, lease_drop, lease_drop_at, lease_release, mounts, one, place_for, prepare, prepare_at, prepared as prepared_state, refused, remove, remove_record, removed_at, session, set_limit, set_limit_at, slot_for, step, sweep, sweep_at, trim, unless_refused, update, update_record, view, view_at, walk, at_record, new_record}
+use Rattle.snap_call.specs.Step.{IsAllowed, IsCovered, IsOpenSlot, ask, charge, charge_to, counted, commit_as, committed as committed_state, discard, has_named, in_namespace, lease_add, lease_add_record, lease_create, lease_drop, lease_drop_at, lease_release, mounts, one, place_for, prepare, prepare_at, prepared as prepared_state, refused, remove, remove_record, removed_at, session, set_limit, set_limit_at, slot_for, step, sweep, sweep_at, trim, unless_refused, update, update_record, prepare_view, view_at, walk_infos, at_record, new_record}
 use Rattle.snap_call.proofs.Alike.{AreAlike, bare-relabelled, alike-active_at, alike-active_at_None, alike-charge_of}
 use Rattle.snap_call.proofs.Keeping.{same_name}
 use Rattle.snap_call.proofs.Leasing.{place_of-limited}
@@ -43,8 +43,8 @@ use Rattle.snap_call.proofs.Places.{IsSlotFor, place_for-Ok, slot_for-Ok}
 use Rattle.snap_call.proofs.Slots.{Active-is_slot, active_at-Active, active_at-committed_other, active_at-committed_own, active_at-recharged_other, active_at-recharged_own, active_at-with_record_other, active_at-with_record_own, active_at-without_idle, active_at-without_slot_other, active_at-without_slot_own, is_slot-other}
 use Rattle.snap_call.proofs.Sums.{charge_of-recharged, charge_of-with_record, charge_of-without, plus-none}
 use Rattle.snap_call.proofs.Sweeping.{active_at-unswept, swept_others, swept_sum}
-use Rattle.snap_history.specs.History.{namespace_in, slot_in, is_of}
-use Rattle.snap_history.specs.Changes.{change, change_by, changed_to, is_own, named_change, named_shares, no_change, recharged_to, share_in, shares_by, slot_change, slot_shares, with_share}
+use Rattle.snap_history.specs.History.{namespace_in, slot_in, is_call_of}
+use Rattle.snap_history.specs.Changes.{change, change_by, changed_to, is_own, named_change, named_shares, no_change, recharged_to, share_of_slot, shares_by, slot_change, slot_shares, with_share}
 use Rattle.snap_history.specs.declared.change.Change.{Change}
 
 cases_if : {X : Type 0} (P : X → Type 0) (b : Bool) (x y : X) → (b ≡ true → P x) → (b ≡ false → P y) → P (if b then x else y)
@@ -62,7 +62,7 @@ share_by place (Some r) = if r.namespace == place then Some (usage_of r.content)
 pub record Holds (name : Bytes) (place : ℕ) (shares : List (Option Usage)) (s : State) : Type 0 where
   pub named : place_of name s.namespaces ≡ Some place
   pub places : length shares ≡ s.slots
-  pub agrees : (slot : ℕ) → slot < s.slots → share_in slot shares ≡ share_by place (active_at slot s.records)
+  pub agrees : (slot : ℕ) → slot < s.slots → share_of_slot slot shares ≡ share_by place (active_at slot s.records)
 
 -- the table holds after the step, and of the charge before and after it the change tells the parts; the rest is the same
 pub record Turns (name : Bytes) (place : ℕ) (s : State) (shares : List (Option Usage)) (c : Change) (t : State) : Type 0 where
@@ -199,7 +199,7 @@ module _ (name : Bytes) (place : ℕ) (s : State) (shares : List (Option Usage))
   plain_mounts : (r : Record) → Plain (mounts s r)
   plain_mounts r = cases_if Plain (is_committed r.content) _ _ (λ committed. tt) (λ other. tt)
 
-  even_walk : (namespace after : Bytes) (most : ℕ) (asked : Filter) → Evenly (walk s namespace after most asked)
+  even_walk : (namespace after : Bytes) (most : ℕ) (asked : Filter) → Evenly (walk_infos s namespace after most asked)
   even_walk namespace after most asked = cases_if Evenly (is_start after && is_page most) _ _ (λ formed. in_its_namespace Evenly namespace _ (even_refused NoNamespace) (λ at e. even_same _ _ refl refl refl tt)) (λ bad. even_refused _)
 
   even_set_limit : (namespace : Bytes) (limit : Usage) → Evenly (set_limit s namespace limit)
@@ -265,7 +265,7 @@ module _ (name : Bytes) (place : ℕ) (s : State) (shares : List (Option Usage))
       })
       (λ spent. even_refused _)
 
-  even_view : (namespace key parent : Bytes) (labels : List Label) → Evenly (view s namespace key parent labels)
+  even_view : (namespace key parent : Bytes) (labels : List Label) → Evenly (prepare_view s namespace key parent labels)
   even_view namespace key parent labels = unless Evenly even_refused (place_for s namespace key parent labels) (view_at s key parent labels) (λ at e. even_view_at key parent labels at)
 
   -- other labels
@@ -368,11 +368,11 @@ module _ (name : Bytes) (place : ℕ) (s : State) (shares : List (Option Usage))
 
   -- one slot of the table changes
   agree_set : (slot : ℕ) (o : Option Usage) (ts : List Record) → slot < s.slots → o ≡ share_by place (active_at slot ts) → ((k : ℕ) → k ≢ slot → active_at k ts ≡ active_at k s.records)
-      → (k : ℕ) → k < s.slots → share_in k (with_share slot o shares) ≡ share_by place (active_at k ts)
+      → (k : ℕ) → k < s.slots → share_of_slot k (with_share slot o shares) ≡ share_by place (active_at k ts)
   agree_set slot o ts low here others k small =
       ⊎_elim
       (λ (h : ((k == slot) ≡ true) × (k ≡ slot)).
-      let P : ℕ → Type 0 = λ j. share_in j (with_share slot o shares) ≡ share_by place (active_at j ts) in
+      let P : ℕ → Type 0 = λ j. share_of_slot j (with_share slot o shares) ≡ share_by place (active_at j ts) in
       let inside : slot < length shares = (let p = held.places in omega arith) in
       subst P (sym h.1) (get_or-set_same shares slot o None inside ∙ here))
       (λ (h : ((k == slot) ≡ false) × (k ≢ slot)).
@@ -414,15 +414,15 @@ module _ (name : Bytes) (place : ℕ) (s : State) (shares : List (Option Usage))
     low : slot < s.slots
     low = subst (HasLowSlot s.slots) (active_at-Active slot s.records r stands) (active_at-all (λ t. HasLowSlot s.slots t.content) slot s.records r stands good.open_slots)
 
-    share_now : share_in slot shares ≡ (if r.namespace == place then Some (usage_of r.content) else None)
+    share_now : share_of_slot slot shares ≡ (if r.namespace == place then Some (usage_of r.content) else None)
     share_now = held.agrees slot low ∙ ap (share_by place) stands
 
     abbrev OnSlot : Given → State × Reply → Type 0
-    OnSlot given p = Turns name place s (slot_shares p.1 given slot shares) (slot_change p.1 given (share_in slot shares)) p.0
+    OnSlot given p = Turns name place s (slot_shares p.1 given slot shares) (slot_change p.1 given (share_of_slot slot shares)) p.0
 
     -- its share becomes another amount, and the records those that have it
     turned_to : (to : Usage) (o : Option Usage) (t : State) → t.namespaces ≡ s.namespaces → t.slots ≡ s.slots → o ≡ share_by place (active_at slot t.records) → ((k : ℕ) → k ≢ slot → active_at k t.records ≡ active_at k s.records)
-        → charge_of place t.records ≡ plus (charge_of place (without_slot slot s.records)) (if r.namespace == place then to else no_usage) → Turns name place s (with_share slot o shares) (changed_to to (share_in slot shares)) t
+        → charge_of place t.records ≡ plus (charge_of place (without_slot slot s.records)) (if r.namespace == place then to else no_usage) → Turns name place s (with_share slot o shares) (changed_to to (share_of_slot slot shares)) t
     turned_to to o t spaces as_many here others charged =
         subst (λ (x : Option Usage). Turns name place s (with_share slot o shares) (changed_to to x) t) (sym share_now)
         (record {
@@ -437,9 +437,9 @@ module _ (name : Bytes) (place : ℕ) (s : State) (shares : List (Option Usage))
         })
 
     -- charged anew
-    recharges : (to : Usage) (t : State) → t.namespaces ≡ s.namespaces → t.slots ≡ s.slots → t.records ≡ recharged slot to s.records → Turns name place s (recharged_to slot to shares) (changed_to to (share_in slot shares)) t
+    recharges : (to : Usage) (t : State) → t.namespaces ≡ s.namespaces → t.slots ≡ s.slots → t.records ≡ recharged slot to s.records → Turns name place s (recharged_to slot to shares) (changed_to to (share_of_slot slot shares)) t
     recharges to t spaces as_many is =
-        turned_to to (option_map (λ before. to) (share_in slot shares)) t spaces as_many
+        turned_to to (option_map (λ before. to) (share_of_slot slot shares)) t spaces as_many
         (ap (option_map (λ (before : Usage). to)) share_now ∙ mapped_if (r.namespace == place) (usage_of r.content) to
         ∙ sym (ap (λ (rs : List Record). share_by place (active_at slot rs)) is ∙ ap (share_by place) (active_at-recharged_own slot to s.records r stands)))
         (λ k ne. ap (active_at k) is ∙ active_at-recharged_other slot k to s.records ne)
@@ -481,10 +481,10 @@ module _ (name : Bytes) (place : ℕ) (s : State) (shares : List (Option Usage))
   Told call given p = Turns name place s (shares_by name shares given p.1 (namespace_in call) (slot_in call)) (change_by name shares given p.1 (namespace_in call) (slot_in call)) p.0
 
   -- the record of the slot that an allowed call is on
-  open_record : (id slot : ℕ) → IsOpen id (active_at slot s.records) → (r : Record) × (active_at slot s.records ≡ Some r)
+  open_record : (id slot : ℕ) → IsOpenSlot id (active_at slot s.records) → (r : Record) × (active_at slot s.records ≡ Some r)
   open_record id slot = by (active_at slot s.records)
     where
-      by : (o : Option Record) → IsOpen id o → (r : Record) × (o ≡ Some r)
+      by : (o : Option Record) → IsOpenSlot id o → (r : Record) × (o ≡ Some r)
       by None h = absurd h
       by (Some r) h = (r, refl)
 
@@ -539,12 +539,12 @@ module _ (name : Bytes) (place : ℕ) (s : State) (shares : List (Option Usage))
           (λ is. none_some place (sym e ∙ ap (λ (n : Bytes). place_of n s.namespaces) ((bytes_eq-Decides namespace name).0 is) ∙ held.named)))
       by (Some at) e = sym (own_is namespace at e)
 
-  own_slot : (slot : ℕ) (r : Record) → active_at slot s.records ≡ Some r → option_map_or (λ (p : ℕ). p == place) (option_or None (option_map (λ (t : Record). t.namespace) (active_at slot s.records))) false ≡ is_some (share_in slot shares)
+  own_slot : (slot : ℕ) (r : Record) → active_at slot s.records ≡ Some r → option_map_or (λ (p : ℕ). p == place) (option_or None (option_map (λ (t : Record). t.namespace) (active_at slot s.records))) false ≡ is_some (share_of_slot slot shares)
   own_slot slot r stands =
       ap (λ (o : Option Record). option_map_or (λ (p : ℕ). p == place) (option_or None (option_map (λ (t : Record). t.namespace) o)) false) stands
       ∙ sym (ap is_some (share_now slot r stands) ∙ some_if (r.namespace == place) (usage_of r.content))
 
-  pub own : (call : Call) (given : Given) → IsAllowed s call given → is_of place s call ≡ is_own name shares call
+  pub own : (call : Call) (given : Given) → IsAllowed s call given → is_call_of place s call ≡ is_own name shares call
   unfolding is_own
   own calls.Session given h = refl
   own (calls.Prepare namespace key parent labels) given h = own_named namespace

@@ -19,8 +19,8 @@ use Rattle.snap_history.specs.declared.info.EntryInfo.{EntryInfo}
 use Rattle.snap_history.specs.declared.change.Change.{Change}
 
 -- what the open snapshots of the namespace are charged, each in the place of its slot
-abbrev pub share_in : ℕ → List (Option Usage) → Option Usage
-share_in slot shares = slice_index_or shares slot None
+abbrev pub share_of_slot : ℕ → List (Option Usage) → Option Usage
+share_of_slot slot shares = slice_index_or shares slot None
 
 abbrev pub with_share : ℕ → Option Usage → List (Option Usage) → List (Option Usage)
 with_share slot share shares = slice_set shares slot share
@@ -53,7 +53,7 @@ slot_change reply given share = no_change
 
 abbrev pub change_by : Bytes → List (Option Usage) → Given → Reply → Option Bytes → Option ℕ → Change
 change_by name shares given reply (Some namespace) slot = named_change (bytes_eq namespace name) reply
-change_by name shares given reply None (Some slot) = slot_change reply given (share_in slot shares)
+change_by name shares given reply None (Some slot) = slot_change reply given (share_of_slot slot shares)
 change_by name shares given reply None None = no_change
 
 unfoldable pub change_of : Bytes → List (Option Usage) → Entry → Change
@@ -65,7 +65,7 @@ named_shares own shares (replies.Prepared id slot chain) = with_share slot (if o
 named_shares own shares reply = shares
 
 abbrev pub recharged_to : ℕ → Usage → List (Option Usage) → List (Option Usage)
-recharged_to slot now shares = with_share slot (option_map (λ before. now) (share_in slot shares)) shares
+recharged_to slot now shares = with_share slot (option_map (λ before. now) (share_of_slot slot shares)) shares
 
 abbrev pub slot_shares : Reply → Given → ℕ → List (Option Usage) → List (Option Usage)
 slot_shares (replies.Charged now) given slot shares = recharged_to slot now shares
@@ -85,7 +85,7 @@ shares_after name shares e = shares_by name shares e.given e.reply (namespace_in
 -- the entry is one of the namespace
 abbrev pub own_by : Bytes → List (Option Usage) → Option Bytes → Option ℕ → Bool
 own_by name shares (Some namespace) slot = bytes_eq namespace name
-own_by name shares None (Some slot) = is_some (share_in slot shares)
+own_by name shares None (Some slot) = is_some (share_of_slot slot shares)
 own_by name shares None None = false
 
 unfoldable pub is_own : Bytes → List (Option Usage) → Call → Bool
@@ -112,10 +112,10 @@ charge_before now [] = now
 charge_before now (c ∷ cs) = turned (charge_before now cs) c.left c.found
 
 -- the entries of the namespace among these, from the charge and the shares before them; the first one has the number after this one
-abbrev pub infos_of : Bytes → ℕ → List (Option Usage) → Usage → List Entry → List EntryInfo
-infos_of name number shares charge [] = []
-infos_of name number shares charge (e ∷ es) =
+abbrev pub entry_infos_of : Bytes → ℕ → List (Option Usage) → Usage → List Entry → List EntryInfo
+entry_infos_of name number shares charge [] = []
+entry_infos_of name number shares charge (e ∷ es) =
     let c = change_of name shares e in
     let after = turned charge c.found c.left in
-    let rest = infos_of name (number + 1) (shares_after name shares e) after es in
+    let rest = entry_infos_of name (number + 1) (shares_after name shares e) after es in
     if is_own name shares e.call then entry_info (number + 1) e after ∷ rest else rest

@@ -44,8 +44,8 @@ abbrev pub place_in : State → Call → Option ℕ
 place_in s call = option_or (option_and_then (λ name. place_of name s.namespaces) (namespace_in call)) (option_and_then (λ slot. option_map (λ r. r.namespace) (active_at slot s.records)) (slot_in call))
 
 -- the call is one of the namespace at the place
-abbrev pub is_of : ℕ → State → Call → Bool
-is_of place s call = option_map_or (λ p. p == place) (place_in s call) false
+abbrev pub is_call_of : ℕ → State → Call → Bool
+is_call_of place s call = option_map_or (λ p. p == place) (place_in s call) false
 
 -- the entries of the namespace at the place among these, in order, each with the charge in the state after it; the first state is the one before them all
 abbrev pub history : ℕ → State → List Entry → List EntryInfo
@@ -53,7 +53,7 @@ history place s [] = []
 history place s (e ∷ es) =
     let after = (step s e.call e.given).0 in
     let rest = history place after es in
-    if is_of place s e.call then entry_info after.entries e (charge_of place after.records) ∷ rest else rest
+    if is_call_of place s e.call then entry_info after.entries e (charge_of place after.records) ∷ rest else rest
 
 -- those of a greater number, at most so many
 abbrev pub history_page : ℕ → ℕ → List EntryInfo → List EntryInfo

@@ -4,7 +4,7 @@ ghost use Rattle.snap_call.specs.Journal.{Replays};
 ghost use Rattle.snap_call.specs.Records.{charge_of};
 ghost use Rattle.snap_call.specs.State.{place_of};
 ghost use Rattle.snap_call.specs.declared.state.State.{State};
-ghost use Rattle.snap_history.specs.Changes.{changes_of, charge_before, infos_of};
+ghost use Rattle.snap_history.specs.Changes.{changes_of, charge_before, entry_infos_of};
 ghost use Rattle.snap_history.specs.History.{history, history_page};
 ghost use Rattle.snap_history.specs.Open.{shares_of};
 
@@ -62,7 +62,7 @@ fn infos(
     most: usize,
 ) -> Result<Sequence<EntryInfo>, AllocError>
     requires { before + length entries.now < 2 ^ 64 }
-    ensures { IfOk result (λ infos. infos ≡ history_page after most (infos_of name.now before held.now opening entries.now)) }
+    ensures { IfOk result (λ infos. infos ≡ history_page after most (entry_infos_of name.now before held.now opening entries.now)) }
 {
     let mut shares = held.again(alloc)?;
     let mut infos = Sequence::new(alloc);

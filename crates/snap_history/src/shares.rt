@@ -1,6 +1,6 @@
 // What the open snapshots of a namespace are charged, entry by entry.
 ghost use Rattle.std.specs.Prelude.{◌≡◌, IfOk};
-ghost use Rattle.snap_history.specs.Changes.{change_of, is_own, named_shares, no_shares, recharged_to, share_in, shares_after, slot_shares, with_share};
+ghost use Rattle.snap_history.specs.Changes.{change_of, is_own, named_shares, no_shares, recharged_to, share_of_slot, shares_after, slot_shares, with_share};
 
 use crate::change::{Change, ONE, named_change, slot_change};
 use crate::target::{namespace_in, slot_in};
@@ -50,7 +50,7 @@ impl Shares {
 
     // What the namespace's open snapshot in the slot is charged.
     fn get(&self, slot: u64) -> Option<Usage>
-        ensures { result ≡ share_in slot self.now }
+        ensures { result ≡ share_of_slot slot self.now }
     {
         match self.list.get(slot as usize) {
             Some(share) => *share,

@@ -11,9 +11,9 @@ use Rattle.snap_lines.specs.Runs.{Breaks}
 use Rattle.snap_lines.specs.declared.stop.Stop.{Stop}
 use Rattle.snap_lines.specs.declared.stop.Stop.TheVariants.{Line, InputFailed, OutputFailed, OutOfMemory}
 use Rattle.snap_lines.specs.Transcripts.{Place, Stops, Tells, Transcript, cut, effect_at, effect_within, max_bytes, first_lines, goes_on, is_over_limit, place_after, start, transcript, transcript_from}
-use Rattle.snap_jobs.specs.Answer.{HasBroken, HasLacked, HasStopped, HasWritten, HasWrittenPart, IsText}
+use Rattle.snap_jobs.specs.Answer.{HasBroken, HasLacked, JobsHaveStopped, HasWritten, HasWrittenPart, IsText}
 use Rattle.snap_script.specs.declared.unknown.FieldRule.{FieldRule}
-use Rattle.snap_jobs.specs.Lines.{LinesValue, ReadValue, jobs_effect, taken, unread}
+use Rattle.snap_jobs.specs.Lines.{LinesValue, ReadValue, jobs_effect, read_after_line, unread}
 use Rattle.snap_jobs.specs.declared.stop.JobsStop.{JobsStop}
 use Rattle.snap_jobs.specs.declared.stop.JobsStop.TheVariants.{Lines, NotClosed, WantOfMemory}
 
@@ -28,7 +28,7 @@ silent_by rule (Err f) = tt
 
 silent : (lines : LinesValue) (bytes : List ℕ) → IsSilent (jobs_effect lines bytes)
 unfolding jobs_effect
-silent lines bytes = silent_by lines.fields (taken lines.fields lines.read bytes)
+silent lines bytes = silent_by lines.fields (read_after_line lines.fields lines.read bytes)
 
 silent_within : (left : Option ℕ) (read : LinesValue) (line : List ℕ) → IsSilent (effect_within jobs_effect left read line)
 silent_within None read line = silent read (take cut (without_feed line))
@@ -91,7 +91,7 @@ unfolding first_lines
 none_of_first read bytes n = no_text (start (Some max_bytes) read) (take n (lines_of bytes))
 
 -- where the lines end otherwise
-stopped_at : (told : Bool) (rule : FieldRule) (bytes : List ℕ) (left : Option (List ℕ)) (stop : Stop) (before after : Option (List ℕ)) → Stops (Some max_bytes) jobs_effect (unread rule) bytes left stop before after → HasStopped told rule bytes (Lines stop) before after
+stopped_at : (told : Bool) (rule : FieldRule) (bytes : List ℕ) (left : Option (List ℕ)) (stop : Stop) (before after : Option (List ℕ)) → Stops (Some max_bytes) jobs_effect (unread rule) bytes left stop before after → JobsHaveStopped told rule bytes (Lines stop) before after
 stopped_at told rule bytes left (Line f) before after h = (h.0, subst (Appends before after) (none_written (unread rule) bytes) h.1)
 stopped_at told rule bytes left InputFailed before after (read, taken, tells) = subst (Appends before after) (none_of_first (unread rule) bytes (feeds read)) tells.1
 stopped_at told rule bytes left OutputFailed before after (part, rest, is, wrote) = inl (subst (Appends before after) (no_front part rest (sym is ∙ none_written (unread rule) bytes)) wrote)
@@ -101,12 +101,12 @@ stopped_at told rule bytes left OutputFailed before after (part, rest, is, wrote
     no_front (x ∷ xs) ys e = absurd (cc)
 stopped_at told rule bytes left (OutOfMemory want) before after (n, tells) = subst (Appends before after) (none_of_first (unread rule) bytes n) tells.1
 
-pub lines_stopped : (told : Bool) (rule : FieldRule) (remaining left : Option (List ℕ)) (stop : Stop) (before after : Option (List ℕ)) → IfSome remaining (λ bytes. Stops (Some max_bytes) jobs_effect (unread rule) bytes left stop before after) → IfSome remaining (λ bytes. HasStopped told rule bytes (Lines stop) before after)
+pub lines_stopped : (told : Bool) (rule : FieldRule) (remaining left : Option (List ℕ)) (stop : Stop) (before after : Option (List ℕ)) → IfSome remaining (λ bytes. Stops (Some max_bytes) jobs_effect (unread rule) bytes left stop before after) → IfSome remaining (λ bytes. JobsHaveStopped told rule bytes (Lines stop) before after)
 lines_stopped told rule None left stop before after h = tt
 lines_stopped told rule (Some bytes) left stop before after h = stopped_at told rule bytes left stop before after h
 
 -- where what follows the lines ends otherwise
-broken_at : (told : Bool) (rule : FieldRule) (bytes : List ℕ) (read : Option ReadValue) (stop : JobsStop) (before mid after : Option (List ℕ)) → (transcript (Some max_bytes) jobs_effect (unread rule) bytes).value.read ≡ read → (transcript (Some max_bytes) jobs_effect (unread rule) bytes).fault ≡ None → Appends before mid [] → HasBroken told read stop mid after → HasStopped told rule bytes stop before after
+broken_at : (told : Bool) (rule : FieldRule) (bytes : List ℕ) (read : Option ReadValue) (stop : JobsStop) (before mid after : Option (List ℕ)) → (transcript (Some max_bytes) jobs_effect (unread rule) bytes).value.read ≡ read → (transcript (Some max_bytes) jobs_effect (unread rule) bytes).fault ≡ None → Appends before mid [] → HasBroken told read stop mid after → JobsHaveStopped told rule bytes stop before after
 broken_at told rule bytes read (Lines (Line f)) before mid after value fault none broke = absurd (cc)
 broken_at told rule bytes read (Lines InputFailed) before mid after value fault none broke = absurd (cc)
 broken_at told rule bytes read (Lines OutputFailed) before mid after value fault none (text, lacking, n, is, wrote) = inr (subst (λ (v : Option ReadValue). HasWrittenPart told v before after) (sym value) (text, lacking, n, is, appends_after before mid after (take n text) none wrote))
@@ -116,7 +116,7 @@ broken_at told rule bytes read (WantOfMemory jobs all) before mid after value fa
 
 pub broken : (told : Bool) (rule : FieldRule) (r : Result Unit JobsStop) (remaining : Option (List ℕ)) (read : Option ReadValue) (before mid after : Option (List ℕ))
     → IfSome remaining (λ bytes. Tells (transcript (Some max_bytes) jobs_effect (unread rule) bytes) None before mid) → IfSome remaining (λ bytes. (transcript (Some max_bytes) jobs_effect (unread rule) bytes).value.read ≡ read)
-    → IfErr r (λ stop. HasBroken told read stop mid after) → IfErr r (λ stop. IfSome remaining (λ bytes. HasStopped told rule bytes stop before after))
+    → IfErr r (λ stop. HasBroken told read stop mid after) → IfErr r (λ stop. IfSome remaining (λ bytes. JobsHaveStopped told rule bytes stop before after))
 broken told rule (Ok done) remaining read before mid after tells value broke = tt
 broken told rule (Err stop) None read before mid after tells value broke = tt
 broken told rule (Err stop) (Some bytes) read before mid after tells value broke = broken_at told rule bytes read stop before mid after value tells.0 (subst (Appends before mid) (none_written (unread rule) bytes) tells.1) broke

@@ -27,9 +27,9 @@ use Rattle.snap_jobs.specs.Lines.{ReadValue, jobs_transcript}
 use Rattle.snap_jobs.specs.Words.{is_of_jobs}
 
 -- a job that was committed
-abbrev pub is_committed : Ended → Bool
-is_committed (Committed id usage) = true
-is_committed end = false
+abbrev pub is_job_committed : Ended → Bool
+is_job_committed (Committed id usage) = true
+is_job_committed end = false
 
 -- a job that was to be discarded, and was
 abbrev pub is_discarded : Ended → Bool
@@ -38,19 +38,19 @@ is_discarded end = false
 
 -- a job that ended in any other way
 abbrev pub is_refused : Ended → Bool
-is_refused end = not (is_committed end) && not (is_discarded end)
+is_refused end = not (is_job_committed end) && not (is_discarded end)
 
 -- what the namespace of this name is charged; nothing where there is none
-abbrev pub total_of : BookValue → Bytes → Usage
-total_of book name = unwrap_or (option_map (λ place. charge_of place book.state.records) (place_of name book.state.namespaces)) no_usage
+abbrev pub book_total_of : BookValue → Bytes → Usage
+book_total_of book name = unwrap_or (option_map (λ place. charge_of place book.state.records) (place_of name book.state.namespaces)) no_usage
 
 -- each name with its total
-abbrev pub totals_of : BookValue → List Bytes → List (Bytes × Usage)
-totals_of book names = map (λ name. (name, total_of book name)) names
+abbrev pub book_totals_of : BookValue → List Bytes → List (Bytes × Usage)
+book_totals_of book names = map (λ name. (name, book_total_of book name)) names
 
 -- how many jobs ended in each way, and the totals
 abbrev pub answer_of : List Ended → BookValue → List Bytes → Answer
-answer_of ends book names = Jobs (count_by is_committed ends) (count_by is_discarded ends) (count_by is_refused ends) (totals_of book names)
+answer_of ends book names = Jobs (count_by is_job_committed ends) (count_by is_discarded ends) (count_by is_refused ends) (book_totals_of book names)
 
 -- the lines of the jobs' ends, where they are told
 abbrev pub ends_text : Bool → List Ended → List ℕ
@@ -94,8 +94,8 @@ HasBroken told read (Lines OutputFailed) before after = HasWrittenPart told read
 HasBroken told read stop before after = (is_of_jobs stop ≡ true) × (after ≡ before)
 
 -- where it ends otherwise over these bytes, by the fields that a line may have: a line's fault is the one that the lines have; where jobs lacked memory, no line has a fault, and the text is written; else nothing is, but where a write failed a first part of the text may be
-abbrev pub HasStopped : Bool → FieldRule → List ℕ → JobsStop → Option (List ℕ) → Option (List ℕ) → Type 0
-HasStopped told rule bytes (WantOfMemory jobs all) before after = ((jobs_transcript rule bytes).fault ≡ None) × HasLacked told (jobs_transcript rule bytes).value.read jobs all before after
-HasStopped told rule bytes (Lines (Line f)) before after = ((jobs_transcript rule bytes).fault ≡ Some f) × Appends before after []
-HasStopped told rule bytes (Lines OutputFailed) before after = Appends before after [] ⊎ HasWrittenPart told (jobs_transcript rule bytes).value.read before after
-HasStopped told rule bytes stop before after = Appends before after []
+abbrev pub JobsHaveStopped : Bool → FieldRule → List ℕ → JobsStop → Option (List ℕ) → Option (List ℕ) → Type 0
+JobsHaveStopped told rule bytes (WantOfMemory jobs all) before after = ((jobs_transcript rule bytes).fault ≡ None) × HasLacked told (jobs_transcript rule bytes).value.read jobs all before after
+JobsHaveStopped told rule bytes (Lines (Line f)) before after = ((jobs_transcript rule bytes).fault ≡ Some f) × Appends before after []
+JobsHaveStopped told rule bytes (Lines OutputFailed) before after = Appends before after [] ⊎ HasWrittenPart told (jobs_transcript rule bytes).value.read before after
+JobsHaveStopped told rule bytes stop before after = Appends before after []

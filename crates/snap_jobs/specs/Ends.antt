@@ -22,8 +22,8 @@ failure_name (File error) = error_name error
 failure_name (Book why) = refusal_name why
 
 -- a call for the job was refused: its word, and the name of the refusal
-abbrev pub call_data : ℕ → List ℕ → List ℕ → Data
-call_data job call name = object
+abbrev pub refused_call_data : ℕ → List ℕ → List ℕ → Data
+refused_call_data job call name = object
     (member (codes "call") (string call)
     (member (codes "job") (number_data job)
     (only (codes "refused") (string name))))
@@ -43,10 +43,10 @@ uncalled_data job name = object (member (codes "job") (number_data job) (only (c
 abbrev pub end_data : ℕ → Ended → Data
 end_data job (Committed id usage) = object (member (codes "committed") (reply_data (replies.Committed id usage)) (only (codes "job") (number_data job)))
 end_data job Discarded = object (member (codes "discarded") (boolean true) (only (codes "job") (number_data job)))
-end_data job (NotPrepared why) = call_data job (codes "prepare") (refusal_name why)
+end_data job (NotPrepared why) = refused_call_data job (codes "prepare") (refusal_name why)
 end_data job NoThread = uncalled_data job (codes "NoThread")
 end_data job (Failed op error) = operation_data job op (failure_name error)
-end_data job (NotCommitted why) = call_data job (codes "commit") (refusal_name why)
+end_data job (NotCommitted why) = refused_call_data job (codes "commit") (refusal_name why)
 end_data job NotRun = uncalled_data job (codes "NotRun")
 
 -- the line of a job: its text with no space between, and a line feed

@@ -20,13 +20,13 @@ use Rattle.snap_writers.specs.declared.job.End.TheVariants as ends
 use Rattle.snap_writers.specs.declared.job.Job.{Job}
 
 -- a job's end that is a commit
-abbrev pub commit_of : Data → Result End Fault
-commit_of line = do Ok (ends.Commit (← text fields.Name line) (← given as_str fields.Lease line))
+abbrev pub commit_end_of : Data → Result End Fault
+commit_end_of line = do Ok (ends.Commit (← text fields.Name line) (← given as_str fields.Lease line))
 
 -- a job's end by its word
 abbrev pub end_by : List ℕ → Data → Result End Fault
 end_by word line =
-    if bytes_eq word (codes "commit") then commit_of line
+    if bytes_eq word (codes "commit") then commit_end_of line
     else (if bytes_eq word (codes "discard") then Ok ends.Discard else Err (BadField fields.End (Some Text)))
 
 -- a job's end

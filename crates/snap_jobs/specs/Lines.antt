@@ -11,7 +11,7 @@ use Rattle.snap_script.specs.declared.fault.Found.TheVariants.{Object}
 use Rattle.snap_script.specs.declared.fault.Fault.{Fault}
 use Rattle.snap_script.specs.declared.fault.Fault.TheVariants.{TooLong, BadField}
 use Rattle.snap_script.specs.declared.unknown.FieldRule.{FieldRule}
-use Rattle.snap_script.specs.Lines.{is_empty, object_in, opening_of, told}
+use Rattle.snap_script.specs.Lines.{is_empty, object_in, opening_of, told_by_rule}
 use Rattle.snap_script.specs.Results.{◌>>=◌}
 use Rattle.snap_writers.specs.declared.job.Job.{Job}
 use Rattle.snap_lines.specs.Effects.{Effects}
@@ -42,8 +42,8 @@ abbrev pub there : Result ReadValue Fault → Result (Option ReadValue) Fault
 there reading = do Ok (Some (← reading))
 
 -- the same of any line, with a fault as the rule tells it; an empty one says nothing
-unfoldable pub taken : FieldRule → Option ReadValue → List ℕ → Result (Option ReadValue) Fault
-taken rule read bytes = if is_empty bytes then Ok read else there (told rule (read_with rule read bytes))
+unfoldable pub read_after_line : FieldRule → Option ReadValue → List ℕ → Result (Option ReadValue) Fault
+read_after_line rule read bytes = if is_empty bytes then Ok read else there (told_by_rule rule (read_with rule read bytes))
 
 -- which fields the lines may have, and what was read
 pub record LinesValue : Type 0 where
@@ -56,7 +56,7 @@ unread rule = record { fields = rule; read = None }
 
 -- what a line does: nothing is written for it
 unfoldable pub jobs_effect : Effects LinesValue
-jobs_effect lines bytes = do Ok (record { value = record { fields = lines.fields; read = (← taken lines.fields lines.read bytes) }; text = [] })
+jobs_effect lines bytes = do Ok (record { value = record { fields = lines.fields; read = (← read_after_line lines.fields lines.read bytes) }; text = [] })
 
 -- the transcript of a script of jobs, by the fields that its lines may have; they have at most 1 GiB
 abbrev pub jobs_transcript : FieldRule → List ℕ → Transcript LinesValue

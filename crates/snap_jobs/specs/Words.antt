@@ -19,7 +19,7 @@ is_of_jobs NotClosed = true
 is_of_jobs stop = false
 
 -- the status of a program that ends so
-abbrev pub status_of : JobsStop → ℕ
-status_of (Lines stop) = lines.status_of stop
-status_of NotClosed = 5
-status_of (WantOfMemory jobs all) = 4
+abbrev pub jobs_status_of : JobsStop → ℕ
+jobs_status_of (Lines stop) = lines.status_of stop
+jobs_status_of NotClosed = 5
+jobs_status_of (WantOfMemory jobs all) = 4

@@ -2,7 +2,7 @@
 ghost use Rattle.std.specs.Prelude.{◌≡◌, ◌++◌, IfOk, string_bytes};
 ghost use Rattle.std.specs.List.{count_by};
 ghost use Rattle.snap_script.specs.Answers.{answer_line};
-ghost use Rattle.snap_jobs.specs.Answer.{is_committed, is_discarded, is_refused, total_of, totals_of, answer_of, ends_text};
+ghost use Rattle.snap_jobs.specs.Answer.{is_job_committed, is_discarded, is_refused, book_total_of, book_totals_of, answer_of, ends_text};
 
 use crate::ends::end_lines;
 use snap_record::{Sequence, Text};
@@ -13,7 +13,7 @@ use snap_writers::{Ended, Report};
 use std::alloc::{AllocError, Global};
 
 fn is_committed(end: Ended) -> bool
-    ensures { result ≡ is_committed end }
+    ensures { result ≡ is_job_committed end }
 {
     match end {
         Ended::Committed { .. } => true,
@@ -37,7 +37,7 @@ fn is_refused(end: Ended) -> bool
 }
 
 fn committed(ends: &[Ended]) -> usize
-    ensures { result ≡ count_by is_committed ends.now }
+    ensures { result ≡ count_by is_job_committed ends.now }
 {
     ends.iter().filter(|end| is_committed(**end)).count()
 }
@@ -56,7 +56,7 @@ fn refused(ends: &[Ended]) -> usize
 
 // What the namespace of this name is charged.
 fn total_of<N: RoundName>(closed: &Closed<N>, name: &str) -> Usage
-    ensures { result ≡ total_of closed.now name.now }
+    ensures { result ≡ book_total_of closed.now name.now }
 {
     match closed.totals(name) {
         Some(total) => total,
@@ -69,7 +69,7 @@ fn totals_of<N: RoundName>(
     closed: &Closed<N>,
     names: &[Text],
 ) -> Result<Sequence<(Text, Usage)>, AllocError>
-    ensures { IfOk result (λ totals. totals ≡ totals_of closed.now names.now) }
+    ensures { IfOk result (λ totals. totals ≡ book_totals_of closed.now names.now) }
 {
     let mut totals = Sequence::new(alloc);
     for name in names {

@@ -6,7 +6,7 @@ ghost use Rattle.snap_json.specs.Tokens.{with_value};
 ghost use Rattle.snap_script.specs.Answers.{number_data, usage_data};
 ghost use Rattle.snap_script.specs.Written.{with_member};
 ghost use Rattle.snap_writers.specs.declared.job.Ended.TheVariants.{Committed, Discarded};
-ghost use Rattle.snap_jobs.specs.Ends.{call_data, end_data, end_line, end_lines, failure_name, is_failed_memory, is_file_memory, is_refused_memory, operation_data, uncalled_data, wants_memory};
+ghost use Rattle.snap_jobs.specs.Ends.{refused_call_data, end_data, end_line, end_lines, failure_name, is_failed_memory, is_file_memory, is_refused_memory, operation_data, uncalled_data, wants_memory};
 
 use snap_call::Refusal;
 use snap_json::{Token, Writer};
@@ -68,7 +68,7 @@ fn discarded(out: &mut Writer, job: u64) -> Result<(), AllocError>
 
 // A call for the job was refused.
 fn refused_call(out: &mut Writer, job: u64, call: &str, name: &str) -> Result<(), AllocError>
-    ensures { OnOk result (out.new ≡ with_value (call_data job call.now name.now) out.old) }
+    ensures { OnOk result (out.new ≡ with_value (refused_call_data job call.now name.now) out.old) }
 {
     out.token(Token::BeginObject)?;
     text_member(out, "call", call)?;

@@ -1,7 +1,7 @@
 //! Jobs on a store: lines are read, a store and then jobs on it, the jobs are run by workers on threads of
 //! their own, and one line tells how they ended, after a line for each job where that is asked for.
 //!
-//! What a line says is `taken` in `specs/Lines.antt`, what the jobs came to `answer_of` in
+//! What a line says is `read_after_line` in `specs/Lines.antt`, what the jobs came to `answer_of` in
 //! `specs/Answer.antt`, and how each ended `end_data` in `specs/Ends.antt`.
 #![tactic(auto)]
 

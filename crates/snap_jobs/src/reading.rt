@@ -160,7 +160,7 @@ impl<N: RoundName> TakeLine for JobLines<N> {
 
     ghost effect = { jobs_effect };
 
-    #[tactic(auto, unfolding(crate::specs::Lines::jobs_effect, crate::specs::Lines::taken))]
+    #[tactic(auto, unfolding(crate::specs::Lines::jobs_effect, crate::specs::Lines::read_after_line))]
     fn take_line(&mut self, alloc: Global, line: &[u8]) -> Result<Option<String>, ReadError> {
         if is_empty(line) {
             return Ok(None);

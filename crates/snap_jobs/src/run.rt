@@ -2,7 +2,7 @@ ghost use Rattle.std.specs.Prelude.{◌≡◌, ◌≤◌, ◌<◌, length, None,
 ghost use Rattle.std.specs.Io.KnownBytes.{Appends};
 ghost use Rattle.snap_lines.specs.Runs.{Breaks};
 ghost use Rattle.snap_writers.specs.Jobs.{IsReport};
-ghost use Rattle.snap_jobs.specs.Answer.{HasBroken, HasStopped, HasWritten, IsTextOf};
+ghost use Rattle.snap_jobs.specs.Answer.{HasBroken, JobsHaveStopped, HasWritten, IsTextOf};
 ghost use Rattle.snap_jobs.specs.Lines.{jobs_transcript};
 ghost use Rattle.snap_jobs.specs.Words.{is_of_jobs};
 ghost use Rattle.snap_jobs.specs.declared.stop.JobsStop.TheVariants.{WantOfMemory};
@@ -179,7 +179,7 @@ fn run<N: RoundName + Send + Sync, T: Threads + Wait + Sync, R: Input, W: Write>
     ensures done { OnOk result (IfSome (R.remaining input.old) (λ bytes. (jobs_transcript options.fields bytes).fault ≡ None)) }
     ensures written { OnOk result (IfSome (R.remaining input.old) (λ bytes. HasWritten options.ends (jobs_transcript options.fields bytes).value.read 0
         (W.contents output.old) (W.contents output.new))) }
-    ensures stopped { IfErr result (λ stop. IfSome (R.remaining input.old) (λ bytes. HasStopped options.ends options.fields bytes stop
+    ensures stopped { IfErr result (λ stop. IfSome (R.remaining input.old) (λ bytes. JobsHaveStopped options.ends options.fields bytes stop
         (W.contents output.old) (W.contents output.new))) }
 {
     let JobOptions {
@@ -232,7 +232,7 @@ pub fn write_jobs_within<T: Threads + Wait + Sync, R: Input, W: Write>(
     ensures done { OnOk result (IfSome (R.remaining input.old) (λ bytes. (jobs_transcript options.fields bytes).fault ≡ None)) }
     ensures written { OnOk result (IfSome (R.remaining input.old) (λ bytes. HasWritten options.ends (jobs_transcript options.fields bytes).value.read 0
         (W.contents output.old) (W.contents output.new))) }
-    ensures stopped { IfErr result (λ stop. IfSome (R.remaining input.old) (λ bytes. HasStopped options.ends options.fields bytes stop
+    ensures stopped { IfErr result (λ stop. IfSome (R.remaining input.old) (λ bytes. JobsHaveStopped options.ends options.fields bytes stop
         (W.contents output.old) (W.contents output.new))) }
 {
     let new = NewStore::new(alloc)?;
@@ -251,7 +251,7 @@ pub fn write_jobs<T: Threads + Wait + Sync, R: Input, W: Write>(
     ensures done { OnOk result (IfSome (R.remaining input.old) (λ bytes. (jobs_transcript options.fields bytes).fault ≡ None)) }
     ensures written { OnOk result (IfSome (R.remaining input.old) (λ bytes. HasWritten options.ends (jobs_transcript options.fields bytes).value.read 0
         (W.contents output.old) (W.contents output.new))) }
-    ensures stopped { IfErr result (λ stop. IfSome (R.remaining input.old) (λ bytes. HasStopped options.ends options.fields bytes stop
+    ensures stopped { IfErr result (λ stop. IfSome (R.remaining input.old) (λ bytes. JobsHaveStopped options.ends options.fields bytes stop
         (W.contents output.old) (W.contents output.new))) }
 {
     write_jobs_within(rt, alloc, input, output, options, READS)

@@ -1,6 +1,6 @@
 ghost use Rattle.std.specs.Prelude.{◌≡◌};
 ghost use Rattle.snap_path.specs.Memory.{no_memory};
-ghost use Rattle.snap_jobs.specs.Words.{status_of};
+ghost use Rattle.snap_jobs.specs.Words.{jobs_status_of};
 
 use snap_lines::Stop;
 use std::alloc::AllocError;
@@ -20,7 +20,7 @@ pub enum JobsStop {
 impl JobsStop {
     /// The status of a program that ends with it: that of the stop, 5 where the store was not closed, or 4.
     pub fn status(&self) -> u8
-        ensures { result ≡ status_of self.now }
+        ensures { result ≡ jobs_status_of self.now }
     {
         match self {
             JobsStop::Lines(stop) => stop.status(),

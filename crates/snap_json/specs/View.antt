@@ -8,9 +8,9 @@ use Rattle.snap_json.specs.declared.value.Value.{Value, fold-Value}
 use Rattle.snap_json.specs.declared.value.Value.TheOpen.{Value-F}
 
 -- the items, in their order
-abbrev pub items_of : List Data → Items
-items_of [] = no_items
-items_of (d ∷ ds) = item d (items_of ds)
+abbrev pub array_items_of : List Data → Items
+array_items_of [] = no_items
+array_items_of (d ∷ ds) = item d (array_items_of ds)
 
 -- the members with these put in, one after another: the last value of a name stays
 abbrev pub members_with : Members → List (Bor (List ℕ) × Data) → Members
@@ -23,7 +23,7 @@ view_step Value-F.Null = null
 view_step (Value-F.Bool b) = boolean b
 view_step (Value-F.Number x) = number (number_view x)
 view_step (Value-F.String s) = string s.now
-view_step (Value-F.Array v) = array (items_of v.items)
+view_step (Value-F.Array v) = array (array_items_of v.items)
 view_step (Value-F.Object v) = object (members_with no_members v.items)
 
 -- the data of a value
@@ -32,7 +32,7 @@ view = fold-Value Data view_step
 
 -- those of an array's items
 abbrev pub items_view : List Value → Items
-items_view vs = items_of (map view vs)
+items_view vs = array_items_of (map view vs)
 
 -- those of an object's members, as they came
 abbrev pub members_view : List (Bor (List ℕ) × Value) → Members

@@ -15,7 +15,7 @@ use Rattle.snap_lines.proofs.LineLaws.{line_split, line_last, line_begins, Begin
 use Rattle.snap_lines.specs.Effects.{Effect, Effects}
 use Rattle.snap_lines.specs.Lines.{lines_of, is_open, without_feed, feeds}
 use Rattle.snap_lines.specs.Transcripts.{Place, Transcript, Tells, TellsPart, prepended, transcript_from, effect_at, effect_within, goes_on, next_number, passes, left_after, place_after, max_line, cut}
-use Rattle.snap_lines.specs.Runs.{Behind, Run, within, kept, some_of, and_more, transcript_on, Goes, Ends, Takes, line_in, Refuses, Breaks, Leaves, StopsIn, StopsAtEnd}
+use Rattle.snap_lines.specs.Runs.{Behind, Run, within, kept_length, some_of, and_more, transcript_on, Goes, EndsAtFault, TakesLine, line_in, Refuses, Breaks, LeavesLine, StopsIn, StopsAtEnd}
 use Rattle.snap_lines.specs.declared.stop.LineFault.{LineFault}
 use Rattle.snap_lines.specs.declared.stop.Stop.{Stop}
 use Rattle.snap_lines.specs.declared.stop.Stop.TheVariants.{Line, InputFailed, OutputFailed, OutOfMemory}
@@ -73,7 +73,7 @@ goes_leads effect r q bytes x y g rest = g.leads None rest
 three : (a b more rest : List ℕ) → (a ++ (b ++ more)) ++ rest ≡ a ++ (b ++ (more ++ rest))
 three a b more rest = append_assoc a (b ++ more) rest ∙ ap (λ l. a ++ l) (append_assoc b more rest)
 
-pub goes_ends : {A : Type 0} (effect : Effects A) (r q : Run A) (a b more : List ℕ) (f : LineFault) (x y z : Option (List ℕ)) → Goes effect r a q x y → Ends effect q b f y z → Ends effect r (a ++ (b ++ more)) f x z
+pub goes_ends : {A : Type 0} (effect : Effects A) (r q : Run A) (a b more : List ℕ) (f : LineFault) (x y z : Option (List ℕ)) → Goes effect r a q x y → EndsAtFault effect q b f y z → EndsAtFault effect r (a ++ (b ++ more)) f x z
 goes_ends effect r q a b more f x y z g e = (
   g.written ++ e.0,
   e.1,
@@ -133,7 +133,7 @@ pub effect_over : {A : Type 0} (effect : Effects A) (place : Place A) (line : Li
 unfolding effect_at
 effect_over effect place line h = over_within effect place.left place.value line h
 
-fits_within : {A : Type 0} (effect : Effects A) (left : Option ℕ) (value : A) (p : List ℕ) (ended : Bool) → is_open p ≡ true → length p ≤ kept left → passes left (length (line_in p ended)) ≡ false
+fits_within : {A : Type 0} (effect : Effects A) (left : Option ℕ) (value : A) (p : List ℕ) (ended : Bool) → is_open p ≡ true → length p ≤ kept_length left → passes left (length (line_in p ended)) ≡ false
     → effect_within effect left value (line_in p ended) ≡ effect value p
 fits_within effect None value p ended o short h = ap (λ l. effect value (take cut l)) (feed_line p ended o) ∙ ap (effect value) (take_all cut p short)
 fits_within effect (Some left) value p ended o short h =
@@ -141,7 +141,7 @@ fits_within effect (Some left) value p ended o short h =
     ∙ ap (λ l. cond (nat_lt max_line (length l)) (Err TooLong) (effect value l)) (feed_line p ended o)
     ∙ ap (λ t. cond t (Err TooLong) (effect value p)) (le-ltb max_line (length p) short)
 
-pub effect_fits : {A : Type 0} (effect : Effects A) (place : Place A) (p : List ℕ) (ended : Bool) → is_open p ≡ true → length p ≤ kept place.left → passes place.left (length (line_in p ended)) ≡ false
+pub effect_fits : {A : Type 0} (effect : Effects A) (place : Place A) (p : List ℕ) (ended : Bool) → is_open p ≡ true → length p ≤ kept_length place.left → passes place.left (length (line_in p ended)) ≡ false
     → effect_at effect place (line_in p ended) ≡ effect place.value p
 unfolding effect_at
 effect_fits effect place p ended o short h = fits_within effect place.left place.value p ended o short h
@@ -163,13 +163,13 @@ line_len p true n k h e = let l = length-append p (10 ∷ []) in omega arith
 line_len p false n k h e = omega arith
 
 pub leaves_refused : {A : Type 0} (effect : Effects A) (r : Run A) (line : List ℕ) (reading : Result (Effect A) Fault) (lines : ℕ) (stop : Stop) (x : Option (List ℕ)) → effect_at effect r.place line ≡ reading → lines ≡ r.place.lines
-    → Refuses reading lines stop → Leaves effect r line stop x x
+    → Refuses reading lines stop → LeavesLine effect r line stop x x
 leaves_refused effect r line reading lines (Line f) x e n h = ((e ∙ h.0, h.1 ∙ ap next_number n), refl)
 leaves_refused effect r line reading lines InputFailed x e n h = absurd h
 leaves_refused effect r line reading lines OutputFailed x e n h = absurd h
 leaves_refused effect r line reading lines (OutOfMemory want) x e n h = (tt, refl)
 
-pub leaves_broken : {A : Type 0} (effect : Effects A) (r : Run A) (line : List ℕ) (e : Effect A) (stop : Stop) (x y : Option (List ℕ)) → effect_at effect r.place line ≡ Ok e → Breaks e.text stop x y → Leaves effect r line stop x y
+pub leaves_broken : {A : Type 0} (effect : Effects A) (r : Run A) (line : List ℕ) (e : Effect A) (stop : Stop) (x y : Option (List ℕ)) → effect_at effect r.place line ≡ Ok e → Breaks e.text stop x y → LeavesLine effect r line stop x y
 leaves_broken effect r line e (Line f) x y is b = absurd b
 leaves_broken effect r line e InputFailed x y is b = absurd b
 leaves_broken effect r line e OutputFailed x y is b = (e, is, b)
@@ -189,7 +189,7 @@ line_err effect place line lines f e h =
     ap (λ z. goes_on place line z (λ p. transcript_from effect p lines)) e
     ∙ ap (λ n. record { text = []; fault = Some (record { line = n; cause = f.cause }); value = place.value }) (sym h)
 
-pub newline_goes : {A : Type 0} (effect : Effects A) (r q : Run A) (x y : Option (List ℕ)) → is_open r.pending ≡ true → Takes effect r (line_in r.pending true) q x y → Goes effect r (10 ∷ []) q x y
+pub newline_goes : {A : Type 0} (effect : Effects A) (r q : Run A) (x y : Option (List ℕ)) → is_open r.pending ≡ true → TakesLine effect r (line_in r.pending true) q x y → Goes effect r (10 ∷ []) q x y
 unfolding transcript_on
 newline_goes effect r q x y o t = record {
   written = t.0;
@@ -202,7 +202,7 @@ newline_goes effect r q x y o t = record {
 }
 
 pub newline_ends : {A : Type 0} (effect : Effects A) (r : Run A) (f : LineFault) (x : Option (List ℕ)) → is_open r.pending ≡ true → effect_at effect r.place (line_in r.pending true) ≡ Err f.cause → f.line ≡ next_number r.place.lines
-    → Ends effect r (10 ∷ []) f x x
+    → EndsAtFault effect r (10 ∷ []) f x x
 unfolding transcript_on
 newline_ends effect r f x o e h =
     ([], r.place.value, Appends-nil x, λ rest. ap (transcript_from effect r.place) (line_split r.pending rest o) ∙ line_err effect r.place (line_in r.pending true) (lines_of rest) f e h)
@@ -281,7 +281,7 @@ cut_alike effect r b n rest e o none long =
     ∙ ap (λ l. transcript_from effect r.place (some_of n l)) (sym both.short)
 
 -- a line that has passed its limit and goes on is cut
-pub is_cut : (left : Option ℕ) (n : ℕ) → n ≤ kept left → max_line < n → (left ≡ None) × (n ≡ cut)
+pub is_cut : (left : Option ℕ) (n : ℕ) → n ≤ kept_length left → max_line < n → (left ≡ None) × (n ≡ cut)
 is_cut None n fits long = (refl, omega arith)
 is_cut (Some k) n fits long = absurd (omega arith)
 
@@ -299,8 +299,8 @@ pub stops_before : {A : Type 0} (effect : Effects A) (r : Run A) (bytes : List �
 stops_before effect r bytes want x y e = record { part = []; more = bytes; place = r; is = refl; goes = subst (λ z. Goes effect r [] r x z) (sym e) (goes_none effect r x) }
 
 -- a line feed, where its line was not taken
-pub newline_stops : {A : Type 0} (effect : Effects A) (r : Run A) (stop : Stop) (x y : Option (List ℕ)) → is_open r.pending ≡ true → Leaves effect r (line_in r.pending true) stop x y → StopsIn effect r (10 ∷ []) stop x y
-newline_stops effect r (Line f) x y o h = subst (λ z. Ends effect r (10 ∷ []) f x z) (sym h.1) (newline_ends effect r f x o h.0.0 h.0.1)
+pub newline_stops : {A : Type 0} (effect : Effects A) (r : Run A) (stop : Stop) (x y : Option (List ℕ)) → is_open r.pending ≡ true → LeavesLine effect r (line_in r.pending true) stop x y → StopsIn effect r (10 ∷ []) stop x y
+newline_stops effect r (Line f) x y o h = subst (λ z. EndsAtFault effect r (10 ∷ []) f x z) (sym h.1) (newline_ends effect r f x o h.0.0 h.0.1)
 newline_stops effect r InputFailed x y o h = absurd h.0
 newline_stops effect r OutputFailed x y o h = newline_breaks effect r h.0 x y o h.1 h.2
 newline_stops effect r (OutOfMemory want) x y o h = stops_before effect r (10 ∷ []) want x y h.1
@@ -325,7 +325,7 @@ long_effect effect place p more o limited h =
     long_within effect place.left place.value (p ++ more) limited (omega arith)
 
 pub long_ends : {A : Type 0} (effect : Effects A) (r : Run A) (b : ℕ) (f : LineFault) (x : Option (List ℕ)) → is_open r.pending ≡ true → (b == 10) ≡ false → is_some r.place.left ≡ true → length r.pending ≡ max_line
-    → f ≡ record { line = next_number r.place.lines; cause = TooLong } → Ends effect r (b ∷ []) f x x
+    → f ≡ record { line = next_number r.place.lines; cause = TooLong } → EndsAtFault effect r (b ∷ []) f x x
 unfolding transcript_on
 long_ends effect r b f x o e limited h is =
     let p = r.pending ++ b ∷ [] in
@@ -359,17 +359,17 @@ line_end : (p : List ℕ) → is_open p ≡ true → 0 < length p → lines_of (
 line_end [] o h = absurd (omega arith)
 line_end (b ∷ p) o h = ap (λ l. lines_of (b ∷ l)) (append-nil p) ∙ line_last b p o
 
-end_is : {A : Type 0} (effect : Effects A) (r q : Run A) (x y : Option (List ℕ)) → is_open r.pending ≡ true → 0 < length r.pending → (t : Takes effect r (line_in r.pending false) q x y)
+end_is : {A : Type 0} (effect : Effects A) (r q : Run A) (x y : Option (List ℕ)) → is_open r.pending ≡ true → 0 < length r.pending → (t : TakesLine effect r (line_in r.pending false) q x y)
     → transcript_on effect r None [] ≡ record { text = t.0; fault = None; value = q.place.value }
 unfolding transcript_on
 end_is effect r q x y o h t =
     ap (transcript_from effect r.place) (line_end r.pending o h) ∙ line_ok effect r q r.pending t.0 t.1 t.2 []
     ∙ ap (λ l. record { text = l; fault = None; value = q.place.value }) (append-nil t.0)
 
-pub end_ok : {A : Type 0} (effect : Effects A) (r q : Run A) (x y : Option (List ℕ)) → is_open r.pending ≡ true → 0 < length r.pending → Takes effect r (line_in r.pending false) q x y → Tells (transcript_on effect r None []) None x y
+pub end_ok : {A : Type 0} (effect : Effects A) (r q : Run A) (x y : Option (List ℕ)) → is_open r.pending ≡ true → 0 < length r.pending → TakesLine effect r (line_in r.pending false) q x y → Tells (transcript_on effect r None []) None x y
 end_ok effect r q x y o h t = tells (transcript_on effect r None []) t.0 None q.place.value x y (end_is effect r q x y o h t) t.3
 
-pub end_value : {A : Type 0} (effect : Effects A) (r q : Run A) (x y : Option (List ℕ)) → is_open r.pending ≡ true → 0 < length r.pending → Takes effect r (line_in r.pending false) q x y → (transcript_on effect r None []).value ≡ q.place.value
+pub end_value : {A : Type 0} (effect : Effects A) (r q : Run A) (x y : Option (List ℕ)) → is_open r.pending ≡ true → 0 < length r.pending → TakesLine effect r (line_in r.pending false) q x y → (transcript_on effect r None []).value ≡ q.place.value
 end_value effect r q x y o h t = ap (λ z. z.value) (end_is effect r q x y o h t)
 
 pub end_err : {A : Type 0} (effect : Effects A) (r : Run A) (f : LineFault) (x : Option (List ℕ)) → is_open r.pending ≡ true → 0 < length r.pending → effect_at effect r.place (line_in r.pending false) ≡ Err f.cause → f.line ≡ next_number r.place.lines
@@ -392,7 +392,7 @@ end_breaks effect r e x y o h is b =
     )
 
 -- the end of the input, where the last line was not taken
-pub end_stops : {A : Type 0} (effect : Effects A) (r : Run A) (stop : Stop) (x y : Option (List ℕ)) → is_open r.pending ≡ true → 0 < length r.pending → Leaves effect r (line_in r.pending false) stop x y → StopsAtEnd effect r stop x y
+pub end_stops : {A : Type 0} (effect : Effects A) (r : Run A) (stop : Stop) (x y : Option (List ℕ)) → is_open r.pending ≡ true → 0 < length r.pending → LeavesLine effect r (line_in r.pending false) stop x y → StopsAtEnd effect r stop x y
 end_stops effect r (Line f) x y o more h = subst (λ z. Tells (transcript_on effect r None []) (Some f) x z) (sym h.1) (end_err effect r f x o more h.0.0 h.0.1)
 end_stops effect r InputFailed x y o more h = absurd h.0
 end_stops effect r OutputFailed x y o more h = end_breaks effect r h.0 x y o more h.1 h.2

@@ -21,9 +21,9 @@ abbrev pub nothing : Option ℕ → Behind
 nothing most = record { lines = 0; left = most; pending = [] }
 
 -- a line that is cut is known by its length
-abbrev pub kept : Option ℕ → ℕ
-kept None = cut
-kept (Some left) = max_line
+abbrev pub kept_length : Option ℕ → ℕ
+kept_length None = cut
+kept_length (Some left) = max_line
 
 -- a place within a line, of which pending has come
 pub record Run (A : Type 0) : Type 0 where
@@ -59,8 +59,8 @@ abbrev pub Faults : {A : Type 0} → Effects A → Run A → List ℕ → LineFa
 Faults effect r bytes f value written = (rest : List ℕ) → transcript_on effect r None (bytes ++ rest) ≡ record { text = written; fault = Some f; value = value }
 
 -- bytes lead to a fault, and what is written before it goes to the output
-abbrev pub Ends : {A : Type 0} → Effects A → Run A → List ℕ → LineFault → Option (List ℕ) → Option (List ℕ) → Type 0
-Ends {A} effect r bytes f before behind = (written : List ℕ) × (value : A) × Appends before behind written × Faults effect r bytes f value written
+abbrev pub EndsAtFault : {A : Type 0} → Effects A → Run A → List ℕ → LineFault → Option (List ℕ) → Option (List ℕ) → Type 0
+EndsAtFault {A} effect r bytes f before behind = (written : List ℕ) × (value : A) × Appends before behind written × Faults effect r bytes f value written
 
 -- some of the bytes, the first ones, lead from r to a place, and what is written for the lines in them goes to the output
 pub record GoesPart {A : Type 0} (effect : Effects A) (r : Run A) (bytes : List ℕ) (before behind : Option (List ℕ)) : Type 0 where
@@ -72,7 +72,7 @@ pub record GoesPart {A : Type 0} (effect : Effects A) (r : Run A) (bytes : List 
 
 -- what went to the output where the run stops within the bytes, or, at a write that failed, after them
 abbrev pub StopsIn : {A : Type 0} → Effects A → Run A → List ℕ → Stop → Option (List ℕ) → Option (List ℕ) → Type 0
-StopsIn effect r bytes (Line f) before behind = Ends effect r bytes f before behind
+StopsIn effect r bytes (Line f) before behind = EndsAtFault effect r bytes f before behind
 StopsIn effect r bytes InputFailed before behind = ⊥
 StopsIn effect r bytes OutputFailed before behind = (rest : List ℕ) → TellsPart (transcript_on effect r None (bytes ++ rest)) before behind
 StopsIn effect r bytes (OutOfMemory want) before behind = GoesPart effect r bytes before behind
@@ -89,8 +89,8 @@ abbrev pub line_in : List ℕ → Bool → List ℕ
 line_in pending ended = if ended then pending ++ 10 ∷ [] else pending
 
 -- a line was taken, and its text went to the output
-abbrev pub Takes : {A : Type 0} → Effects A → Run A → List ℕ → Run A → Option (List ℕ) → Option (List ℕ) → Type 0
-Takes effect r line q before behind = (text : List ℕ) × (effect_at effect r.place line ≡ Ok (record { value = q.place.value; text = text }))
+abbrev pub TakesLine : {A : Type 0} → Effects A → Run A → List ℕ → Run A → Option (List ℕ) → Option (List ℕ) → Type 0
+TakesLine effect r line q before behind = (text : List ℕ) × (effect_at effect r.place line ≡ Ok (record { value = q.place.value; text = text }))
     × (q ≡ record { place = place_after r.place line q.place.value; pending = [] }) × Appends before behind text
 
 -- the line after so many has this fault, or memory was refused
@@ -105,6 +105,6 @@ Breaks text OutputFailed before behind = (n : ℕ) × Appends before behind (tak
 Breaks text stop before behind = ⊥
 
 -- a line was not taken: it has a fault or memory was refused, and nothing went to the output, or a first part of its text did
-abbrev pub Leaves : {A : Type 0} → Effects A → Run A → List ℕ → Stop → Option (List ℕ) → Option (List ℕ) → Type 0
-Leaves {A} effect r line OutputFailed before behind = (e : Effect A) × (effect_at effect r.place line ≡ Ok e) × Breaks e.text OutputFailed before behind
-Leaves effect r line stop before behind = Refuses (effect_at effect r.place line) r.place.lines stop × (behind ≡ before)
+abbrev pub LeavesLine : {A : Type 0} → Effects A → Run A → List ℕ → Stop → Option (List ℕ) → Option (List ℕ) → Type 0
+LeavesLine {A} effect r line OutputFailed before behind = (e : Effect A) × (effect_at effect r.place line ≡ Ok e) × Breaks e.text OutputFailed before behind
+LeavesLine effect r line stop before behind = Refuses (effect_at effect r.place line) r.place.lines stop × (behind ≡ before)

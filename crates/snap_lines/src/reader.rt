@@ -4,7 +4,7 @@ ghost use Rattle.std.specs.Io.KnownBytes.{Appends};
 ghost use Rattle.snap_script.specs.declared.fault.Shortage.{Shortage};
 ghost use Rattle.snap_lines.specs.Effects.{effect_with, text_bytes};
 ghost use Rattle.snap_lines.specs.Transcripts.{Tells, next_number, passes, left_after};
-ghost use Rattle.snap_lines.specs.Runs.{nothing, within, transcript_on, line_in, Takes, Goes, Refuses, Breaks, Leaves, StopsIn, StopsAtEnd};
+ghost use Rattle.snap_lines.specs.Runs.{nothing, within, transcript_on, line_in, TakesLine, Goes, Refuses, Breaks, LeavesLine, StopsIn, StopsAtEnd};
 
 use crate::stop::{LineFault, Stop};
 use crate::take::TakeLine;
@@ -108,13 +108,13 @@ pub(crate) struct Reader {
 impl Model for Reader {
     ghost use Rattle.std.specs.Prelude.{◌≡◌, ◌≤◌, true, length};
     ghost use Rattle.snap_lines.specs.Lines.{is_open};
-    ghost use Rattle.snap_lines.specs.Runs.{Behind, kept};
+    ghost use Rattle.snap_lines.specs.Runs.{Behind, kept_length};
 
     ghost Value = { Behind };
 
     ghost view = { λ s. record { lines = s.lines; left = s.left; pending = s.pending.items } };
 
-    ghost invariant = { λ s. (length s.pending.items ≤ kept s.left) × (is_open s.pending.items ≡ true) };
+    ghost invariant = { λ s. (length s.pending.items ≤ kept_length s.left) × (is_open s.pending.items ≡ true) };
 }
 
 impl Reader {
@@ -138,9 +138,9 @@ impl Reader {
         output: &mut W,
     ) -> Result<(), Stop>
         requires { ended ≡ false → 0 < length self.old.pending }
-        ensures ok { OnOk result (Takes T.effect (within self.old taker.old) (line_in self.old.pending ended)
+        ensures ok { OnOk result (TakesLine T.effect (within self.old taker.old) (line_in self.old.pending ended)
             (within self.new taker.new) (W.contents output.old) (W.contents output.new)) }
-        ensures err { IfErr result (λ stop. Leaves T.effect (within self.old taker.old) (line_in self.old.pending ended) stop
+        ensures err { IfErr result (λ stop. LeavesLine T.effect (within self.old taker.old) (line_in self.old.pending ended) stop
             (W.contents output.old) (W.contents output.new)) }
         ensures memory { (want : Shortage) → result ≡ Err (Stop.OutOfMemory want) → T.wanting taker.new }
     {

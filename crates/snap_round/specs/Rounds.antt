@@ -12,8 +12,8 @@ abbrev pub no_round : Round
 no_round = record { opening = record { root = []; namespaces = []; slots = 0; records = []; leases = []; next_id = 0; sessions = 0; entries = 0; layer_inodes = 0 }; limit = 0 }
 
 -- both halves in one
-abbrev pub whole : Round → RoundView
-whole r = record { inner = true; outer = true; round = r; met = r }
+abbrev pub whole_round : Round → RoundView
+whole_round r = record { inner = true; outer = true; round = r; met = r }
 
 -- the half under the lock
 abbrev pub inner : Round → RoundView
@@ -34,24 +34,24 @@ abbrev pub outer_of : RoundView → RoundView
 outer_of v = outer v.round
 
 -- both halves again, each with its round
-abbrev pub joined : RoundView → RoundView → RoundView
-joined v w = record { inner = true; outer = true; round = v.round; met = w.round }
+abbrev pub joined_rounds : RoundView → RoundView → RoundView
+joined_rounds v w = record { inner = true; outer = true; round = v.round; met = w.round }
 
 -- what the rule says of the views of two seats: there is one half of each kind, and both have the same round
-pub record Agree (v w : RoundView) : Type 0 where
+pub record RoundsAgree (v w : RoundView) : Type 0 where
   pub one_inner : v.inner ≡ true → w.inner ≡ true → ⊥
   pub one_outer : v.outer ≡ true → w.outer ≡ true → ⊥
   pub same : v.inner ≡ true → w.outer ≡ true → v.round ≡ w.round
 
 -- the rule: what was joined had the same round, and each two of different seats agree
-pub record AllAgree (views : List RoundView) : Type 0 where
+pub record AllRoundsAgree (views : List RoundView) : Type 0 where
   pub each : (i : ℕ) (v : RoundView) → get_elem? views i ≡ some v → v.met ≡ v.round
-  pub two : (i j : ℕ) (v w : RoundView) → i ≢ j → get_elem? views i ≡ some v → get_elem? views j ≡ some w → Agree v w
+  pub two : (i j : ℕ) (v w : RoundView) → i ≢ j → get_elem? views i ≡ some v → get_elem? views j ≡ some w → RoundsAgree v w
 
 -- a load changes no view, and tells that what was joined had the same round
-abbrev pub Checked : Step Unit → Me Unit RoundView → ℕ → Me Unit RoundView → Type 0
-Checked s v n w = (w ≡ v) × (v.0.met ≡ v.0.round)
+abbrev pub RoundChecked : Step Unit → Me Unit RoundView → ℕ → Me Unit RoundView → Type 0
+RoundChecked s v n w = (w ≡ v) × (v.0.met ≡ v.0.round)
 
 -- after a set both halves have the round
-abbrev pub SetTo : Round → Step Unit → Me Unit RoundView → ℕ → Me Unit RoundView → Type 0
-SetTo r s v n w = w ≡ (whole r, v.1)
+abbrev pub RoundSetTo : Round → Step Unit → Me Unit RoundView → ℕ → Me Unit RoundView → Type 0
+RoundSetTo r s v n w = w ≡ (whole_round r, v.1)

@@ -1,6 +1,6 @@
 // The names of a store's tables, and the tables before it is opened.
 ghost use Rattle.std.specs.Prelude.{◌≡◌, IfOk};
-ghost use Rattle.snap_round.specs.Rounds.{whole};
+ghost use Rattle.snap_round.specs.Rounds.{whole_round};
 
 use crate::rule::{RoundTable, RoundView};
 use crate::tie::Tie;
@@ -47,7 +47,7 @@ impl Model for NewStore {
     ghost use Rattle.std.specs.Prelude.{◌≡◌, ◌<◌, []};
     ghost use Rattle.std.specs.Coded.{coded×};
     ghost use Rattle.atomic_table.specs.Seated.{TableId, table_id_coded};
-    ghost use Rattle.snap_round.specs.Rounds.{no_round, whole};
+    ghost use Rattle.snap_round.specs.Rounds.{no_round, whole_round};
 
     ghost Value = { TableId × TableId };
 
@@ -55,7 +55,7 @@ impl Model for NewStore {
 
     ghost view = { λ n. (n.charges, n.rounds.shared.table_id) };
 
-    ghost invariant = { λ n. (n.seat.table_id ≡ n.rounds.shared.table_id) × (0 < n.rounds.shared.table_id.words) × (n.seat.me ≡ (whole no_round, [])) };
+    ghost invariant = { λ n. (n.seat.table_id ≡ n.rounds.shared.table_id) × (0 < n.rounds.shared.table_id.words) × (n.seat.me ≡ (whole_round no_round, [])) };
 }
 
 impl NewStore {
@@ -78,7 +78,7 @@ impl NewStore {
     pub fn into_parts<N: RoundName>(self) -> (NewTable, Tie<N>)
         requires { self ≡ (N.table, N.rounds) }
         ensures charges { result.0 ≡ N.table }
-        ensures whole { result.1 ≡ whole result.1.round }
+        ensures whole { result.1 ≡ whole_round result.1.round }
     {
         let NewStore {
             charges,

@@ -29,11 +29,11 @@ pub(crate) struct HalvesRule;
 pub(crate) type RoundTable = Table<(), RoundView, (), HalvesRule, Global>;
 
 impl TableRule<(), RoundView, ()> for HalvesRule {
-    ghost use Rattle.snap_round.specs.Rounds.{AllAgree, no_round, whole};
+    ghost use Rattle.snap_round.specs.Rounds.{AllRoundsAgree, no_round, whole_round};
 
-    ghost holds = { λ _ s. AllAgree s.views };
+    ghost holds = { λ _ s. AllRoundsAgree s.views };
 
-    ghost first = { λ _. whole no_round };
+    ghost first = { λ _. whole_round no_round };
 }
 
 // Splits the inner half off.
@@ -51,9 +51,9 @@ impl Split<RoundView> for SplitInner {
 pub(crate) struct JoinInner;
 
 impl Join<RoundView> for JoinInner {
-    ghost use Rattle.snap_round.specs.Rounds.{joined, neither};
+    ghost use Rattle.snap_round.specs.Rounds.{joined_rounds, neither};
 
-    ghost both = { joined };
+    ghost both = { joined_rounds };
 
     ghost spent = { neither };
 }
@@ -62,9 +62,9 @@ impl Join<RoundView> for JoinInner {
 pub(crate) struct LoadMet;
 
 impl Play<(), RoundView> for LoadMet {
-    ghost use Rattle.snap_round.specs.Rounds.{Checked};
+    ghost use Rattle.snap_round.specs.Rounds.{RoundChecked};
 
-    ghost then = { Checked };
+    ghost then = { RoundChecked };
 }
 
 // Sets the round of both halves.
@@ -73,7 +73,7 @@ pub(crate) struct SetRound<K: KnownRound> {
 }
 
 impl<K: KnownRound> Play<(), RoundView> for SetRound<K> {
-    ghost use Rattle.snap_round.specs.Rounds.{SetTo};
+    ghost use Rattle.snap_round.specs.Rounds.{RoundSetTo};
 
-    ghost then = { SetTo K.round };
+    ghost then = { RoundSetTo K.round };
 }

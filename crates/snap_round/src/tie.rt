@@ -1,6 +1,6 @@
 // The two halves of a round, and the steps that split and join them.
 ghost use Rattle.std.specs.Prelude.{◌≡◌, ◌<◌, []};
-ghost use Rattle.snap_round.specs.Rounds.{inner, outer, whole};
+ghost use Rattle.snap_round.specs.Rounds.{inner, outer, whole_round};
 
 use crate::name::{KnownRound, RoundName};
 use crate::rest::Resting;
@@ -61,8 +61,8 @@ impl<N: RoundName> Tie<N> {
 
     /// Both halves at another round. Takes no memory, as no call of a tie does. The cost is constant.
     pub fn begin<K: KnownRound>(self) -> Tie<N>
-        requires { self ≡ whole self.round }
-        ensures { result ≡ whole K.round }
+        requires { self ≡ whole_round self.round }
+        ensures { result ≡ whole_round K.round }
     {
         let Tie { table, seat, of: _ } = self;
         let mut seat = seat.into_seat();
@@ -74,7 +74,7 @@ impl<N: RoundName> Tie<N> {
 
     /// Splits the inner half off.
     pub fn split(self) -> (Tie<N>, Half<N>)
-        requires { self ≡ whole self.round }
+        requires { self ≡ whole_round self.round }
         ensures outer { result.0 ≡ outer self.round }
         ensures inner { result.1 ≡ inner self.round }
     {
@@ -93,7 +93,7 @@ impl<N: RoundName> Tie<N> {
         requires outer { self ≡ outer self.round }
         requires inner { half ≡ inner half.round }
         ensures met { half.round ≡ self.round }
-        ensures whole { result ≡ whole self.round }
+        ensures whole { result ≡ whole_round self.round }
     {
         let Half { seat, of: _ } = half;
         let Tie {

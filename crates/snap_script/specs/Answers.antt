@@ -87,9 +87,9 @@ abbrev pub only : List ℕ → Data → Members
 only key value = member key value no_members
 
 -- the members with one more for each entry, in byte order of the keys
-abbrev pub members_with : {A : Type 0} → (A → Data) → List (Bytes × A) → Members → Members
-members_with value [] found = found
-members_with value (entry ∷ entries) found = members_with value entries (put entry.0 (value entry.1) found)
+abbrev pub members_with_entries : {A : Type 0} → (A → Data) → List (Bytes × A) → Members → Members
+members_with_entries value [] found = found
+members_with_entries value (entry ∷ entries) found = members_with_entries value entries (put entry.0 (value entry.1) found)
 
 -- an info's parts, as containerd's Stat has them
 abbrev pub info_data : Info → Data
@@ -97,7 +97,7 @@ info_data info = object
     (member (codes "created") (number_data info.created)
     (member (codes "id") (number_data info.id)
     (member (codes "kind") (string (kind_word info.kind))
-    (member (codes "labels") (object (members_with string info.labels no_members))
+    (member (codes "labels") (object (members_with_entries string info.labels no_members))
     (member (codes "name") (string info.name)
     (member (codes "parent") (string info.parent)
     (only (codes "updated") (number_data info.updated))))))))
@@ -230,7 +230,7 @@ answer_data (answers.Part bytes size) = object (member (codes "bytes") (string (
 answer_data (answers.Known size digest) = object (member (codes "digest") (digest_data digest) (only (codes "size") (number_data size)))
 answer_data (answers.Path path) = object (only (codes "path") (string (text_of path)))
 answer_data (answers.Taken taken) = object (member (codes "blocks") (number_data taken.blocks) (only (codes "inodes") (number_data taken.inodes)))
-answer_data (answers.Quota quotas) = object (only (codes "quota") (object (members_with quota_data quotas no_members)))
+answer_data (answers.Quota quotas) = object (only (codes "quota") (object (members_with_entries quota_data quotas no_members)))
 answer_data (answers.Leases leases) = object (only (codes "leases") (array (items_of (map lease_data leases))))
 answer_data (answers.Tree nodes) = object (only (codes "tree") (array (items_of (map node_data nodes))))
 answer_data (answers.Diff changes) = object (only (codes "changes") (array (items_of (map change_data changes))))
@@ -239,12 +239,12 @@ answer_data (answers.Report entries actives records totals) = object
     (member (codes "entries") (number_data entries)
     (member (codes "open") (number_data actives)
     (member (codes "records") (number_data records)
-    (only (codes "totals") (object (members_with usage_data totals no_members))))))
+    (only (codes "totals") (object (members_with_entries usage_data totals no_members))))))
 answer_data (answers.Jobs committed discarded refused totals) = object
     (member (codes "committed") (number_data committed)
     (member (codes "discarded") (number_data discarded)
     (member (codes "refused") (number_data refused)
-    (only (codes "totals") (object (members_with usage_data totals no_members))))))
+    (only (codes "totals") (object (members_with_entries usage_data totals no_members))))))
 answer_data (answers.BadConfig field) = bad_config_data field
 answer_data (answers.Failed error) = error_data (error_name error) (codes "file")
 answer_data answers.NoSession = error_data (codes "NoSession") (codes "world")

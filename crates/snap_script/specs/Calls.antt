@@ -14,7 +14,7 @@ use Rattle.snap_call.specs.declared.call.Call.{Call}
 use Rattle.snap_call.specs.declared.call.Call.TheVariants as calls
 use Rattle.snap_history.specs.Entries.{call_kind, call_word, key_in}
 use Rattle.snap_history.specs.History.{namespace_in}
-use Rattle.snap_script.specs.Answers.{number_data, usage_data, only, maybe, members_with}
+use Rattle.snap_script.specs.Answers.{number_data, usage_data, only, maybe, members_with_entries}
 
 -- the value that a label has to have, or null where any will do
 abbrev pub wanted_data : Option Bytes → Data
@@ -27,11 +27,11 @@ wanted_members (label ∷ labels) = member label.key (wanted_data label.value) (
 
 -- what the line of a call has beside its word, its session and its namespace; a call on an open snapshot has the key that is given beside it
 abbrev pub parts : Option Bytes → Call → Members
-parts held (calls.Prepare namespace key parent labels) = member (codes "key") (string key) (member (codes "labels") (object (members_with string labels no_members)) (only (codes "parent") (string parent)))
-parts held (calls.View namespace key parent labels) = member (codes "key") (string key) (member (codes "labels") (object (members_with string labels no_members)) (only (codes "parent") (string parent)))
+parts held (calls.Prepare namespace key parent labels) = member (codes "key") (string key) (member (codes "labels") (object (members_with_entries string labels no_members)) (only (codes "parent") (string parent)))
+parts held (calls.View namespace key parent labels) = member (codes "key") (string key) (member (codes "labels") (object (members_with_entries string labels no_members)) (only (codes "parent") (string parent)))
 parts held (calls.Charge slot id need want) = maybe (codes "key") (option_map string held) (member (codes "need") (usage_data need) (only (codes "want") (usage_data want)))
 parts held (calls.Commit slot id name lease) = maybe (codes "key") (option_map string held) (maybe (codes "lease") (option_map string lease) (only (codes "name") (string name)))
-parts held (calls.Update namespace key labels paths) = member (codes "key") (string key) (member (codes "labels") (object (members_with string labels no_members)) (only (codes "paths") (array (items_of (map string paths)))))
+parts held (calls.Update namespace key labels paths) = member (codes "key") (string key) (member (codes "labels") (object (members_with_entries string labels no_members)) (only (codes "paths") (array (items_of (map string paths)))))
 parts held (calls.Walk namespace after most asked) =
     member (codes "after") (string after) (maybe (codes "kind") (option_map (λ kind. string (kind_word kind)) asked.kind)
     (member (codes "labels") (object (wanted_members asked.labels)) (member (codes "max") (number_data most)

@@ -125,18 +125,18 @@ abbrev pub as_label_filters : Data → Option (List LabelFilter)
 as_label_filters d = option_and_then label_filters_in (as_object d)
 
 -- a name, blocks and inodes
-abbrev pub namespace_in : Items → Option Namespace
-namespace_in (item name ds) = option_map (λ parts. record { name = parts.0; limit = usage_with parts.1 }) (option_zip (as_str name) (pair_in ds))
-namespace_in no_items = None
+abbrev pub namespace_in_items : Items → Option Namespace
+namespace_in_items (item name ds) = option_map (λ parts. record { name = parts.0; limit = usage_with parts.1 }) (option_zip (as_str name) (pair_in ds))
+namespace_in_items no_items = None
 
 -- a namespace: [name, blocks, inodes]
 abbrev pub as_namespace : Data → Option Namespace
-as_namespace d = option_and_then namespace_in (as_array d)
+as_namespace d = option_and_then namespace_in_items (as_array d)
 
 -- namespaces: an array of them
 abbrev pub as_namespaces : Data → Option (List Namespace)
 as_namespaces d = option_and_then (each_item as_namespace) (as_array d)
 
 -- the bytes that are written: those of the text, or where there is none the fill
-abbrev pub content_of : Data → Result Bytes Fault
-content_of line = optional as_str fields.Text (required as_fill fields.Fill line) line
+abbrev pub content_bytes_of : Data → Result Bytes Fault
+content_bytes_of line = optional as_str fields.Text (required as_fill fields.Fill line) line

@@ -78,12 +78,12 @@ common_fields rules.Known = fields.Do ∷ fields.Session ∷ []
 common_fields rules.KnownAndId = fields.Do ∷ fields.Session ∷ fields.Id ∷ []
 
 -- one of the fields has the name
-abbrev pub is_among : List Field → List ℕ → Bool
-is_among those name = list_any (λ field. bytes_eq name (field_name field)) those
+abbrev pub is_field_among : List Field → List ℕ → Bool
+is_field_among those name = list_any (λ field. bytes_eq name (field_name field)) those
 
 -- the same of a command's own fields and the common ones
 abbrev pub is_known : List Field → List Field → List ℕ → Bool
-is_known common own name = is_among common name || is_among own name
+is_known common own name = is_field_among common name || is_field_among own name
 
 -- the first member, in byte order of the names, that isn't known
 abbrev pub unknown_among : List Field → List Field → Members → Option (List ℕ)

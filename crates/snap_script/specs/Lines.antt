@@ -61,13 +61,13 @@ command_in rule opened line = do
   Ok (lines.Command session (← command_of verb line))
 
 -- what was read, as the rule tells it: where any field may stand, a fault is brief
-abbrev pub told : {A : Type 0} → FieldRule → Result A Fault → Result A Fault
-told rules.Any reading = briefly reading
-told rule reading = reading
+abbrev pub told_by_rule : {A : Type 0} → FieldRule → Result A Fault → Result A Fault
+told_by_rule rules.Any reading = briefly reading
+told_by_rule rule reading = reading
 
 -- the command of a line that isn't empty
 unfoldable pub command_line : FieldRule → Bool → List ℕ → Result Line Fault
-command_line rule opened bytes = do told rule (command_in rule opened (← object_in bytes))
+command_line rule opened bytes = do told_by_rule rule (command_in rule opened (← object_in bytes))
 
 -- the session of a line that opens a store where none is named: where not any field may stand it is tested all the same
 unfoldable pub session_in : FieldRule → Data → Result ℕ Fault

@@ -21,7 +21,7 @@ use Rattle.snap_script.specs.declared.verb.FileVerb.TheVariants as file_verbs
 use Rattle.snap_script.specs.declared.verb.PathVerb.{PathVerb}
 use Rattle.snap_script.specs.declared.verb.PathVerb.TheVariants as path_verbs
 use Rattle.snap_script.specs.Faults.{of_operation}
-use Rattle.snap_script.specs.Fields.{text, required, optional, given, as_natural, as_mode, content_of}
+use Rattle.snap_script.specs.Fields.{text, required, optional, given, as_natural, as_mode, content_bytes_of}
 use Rattle.snap_script.specs.Known.{known_operation}
 use Rattle.snap_script.specs.Words.{near_file_command, verb_of}
 use Rattle.snap_script.specs.Results.{◌>>=◌}
@@ -43,7 +43,7 @@ unfoldable pub operation_at : PathVerb → Names → Data → Result Op Fault
 operation_at path_verbs.Mkdir path line = do Ok (ops.Mkdir path (← optional as_mode fields.Mode (Ok 493) line))
 operation_at path_verbs.Create path line = do Ok (ops.Create path (← optional as_mode fields.Mode (Ok 420) line))
 operation_at path_verbs.Put path line = do Ok (ops.Put path (← optional as_mode fields.Mode (Ok 420) line) (← required as_natural fields.Size line) (← given as_str fields.Digest line))
-operation_at path_verbs.Write path line = do Ok (ops.Write path (← optional as_natural fields.Offset (Ok 0) line) (← content_of line))
+operation_at path_verbs.Write path line = do Ok (ops.Write path (← optional as_natural fields.Offset (Ok 0) line) (← content_bytes_of line))
 operation_at path_verbs.Truncate path line = do Ok (ops.Truncate path (← required as_natural fields.Size line))
 operation_at path_verbs.SetMode path line = do Ok (ops.SetMode path (← required as_mode fields.Mode line))
 operation_at path_verbs.Symlink path line = do Ok (ops.Symlink path (← text fields.Target line))

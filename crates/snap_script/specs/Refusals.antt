@@ -10,14 +10,14 @@ use Rattle.snap_script.specs.declared.refused.Refused.TheVariants as refused
 use Rattle.snap_script.specs.Answers.{refusal_name, error_name}
 
 -- why the command was refused, where the answer says so: each answer that has an `error`
-abbrev pub refusal_in : Answer → Option Refused
-refusal_in (answers.Reply (replies.Refused why)) = Some (refused.Book why)
-refusal_in (answers.BadConfig field) = Some (refused.Book BadArgument)
-refusal_in (answers.Failed error) = Some (refused.File error)
-refusal_in answers.NoSession = Some refused.NoSession
-refusal_in answers.NoHand = Some refused.NoHand
-refusal_in answers.StillOut = Some refused.StillOut
-refusal_in answer = None
+abbrev pub refusal_in_answer : Answer → Option Refused
+refusal_in_answer (answers.Reply (replies.Refused why)) = Some (refused.Book why)
+refusal_in_answer (answers.BadConfig field) = Some (refused.Book BadArgument)
+refusal_in_answer (answers.Failed error) = Some (refused.File error)
+refusal_in_answer answers.NoSession = Some refused.NoSession
+refusal_in_answer answers.NoHand = Some refused.NoHand
+refusal_in_answer answers.StillOut = Some refused.StillOut
+refusal_in_answer answer = None
 
 -- its name, as the answer has it
 abbrev pub refused_name : Refused → List ℕ

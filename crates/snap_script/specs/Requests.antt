@@ -15,9 +15,9 @@ abbrev pub as_id : Data → Option Id
 as_id value = option_or (option_map Text (as_str value)) (option_map Number (as_natural value))
 
 -- the id of an object, where it has one
-abbrev pub id_in : Data → Option Id
-id_in line = option_and_then as_id (get (codes "id") line)
+abbrev pub id_in_request : Data → Option Id
+id_in_request line = option_and_then as_id (get (codes "id") line)
 
 -- the id of a line, without its line feed: one above 16 MiB and an empty one have none
 unfoldable pub id_of : List ℕ → Option Id
-id_of bytes = if nat_lt 16777216 (length bytes) then None else (if is_empty bytes then None else option_and_then id_in (result_ok (object_in bytes)))
+id_of bytes = if nat_lt 16777216 (length bytes) then None else (if is_empty bytes then None else option_and_then id_in_request (result_ok (object_in bytes)))

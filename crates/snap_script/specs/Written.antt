@@ -16,6 +16,6 @@ with_maybe name None before = before
 with_maybe name (Some value) before = with_member name value before
 
 -- a member for each entry, in their order
-abbrev pub members_of : {A : Type 0} → (A → Data) → List (Bor (List ℕ) × A) → Members
-members_of value [] = no_members
-members_of value (entry ∷ rest) = member entry.0.now (value entry.1) (members_of value rest)
+abbrev pub written_members_of : {A : Type 0} → (A → Data) → List (Bor (List ℕ) × A) → Members
+written_members_of value [] = no_members
+written_members_of value (entry ∷ rest) = member entry.0.now (value entry.1) (written_members_of value rest)

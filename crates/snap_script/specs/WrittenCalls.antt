@@ -11,7 +11,7 @@ use Rattle.snap_call.specs.declared.call.Call.TheVariants as calls
 use Rattle.snap_history.specs.Entries.{call_word}
 use Rattle.snap_history.specs.declared.kind.CallKind.{CallKind}
 use Rattle.snap_history.specs.declared.kind.CallKind.TheVariants as kinds
-use Rattle.snap_script.specs.Answers.{number_data, usage_data, only, maybe, members_with}
+use Rattle.snap_script.specs.Answers.{number_data, usage_data, only, maybe, members_with_entries}
 use Rattle.snap_script.specs.Calls.{wanted_members}
 
 -- the word of a call
@@ -35,7 +35,7 @@ abbrev pub new_line : CallKind → Bytes → ℕ → Bytes → Bytes → List La
 new_line call namespace session key parent labels = object
     (member (codes "do") (word_data call)
     (member (codes "key") (string key)
-    (member (codes "labels") (object (members_with string labels no_members))
+    (member (codes "labels") (object (members_with_entries string labels no_members))
     (member (codes "ns") (string namespace)
     (member (codes "parent") (string parent) (only (codes "s") (number_data session)))))))
 
@@ -63,7 +63,7 @@ ordered_data own session held (calls.Mounts namespace key) = named_line kinds.Mo
 ordered_data own session held (calls.Update namespace key labels paths) = object
     (member (codes "do") (word_data kinds.Update)
     (member (codes "key") (string key)
-    (member (codes "labels") (object (members_with string labels no_members))
+    (member (codes "labels") (object (members_with_entries string labels no_members))
     (member (codes "ns") (string namespace)
     (member (codes "paths") (array (items_of (map string paths))) (only (codes "s") (number_data session)))))))
 ordered_data own session held (calls.Walk namespace after most asked) = object

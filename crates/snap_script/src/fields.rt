@@ -3,7 +3,7 @@ ghost use Rattle.std.specs.Prelude.{◌≡◌, [], Some, None, Ok, IfOk, false};
 ghost use Rattle.serde_json.specs.Find.{as_bool, as_str};
 ghost use Rattle.snap_json.specs.View.{view, items_view, members_of};
 ghost use Rattle.snap_script.specs.declared.fault.Field.TheVariants as fields;
-ghost use Rattle.snap_script.specs.Fields.{found_in, misfit, missing, text, required, optional, given, as_natural, as_mode, pair_in, as_pair, as_usage, each_item, as_texts, kind_named, as_kind, labels_with, as_labels, label_filter, label_filters_in, as_label_filters, as_namespace, as_namespaces, as_fill, content_of};
+ghost use Rattle.snap_script.specs.Fields.{found_in, misfit, missing, text, required, optional, given, as_natural, as_mode, pair_in, as_pair, as_usage, each_item, as_texts, kind_named, as_kind, labels_with, as_labels, label_filter, label_filters_in, as_label_filters, as_namespace, as_namespaces, as_fill, content_bytes_of};
 ghost use Rattle.snap_script.specs.Gives.{Gives, GivesAll};
 
 use crate::fault::{Fault, Field, Found, ReadError};
@@ -439,7 +439,7 @@ fn fill(alloc: Global, line: &Value<'_>) -> Result<Bytes, ReadError>
 
 /// The bytes that are written.
 pub(crate) fn content(alloc: Global, line: &Value<'_>) -> Result<Bytes, ReadError>
-    ensures { Gives (λ bytes. bytes) result (content_of (view line.now)) }
+    ensures { Gives (λ bytes. bytes) result (content_bytes_of (view line.now)) }
 {
     match line.get(Field::Text.name()) {
         Some(Value::String(text)) => Ok(Bytes::copy_of(alloc, text.as_bytes())?),

@@ -1,5 +1,5 @@
 ghost use Rattle.std.specs.Prelude.{◌≡◌};
-ghost use Rattle.snap_script.specs.Refusals.{refusal_in, refused_name};
+ghost use Rattle.snap_script.specs.Refusals.{refusal_in_answer, refused_name};
 
 use crate::answer::Answer;
 use crate::values::{error_name, refusal_name};
@@ -39,7 +39,7 @@ impl Refused {
 impl Answer {
     /// Why the command was refused, where the answer says so. Takes no memory.
     pub fn refusal(&self) -> Option<Refused>
-        ensures { result ≡ refusal_in self.now }
+        ensures { result ≡ refusal_in_answer self.now }
     {
         match self {
             Answer::Reply(Reply::Refused(why)) => Some(Refused::Book(*why)),

@@ -2,7 +2,7 @@
 ghost use Rattle.std.specs.Prelude.{◌≡◌, IfOk, None};
 ghost use Rattle.snap_json.specs.View.{view};
 ghost use Rattle.snap_script.specs.Lines.{command_in, line_of};
-ghost use Rattle.snap_script.specs.Requests.{id_in, id_of};
+ghost use Rattle.snap_script.specs.Requests.{id_in_request, id_of};
 ghost use Rattle.snap_script.specs.declared.unknown.FieldRule.TheVariants.{KnownAndId};
 
 use crate::fault::{Fault, ReadError, Shortage};
@@ -38,7 +38,7 @@ impl Request {
 }
 
 fn id_in(alloc: Global, line: &Value<'_>) -> Result<Option<Id>, AllocError>
-    ensures { IfOk result (λ id. id ≡ id_in (view line.now)) }
+    ensures { IfOk result (λ id. id ≡ id_in_request (view line.now)) }
 {
     let Some(value) = line.get("id") else {
         return Ok(None);
@@ -54,7 +54,7 @@ fn id_in(alloc: Global, line: &Value<'_>) -> Result<Option<Id>, AllocError>
 
 /// The request of the object that a line is.
 fn request_in(alloc: Global, opened: bool, line: &Value<'_>) -> Result<Request, Shortage>
-    ensures { IfOk result (λ request. (request.id ≡ id_in (view line.now)) × (request.line ≡ command_in KnownAndId opened (view line.now))) }
+    ensures { IfOk result (λ request. (request.id ≡ id_in_request (view line.now)) × (request.line ≡ command_in KnownAndId opened (view line.now))) }
 {
     let id = id_in(alloc, line)?;
     match command_in(alloc, FieldRule::KnownAndId, opened, line) {

@@ -4,8 +4,8 @@ ghost use Rattle.std.specs.Option.{option_map};
 ghost use Rattle.serde_json.specs.Data.{Data, array, boolean, member, object, no_members, string};
 ghost use Rattle.serde_json.specs.View.{items_of};
 ghost use Rattle.snap_json.specs.Tokens.{with_value};
-ghost use Rattle.snap_script.specs.Answers.{digest_data, members_with, number_data, only, text_data, usage_data};
-ghost use Rattle.snap_script.specs.Written.{members_of, with_maybe, with_member};
+ghost use Rattle.snap_script.specs.Answers.{digest_data, members_with_entries, number_data, only, text_data, usage_data};
+ghost use Rattle.snap_script.specs.Written.{written_members_of, with_maybe, with_member};
 
 use snap_json::{Token, Writer};
 use snap_layer::Bytes;
@@ -135,7 +135,7 @@ impl<T: ToJson> ToJson for Sequence<T> {
 
 /// The members in byte order of their keys.
 impl<V: ToJson> ToJson for BTreeMap<&str, V> {
-    ghost value = { λ map. object (members_of V.value map.entries) };
+    ghost value = { λ map. object (written_members_of V.value map.entries) };
 
     fn write(&self, alloc: Global, out: &mut Writer) -> Result<(), AllocError> {
         out.token(Token::BeginObject)?;
@@ -147,7 +147,7 @@ impl<V: ToJson> ToJson for BTreeMap<&str, V> {
 }
 
 impl ToJson for Labels {
-    ghost value = { λ labels. object (members_with string labels no_members) };
+    ghost value = { λ labels. object (members_with_entries string labels no_members) };
 
     #[tactic(auto, using(crate::proofs::Maps::members_of_insert_entry))]
     fn write(&self, alloc: Global, out: &mut Writer) -> Result<(), AllocError> {
@@ -167,7 +167,7 @@ pub(crate) fn by_name<V: ToJson + Copy>(
     out: &mut Writer,
     entries: &[(Text, V)],
 ) -> Result<(), AllocError>
-    ensures { OnOk result (out.new ≡ with_value (object (members_with V.value entries.now no_members)) out.old) }
+    ensures { OnOk result (out.new ≡ with_value (object (members_with_entries V.value entries.now no_members)) out.old) }
 {
     let mut members = BTreeMap::new(alloc);
     for (name, value) in entries {

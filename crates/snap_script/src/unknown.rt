@@ -4,7 +4,7 @@ ghost use Rattle.std.specs.List.{list_all};
 ghost use Rattle.serde_json.specs.Find.{as_object};
 ghost use Rattle.snap_json.specs.View.{view, members_of};
 ghost use Rattle.snap_history.specs.declared.kind.CallKind.TheVariants as kinds;
-ghost use Rattle.snap_script.specs.Known.{common_fields, fields_of, is_among, is_known, job_fields, known_fields, known_job, known_operation, known_within, near_field, operation_fields, unknown_among};
+ghost use Rattle.snap_script.specs.Known.{common_fields, fields_of, is_field_among, is_known, job_fields, known_fields, known_job, known_operation, known_within, near_field, operation_fields, unknown_among};
 ghost use Rattle.snap_script.specs.Gives.{Gives};
 ghost use Rattle.snap_script.specs.declared.verb.Verb.TheVariants as verbs;
 ghost use Rattle.snap_script.specs.declared.verb.FileVerb.TheVariants as file_verbs;
@@ -165,7 +165,7 @@ fn fields_of(verb: Verb) -> &'static [Field]
 
 /// Whether one of the fields has the name.
 fn is_among(mut fields: &[Field], name: &str) -> bool
-    ensures { result ≡ is_among fields.entry.now name.now }
+    ensures { result ≡ is_field_among fields.entry.now name.now }
 {
     while let [field, rest @ ..] = fields {
         if name == field.name() {

@@ -25,8 +25,8 @@ use Rattle.snap_call.specs.Records.{open_count}
 use Rattle.snap_call.specs.Step.{sweep}
 use Rattle.snap_book.specs.Questions.{chain_usage}
 use Rattle.snap_book.specs.Round.{roll_answer, round_answer}
-use Rattle.snap_book.specs.Slot.{slot_of}
-use Rattle.snap_book.specs.Wanted.{wanted}
+use Rattle.snap_book.specs.Slot.{slot_and_id_of}
+use Rattle.snap_book.specs.Wanted.{wanted_charge}
 use Rattle.snap_world.specs.declared.step.Step.{Step}
 use Rattle.snap_world.specs.declared.step.Step.TheVariants.{Locked, Hand}
 use Rattle.snap_world.specs.declared.step.Answer.{Answer as StepAnswer}
@@ -43,8 +43,8 @@ use Rattle.snap_script.specs.declared.command.Command.{Command}
 use Rattle.snap_script.specs.declared.command.Command.TheVariants as commands
 use Rattle.snap_script.specs.declared.command.Lookup.{Lookup}
 use Rattle.snap_script.specs.declared.command.Lookup.TheVariants as lookups
-use Rattle.snap_session.specs.Found.{found_or_else, refused}
-use Rattle.snap_session.specs.Opened.{OpenedValue, new_world, share_at, count_at, totals_of}
+use Rattle.snap_session.specs.Found.{found_or_else, refusal_answer}
+use Rattle.snap_session.specs.Opened.{OpenedValue, new_world, share_at, layer_count_at, totals_of}
 use Rattle.snap_session.specs.Diff.{diff}
 use Rattle.snap_session.specs.Journal.{journal_of}
 use Rattle.snap_session.specs.Leases.{leases}
@@ -54,33 +54,33 @@ use Rattle.snap_session.specs.Tree.{tree}
 -- ---- one step, and its answer
 
 -- the script's answer for that of a step on the slot; counts and shares are those after the step, a session is the one that was asked for
-abbrev pub told : ℕ → ℕ → WorldValue → StepAnswer → Answer
-told session slot w (step_answers.Reply replies.Opened) = answers.Session session
-told session slot w (step_answers.Reply replies.Trimmed) = answers.Share (share_at slot w)
-told session slot w (step_answers.Reply reply) = answers.Reply reply
-told session slot w (step_answers.File (Ok done)) = answers.Changed (count_at slot w) (share_at slot w)
-told session slot w (step_answers.File (Err e)) = answers.Failed e
-told session slot w step_answers.NoSession = answers.NoSession
-told session slot w step_answers.NoHand = answers.NoHand
+abbrev pub answer_of_step : ℕ → ℕ → WorldValue → StepAnswer → Answer
+answer_of_step session slot w (step_answers.Reply replies.Opened) = answers.Session session
+answer_of_step session slot w (step_answers.Reply replies.Trimmed) = answers.Share (share_at slot w)
+answer_of_step session slot w (step_answers.Reply reply) = answers.Reply reply
+answer_of_step session slot w (step_answers.File (Ok done)) = answers.Changed (layer_count_at slot w) (share_at slot w)
+answer_of_step session slot w (step_answers.File (Err e)) = answers.Failed e
+answer_of_step session slot w step_answers.NoSession = answers.NoSession
+answer_of_step session slot w step_answers.NoHand = answers.NoHand
 
 -- the world after a step, and the answer
 abbrev pub telling : ℕ → ℕ → WorldValue × StepAnswer → WorldValue × Answer
-telling session slot after = (after.0, told session slot after.0 after.1)
+telling session slot after = (after.0, answer_of_step session slot after.0 after.1)
 
 -- one step, and its answer
 abbrev pub stepped : ℕ → ℕ → Step → WorldValue → WorldValue × Answer
 stepped session slot step w = telling session slot (move w step)
 
 -- what follows, or the refusal; no step is made where it is refused
-abbrev pub unless_refused : {A : Type 0} → WorldValue → (A → WorldValue × Answer) → Result A Refusal → WorldValue × Answer
-unless_refused w next (Ok found) = next found
-unless_refused w next (Err why) = (w, refused why)
+abbrev pub world_unless_refused : {A : Type 0} → WorldValue → (A → WorldValue × Answer) → Result A Refusal → WorldValue × Answer
+world_unless_refused w next (Ok found) = next found
+world_unless_refused w next (Err why) = (w, refusal_answer why)
 
 -- ---- commands on an active snapshot
 
 -- with the slot and the id of the snapshot of the key, or why there is none
 abbrev pub on_key : WorldValue → Bytes → Bytes → (ℕ → ℕ → WorldValue × Answer) → WorldValue × Answer
-on_key w namespace key next = unless_refused w (λ found. next found.0 found.1) (slot_of w.state namespace key)
+on_key w namespace key next = world_unless_refused w (λ found. next found.0 found.1) (slot_and_id_of w.state namespace key)
 
 -- ---- file commands
 
@@ -100,7 +100,7 @@ retried session slot operation after = if is_charged after.1 then stepped sessio
 
 -- after the operation: a charge where one is needed
 abbrev pub tried : ℕ → ℕ → ℕ → Step → Usage → WorldValue × StepAnswer → WorldValue × Answer
-tried session slot id operation extra after = option_map_or (λ need. retried session slot operation (move after.0 (Locked session (calls.Charge slot id need (wanted need extra)))))
+tried session slot id operation extra after = option_map_or (λ need. retried session slot operation (move after.0 (Locked session (calls.Charge slot id need (wanted_charge need extra)))))
     (need_of after.1) (telling session slot after)
 
 -- an operation; there is none where the text of a path was no path
@@ -137,7 +137,7 @@ layers_at w namespace key peek = option_map_or Ok (if peek then peeked_of w name
 
 -- a lookup in the layers of a snapshot, or why there are none; there is no path where its text was none. No step is made
 abbrev pub lookup : Lookup → Option Names → Result (List Tree) Refusal → Answer
-lookup asked path layers = found_or_else (λ found. option_map_or (looked_up asked found) path (answers.Failed BadPath)) refused layers
+lookup asked path layers = found_or_else (λ found. option_map_or (looked_up asked found) path (answers.Failed BadPath)) refusal_answer layers
 
 -- ---- the next round
 
@@ -148,17 +148,17 @@ is_started answer = false
 
 -- after the step that opens session 0: the round stands, also where the session was refused
 abbrev pub round_opened : WorldValue × StepAnswer → WorldValue × Answer
-round_opened after = (after.0, if is_started after.1 then answers.Reply replies.Done else told 0 0 after.0 after.1)
+round_opened after = (after.0, if is_started after.1 then answers.Reply replies.Done else answer_of_step 0 0 after.0 after.1)
 
 -- the next round and its session 0, or why there is none: StillOut where a snapshot is open
 abbrev pub reopen : WorldValue → ℕ → WorldValue × Answer
 reopen w journal =
     if nat_lt 0 (open_count w.state.records) then (w, answers.StillOut)
-    else unless_refused w (λ done. round_opened (move (reopened w journal) (Locked 0 calls.Session))) (round_answer w.state journal)
+    else world_unless_refused w (λ done. round_opened (move (reopened w journal) (Locked 0 calls.Session))) (round_answer w.state journal)
 
 -- the same, and snapshots may be open
 abbrev pub roll : WorldValue → ℕ → WorldValue × Answer
-roll w journal = unless_refused w (λ done. round_opened (move (reopened w journal) (Locked 0 calls.Session))) (roll_answer w.state journal)
+roll w journal = world_unless_refused w (λ done. round_opened (move (reopened w journal) (Locked 0 calls.Session))) (roll_answer w.state journal)
 
 -- ---- commands on a store
 
@@ -168,7 +168,7 @@ report s = answers.Report (length s.world.journal) (open_count s.world.state.rec
 
 -- a command by a session. A store that stands isn't opened again: no line of a script asks for that
 abbrev pub on_store : OpenedValue → ℕ → Command → WorldValue × Answer
-on_store s n (commands.Open config) = (s.world, refused BadArgument)
+on_store s n (commands.Open config) = (s.world, refusal_answer BadArgument)
 on_store s n commands.Session = stepped s.world.state.sessions 0 (Locked s.world.state.sessions calls.Session) s.world
 on_store s n (commands.Reopen journal) = reopen s.world journal
 on_store s n (commands.Roll journal) = roll s.world journal
@@ -180,7 +180,7 @@ on_store s n (commands.Discard namespace key) = on_key s.world namespace key (λ
 on_store s n (commands.File namespace key operation extra) = on_key s.world namespace key (λ slot id. performed n slot id operation extra s.world)
 on_store s n (commands.Lookup namespace key asked path peek) = (s.world, lookup asked path (layers_at s.world namespace key peek))
 on_store s n (commands.TrySweep namespace moment) = (s.world, answers.Reply (sweep s.world.state namespace moment).1)
-on_store s n (commands.ChainUsage namespace key) = (s.world, found_or_else (λ usage. answers.Reply (replies.Usage usage)) refused (chain_usage s.world.state namespace key))
+on_store s n (commands.ChainUsage namespace key) = (s.world, found_or_else (λ usage. answers.Reply (replies.Usage usage)) refusal_answer (chain_usage s.world.state namespace key))
 on_store s n (commands.Quota namespace) = (s.world, quota_answer s namespace)
 on_store s n (commands.Leases namespace lease) = (s.world, leases s namespace lease)
 on_store s n (commands.Tree namespace) = (s.world, tree s namespace)
@@ -192,7 +192,7 @@ on_store s n commands.Report = (s.world, report s)
 
 -- the store stands where its first session was opened
 abbrev pub started : List Bytes → WorldValue × StepAnswer → Option OpenedValue × Answer
-started names after = if is_started after.1 then (Some (record { world = after.0; names = names }), answers.Reply replies.Done) else (None, told 0 0 after.0 after.1)
+started names after = if is_started after.1 then (Some (record { world = after.0; names = names }), answers.Reply replies.Done) else (None, answer_of_step 0 0 after.0 after.1)
 
 -- a world of the configuration, and its session 0
 abbrev pub store_begun : Config → Option OpenedValue × Answer
@@ -209,7 +209,7 @@ abbrev pub kept : OpenedValue → WorldValue × Answer → Option OpenedValue ×
 kept s after = (Some (record { world = after.0; names = s.names }), after.1)
 
 -- a command in the session n: the store after it, and the answer. Without a store no session is open.
-abbrev pub done : Option OpenedValue → ℕ → Command → Option OpenedValue × Answer
-done None n (commands.Open config) = store_opened config
-done None n command = (None, answers.NoSession)
-done (Some s) n command = kept s (on_store s n command)
+abbrev pub command_done : Option OpenedValue → ℕ → Command → Option OpenedValue × Answer
+command_done None n (commands.Open config) = store_opened config
+command_done None n command = (None, answers.NoSession)
+command_done (Some s) n command = kept s (on_store s n command)

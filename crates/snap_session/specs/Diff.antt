@@ -14,7 +14,7 @@ use Rattle.snap_world.specs.World.{WorldValue}
 use Rattle.snap_world.specs.Stacks.{own_of, stack_of}
 use Rattle.snap_script.specs.declared.answer.Answer.{Answer}
 use Rattle.snap_script.specs.declared.answer.Answer.TheVariants as answers
-use Rattle.snap_session.specs.Found.{found_or_else, refused}
+use Rattle.snap_session.specs.Found.{found_or_else, refusal_answer}
 
 -- the path that a page begins after: none where the text is empty, an error where it is no path
 abbrev pub after_of : Bytes → Result (Option Names) FsError
@@ -28,5 +28,5 @@ page_of most own after = found_or_else (λ from. answers.Diff (option_map_or (λ
 abbrev pub diff : WorldValue → Bytes → Bytes → Bytes → ℕ → Answer
 diff w namespace key after most =
     if is_page most
-    then option_map_or (λ own. page_of most (Some own) (after_of after)) (own_of w namespace key) (found_or_else (λ layers. page_of most None (after_of after)) refused (stack_of w namespace key))
-    else refused BadArgument
+    then option_map_or (λ own. page_of most (Some own) (after_of after)) (own_of w namespace key) (found_or_else (λ layers. page_of most None (after_of after)) refusal_answer (stack_of w namespace key))
+    else refusal_answer BadArgument

@@ -7,8 +7,8 @@ use Rattle.snap_script.specs.declared.answer.Answer.{Answer}
 use Rattle.snap_script.specs.declared.answer.Answer.TheVariants as answers
 
 -- the answer of a refusal
-abbrev pub refused : Refusal → Answer
-refused why = answers.Reply (replies.Refused why)
+abbrev pub refusal_answer : Refusal → Answer
+refusal_answer why = answers.Reply (replies.Refused why)
 
 -- the answer for what was found, or else for why nothing was
 abbrev pub found_or_else : {A E : Type 0} → (A → Answer) → (E → Answer) → Result A E → Answer

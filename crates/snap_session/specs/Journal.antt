@@ -18,7 +18,7 @@ use Rattle.snap_script.specs.Calls.{call_line}
 use Rattle.snap_script.specs.declared.answer.JournalEntry.{JournalEntry}
 use Rattle.snap_script.specs.declared.answer.Answer.{Answer}
 use Rattle.snap_script.specs.declared.answer.Answer.TheVariants as answers
-use Rattle.snap_session.specs.Found.{refused}
+use Rattle.snap_session.specs.Found.{refusal_answer}
 
 -- the key of the snapshot of this id, where the call has prepared it
 abbrev pub key_by : ℕ → Call → Reply → Option Bytes
@@ -31,12 +31,12 @@ key_among id [] = None
 key_among id (e ∷ es) = option_or (key_by id e.call e.reply) (key_among id es)
 
 -- the entry of this number, where it is one of the round
-abbrev pub entry_of : WorldValue → ℕ → Option Entry
-entry_of w number = slice_get w.journal (number - (w.state.entries - length w.journal) - 1)
+abbrev pub entry_numbered : WorldValue → ℕ → Option Entry
+entry_numbered w number = slice_get w.journal (number - (w.state.entries - length w.journal) - 1)
 
 -- the line of the entry of this number, whose call is on the snapshot of the id, if there is one: where the call names no key, it has the one under which the round has prepared the snapshot
 abbrev pub line_at : WorldValue → Bytes → ℕ → Option ℕ → Option Bytes
-line_at w namespace number id = option_map (λ e. call_line namespace e.session (option_and_then (λ k. key_among k w.journal) id) e.call) (entry_of w number)
+line_at w namespace number id = option_map (λ e. call_line namespace e.session (option_and_then (λ k. key_among k w.journal) id) e.call) (entry_numbered w number)
 
 -- an entry that is told, with its line in full
 abbrev pub journal_entry : WorldValue → Bytes → Bool → EntryInfo → JournalEntry
@@ -44,8 +44,8 @@ journal_entry w namespace full info = record { entry = info; line = if full then
 
 -- those of the namespace at the place, of a greater number, at most so many, or that there is no such namespace
 abbrev pub journal_at : WorldValue → Bytes → ℕ → ℕ → Bool → Option ℕ → Answer
-journal_at w namespace after most full place = option_map_or (λ p. answers.Journal (map (journal_entry w namespace full) (history_page after most (history p w.opening w.journal)))) place (refused NoNamespace)
+journal_at w namespace after most full place = option_map_or (λ p. answers.Journal (map (journal_entry w namespace full) (history_page after most (history p w.opening w.journal)))) place (refusal_answer NoNamespace)
 
 -- those of the namespace of this name; a page has 1 to 64 of them
 abbrev pub journal_of : WorldValue → Bytes → ℕ → ℕ → Bool → Answer
-journal_of w namespace after most full = if is_page most then journal_at w namespace after most full (place_of namespace w.state.namespaces) else refused BadArgument
+journal_of w namespace after most full = if is_page most then journal_at w namespace after most full (place_of namespace w.state.namespaces) else refusal_answer BadArgument

@@ -8,13 +8,13 @@ use Rattle.snap_lease.specs.Told.{ToldLease, told_lease, told_leases}
 use Rattle.snap_call.specs.declared.refusal.Refusal.TheVariants.{NoLease, NoNamespace}
 use Rattle.snap_script.specs.declared.answer.Answer.{Answer}
 use Rattle.snap_script.specs.declared.answer.Answer.TheVariants as answers
-use Rattle.snap_session.specs.Found.{refused}
+use Rattle.snap_session.specs.Found.{refusal_answer}
 use Rattle.snap_session.specs.Opened.{OpenedValue}
 use Rattle.snap_session.specs.Tree.{place_among}
 
 -- the one lease, or that there is none of this name
 abbrev pub one_lease : Option ToldLease → Answer
-one_lease found = option_map_or (λ lease. answers.Leases (lease ∷ [])) found (refused NoLease)
+one_lease found = option_map_or (λ lease. answers.Leases (lease ∷ [])) found (refusal_answer NoLease)
 
 -- all leases of the namespace, or the one that is named
 abbrev pub leases_in : List Lease → Bytes → Option Bytes → Answer
@@ -22,4 +22,4 @@ leases_in ls namespace lease = option_map_or (λ name. one_lease (told_lease ls 
 
 -- those of the namespace of this name, or that there is none
 abbrev pub leases : OpenedValue → Bytes → Option Bytes → Answer
-leases s namespace lease = option_map_or (λ place. leases_in s.world.state.leases namespace lease) (place_among namespace s.names) (refused NoNamespace)
+leases s namespace lease = option_map_or (λ place. leases_in s.world.state.leases namespace lease) (place_among namespace s.names) (refusal_answer NoNamespace)

@@ -33,8 +33,8 @@ abbrev pub share_at : ℕ → WorldValue → Usage
 share_at slot w = unwrap_or (option_map (λ h. h.snapshot.share.usage) (hand_at slot w.hands)) no_usage
 
 -- what its layer takes
-abbrev pub count_at : ℕ → WorldValue → Usage
-count_at slot w = unwrap_or (option_map (λ h. count_of h.snapshot.layer) (hand_at slot w.hands)) no_usage
+abbrev pub layer_count_at : ℕ → WorldValue → Usage
+layer_count_at slot w = unwrap_or (option_map (λ h. count_of h.snapshot.layer) (hand_at slot w.hands)) no_usage
 
 -- what the namespace of this name is charged
 abbrev pub total_of : WorldValue → Bytes → Usage

@@ -10,7 +10,7 @@ use Rattle.snap_world.specs.Quota.{quota}
 use Rattle.snap_script.specs.declared.answer.QuotaInfo.{QuotaInfo}
 use Rattle.snap_script.specs.declared.answer.Answer.{Answer}
 use Rattle.snap_script.specs.declared.answer.Answer.TheVariants as answers
-use Rattle.snap_session.specs.Found.{refused}
+use Rattle.snap_session.specs.Found.{refusal_answer}
 use Rattle.snap_session.specs.Opened.{OpenedValue}
 
 -- a quota as answers have it
@@ -27,7 +27,7 @@ quotas w names = filter_map (named_quota w) names
 
 -- that of the one namespace, or that there is none
 abbrev pub one_quota : Option (Bytes × QuotaInfo) → Answer
-one_quota found = option_map_or (λ quota. answers.Quota (quota ∷ [])) found (refused NoNamespace)
+one_quota found = option_map_or (λ quota. answers.Quota (quota ∷ [])) found (refusal_answer NoNamespace)
 
 -- those of all namespaces, or of the one that is named
 abbrev pub quota_answer : OpenedValue → Option Bytes → Answer

@@ -16,7 +16,7 @@ use Rattle.snap_lines.specs.Transcripts.{Stops, Transcript, next_number, transcr
 use Rattle.snap_lines.specs.declared.stop.Stop.{Stop}
 use Rattle.snap_lines.specs.declared.stop.Stop.TheVariants as stops
 use Rattle.snap_session.specs.Opened.{ScriptValue, unopened}
-use Rattle.snap_session.specs.Script.{step}
+use Rattle.snap_session.specs.Script.{script_step}
 
 -- a script, and how many lines were answered
 pub record ServerValue : Type 0 where
@@ -29,7 +29,7 @@ idle = record { script = unopened; lines = 0 }
 
 -- what was read of the line of this number, and what it makes of the script: one that is no command does nothing, and one that is empty has no answer
 abbrev pub responded : ScriptValue → ℕ → Result Line Fault → ScriptValue × Response
-responded s number (Ok line) = ((step s line).0, option_map_or responses.Answer (step s line).1 responses.Empty)
+responded s number (Ok line) = ((script_step s line).0, option_map_or responses.Answer (script_step s line).1 responses.Empty)
 responded s number (Err fault) = (s, responses.Fault fault number)
 
 -- the effect of a line that has this id, or none

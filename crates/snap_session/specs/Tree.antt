@@ -10,7 +10,7 @@ use Rattle.snap_call.specs.declared.refusal.Refusal.TheVariants.{NoNamespace}
 use Rattle.snap_script.specs.declared.answer.TreeNode.{TreeNode}
 use Rattle.snap_script.specs.declared.answer.Answer.{Answer}
 use Rattle.snap_script.specs.declared.answer.Answer.TheVariants as answers
-use Rattle.snap_session.specs.Found.{refused}
+use Rattle.snap_session.specs.Found.{refusal_answer}
 use Rattle.snap_session.specs.Opened.{OpenedValue}
 
 -- the snapshot, with its own usage and the number of the namespace's snapshots on it
@@ -27,4 +27,4 @@ place_among namespace names = position (λ name. bytes_eq name namespace) names
 
 -- the forest of the namespace of this name, or that there is none
 abbrev pub tree : OpenedValue → Bytes → Answer
-tree s namespace = option_map_or (λ place. answers.Tree (forest place s.world.state.records)) (place_among namespace s.names) (refused NoNamespace)
+tree s namespace = option_map_or (λ place. answers.Tree (forest place s.world.state.records)) (place_among namespace s.names) (refusal_answer NoNamespace)

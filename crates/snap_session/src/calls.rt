@@ -1,14 +1,14 @@
 // The commands that are calls of the store, and two of its calls asked without an entry.
 ghost use Rattle.std.specs.Prelude.{◌≡◌, IfOk};
 ghost use Rattle.snap_call.specs.declared.call.Call.TheVariants as calls;
-ghost use Rattle.snap_book.specs.Slot.{slot_of};
+ghost use Rattle.snap_book.specs.Slot.{slot_and_id_of};
 ghost use Rattle.snap_world.specs.declared.step.Step.TheVariants.{Locked};
 ghost use Rattle.snap_call.specs.Step.{sweep};
 ghost use Rattle.snap_book.specs.Questions.{chain_usage};
 ghost use Rattle.snap_call.specs.declared.reply.Reply.TheVariants as replies;
 ghost use Rattle.snap_script.specs.declared.answer.Answer.TheVariants as answers;
 ghost use Rattle.snap_session.specs.Commands.{stepped, on_key};
-ghost use Rattle.snap_session.specs.Found.{found_or_else, refused};
+ghost use Rattle.snap_session.specs.Found.{found_or_else, refusal_answer};
 
 use crate::step::called;
 use snap_call::{Call, Refusal, Reply};
@@ -24,7 +24,7 @@ pub(crate) fn found<N: StoreName>(
     namespace: Text,
     key: Text,
 ) -> Result<(u64, u32), Refusal>
-    ensures { result ≡ slot_of world.now.state namespace key }
+    ensures { result ≡ slot_and_id_of world.now.state namespace key }
 {
     world.hand(namespace.as_str(), key.as_str())
 }
@@ -129,7 +129,7 @@ pub(crate) fn try_sweep<N: StoreName>(
 
 // What the snapshot is charged with its ancestors, or why there is none.
 pub(crate) fn chain_usage<N: StoreName>(world: &World<N>, namespace: Text, key: Text) -> Answer
-    ensures { result ≡ found_or_else (λ usage. answers.Reply (replies.Usage usage)) refused (chain_usage world.now.state namespace key) }
+    ensures { result ≡ found_or_else (λ usage. answers.Reply (replies.Usage usage)) refusal_answer (chain_usage world.now.state namespace key) }
 {
     match world.chain_usage(namespace.as_str(), key.as_str()) {
         Ok(usage) => Answer::Reply(Reply::Usage(usage)),

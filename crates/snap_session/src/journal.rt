@@ -1,6 +1,6 @@
 // The round's entries of a namespace.
 ghost use Rattle.std.specs.Prelude.{◌≡◌, IfOk, map, option_and_then, option_copied};
-ghost use Rattle.snap_session.specs.Journal.{entry_of, journal_entry, journal_of, key_among, key_by, line_at};
+ghost use Rattle.snap_session.specs.Journal.{entry_numbered, journal_entry, journal_of, key_among, key_by, line_at};
 
 use snap_call::{Call, Entry, Refusal, Reply, SharedEntry, is_page};
 use snap_history::{EntryInfo, history};
@@ -51,7 +51,7 @@ fn own_key(id: Option<u32>, entries: &[SharedEntry]) -> Result<Option<Text>, All
 
 // The entry of this number, where it is one of the round.
 fn entry_of<N: StoreName>(world: &World<N>, number: u64) -> Option<&Entry>
-    ensures { option_copied result ≡ entry_of world.now number }
+    ensures { option_copied result ≡ entry_numbered world.now number }
 {
     let round = world.journal();
     let before = world.last_entry().saturating_sub(round.len() as u64);

@@ -2,7 +2,7 @@
 //! of each answer is written to an output.
 //!
 //! What is written is one definition, `script` in `specs/Script.antt`: the transcript of `snap_lines`, where
-//! each line does what its command does. That is `done` in `specs/Commands.antt`, over the steps of a world. What a
+//! each line does what its command does. That is `command_done` in `specs/Commands.antt`, over the steps of a world. What a
 //! server writes, which answers each line, is `service` in `specs/Service.antt`.
 #![tactic(auto)]
 

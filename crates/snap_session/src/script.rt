@@ -4,9 +4,9 @@ ghost use Rattle.snap_call.specs.declared.call.Call.TheVariants as calls;
 ghost use Rattle.snap_world.specs.declared.step.Answer.{Answer as StepAnswer};
 ghost use Rattle.snap_world.specs.declared.step.Step.TheVariants.{Locked};
 ghost use Rattle.snap_world.specs.Move.{move};
-ghost use Rattle.snap_session.specs.Commands.{is_started, store_begun, store_opened, done};
+ghost use Rattle.snap_session.specs.Commands.{is_started, store_begun, store_opened, command_done};
 ghost use Rattle.snap_session.specs.Opened.{new_world, unopened};
-ghost use Rattle.snap_session.specs.Script.{step};
+ghost use Rattle.snap_session.specs.Script.{script_step};
 
 use crate::opened::Opened;
 use crate::round::is_started;
@@ -134,7 +134,7 @@ impl<N: StoreName> Script<N> {
     /// An `Open` that it ends may have spent the store's name, so that a later one answers `NoMemory` too. The cost is
     /// that of the command's steps, at most three.
     pub fn act(&mut self, n: u64, command: Command) -> Result<Answer, NoMemory>
-        ensures done { IfOk result (λ answer. done self.old.store n command ≡ (self.new.store, answer)) }
+        ensures done { IfOk result (λ answer. command_done self.old.store n command ≡ (self.new.store, answer)) }
         ensures spent { OnOk result (self.new.spent ≡ self.old.spent) }
     {
         match &mut self.store {
@@ -148,7 +148,7 @@ impl<N: StoreName> Script<N> {
 
     /// Carries out a line, and answers its command; an empty one does nothing and has no answer. As [`act`](Self::act).
     pub fn step(&mut self, line: Line) -> Result<Option<Answer>, NoMemory>
-        ensures { IfOk result (λ answer. step self.old line ≡ (self.new, answer)) }
+        ensures { IfOk result (λ answer. script_step self.old line ≡ (self.new, answer)) }
     {
         match line {
             Line::Empty => Ok(None),

@@ -2,9 +2,9 @@
 ghost use Rattle.std.specs.Prelude.{◌≡◌, IfOk, false};
 ghost use Rattle.snap_world.specs.declared.step.Step.TheVariants.{Hand, Locked};
 ghost use Rattle.snap_world.specs.Move.{move};
-ghost use Rattle.snap_session.specs.Opened.{share_at, count_at};
+ghost use Rattle.snap_session.specs.Opened.{share_at, layer_count_at};
 ghost use Rattle.snap_session.specs.Wanting.{is_want};
-ghost use Rattle.snap_session.specs.Commands.{told, stepped};
+ghost use Rattle.snap_session.specs.Commands.{answer_of_step, stepped};
 
 use snap_call::{Call, Refusal, Reply};
 use snap_ledger::StoreName;
@@ -26,7 +26,7 @@ pub(crate) fn share_at<N: StoreName>(world: &World<N>, slot: u64) -> Usage
 
 // What the layer of the snapshot in the slot takes.
 pub(crate) fn count_at<N: StoreName>(world: &World<N>, slot: u64) -> Usage
-    ensures { result ≡ count_at slot world.now }
+    ensures { result ≡ layer_count_at slot world.now }
 {
     match world.count(slot) {
         Some(count) => count,
@@ -74,7 +74,7 @@ pub(crate) fn told<N: StoreName>(
     world: &World<N>,
     answer: StepAnswer,
 ) -> Answer
-    ensures { result ≡ told session slot world.now answer }
+    ensures { result ≡ answer_of_step session slot world.now answer }
 {
     match answer {
         StepAnswer::Reply(Reply::Opened) => Answer::Session(session),

@@ -8,31 +8,31 @@ use Rattle.snap_call.specs.declared.refusal.Refusal.{Refusal}
 use Rattle.snap_call.specs.declared.refusal.Refusal.TheVariants.{JournalFull, OutOfMemory}
 use Rattle.snap_call.specs.declared.reply.Reply.{Reply}
 use Rattle.snap_call.specs.declared.reply.Reply.TheVariants.{Refused}
-use Rattle.snap_call.specs.Journal.{entry}
+use Rattle.snap_call.specs.Journal.{call_entry}
 use Rattle.snap_book.specs.Book.{AnsweredBy, BookValue, Recorded, RefusedBy}
-use Rattle.snap_tape.specs.Tapes.{AnsweredOn, RefusedOn, SessionValue, Taped, Untaped, is_noted, is_recorded, with_entry}
+use Rattle.snap_tape.specs.Tapes.{AnsweredOn, RefusedOn, SessionValue, Taped, Untaped, is_noted, is_recorded, session_with_entry}
 
 -- a recorded call
-pub taped : (old mid : SessionValue) (b after : BookValue) (call : Call) (given : Given) (reply : Reply) (e : Option Entry) → Untaped old mid → 0 < mid.spare → Recorded b after mid.number call given reply → e ≡ after.copy → Taped old (with_entry mid e) call given reply
+pub taped : (old mid : SessionValue) (b after : BookValue) (call : Call) (given : Given) (reply : Reply) (e : Option Entry) → Untaped old mid → 0 < mid.spare → Recorded b after mid.number call given reply → e ≡ after.copy → Taped old (session_with_entry mid e) call given reply
 taped old mid b after call given reply e same room recorded is =
-    subst (λ o. Taped old (with_entry mid o) call given reply) (sym (is ∙ recorded.copy))
+    subst (λ o. Taped old (session_with_entry mid o) call given reply) (sym (is ∙ recorded.copy))
     (record {
       number = same.number;
-      tape = ap (λ (l : List Entry). l ++ entry mid.number call given reply ∷ []) same.tape ∙ ap (λ n. old.tape ++ entry n call given reply ∷ []) same.number;
+      tape = ap (λ (l : List Entry). l ++ call_entry mid.number call given reply ∷ []) same.tape ∙ ap (λ n. old.tape ++ call_entry n call given reply ∷ []) same.number;
       spare = omega (arith, same.spare, room);
     })
 
 -- a call without an entry
-untaped : (old mid : SessionValue) (e : Option Entry) → Untaped old mid → e ≡ None → Untaped old (with_entry mid e)
-untaped old mid e same is = subst (λ o. Untaped old (with_entry mid o)) (sym is) same
+untaped : (old mid : SessionValue) (e : Option Entry) → Untaped old mid → e ≡ None → Untaped old (session_with_entry mid e)
+untaped old mid e same is = subst (λ o. Untaped old (session_with_entry mid o)) (sym is) same
 
 refused_on : (old mid : SessionValue) (b after : BookValue) (call : Call) (given : Given) (why : Refusal) (e : Option Entry) → Untaped old mid → 0 < mid.spare → RefusedBy b after mid.number call given why
-    → e ≡ (if is_recorded why then after.copy else None) → RefusedOn old (with_entry mid e) call given why
+    → e ≡ (if is_recorded why then after.copy else None) → RefusedOn old (session_with_entry mid e) call given why
 refused_on old mid b after call given JournalFull e same room by is = untaped old mid e same is
 refused_on old mid b after call given (OutOfMemory want) e same room by is = untaped old mid e same is
 refused_on old mid b after call given why e same room by is = taped old mid b after call given (Refused why) e same room by is
 
 pub answered_on : (old mid : SessionValue) (b after : BookValue) (call : Call) (given : Given) (reply : Reply) (e : Option Entry) → Untaped old mid → 0 < mid.spare → AnsweredBy b after mid.number call given reply
-    → e ≡ (if is_noted reply then after.copy else None) → AnsweredOn old (with_entry mid e) call given reply
+    → e ≡ (if is_noted reply then after.copy else None) → AnsweredOn old (session_with_entry mid e) call given reply
 answered_on old mid b after call given (Refused why) e same room by is = refused_on old mid b after call given why e same room by is
 answered_on old mid b after call given reply e same room by is = taped old mid b after call given reply e same room by is

@@ -21,7 +21,7 @@ use Rattle.snap_call.specs.declared.state.State.{State}
 use Rattle.snap_call.specs.Forms.{is_key}
 use Rattle.snap_call.specs.Records.{has_children, is_active, is_committed, record_at}
 use Rattle.snap_call.specs.State.{place_of}
-use Rattle.snap_call.specs.Step.{ask, lease_add, lease_add_record, lease_create, lease_drop, lease_drop_at, lease_release, leasing, mounts, refused, remove, remove_record, removed_at, set_limit, step, sweep, update, walk, at_record}
+use Rattle.snap_call.specs.Step.{ask, lease_add, lease_add_record, lease_create, lease_drop, lease_drop_at, lease_release, leasing, mounts, refused, remove, remove_record, removed_at, set_limit, step, sweep, update, walk_infos, at_record}
 use Rattle.snap_accounts.specs.Entries.{IsPlain}
 use Rattle.snap_book.specs.Book.{AnsweredBy, BookValue}
 use Rattle.snap_store.specs.Replies.{AreMounts, IsDone, IsInfo, IsPage, IsRemoval, IsReplyTo, IsSweep, IsUsage}
@@ -75,7 +75,7 @@ of_update : (P : Reply → Type 0) (s : State) (namespace key : Bytes) (given : 
     → P (update s namespace key given paths).1
 of_update P s namespace key given paths why other = either P _ _ _ (at_found P s namespace key _ why (λ place r. either P _ _ _ (other _) (why _))) (why _)
 
-of_walk : (P : Reply → Type 0) (s : State) (namespace after : Bytes) (most : ℕ) (asked : Filter) → ((why : Refusal) → P (replies.Refused why)) → ((infos : List Info) → P (replies.Page infos)) → P (walk s namespace after most asked).1
+of_walk : (P : Reply → Type 0) (s : State) (namespace after : Bytes) (most : ℕ) (asked : Filter) → ((why : Refusal) → P (replies.Refused why)) → ((infos : List Info) → P (replies.Page infos)) → P (walk_infos s namespace after most asked).1
 of_walk P s namespace after most asked why other = either P _ _ _ (in_place P s (place_of namespace s.namespaces) _ _ (λ place. other _) (why _)) (why _)
 
 of_limit : (P : Reply → Type 0) (s : State) (namespace : Bytes) (limit : Usage) → ((why : Refusal) → P (replies.Refused why)) → P replies.Done → P (set_limit s namespace limit).1

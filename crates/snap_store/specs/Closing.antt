@@ -35,7 +35,7 @@ IsCause b sessions (Some (OutOfMemory want)) = ⊥
 -- ---- what holds of the book of every store
 
 -- what holds of it: the round began at a good state without open snapshots and sessions, and the journal leads, one step for each entry, from there to this state, which is good
-pub record IsKept (b : BookValue) : Type 0 where
+pub record KeptBook (b : BookValue) : Type 0 where
   pub began : IsOpening b.opening
   pub replays : Replays b.opening b.journal b.state
   pub good : Good b.state
@@ -43,13 +43,13 @@ pub record IsKept (b : BookValue) : Type 0 where
 -- ---- a close that fails
 
 -- why a book was not closed: its cause; or a snapshot is open, and memory was refused for the list of those that are
-abbrev pub IsRefusal : BookValue → List SessionValue → Cause → Type 0
-IsRefusal b sessions (OutOfMemory want) = 0 < open_count b.state.records
-IsRefusal b sessions cause = IsCause b sessions (Some cause)
+abbrev pub IsClosingRefusal : BookValue → List SessionValue → Cause → Type 0
+IsClosingRefusal b sessions (OutOfMemory want) = 0 < open_count b.state.records
+IsClosingRefusal b sessions cause = IsCause b sessions (Some cause)
 
 -- it is the cause of a book that is kept, of the store's round
 abbrev pub HasCause : Round → List SessionValue → Cause → Type 0
-HasCause r sessions cause = (b : BookValue) × (round_of b ≡ r) × IsKept b × IsRefusal b sessions cause
+HasCause r sessions cause = (b : BookValue) × (round_of b ≡ r) × KeptBook b × IsClosingRefusal b sessions cause
 
 -- ---- a closed store
 
@@ -64,8 +64,8 @@ pub record IsSettled (s : State) : Type 0 where
   pub totals : (place : ℕ) → charge_of place s.records ≡ sum_of counted_in place s.records
 
 -- all of a store of this round that is closed: its round, its sessions, what is charged, and how the journal leads from the round's beginning to its state
-pub record IsClosed (r : Round) (b : BookValue) (handed : List SessionValue) : Type 0 where
+pub record IsClosedStore (r : Round) (b : BookValue) (handed : List SessionValue) : Type 0 where
   pub round : round_of b ≡ r
   pub sessions : AreSessions b.journal handed
   pub settled : IsSettled b.state
-  pub kept : IsKept b
+  pub kept : KeptBook b

@@ -5,9 +5,9 @@ ghost use Rattle.snap_call.specs.Records.{charge_of, open_count, sum_of};
 ghost use Rattle.snap_call.specs.State.{place_of};
 ghost use Rattle.snap_call.specs.Totals.{counted_in};
 ghost use Rattle.snap_book.specs.Round.{next_round, round_answer};
-ghost use Rattle.snap_round.specs.Rounds.{whole};
+ghost use Rattle.snap_round.specs.Rounds.{whole_round};
 ghost use Rattle.snap_store.specs.Rounds.{HasLayers, round_of};
-ghost use Rattle.snap_store.specs.Closing.{AreSessions, HasCause, IsKept, IsRefusal, IsSettled};
+ghost use Rattle.snap_store.specs.Closing.{AreSessions, HasCause, KeptBook, IsClosingRefusal, IsSettled};
 
 use crate::cause::{Cause, close_cause};
 use crate::store::{Store, begun};
@@ -30,7 +30,7 @@ pub struct Closed<N: RoundName> {
 impl<N: RoundName> Model for Closed<N> {
     ghost use Rattle.std.specs.Prelude.{◌≡◌};
     ghost use Rattle.snap_call.specs.Records.{open_count};
-    ghost use Rattle.snap_round.specs.Rounds.{whole};
+    ghost use Rattle.snap_round.specs.Rounds.{whole_round};
     ghost use Rattle.snap_book.specs.Book.{BookValue};
     ghost use Rattle.snap_store.specs.Rounds.{round_of};
 
@@ -38,7 +38,7 @@ impl<N: RoundName> Model for Closed<N> {
 
     ghost view = { λ c. c.book };
 
-    ghost invariant = { λ c. (open_count c.book.state.records ≡ 0) × (c.tie ≡ whole (round_of c.book)) };
+    ghost invariant = { λ c. (open_count c.book.state.records ≡ 0) × (c.tie ≡ whole_round (round_of c.book)) };
 }
 
 /// A store that was not closed, as it was: the store, in the same round, the sessions that were handed in, and why.
@@ -68,7 +68,7 @@ impl<N: RoundName> Store<N> {
         ensures round { IfOk result (λ closed. round_of closed ≡ self) }
         ensures sessions { IfOk result (λ closed. AreSessions closed.journal sessions.items) }
         ensures totals { IfOk result (λ closed. IsSettled closed.state) }
-        ensures kept { IfOk result (λ closed. IsKept closed) }
+        ensures kept { IfOk result (λ closed. KeptBook closed) }
         ensures same { IfErr result (λ back. back.store ≡ self) }
         ensures returned { IfErr result (λ back. back.sessions ≡ sessions) }
         ensures cause { IfErr result (λ back. HasCause back.store back.sessions.items back.cause) }
@@ -125,9 +125,9 @@ impl<N: RoundName> NotClosed<N> {
         sessions: Vec<Session>,
         cause: Cause,
     ) -> NotClosed<N>
-        requires refused { IsRefusal book sessions.items cause }
+        requires refused { IsClosingRefusal book sessions.items cause }
         requires began { open_count book.opening.records ≡ 0 }
-        requires whole { tie ≡ whole (round_of book) }
+        requires whole { tie ≡ whole_round (round_of book) }
         requires layers { HasLayers (round_of book) layer_inodes }
         ensures same { result.store ≡ round_of book }
         ensures returned { result.sessions ≡ sessions }
@@ -148,9 +148,9 @@ impl<N: RoundName> Closed<N> {
     fn of(alloc: Global, book: Book<N>, tie: Tie<N>) -> Closed<N>
         requires idle { open_count book.state.records ≡ 0 }
         requires began { open_count book.opening.records ≡ 0 }
-        requires whole { tie ≡ whole (round_of book) }
+        requires whole { tie ≡ whole_round (round_of book) }
         ensures closed { result ≡ book }
-        ensures kept { IsKept book }
+        ensures kept { KeptBook book }
     {
         // The clauses of the records tell what the book keeps.
         let _records = book.records();

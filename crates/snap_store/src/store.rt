@@ -3,7 +3,7 @@ ghost use Rattle.std.specs.Prelude.{◌≡◌, ◌≤◌, ◌+◌, ◌⊎◌, �
 ghost use Rattle.snap_path.specs.Memory.{no_memory};
 ghost use Rattle.snap_usage.specs.Counted.{count_of};
 ghost use Rattle.snap_call.specs.Forms.{is_config};
-ghost use Rattle.snap_call.specs.Journal.{entry};
+ghost use Rattle.snap_call.specs.Journal.{call_entry};
 ghost use Rattle.snap_call.specs.Records.{open_count};
 ghost use Rattle.snap_call.specs.State.{opening};
 ghost use Rattle.snap_call.specs.declared.call.Call.TheVariants as calls;
@@ -12,7 +12,7 @@ ghost use Rattle.snap_call.specs.declared.refusal.Refusal.TheVariants.{BadArgume
 ghost use Rattle.snap_call.specs.declared.reply.Reply.TheVariants as replies;
 ghost use Rattle.snap_book.specs.Held.{share_of};
 ghost use Rattle.snap_tape.specs.Tapes.{RefusedOn, Taped};
-ghost use Rattle.snap_round.specs.Rounds.{whole};
+ghost use Rattle.snap_round.specs.Rounds.{whole_round};
 ghost use Rattle.snap_store.specs.Rounds.{HasLayers, round_of};
 ghost use Rattle.snap_store.specs.Values.{IsChargedTo, IsPrepared, IsViewed};
 
@@ -94,7 +94,7 @@ fn known<N: RoundName, K: KnownRound>(
     requires known { round_of book ≡ K.round }
     requires idle { open_count book.opening.records ≡ 0 }
     requires layers { HasLayers (round_of book) layer_inodes }
-    requires whole { tie ≡ whole tie.round }
+    requires whole { tie ≡ whole_round tie.round }
     ensures { result ≡ round_of book }
 {
     Store::of(alloc, book, tie.begin::<K>(), layer_inodes)
@@ -104,7 +104,7 @@ fn known<N: RoundName, K: KnownRound>(
 pub(crate) fn begun<N: RoundName>(alloc: Global, book: Book<N>, tie: Tie<N>) -> Store<N>
     requires begins { book ≡ record { state = book.opening; journal = []; opening = book.opening; limit = book.limit; copy = None } }
     requires idle { open_count book.opening.records ≡ 0 }
-    requires whole { tie ≡ whole tie.round }
+    requires whole { tie ≡ whole_round tie.round }
     ensures { result ≡ round_of book }
 {
     let layer_inodes = book.layer_inodes();
@@ -114,7 +114,7 @@ pub(crate) fn begun<N: RoundName>(alloc: Global, book: Book<N>, tie: Tie<N>) -> 
 impl<N: RoundName> Store<N> {
     // The store of a book, which is of the round of the tie.
     pub(crate) fn of(alloc: Global, book: Book<N>, tie: Tie<N>, layer_inodes: u64) -> Store<N>
-        requires whole { tie ≡ whole (round_of book) }
+        requires whole { tie ≡ whole_round (round_of book) }
         requires idle { open_count book.opening.records ≡ 0 }
         requires layers { HasLayers (round_of book) layer_inodes }
         ensures { result ≡ round_of book }
@@ -131,7 +131,7 @@ impl<N: RoundName> Store<N> {
     // Its book, out of the lock: it is of the store's round. Beside it the most inodes of a new layer.
     pub(crate) fn into_book(self) -> (Global, Book<N>, Tie<N>, u64)
         ensures round { round_of result.1 ≡ self }
-        ensures whole { result.2 ≡ whole (round_of result.1) }
+        ensures whole { result.2 ≡ whole_round (round_of result.1) }
         ensures idle { open_count result.1.opening.records ≡ 0 }
         ensures layers { HasLayers (round_of result.1) result.3 }
     {
@@ -173,7 +173,7 @@ impl<N: RoundName> Store<N> {
     /// `OutOfMemory` and `JournalFull` as for every call; `NumbersSpent` after 65,536 sessions of the round.
     /// None of them is recorded, and no session is opened.
     pub fn session<R: Wait>(&self, rt: &R) -> Result<Session, Refusal>
-        ensures opened { IfOk result (λ s. s.tape ≡ entry s.number calls.Session Nothing replies.Opened ∷ []) }
+        ensures opened { IfOk result (λ s. s.tape ≡ call_entry s.number calls.Session Nothing replies.Opened ∷ []) }
         ensures err { IfErr result (λ why. (why ≡ JournalFull) ⊎ ((why ≡ OutOfMemory no_memory) ⊎ (why ≡ NumbersSpent))) }
     {
         let mut tape = Vec::new(self.alloc);

@@ -5,7 +5,7 @@ use Rattle.std.proofs.Common.{◌≡◌, ℕ, zero, suc, ◌+◌, ◌<◌, ◌�
 use Rattle.std.proofs.lemmas.List.{get_or_append_left, get_or-append-add}
 use Rattle.std.proofs.lemmas.List.Elements.{All-append, All-cons, All-nil, All-weaker}
 use Rattle.snap_call.specs.declared.entry.Entry.{Entry}
-use Rattle.snap_call.specs.Journal.{own}
+use Rattle.snap_call.specs.Journal.{session_entries}
 use Rattle.snap_tape.specs.Tapes.{SessionValue}
 use Rattle.snap_tape.specs.Sessions.{DiffersAt, IsBound, IsFirst, IsFirstMismatch, IsMismatch, IsNotAfter, IsOwn}
 use Rattle.snap_tape.specs.Following.{IsDifference}
@@ -32,14 +32,14 @@ no_later : (tape entries : List Entry) (p q : ℕ) → DiffersAt tape entries p 
 no_later tape entries p q d e h =
     e.other (sym (slice_get-take tape p q h) ∙ (ap (λ l. slice_get l q) d.same ∙ slice_get-take entries p q h))
 
-pub of_one : (journal : List Entry) (s : SessionValue) (place : ℕ) → IsDifference s.tape (own journal s.number) (Some place) → IsFirstMismatch journal (s ∷ []) (Some (record { session = s.number; place = place }))
+pub of_one : (journal : List Entry) (s : SessionValue) (place : ℕ) → IsDifference s.tape (session_entries journal s.number) (Some place) → IsFirstMismatch journal (s ∷ []) (Some (record { session = s.number; place = place }))
 of_one journal s place d = record {
   there = (0, s, omega arith, refl, (refl, d));
   least = All-cons (IsBound journal (record { session = s.number; place = place })) s [] bound (All-nil (IsBound journal (record { session = s.number; place = place })));
 }
   where
-    not_before : (q : ℕ) → DiffersAt s.tape (own journal s.number) q → place ≤ q
-    not_before q e = grind (arith, no_later s.tape (own journal s.number) place q d e)
+    not_before : (q : ℕ) → DiffersAt s.tape (session_entries journal s.number) q → place ≤ q
+    not_before q e = grind (arith, no_later s.tape (session_entries journal s.number) place q d e)
 
     bound : IsBound journal (record { session = s.number; place = place }) s
     bound q e = inr (refl, not_before q e)

@@ -7,9 +7,9 @@ use Rattle.std.proofs.lemmas.List.Elements.{filter-append}
 use Rattle.std.proofs.lemmas.List.{length-take, length-take-le}
 use Rattle.std.proofs.lemmas.Option.{get_or_from_slice_get, slice_get-get_or, slice_get_within}
 use Rattle.snap_call.specs.declared.entry.Entry.{Entry}
-use Rattle.snap_call.specs.Journal.{own}
+use Rattle.snap_call.specs.Journal.{session_entries}
 use Rattle.snap_tape.specs.Tapes.{SessionValue}
-use Rattle.snap_tape.specs.Sessions.{AreOnce, has_number}
+use Rattle.snap_tape.specs.Sessions.{AreOnce, has_session_number}
 use Rattle.snap_tape.specs.Following.{AreFollowed, AreIndexes, IsProgress, index_in}
 use Rattle.snap_tape.specs.declared.mismatch.Progress.{Progress}
 use Rattle.snap_tape.proofs.Counting.{one_alone, once_counted, stands}
@@ -123,20 +123,20 @@ outside sessions i s there over once =
     let is = get_or_from_slice_get sessions i s s there in
     absurd (omega (arith, over, subst (λ (x : SessionValue). x.number < length sessions) is at))
 
-pub passes : (n : ℕ) (s : SessionValue) → s.number ≡ n → has_number n s ≡ true
+pub passes : (n : ℕ) (s : SessionValue) → s.number ≡ n → has_session_number n s ≡ true
 passes n s e = grind (arith, nat_tests)
 
-pub passed : (n : ℕ) (s : SessionValue) → has_number n s ≡ true → s.number ≡ n
+pub passed : (n : ℕ) (s : SessionValue) → has_session_number n s ≡ true → s.number ≡ n
 passed n s e = grind (arith, nat_tests)
 
 pub twice : (sessions : List SessionValue) (i k : ℕ) (s t : SessionValue) → slice_get sessions i ≡ Some s → slice_get sessions k ≡ Some t → t.number ≡ s.number → i ≢ k → AreOnce sessions → ⊥
 twice sessions i k s t at_i at_k same ne once =
     let inside = subst (λ (x : SessionValue). x.number < length sessions) (get_or_from_slice_get sessions i s s at_i) (once.inside i s (slice_get_within sessions i s at_i)) in
-    ne (one_alone (has_number s.number) sessions i k s t (once.once s.number inside) at_i at_k (passes s.number s refl) (passes s.number t same))
+    ne (one_alone (has_session_number s.number) sessions i k s t (once.once s.number inside) at_i at_k (passes s.number s refl) (passes s.number t same))
 
 pub missing : (sessions : List SessionValue) (indexes : List (Option ℕ)) (n : ℕ) → AreIndexes sessions indexes → n < length sessions → index_in indexes n ≡ None → AreOnce sessions → ⊥
 missing sessions indexes n at low none once =
-    let found = stands (has_number n) sessions (omega (arith, once.once n low)) in
+    let found = stands (has_session_number n) sessions (omega (arith, once.once n low)) in
     let e : Some found.0 ≡ None = sym (at.index found.0 found.1 found.2) ∙ (ap (λ m. index_in indexes m) (passed n found.1 found.3) ∙ none) in
     absurd (cc)
 
@@ -182,7 +182,7 @@ is_taken (Some j) i e = refl
 
 pub all_taken : (sessions : List SessionValue) (indexes : List (Option ℕ)) → AreIndexes sessions indexes → length indexes ≡ length sessions → AreOnce sessions → All (λ index. IsSome index) indexes
 all_taken sessions indexes at size once k d h =
-    let found = stands (has_number k) sessions (omega (arith, once.once k (omega arith))) in
+    let found = stands (has_session_number k) sessions (omega (arith, once.once k (omega arith))) in
     let index = at.index found.0 found.1 found.2 in
     let held = index_of-held indexes k found.0 (subst (λ n. index_in indexes n ≡ Some found.0) (passed k found.1 found.3) index) in
     is_taken (get_or indexes k d) found.0 (get_or_from_slice_get indexes k (Some found.0) d held)
@@ -196,11 +196,11 @@ indexed_once sessions indexes at size full = record { inside = inside; once = on
         let held = index_of-held indexes (slice_index_or sessions k d).number k (at.index k (slice_index_or sessions k d) there) in
         omega (arith, size, slice_get_within indexes (slice_index_or sessions k d).number (Some k) held)
 
-    once : (n : ℕ) → n < length sessions → count_by (has_number n) sessions ≡ 1
+    once : (n : ℕ) → n < length sessions → count_by (has_session_number n) sessions ≡ 1
     once n low =
         let mine = full n low in
         let held = at.held n mine.0 mine.1 in
-        once_counted (has_number n) sessions mine.0 held.0 held.1 (passes n held.0 held.2)
+        once_counted (has_session_number n) sessions mine.0 held.0 held.1 (passes n held.0 held.2)
         (λ k t there pass. alone mine.0 mine.1 k t there (passed n t pass))
       where
         alone : (i : ℕ) → index_in indexes n ≡ Some i → (k : ℕ) (t : SessionValue) → slice_get sessions k ≡ Some t → t.number ≡ n → k ≡ i
@@ -210,24 +210,24 @@ indexed_once sessions indexes at size full = record { inside = inside; once = on
 
 -- ---- one entry more of the journal
 
-own_append : (seen : List Entry) (e : Entry) (n : ℕ) → own (seen ++ e ∷ []) n ≡ own seen n ++ cond (e.session == n) (e ∷ []) []
+own_append : (seen : List Entry) (e : Entry) (n : ℕ) → session_entries (seen ++ e ∷ []) n ≡ session_entries seen n ++ cond (e.session == n) (e ∷ []) []
 own_append seen e n = filter-append (λ x. x.session == n) seen (e ∷ [])
 
-own_its : (seen : List Entry) (e : Entry) (n : ℕ) → n ≡ e.session → own (seen ++ e ∷ []) n ≡ own seen n ++ e ∷ []
+own_its : (seen : List Entry) (e : Entry) (n : ℕ) → n ≡ e.session → session_entries (seen ++ e ∷ []) n ≡ session_entries seen n ++ e ∷ []
 own_its seen e n same =
     let yes : (e.session == n) ≡ true = grind (arith, nat_tests) in
-    own_append seen e n ∙ ap (λ b. own seen n ++ cond b (e ∷ []) []) yes
+    own_append seen e n ∙ ap (λ b. session_entries seen n ++ cond b (e ∷ []) []) yes
 
-own_others : (seen : List Entry) (e : Entry) (n : ℕ) → n ≢ e.session → own (seen ++ e ∷ []) n ≡ own seen n
+own_others : (seen : List Entry) (e : Entry) (n : ℕ) → n ≢ e.session → session_entries (seen ++ e ∷ []) n ≡ session_entries seen n
 own_others seen e n other =
     let no : (e.session == n) ≡ false = grind (arith, nat_tests) in
-    own_append seen e n ∙ (ap (λ b. own seen n ++ cond b (e ∷ []) []) no ∙ append-nil (own seen n))
+    own_append seen e n ∙ (ap (λ b. session_entries seen n ++ cond b (e ∷ []) []) no ∙ append-nil (session_entries seen n))
 
 -- no session has its number
 pub follow_none : (sessions : List SessionValue) (indexes : List (Option ℕ)) (progress : List Progress) (e : Entry) → AreIndexes sessions indexes → index_in indexes e.session ≡ None → (seen : List Entry) → AreFollowed seen sessions progress → AreFollowed (seen ++ e ∷ []) sessions progress
 follow_none sessions indexes progress e at none seen followed = record { size = followed.size; each = each }
   where
-    each : (i : ℕ) (s : SessionValue) (p : Progress) → slice_get sessions i ≡ Some s → slice_get progress i ≡ Some p → IsProgress s.tape (own (seen ++ e ∷ []) s.number) p
+    each : (i : ℕ) (s : SessionValue) (p : Progress) → slice_get sessions i ≡ Some s → slice_get progress i ≡ Some p → IsProgress s.tape (session_entries (seen ++ e ∷ []) s.number) p
     each i s p there here = subst (λ (l : List Entry). IsProgress s.tape l p) (sym (own_others seen e s.number differ)) (followed.each i s p there here)
       where
         differ : s.number ≡ e.session → ⊥
@@ -250,19 +250,19 @@ follow_one sessions indexes progress e k t p q at index there here next seen fol
     now : slice_get (set progress k q) k ≡ Some q
     now = slice_get-set_same progress k q (slice_get_within progress k p here)
 
-    mine : IsProgress t.tape (own (seen ++ e ∷ []) t.number) q
-    mine = subst (λ (l : List Entry). IsProgress t.tape l q) (sym (own_its seen e t.number its)) (next (own seen t.number) (followed.each k t p there here))
+    mine : IsProgress t.tape (session_entries (seen ++ e ∷ []) t.number) q
+    mine = subst (λ (l : List Entry). IsProgress t.tape l q) (sym (own_its seen e t.number its)) (next (session_entries seen t.number) (followed.each k t p there here))
 
-    each : (i : ℕ) (s : SessionValue) (r : Progress) → slice_get sessions i ≡ Some s → slice_get (set progress k q) i ≡ Some r → IsProgress s.tape (own (seen ++ e ∷ []) s.number) r
+    each : (i : ℕ) (s : SessionValue) (r : Progress) → slice_get sessions i ≡ Some s → slice_get (set progress k q) i ≡ Some r → IsProgress s.tape (session_entries (seen ++ e ∷ []) s.number) r
     each i s r at_i is_r = by (same_or_not i k)
       where
-        by : (i ≡ k) ⊎ (i ≢ k) → IsProgress s.tape (own (seen ++ e ∷ []) s.number) r
+        by : (i ≡ k) ⊎ (i ≢ k) → IsProgress s.tape (session_entries (seen ++ e ∷ []) s.number) r
         by (inl same) =
             let f : Some s ≡ Some t = sym at_i ∙ (ap (λ j. slice_get sessions j) same ∙ there) in
             let g : Some r ≡ Some q = sym is_r ∙ (ap (λ j. slice_get (set progress k q) j) same ∙ now) in
             let is_s : t ≡ s = cc in
             let is_q : q ≡ r = cc in
-            subst (λ (x : Progress). IsProgress s.tape (own (seen ++ e ∷ []) s.number) x) is_q (subst (λ (x : SessionValue). IsProgress x.tape (own (seen ++ e ∷ []) x.number) q) is_s mine)
+            subst (λ (x : Progress). IsProgress s.tape (session_entries (seen ++ e ∷ []) s.number) x) is_q (subst (λ (x : SessionValue). IsProgress x.tape (session_entries (seen ++ e ∷ []) x.number) q) is_s mine)
         by (inr ne) =
             subst (λ (l : List Entry). IsProgress s.tape l r) (sym (own_others seen e s.number (differ ne)))
             (followed.each i s r at_i (sym (slice_get-set_other progress k i q ne) ∙ is_r))

@@ -8,7 +8,7 @@ use Rattle.snap_call.specs.declared.entry.Entry.{Entry}
 use Rattle.std.specs.Prelude.{cond, ◌==◌, get_or, nat_lt}
 use Rattle.std.proofs.lemmas.List.Elements.{filter_more}
 use Rattle.std.proofs.lemmas.Bool.Decides.{nat_tests}
-use Rattle.snap_call.specs.Journal.{own}
+use Rattle.snap_call.specs.Journal.{session_entries}
 use Rattle.snap_tape.specs.Sessions.{DiffersAt}
 use Rattle.snap_tape.specs.Following.{HasFollowed}
 
@@ -82,21 +82,21 @@ equal tape seen place end h = sym (take_all place tape end) ∙ h.0
 
 -- ---- one entry more of the journal
 
-own_more : (journal : List Entry) (i : ℕ) (e : Entry) (n : ℕ) → i < length journal → e ≡ get_or journal i e → own (take (i + 1) journal) n ≡ own (take i journal) n ++ cond (e.session == n) (e ∷ []) []
+own_more : (journal : List Entry) (i : ℕ) (e : Entry) (n : ℕ) → i < length journal → e ≡ get_or journal i e → session_entries (take (i + 1) journal) n ≡ session_entries (take i journal) n ++ cond (e.session == n) (e ∷ []) []
 own_more journal i e n h is =
-    filter_more (λ x. x.session == n) journal i e h ∙ ap (λ (x : Entry). own (take i journal) n ++ cond (x.session == n) (x ∷ []) []) (sym is)
+    filter_more (λ x. x.session == n) journal i e h ∙ ap (λ (x : Entry). session_entries (take i journal) n ++ cond (x.session == n) (x ∷ []) []) (sym is)
 
 -- it is the session's
-pub own_yes : (journal : List Entry) (i : ℕ) (e : Entry) (n : ℕ) → i < length journal → e ≡ get_or journal i e → e.session ≡ n → own (take (i + 1) journal) n ≡ own (take i journal) n ++ e ∷ []
+pub own_yes : (journal : List Entry) (i : ℕ) (e : Entry) (n : ℕ) → i < length journal → e ≡ get_or journal i e → e.session ≡ n → session_entries (take (i + 1) journal) n ≡ session_entries (take i journal) n ++ e ∷ []
 own_yes journal i e n h is same =
     let yes : (e.session == n) ≡ true = grind (arith, nat_tests) in
-    own_more journal i e n h is ∙ ap (λ b. own (take i journal) n ++ cond b (e ∷ []) []) yes
+    own_more journal i e n h is ∙ ap (λ b. session_entries (take i journal) n ++ cond b (e ∷ []) []) yes
 
 -- it is another's
-pub own_no : (journal : List Entry) (i : ℕ) (e : Entry) (n : ℕ) → i < length journal → e ≡ get_or journal i e → e.session ≢ n → own (take (i + 1) journal) n ≡ own (take i journal) n
+pub own_no : (journal : List Entry) (i : ℕ) (e : Entry) (n : ℕ) → i < length journal → e ≡ get_or journal i e → e.session ≢ n → session_entries (take (i + 1) journal) n ≡ session_entries (take i journal) n
 own_no journal i e n h is other =
     let no : (e.session == n) ≡ false = grind (arith, nat_tests) in
-    own_more journal i e n h is ∙ (ap (λ b. own (take i journal) n ++ cond b (e ∷ []) []) no ∙ append-nil (own (take i journal) n))
+    own_more journal i e n h is ∙ (ap (λ b. session_entries (take i journal) n ++ cond b (e ∷ []) []) no ∙ append-nil (session_entries (take i journal) n))
 
 -- ---- what stands at a place
 

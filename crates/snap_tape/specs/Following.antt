@@ -2,7 +2,7 @@
 -- Cited by invariants and private clauses alone.
 use Rattle.std.specs.Prelude.{◌≡◌, ℕ, ◌<◌, ◌≤◌, Bool, true, false, List, length, take, slice_get, Option, None, Some, option_and_then}
 use Rattle.snap_call.specs.declared.entry.Entry.{Entry}
-use Rattle.snap_call.specs.Journal.{own}
+use Rattle.snap_call.specs.Journal.{session_entries}
 use Rattle.snap_tape.specs.Tapes.{SessionValue}
 use Rattle.snap_tape.specs.Sessions.{DiffersAt}
 use Rattle.snap_tape.specs.declared.mismatch.Progress.{Progress}
@@ -23,7 +23,7 @@ IsDifference tape seen (Some place) = DiffersAt tape seen place
 -- how far each session's tape was compared
 pub record AreFollowed (journal : List Entry) (sessions : List SessionValue) (progress : List Progress) : Type 0 where
   pub size : length progress ≡ length sessions
-  pub each : (i : ℕ) (s : SessionValue) (p : Progress) → slice_get sessions i ≡ Some s → slice_get progress i ≡ Some p → IsProgress s.tape (own journal s.number) p
+  pub each : (i : ℕ) (s : SessionValue) (p : Progress) → slice_get sessions i ≡ Some s → slice_get progress i ≡ Some p → IsProgress s.tape (session_entries journal s.number) p
 
 -- the place that stands at a number
 abbrev pub index_in : List (Option ℕ) → ℕ → Option ℕ

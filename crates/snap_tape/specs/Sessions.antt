@@ -2,7 +2,7 @@
 -- Cited by `check_sessions`, `first_mismatch`, `close_cause` and others.
 use Rattle.std.specs.Prelude.{◌≡◌, ◌≢◌, ◌⊎◌, ℕ, ◌<◌, ◌≤◌, ◌==◌, Bool, List, length, take, slice_get, count_by, All, Any, Option, None, Some, Result, Ok, Err}
 use Rattle.snap_call.specs.declared.entry.Entry.{Entry}
-use Rattle.snap_call.specs.Journal.{own}
+use Rattle.snap_call.specs.Journal.{session_entries}
 use Rattle.snap_tape.specs.Tapes.{SessionValue}
 use Rattle.snap_tape.specs.declared.mismatch.Mismatch.{Mismatch}
 use Rattle.snap_tape.specs.declared.check.SessionsFault.{SessionsFault}
@@ -10,13 +10,13 @@ use Rattle.snap_tape.specs.declared.check.SessionsFault.TheVariants as faults
 
 -- ---- the sessions
 
-abbrev pub has_number : ℕ → SessionValue → Bool
-has_number n s = s.number == n
+abbrev pub has_session_number : ℕ → SessionValue → Bool
+has_session_number n s = s.number == n
 
 -- the numbers of the sessions are 0 to n - 1, where n is how many they are, each once
 pub record AreOnce (sessions : List SessionValue) : Type 0 where
   pub inside : All (λ s. s.number < length sessions) sessions
-  pub once : (n : ℕ) → n < length sessions → count_by (has_number n) sessions ≡ 1
+  pub once : (n : ℕ) → n < length sessions → count_by (has_session_number n) sessions ≡ 1
 
 -- the sessions are all those of the round: each once, and every entry of the journal is of one of them
 pub record AreAll (journal : List Entry) (sessions : List SessionValue) : Type 0 where
@@ -27,7 +27,7 @@ pub record AreAll (journal : List Entry) (sessions : List SessionValue) : Type 0
 
 -- the tape has just the session's own entries of the journal, in order
 abbrev pub IsOwn : List Entry → SessionValue → Type 0
-IsOwn journal s = s.tape ≡ own journal s.number
+IsOwn journal s = s.tape ≡ session_entries journal s.number
 
 -- two lists are the same up to a place, counted from 0, and differ there; the end of one of them is a difference too
 pub record DiffersAt (tape entries : List Entry) (place : ℕ) : Type 0 where
@@ -36,7 +36,7 @@ pub record DiffersAt (tape entries : List Entry) (place : ℕ) : Type 0 where
 
 -- the session's tape and its own entries of the journal differ there first
 abbrev pub IsMismatch : List Entry → ℕ → SessionValue → Type 0
-IsMismatch journal place s = DiffersAt s.tape (own journal s.number) place
+IsMismatch journal place s = DiffersAt s.tape (session_entries journal s.number) place
 
 -- the one mismatch is of a lesser session, or of the same session and at no later place
 abbrev pub IsNotAfter : Mismatch → Mismatch → Type 0

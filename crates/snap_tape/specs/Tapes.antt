@@ -8,7 +8,7 @@ use Rattle.snap_call.specs.declared.refusal.Refusal.{Refusal}
 use Rattle.snap_call.specs.declared.refusal.Refusal.TheVariants.{JournalFull, OutOfMemory}
 use Rattle.snap_call.specs.declared.reply.Reply.{Reply}
 use Rattle.snap_call.specs.declared.reply.Reply.TheVariants.{Refused}
-use Rattle.snap_call.specs.Journal.{entry}
+use Rattle.snap_call.specs.Journal.{call_entry}
 
 -- a session: its number, its tape, which has each entry that its calls left in the journal, in order, and for how many entries more it has memory
 pub record SessionValue : Type 0 where
@@ -19,7 +19,7 @@ pub record SessionValue : Type 0 where
 -- the call left an entry: its own session, call, what was given, and the reply; at most that entry's room is gone
 pub record Taped (old new : SessionValue) (call : Call) (given : Given) (reply : Reply) : Type 0 where
   pub number : new.number ≡ old.number
-  pub tape : new.tape ≡ old.tape ++ entry old.number call given reply ∷ []
+  pub tape : new.tape ≡ old.tape ++ call_entry old.number call given reply ∷ []
   pub spare : old.spare ≤ new.spare + 1
 
 -- the call left no entry; room may have come
@@ -40,9 +40,9 @@ AnsweredOn old new call given (Refused why) = RefusedOn old new call given why
 AnsweredOn old new call given reply = Taped old new call given reply
 
 -- the session once it has the entry, where there is one
-abbrev pub with_entry : SessionValue → Option Entry → SessionValue
-with_entry s None = s
-with_entry s (Some e) = record { number = s.number; tape = s.tape ++ e ∷ []; spare = s.spare - 1 }
+abbrev pub session_with_entry : SessionValue → Option Entry → SessionValue
+session_with_entry s None = s
+session_with_entry s (Some e) = record { number = s.number; tape = s.tape ++ e ∷ []; spare = s.spare - 1 }
 
 -- whether a refused call leaves an entry
 abbrev pub is_recorded : Refusal → Bool

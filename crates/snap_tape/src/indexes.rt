@@ -1,6 +1,6 @@
 // Whether the sessions that are handed in are all those of a round.
 ghost use Rattle.std.specs.Prelude.{◌≡◌, ℕ, ◌<◌, ◌↔◌, All, IfOk, IsTrue, IfSome, IfNone, IsSome, None, Some, if◌then◌else◌, count_by, length, slice_get, slice_set};
-ghost use Rattle.snap_tape.specs.Sessions.{AreOnce, has_number};
+ghost use Rattle.snap_tape.specs.Sessions.{AreOnce, has_session_number};
 ghost use Rattle.snap_tape.specs.Following.{AreIndexes, index_in};
 
 use crate::session::Session;
@@ -18,7 +18,7 @@ pub(crate) fn are_known(journal: &[SharedEntry], sessions: usize) -> bool
 
 // How many sessions have this number.
 fn count_with(sessions: &[Session], number: u64) -> usize
-    ensures { result ≡ count_by (has_number number) sessions.now }
+    ensures { result ≡ count_by (has_session_number number) sessions.now }
 {
     sessions
         .iter()
@@ -37,7 +37,7 @@ fn are_inside(sessions: &[Session]) -> bool
 
 // Each number below so many stands once.
 fn is_each_once(sessions: &[Session]) -> bool
-    ensures { IsTrue result ↔ ((n : ℕ) → n < length sessions.now → count_by (has_number n) sessions.now ≡ 1) }
+    ensures { IsTrue result ↔ ((n : ℕ) → n < length sessions.now → count_by (has_session_number n) sessions.now ≡ 1) }
 {
     for number in 0..sessions.len() as u64 {
         if count_with(sessions, number) != 1 {

@@ -1,6 +1,6 @@
 // The comparison of tapes with the journal.
 ghost use Rattle.std.specs.Prelude.{◌≡◌, ◌++◌, ◌∷◌, [], List, IfOk, length};
-ghost use Rattle.snap_call.specs.Journal.{own};
+ghost use Rattle.snap_call.specs.Journal.{session_entries};
 ghost use Rattle.snap_call.specs.declared.entry.Entry.{Entry as EntryValue};
 ghost use Rattle.snap_tape.specs.Sessions.{IsFirst, IsFirstMismatch};
 ghost use Rattle.snap_tape.specs.Following.{AreFollowed, AreIndexes, IsDifference, IsProgress};
@@ -70,7 +70,7 @@ impl Progress {
 
 // The first place at which the session's tape and its own entries differ.
 fn difference_of(journal: &[SharedEntry], session: &Session) -> Option<usize>
-    ensures { IsDifference session.now.tape (own journal.now session.now.number) result }
+    ensures { IsDifference session.now.tape (session_entries journal.now session.now.number) result }
 {
     let number = session.number();
     let tape = session.tape();
@@ -85,7 +85,7 @@ fn difference_of(journal: &[SharedEntry], session: &Session) -> Option<usize>
 
 // The mismatch of a session, from the first place at which its tape differs.
 fn mismatch_at(session: &Session, difference: Option<usize>) -> Option<Mismatch>
-    ensures { (journal : List EntryValue) → IsDifference session.now.tape (own journal session.now.number) difference → IsFirstMismatch journal (session.now ∷ []) result }
+    ensures { (journal : List EntryValue) → IsDifference session.now.tape (session_entries journal session.now.number) difference → IsFirstMismatch journal (session.now ∷ []) result }
 {
     match difference {
         Some(place) => Some(Mismatch {

@@ -1,6 +1,6 @@
 // A session: its number and its tape.
 ghost use Rattle.std.specs.Prelude.{◌≡◌, ◌≤◌, ◌<◌, ◌+◌, OnOk, OnErr};
-ghost use Rattle.snap_tape.specs.Tapes.{Untaped, with_entry};
+ghost use Rattle.snap_tape.specs.Tapes.{Untaped, session_with_entry};
 
 use snap_call::SharedEntry;
 use std::alloc::AllocError;
@@ -70,7 +70,7 @@ impl Session {
     /// Puts the entry on the tape, where there is one. Takes no memory. The cost is constant.
     pub fn note(&mut self, entry: Option<SharedEntry>)
         requires { 0 < self.old.spare }
-        ensures entry { self.new ≡ with_entry self.old entry }
+        ensures entry { self.new ≡ session_with_entry self.old entry }
         ensures room { self.old.spare ≤ self.new.spare + 1 }
     {
         if let Some(entry) = entry {

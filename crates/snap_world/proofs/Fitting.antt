@@ -25,12 +25,12 @@ use Rattle.snap_call.specs.declared.reply.Reply.{Reply}
 use Rattle.snap_call.specs.declared.reply.Reply.TheVariants as replies
 use Rattle.snap_call.specs.declared.state.State.{State}
 use Rattle.snap_call.specs.Good.{Good}
-use Rattle.snap_call.specs.Journal.{entry}
+use Rattle.snap_call.specs.Journal.{call_entry}
 use Rattle.snap_call.specs.Records.{active_at, charge_of, has_children, has_key, is_active, is_committed, is_named, is_slot, recharged, record_at, relabelled, with_record, without_key, without_slot, committed_as, max_sessions}
 use Rattle.snap_call.specs.Forms.{is_key, is_limit, is_page, is_start}
 use Rattle.snap_call.specs.Reached.{unswept}
 use Rattle.snap_call.specs.State.{ancestors, layers_of, place_of, shown_layers}
-use Rattle.snap_call.specs.Step.{IsAllowed, IsCovered, IsOpen, has_named, in_namespace, lease_add, lease_add_record, lease_create, lease_drop, lease_drop_at, lease_release, set_limit, sweep, sweep_at, ask, charge, charge_to, commit_as, committed as committed_state, discard, greater, one, prepare_at, prepared as prepared_state, refused, session, step, trim, place_for, slot_for, unless_refused, mounts, view_at, view, remove_record, remove, update_record, update, walk, new_record, at_record}
+use Rattle.snap_call.specs.Step.{IsAllowed, IsCovered, IsOpenSlot, has_named, in_namespace, lease_add, lease_add_record, lease_create, lease_drop, lease_drop_at, lease_release, set_limit, sweep, sweep_at, ask, charge, charge_to, commit_as, committed as committed_state, discard, greater, one, prepare_at, prepared as prepared_state, refused, session, step, trim, place_for, slot_for, unless_refused, mounts, view_at, prepare_view, remove_record, remove, update_record, update, walk_infos, new_record, at_record}
 use Rattle.snap_call.proofs.Alike.{AreAlike, bare, bare-relabelled, alike-active_at, alike-active_at_None, alike-layers}
 use Rattle.snap_call.proofs.Chains.{chain, Every, OnParent, every, on_parent, IsOther, Keeps, Keeps-after, Keeps-recharged, Keeps-with_record, Keeps-without_slot, chain-found, keeps-ancestors, keeps-without_key, on_other}
 use Rattle.snap_call.proofs.Keeping.{covers-Covers}
@@ -273,7 +273,7 @@ left_view_at s namespace key parent labels place hands good agree is =
     (λ few. agree_on s.records ts (same_where s.records ts good.chains (Keeps-with_record new s.records is.free)) hands agree (λ k. active_at-with_record_other k new s.records refl))
     (λ spent. agree)
 
-left_view : (s : State) (hands : List (Option HandValue)) (namespace key parent : Bytes) (labels : List Label) → Good s → AgreeAll hands s.records → Left (λ reply. hands) (view s namespace key parent labels)
+left_view : (s : State) (hands : List (Option HandValue)) (namespace key parent : Bytes) (labels : List Label) → Good s → AgreeAll hands s.records → Left (λ reply. hands) (prepare_view s namespace key parent labels)
 left_view s hands namespace key parent labels good agree =
     left_unless_refused s (λ reply. hands) (place_for s namespace key parent labels) (view_at s key parent labels) (λ why. agree)
     (λ place e. left_view_at s namespace key parent labels place hands good agree (place_for-Ok s namespace key parent labels place e))
@@ -299,7 +299,7 @@ left_update : (s : State) (hands : List (Option HandValue)) (namespace key : Byt
 left_update s hands namespace key given paths agree =
     cases_if (Left (λ reply. hands)) (is_key key && is_well_formed given paths) _ _ (λ formed. left_at_record s hands namespace key _ agree (λ place r e. left_update_record s hands key given paths place r agree)) (λ bad. agree)
 
-left_walk : (s : State) (hands : List (Option HandValue)) (namespace after : Bytes) (most : ℕ) (asked : Filter) → AgreeAll hands s.records → Left (λ reply. hands) (walk s namespace after most asked)
+left_walk : (s : State) (hands : List (Option HandValue)) (namespace after : Bytes) (most : ℕ) (asked : Filter) → AgreeAll hands s.records → Left (λ reply. hands) (walk_infos s namespace after most asked)
 left_walk s hands namespace after most asked agree =
     cases_if (Left (λ reply. hands)) (is_start after && is_page most) _ _ (λ formed. left_in_namespace s hands namespace _ agree (λ place. agree)) (λ bad. agree)
 
@@ -382,7 +382,7 @@ fits_recorded : (w : WorldValue) (n : ℕ) (call : Call) (given : Given) (f : Re
 fits_recorded w n call given f fit allowed places left = record {
   good = good_step w.state call given fit.good allowed;
   began = fit.began;
-  replays = replays_push w.opening w.journal w.state (entry n call given (step w.state call given).1) fit.replays allowed refl;
+  replays = replays_push w.opening w.journal w.state (call_entry n call given (step w.state call given).1) fit.replays allowed refl;
   places = places (step w.state call given).1 ∙ sym (step-slots w.state call given);
   hands = left;
 }
@@ -409,8 +409,8 @@ set_places : (w : WorldValue) (slot : ℕ) (o : Option HandValue) → Fits w →
 set_places w slot o fit = length-set w.hands slot o ∙ fit.places
 
 -- the slot is stands under the id
-open_under : (w : WorldValue) (slot id : ℕ) (h : HandValue) (r : Record) → active_at slot w.state.records ≡ Some r → IsHandOf slot w.state.records h r → is_under id h ≡ true → IsOpen id (active_at slot w.state.records)
-open_under w slot id h r stands is under = subst (λ (o : Option Record). IsOpen id o) (sym stands) (sym is.id ∙ under-id id h under)
+open_under : (w : WorldValue) (slot id : ℕ) (h : HandValue) (r : Record) → active_at slot w.state.records ≡ Some r → IsHandOf slot w.state.records h r → is_under id h ≡ true → IsOpenSlot id (active_at slot w.state.records)
+open_under w slot id h r stands is under = subst (λ (o : Option Record). IsOpenSlot id o) (sym stands) (sym is.id ∙ under-id id h under)
 
 covered_under : (w : WorldValue) (slot id : ℕ) (h : HandValue) (r : Record) → active_at slot w.state.records ≡ Some r → IsHandOf slot w.state.records h r → is_under id h ≡ true → IsCovered id (count_of h.snapshot.layer) (active_at slot w.state.records)
 covered_under w slot id h r stands is under =

@@ -10,7 +10,7 @@ use Rattle.snap_call.specs.declared.refusal.Refusal.{Refusal}
 use Rattle.snap_call.specs.declared.refusal.Refusal.TheVariants.{JournalFull, OutOfMemory}
 use Rattle.snap_call.specs.declared.reply.Reply.{Reply}
 use Rattle.snap_call.specs.declared.reply.Reply.TheVariants.{Refused}
-use Rattle.snap_call.specs.Journal.{entry}
+use Rattle.snap_call.specs.Journal.{call_entry}
 use Rattle.snap_call.specs.Records.{open_count}
 use Rattle.snap_call.specs.Step.{step}
 use Rattle.snap_book.specs.Active.{ActiveValue}
@@ -46,7 +46,7 @@ not_lt a b h = le-ltb a b (omega (arith, h))
 pub records : (old new : BookValue) (hands after : List (Option HandValue)) (n : ℕ) (call : Call) (given : Given) (f : Reply → List (Option HandValue)) (reply : Reply) → Recorded old new n call given reply → after ≡ f reply
     → recorded (world_of old hands) n call given f ≡ (world_of new after, answers.Reply reply)
 records old new hands after n call given f reply r is =
-    let journal : old.journal ++ entry n call given (step old.state call given).1 ∷ [] ≡ new.journal = ap (λ (a : Reply). old.journal ++ entry n call given a ∷ []) (sym r.answer) ∙ sym r.journal in
+    let journal : old.journal ++ call_entry n call given (step old.state call given).1 ∷ [] ≡ new.journal = ap (λ (a : Reply). old.journal ++ call_entry n call given a ∷ []) (sym r.answer) ∙ sym r.journal in
     let left : f (step old.state call given).1 ≡ after = ap f (sym r.answer) ∙ sym is in
     λ i. (record { state = sym r.state i; journal = journal i; opening = sym r.opening i; limit = sym r.limit i; hands = left i }, answers.Reply (sym r.answer i))
 

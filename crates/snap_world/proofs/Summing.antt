@@ -19,7 +19,7 @@ use Rattle.snap_call.proofs.Sums.{usage, plus-none, none-plus, plus-turned, plus
 use Rattle.snap_world.specs.declared.quota.Quota.{Quota}
 use Rattle.snap_world.specs.World.{AgreesAt, Fits, HandValue, IsHandOf, WorldValue, hand_at}
 use Rattle.snap_world.specs.Quota.{active_usage, committed_usage, spare_usage, used_by}
-use Rattle.snap_world.specs.Sums.{added_by, share_in, spare_in, sum_below}
+use Rattle.snap_world.specs.Sums.{added_by, share_in, spare_in, hand_sum_below}
 
 -- what the record of a slot adds to a sum
 abbrev added_at : (Content → Usage) → ℕ → Option Record → Usage
@@ -108,14 +108,14 @@ module _ (w : WorldValue) (fits : Fits w) (place : ℕ) (g : HandValue → Usage
       at (Some h) e None d a = absurd a
       at (Some h) e (Some r) d a = ap (λ k. if k == place then g h else no_usage) a.namespace ∙ ap (λ (u : Usage). if r.namespace == place then u else no_usage) (same slot h r e d a)
 
-  below : (n : ℕ) → sum_below g place w.hands n ≡ slots f place w.state.records n
-  unfolding sum_below
+  below : (n : ℕ) → hand_sum_below g place w.hands n ≡ slots f place w.state.records n
+  unfolding hand_sum_below
   below zero = refl
   below (suc n) =
       ap (λ (u : Usage). plus u (added_by g place (hand_at n w.hands))) (below n)
       ∙ ap (plus (slots f place w.state.records n)) (each n)
 
-  whole : ((c : Content) → is_active c ≡ false → f c ≡ no_usage) → sum_below g place w.hands (length w.hands) ≡ sum_of f place w.state.records
+  whole : ((c : Content) → is_active c ≡ false → f c ≡ no_usage) → hand_sum_below g place w.hands (length w.hands) ≡ sum_of f place w.state.records
   whole idle =
       below (length w.hands)
       ∙ ap (slots f place w.state.records) fits.places
@@ -132,14 +132,14 @@ idle_spare hands (Active slot charged) e = absurd (cc)
 idle_spare hands (Committed layer taken) e = refl
 
 -- the shares in the hands are the charges of the active records
-pub shares_are : (w : WorldValue) → Fits w → (place : ℕ) → sum_below share_in place w.hands (length w.hands) ≡ sum_of active_usage place w.state.records
+pub shares_are : (w : WorldValue) → Fits w → (place : ℕ) → hand_sum_below share_in place w.hands (length w.hands) ≡ sum_of active_usage place w.state.records
 shares_are w fits place =
     whole w fits place share_in active_usage
     (λ slot h r e d a. a.usage ∙ sym (ap active_usage (active_at-Active slot w.state.records r d)))
     idle_active
 
 -- and what the layers of the hands don't take is what is spare of them
-pub spares_are : (w : WorldValue) → Fits w → (place : ℕ) → sum_below spare_in place w.hands (length w.hands) ≡ sum_of (spare_usage w.hands) place w.state.records
+pub spares_are : (w : WorldValue) → Fits w → (place : ℕ) → hand_sum_below spare_in place w.hands (length w.hands) ≡ sum_of (spare_usage w.hands) place w.state.records
 spares_are w fits place =
     whole w fits place spare_in (spare_usage w.hands)
     (λ slot h r e d a.
@@ -167,34 +167,34 @@ charge_split place (r ∷ rs) =
     ∙ crossed (if b then committed_usage r.content else no_usage) (if b then active_usage r.content else no_usage) (sum_of committed_usage place rs) (sum_of active_usage place rs)
 
 -- the sums below a number
-pub sum_start : (g : HandValue → Usage) (place : ℕ) (hands : List (Option HandValue)) → sum_below g place hands 0 ≡ no_usage
-unfolding sum_below
+pub sum_start : (g : HandValue → Usage) (place : ℕ) (hands : List (Option HandValue)) → hand_sum_below g place hands 0 ≡ no_usage
+unfolding hand_sum_below
 sum_start g place hands = refl
 
-next_one : (g : HandValue → Usage) (place : ℕ) (hands : List (Option HandValue)) (n : ℕ) → sum_below g place hands (suc n) ≡ plus (sum_below g place hands n) (added_by g place (hand_at n hands))
-unfolding sum_below
+next_one : (g : HandValue → Usage) (place : ℕ) (hands : List (Option HandValue)) (n : ℕ) → hand_sum_below g place hands (suc n) ≡ plus (hand_sum_below g place hands n) (added_by g place (hand_at n hands))
+unfolding hand_sum_below
 next_one g place hands n = refl
 
-pub sum_next : (g : HandValue → Usage) (place : ℕ) (hands : List (Option HandValue)) (n : ℕ) → sum_below g place hands (n + 1) ≡ plus (sum_below g place hands n) (added_by g place (hand_at n hands))
-sum_next g place hands n = let e : n + 1 ≡ suc n = omega arith in ap (λ k. sum_below g place hands k) e ∙ next_one g place hands n
+pub sum_next : (g : HandValue → Usage) (place : ℕ) (hands : List (Option HandValue)) (n : ℕ) → hand_sum_below g place hands (n + 1) ≡ plus (hand_sum_below g place hands n) (added_by g place (hand_at n hands))
+sum_next g place hands n = let e : n + 1 ≡ suc n = omega arith in ap (λ k. hand_sum_below g place hands k) e ∙ next_one g place hands n
 
 covers_all : (u v : Usage) → Covers u v → (x : Usage) → Covers (plus u x) v
 covers_all u v c x = record { blocks = (let p = c.blocks in omega arith); inodes = (let p = c.inodes in omega arith) }
 
-rises : (g : HandValue → Usage) (place : ℕ) (hands : List (Option HandValue)) (n more : ℕ) → Covers (sum_below g place hands (n + more)) (sum_below g place hands n)
-rises g place hands n zero = let e : n + 0 ≡ n = omega arith in subst (λ k. Covers (sum_below g place hands k) (sum_below g place hands n)) (sym e) (record { blocks = omega arith; inodes = omega arith })
+rises : (g : HandValue → Usage) (place : ℕ) (hands : List (Option HandValue)) (n more : ℕ) → Covers (hand_sum_below g place hands (n + more)) (hand_sum_below g place hands n)
+rises g place hands n zero = let e : n + 0 ≡ n = omega arith in subst (λ k. Covers (hand_sum_below g place hands k) (hand_sum_below g place hands n)) (sym e) (record { blocks = omega arith; inodes = omega arith })
 rises g place hands n (suc more) =
     let e : n + suc more ≡ (n + more) + 1 = omega arith in
-    subst (λ (u : Usage). Covers u (sum_below g place hands n)) (sym (ap (λ k. sum_below g place hands k) e ∙ sum_next g place hands (n + more)))
-    (covers_all (sum_below g place hands (n + more)) (sum_below g place hands n) (rises g place hands n more) (added_by g place (hand_at (n + more) hands)))
+    subst (λ (u : Usage). Covers u (hand_sum_below g place hands n)) (sym (ap (λ k. hand_sum_below g place hands k) e ∙ sum_next g place hands (n + more)))
+    (covers_all (hand_sum_below g place hands (n + more)) (hand_sum_below g place hands n) (rises g place hands n more) (added_by g place (hand_at (n + more) hands)))
 
 -- each of them is within that over all slots
-pub sum_within : (g : HandValue → Usage) (place : ℕ) (hands : List (Option HandValue)) (n : ℕ) → n < length hands → Covers (sum_below g place hands (length hands)) (plus (sum_below g place hands n) (added_by g place (hand_at n hands)))
+pub sum_within : (g : HandValue → Usage) (place : ℕ) (hands : List (Option HandValue)) (n : ℕ) → n < length hands → Covers (hand_sum_below g place hands (length hands)) (plus (hand_sum_below g place hands n) (added_by g place (hand_at n hands)))
 sum_within g place hands n lt =
     let more = length hands - (n + 1) in
     let e : (n + 1) + more ≡ length hands = omega arith in
-    subst (λ (u : Usage). Covers (sum_below g place hands (length hands)) u) (sum_next g place hands n)
-    (subst (λ k. Covers (sum_below g place hands k) (sum_below g place hands (n + 1))) e (rises g place hands (n + 1) more))
+    subst (λ (u : Usage). Covers (hand_sum_below g place hands (length hands)) u) (sum_next g place hands n)
+    (subst (λ k. Covers (hand_sum_below g place hands k) (hand_sum_below g place hands (n + 1))) e (rises g place hands (n + 1) more))
 
 -- what is spare of a share is within it
 spare_one : (place : ℕ) (o : Option HandValue) → Covers (added_by share_in place o) (added_by spare_in place o)
@@ -208,30 +208,30 @@ spare_one place (Some h) = at (h.snapshot.namespace == place)
 both : (u v x y : Usage) → Covers u v → Covers x y → Covers (plus u x) (plus v y)
 both u v x y c d = record { blocks = (let p = c.blocks in let q = d.blocks in omega arith); inodes = (let p = c.inodes in let q = d.inodes in omega arith) }
 
-spares_below : (place : ℕ) (hands : List (Option HandValue)) (n : ℕ) → Covers (sum_below share_in place hands n) (sum_below spare_in place hands n)
-unfolding sum_below
+spares_below : (place : ℕ) (hands : List (Option HandValue)) (n : ℕ) → Covers (hand_sum_below share_in place hands n) (hand_sum_below spare_in place hands n)
+unfolding hand_sum_below
 spares_below place hands zero = record { blocks = omega arith; inodes = omega arith }
 spares_below place hands (suc n) = both _ _ _ _ (spares_below place hands n) (spare_one place (hand_at n hands))
 
 -- the charge covers the shares, and these what is spare of them
-pub charge_covers : (w : WorldValue) → Fits w → (place : ℕ) → Covers (charge_of place w.state.records) (sum_below share_in place w.hands (length w.hands))
+pub charge_covers : (w : WorldValue) → Fits w → (place : ℕ) → Covers (charge_of place w.state.records) (hand_sum_below share_in place w.hands (length w.hands))
 charge_covers w fits place =
-    subst (λ (u : Usage). Covers u (sum_below share_in place w.hands (length w.hands))) (sym (charge_split place w.state.records))
+    subst (λ (u : Usage). Covers u (hand_sum_below share_in place w.hands (length w.hands))) (sym (charge_split place w.state.records))
     (subst (λ (u : Usage). Covers (plus (sum_of committed_usage place w.state.records) (sum_of active_usage place w.state.records)) u) (sym (shares_are w fits place))
     (Covers-plus (sum_of committed_usage place w.state.records) (sum_of active_usage place w.state.records)))
 
-pub shares_cover : (place : ℕ) (hands : List (Option HandValue)) → Covers (sum_below share_in place hands (length hands)) (sum_below spare_in place hands (length hands))
+pub shares_cover : (place : ℕ) (hands : List (Option HandValue)) → Covers (hand_sum_below share_in place hands (length hands)) (hand_sum_below spare_in place hands (length hands))
 shares_cover place hands = spares_below place hands (length hands)
 
 -- what is left of the charge without the shares is what is committed
-pub committed_left : (w : WorldValue) → Fits w → (place : ℕ) → minus (charge_of place w.state.records) (sum_below share_in place w.hands (length w.hands)) ≡ sum_of committed_usage place w.state.records
+pub committed_left : (w : WorldValue) → Fits w → (place : ℕ) → minus (charge_of place w.state.records) (hand_sum_below share_in place w.hands (length w.hands)) ≡ sum_of committed_usage place w.state.records
 committed_left w fits place =
-    ap (λ (u : Usage). minus u (sum_below share_in place w.hands (length w.hands))) (charge_split place w.state.records)
+    ap (λ (u : Usage). minus u (hand_sum_below share_in place w.hands (length w.hands))) (charge_split place w.state.records)
     ∙ ap (minus (plus (sum_of committed_usage place w.state.records) (sum_of active_usage place w.state.records))) (shares_are w fits place)
     ∙ minus-plus (sum_of committed_usage place w.state.records) (sum_of active_usage place w.state.records)
 
 -- no sum comes near 2^64
-pub shares_few : (w : WorldValue) → Fits w → (place : ℕ) → place < length w.state.namespaces → ((sum_below share_in place w.hands (length w.hands)).blocks < 2 ^ 64) × ((sum_below share_in place w.hands (length w.hands)).inodes < 2 ^ 64)
+pub shares_few : (w : WorldValue) → Fits w → (place : ℕ) → place < length w.state.namespaces → ((hand_sum_below share_in place w.hands (length w.hands)).blocks < 2 ^ 64) × ((hand_sum_below share_in place w.hands (length w.hands)).inodes < 2 ^ 64)
 shares_few w fits place inside =
     let limit = limit_at place w.state.namespaces in
     let h = and_parts (nat_le limit.blocks 1099511627776) (nat_le limit.inodes 1099511627776) (fits.good.limits place inside) in
@@ -243,7 +243,7 @@ shares_few w fits place inside =
       (let p = within.inodes in let q = covers.inodes in omega arith),
     )
 
-pub spares_few : (w : WorldValue) → Fits w → (place : ℕ) → place < length w.state.namespaces → ((sum_below spare_in place w.hands (length w.hands)).blocks < 2 ^ 64) × ((sum_below spare_in place w.hands (length w.hands)).inodes < 2 ^ 64)
+pub spares_few : (w : WorldValue) → Fits w → (place : ℕ) → place < length w.state.namespaces → ((hand_sum_below spare_in place w.hands (length w.hands)).blocks < 2 ^ 64) × ((hand_sum_below spare_in place w.hands (length w.hands)).inodes < 2 ^ 64)
 spares_few w fits place inside =
     let few = shares_few w fits place inside in
     let blocks = few.0 in

@@ -13,7 +13,7 @@ use Rattle.snap_call.specs.declared.call.Given.TheVariants.{Nothing, Count, Laye
 use Rattle.snap_call.specs.declared.refusal.Refusal.TheVariants.{NumbersSpent, JournalFull}
 use Rattle.snap_call.specs.declared.reply.Reply.{Reply}
 use Rattle.snap_call.specs.declared.reply.Reply.TheVariants as replies
-use Rattle.snap_call.specs.Journal.{entry}
+use Rattle.snap_call.specs.Journal.{call_entry}
 use Rattle.snap_call.specs.Records.{open_count, max_sessions}
 use Rattle.snap_call.specs.State.{place_of, ancestors, layers_of}
 use Rattle.snap_call.specs.Step.{step, one}
@@ -100,7 +100,7 @@ admitted w more left next = if is_full w more then (record w { hands = left }, a
 abbrev pub recorded : WorldValue → ℕ → Call → Given → (Reply → List (Option HandValue)) → WorldValue × Answer
 recorded w n call given hands =
     let after = step w.state call given in
-    (record { state = after.0; journal = w.journal ++ entry n call given after.1 ∷ []; opening = w.opening; limit = w.limit; hands = hands after.1 }, answers.Reply after.1)
+    (record { state = after.0; journal = w.journal ++ call_entry n call given after.1 ∷ []; opening = w.opening; limit = w.limit; hands = hands after.1 }, answers.Reply after.1)
 
 -- a call in its session; after 65,536 sessions a further one is refused, without an entry
 abbrev pub called : WorldValue → ℕ → Call → WorldValue × Answer

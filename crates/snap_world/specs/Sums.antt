@@ -19,6 +19,6 @@ added_by part place None = no_usage
 added_by part place (Some h) = if h.snapshot.namespace == place then part h else no_usage
 
 -- the sum over the hands of the slots below a number
-unfoldable pub sum_below : (HandValue → Usage) → ℕ → List (Option HandValue) → ℕ → Usage
-sum_below part place hands zero = no_usage
-sum_below part place hands (suc n) = plus (sum_below part place hands n) (added_by part place (hand_at n hands))
+unfoldable pub hand_sum_below : (HandValue → Usage) → ℕ → List (Option HandValue) → ℕ → Usage
+hand_sum_below part place hands zero = no_usage
+hand_sum_below part place hands (suc n) = plus (hand_sum_below part place hands n) (added_by part place (hand_at n hands))

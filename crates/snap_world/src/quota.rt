@@ -3,7 +3,7 @@ ghost use Rattle.std.specs.Prelude.{◌≡◌, ◌<◌, ◌^◌, IfOk, length};
 ghost use Rattle.snap_call.specs.Step.{sweep};
 ghost use Rattle.snap_book.specs.Questions.{chain_usage};
 ghost use Rattle.snap_world.specs.Quota.{quota, quota_at};
-ghost use Rattle.snap_world.specs.Sums.{added_by, share_in, spare_in, sum_below};
+ghost use Rattle.snap_world.specs.Sums.{added_by, share_in, spare_in, hand_sum_below};
 ghost use Rattle.snap_world.specs.World.{hand_at};
 
 use crate::hands::Hands;
@@ -52,9 +52,9 @@ impl<N: StoreName> Hands<N> {
 
     // The shares of the open snapshots of the namespace at the place.
     fn shares(&self, place: usize) -> Usage
-        requires blocks { (sum_below share_in place self.now (length self.now)).blocks < 2 ^ 64 }
-        requires inodes { (sum_below share_in place self.now (length self.now)).inodes < 2 ^ 64 }
-        ensures { result ≡ sum_below share_in place self.now (length self.now) }
+        requires blocks { (hand_sum_below share_in place self.now (length self.now)).blocks < 2 ^ 64 }
+        requires inodes { (hand_sum_below share_in place self.now (length self.now)).inodes < 2 ^ 64 }
+        ensures { result ≡ hand_sum_below share_in place self.now (length self.now) }
     {
         let mut sum = Usage::ZERO;
         for slot in 0..self.len() {
@@ -65,9 +65,9 @@ impl<N: StoreName> Hands<N> {
 
     // What of these their layers don't take.
     fn spares(&self, place: usize) -> Usage
-        requires blocks { (sum_below spare_in place self.now (length self.now)).blocks < 2 ^ 64 }
-        requires inodes { (sum_below spare_in place self.now (length self.now)).inodes < 2 ^ 64 }
-        ensures { result ≡ sum_below spare_in place self.now (length self.now) }
+        requires blocks { (hand_sum_below spare_in place self.now (length self.now)).blocks < 2 ^ 64 }
+        requires inodes { (hand_sum_below spare_in place self.now (length self.now)).inodes < 2 ^ 64 }
+        ensures { result ≡ hand_sum_below spare_in place self.now (length self.now) }
     {
         let mut sum = Usage::ZERO;
         for slot in 0..self.len() {

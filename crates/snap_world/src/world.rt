@@ -6,10 +6,10 @@ ghost use Rattle.snap_call.specs.Forms.{is_config};
 ghost use Rattle.snap_call.specs.Journal.{Replays};
 ghost use Rattle.snap_call.specs.Records.{charge_of, open_count, sum_of};
 ghost use Rattle.snap_call.specs.State.{opening, place_of};
-ghost use Rattle.snap_call.specs.Totals.{taken_by};
+ghost use Rattle.snap_call.specs.Totals.{usage_taken};
 ghost use Rattle.snap_call.specs.declared.refusal.Refusal.TheVariants.{BadArgument, OutOfMemory};
 ghost use Rattle.snap_book.specs.Book.{IsBeginning};
-ghost use Rattle.snap_book.specs.Slot.{found_of, slot_of};
+ghost use Rattle.snap_book.specs.Slot.{found_of, slot_and_id_of};
 ghost use Rattle.snap_history.specs.Open.{shares_of};
 ghost use Rattle.snap_world.specs.declared.step.Step.TheVariants.{Hand, Locked};
 ghost use Rattle.snap_world.specs.World.{Fits, hand_at};
@@ -132,7 +132,7 @@ impl<N: StoreName> World<N> {
     /// such namespace, then `NotFound`, then `NotActive` for a view or a committed snapshot. It leaves
     /// no entry. Takes no memory. The cost grows with the logarithm of the number of records.
     pub fn hand(&self, namespace: &str, key: &str) -> Result<(u64, u32), Refusal>
-        ensures { result ≡ slot_of self.now.state namespace.now key.now }
+        ensures { result ≡ slot_and_id_of self.now.state namespace.now key.now }
     {
         self.book.slot_of(namespace, key)
     }
@@ -148,7 +148,7 @@ impl<N: StoreName> World<N> {
     pub fn stack(&self, namespace: &str, key: &str) -> Result<Stack<'_>, Refusal>
         ensures stack { result ≡ stack_of self.now namespace.now key.now }
         // A snapshot that `hand` finds has a stack.
-        ensures refused { IfErr result (λ why. slot_of self.now.state namespace.now key.now ≡ Err why) }
+        ensures refused { IfErr result (λ why. slot_and_id_of self.now.state namespace.now key.now ≡ Err why) }
         // The layers below an active one's own, and those of a view, are those of the committed ancestors.
         ensures ancestors { IfOk result (λ layers. IsOver self.now.state.records layers (found_of self.now.state namespace.now key.now)) }
     {
@@ -192,7 +192,7 @@ impl<N: StoreName> World<N> {
     pub fn totals(&self, namespace: &str) -> Option<Usage>
         ensures charge { result ≡ option_map (λ place. charge_of place self.now.state.records) (place_of namespace.now self.now.state.namespaces) }
         // The counts over its committed layers, and its open shares.
-        ensures counts { result ≡ option_map (λ place. sum_of taken_by place self.now.state.records) (place_of namespace.now self.now.state.namespaces) }
+        ensures counts { result ≡ option_map (λ place. sum_of usage_taken place self.now.state.records) (place_of namespace.now self.now.state.namespaces) }
     {
         self.book.totals(namespace)
     }

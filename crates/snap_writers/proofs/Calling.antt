@@ -21,9 +21,9 @@ use Rattle.snap_call.specs.declared.refusal.Refusal.{Refusal}
 use Rattle.snap_call.specs.declared.refusal.Refusal.TheVariants.{JournalFull, OutOfMemory}
 use Rattle.snap_call.specs.declared.reply.Reply.{Reply}
 use Rattle.snap_call.specs.declared.reply.Reply.TheVariants as replies
-use Rattle.snap_call.specs.Journal.{entry}
+use Rattle.snap_call.specs.Journal.{call_entry}
 use Rattle.snap_book.specs.Active.{ActiveValue}
-use Rattle.snap_book.specs.Wanted.{needed_by, wanted}
+use Rattle.snap_book.specs.Wanted.{needed_by, wanted_charge}
 use Rattle.snap_tape.specs.Tapes.{RefusedOn, SessionValue, Taped, Untaped}
 use Rattle.snap_store.specs.Values.{IsPrepared}
 use Rattle.snap_writers.specs.Run.{Follows, HasCharged, HasFailed, HasRun, IsSameSnapshot}
@@ -36,7 +36,7 @@ use Rattle.snap_writers.specs.declared.job.Job.{Job}
 use Rattle.snap_writers.specs.Jobs.{Done, Granted, IsCommitOf, IsEndOf, IsErrorOf, IsFailed, IsPrepareOf, IsUndone, IsWorkFor, all_after, commit_by, commit_of, commits, then_after, with_end}
 use Rattle.snap_writers.specs.declared.worker.Stop.{Stop}
 use Rattle.snap_writers.specs.declared.worker.Stop.TheVariants.{Failed}
-use Rattle.snap_writers.specs.Going.{GoesOn, HasRunJob, IsFresh, IsReady, IsStopOf, granted}
+use Rattle.snap_writers.specs.Going.{GoesOn, HasRunJob, IsFresh, IsReadyToEnd, IsStopOf, commit_granted}
 
 -- ---- lists
 
@@ -98,7 +98,7 @@ module _ (j : Job) where
   untaped old new same = record { number = same.number; more = []; tape = same.tape ∙ sym (append-nil old.tape); calls = tt; commits = refl }
 
   pub taped : (old new : SessionValue) (call : Call) (given : Given) (reply : Reply) → Taped old new call given reply → IsWorkFor j call → GoesOn j old new (commit_of call given reply [])
-  taped old new call given reply t work = record { number = t.number; more = entry old.number call given reply ∷ []; tape = t.tape; calls = (work, tt); commits = refl }
+  taped old new call given reply t work = record { number = t.number; more = call_entry old.number call given reply ∷ []; tape = t.tape; calls = (work, tt); commits = refl }
 
   pub refused : (old new : SessionValue) (call : Call) (given : Given) (why : Refusal) → RefusedOn old new call given why → IsWorkFor j call → GoesOn j old new []
   refused old new call given JournalFull by work = untaped old new by
@@ -118,13 +118,13 @@ module _ (j : Job) where
   }
 
   -- an operation with its charge
-  charged : (s t : SessionValue) (old new : ActiveValue) (op : Op) (need want : Usage) (result : Result Unit RunError) → want ≡ wanted need j.extra → HasCharged s t old new op need want result → GoesOn j s t []
+  charged : (s t : SessionValue) (old new : ActiveValue) (op : Op) (need want : Usage) (result : Result Unit RunError) → want ≡ wanted_charge need j.extra → HasCharged s t old new op need want result → GoesOn j s t []
   charged s t old new op need want (Ok done) is h = taped s t (calls.Charge old.share.slot old.share.id need want) Nothing (replies.Charged new.share.usage) h.0.taped is
   charged s t old new op need want (Err (File e)) is h = taped s t (calls.Charge old.share.slot old.share.id need want) Nothing (replies.Charged new.share.usage) h.1.taped is
   charged s t old new op need want (Err (Book why)) is h = refused s t (calls.Charge old.share.slot old.share.id need want) Nothing why h.0 is
 
   failed : (s t : SessionValue) (old new : ActiveValue) (op : Op) (e : FsError) (need : Option Usage) (result : Result Unit RunError) → HasFailed s t old new op j.extra e need result → GoesOn j s t []
-  failed s t old new op e (Some need) result h = charged s t old new op need (wanted need j.extra) result refl h
+  failed s t old new op e (Some need) result h = charged s t old new op need (wanted_charge need j.extra) result refl h
   failed s t old new op e None result h = stays s t h.1
 
   followed : (s t : SessionValue) (old new : ActiveValue) (op : Op) (first : Outcome) (result : Result Unit RunError) → Follows s t old new op j.extra first result → GoesOn j s t []
@@ -148,16 +148,16 @@ module _ (j : Job) where
   -- a commit
   pub commit_goes : (s t : SessionValue) (a sealed : ActiveValue) (name text : Bytes) (lease : Option Bytes) (usage : Usage)
       → j.end ≡ ends.Commit name lease → sealed ≡ a → text ≡ name → usage ≡ count_of sealed.layer
-      → Taped s t (calls.Commit sealed.share.slot sealed.share.id text lease) (Layer sealed.layer) (replies.Committed sealed.share.id usage) → GoesOn j s t (granted a name lease ∷ [])
+      → Taped s t (calls.Commit sealed.share.slot sealed.share.id text lease) (Layer sealed.layer) (replies.Committed sealed.share.id usage) → GoesOn j s t (commit_granted a name lease ∷ [])
   commit_goes s t a sealed name text lease usage end is named counted call =
-      subst (λ (x : ActiveValue). GoesOn j s t (granted x name lease ∷ [])) is
-      (subst (λ (n : Bytes). GoesOn j s t (granted sealed n lease ∷ [])) named
+      subst (λ (x : ActiveValue). GoesOn j s t (commit_granted x name lease ∷ [])) is
+      (subst (λ (n : Bytes). GoesOn j s t (commit_granted sealed n lease ∷ [])) named
       (subst (λ (u : Usage). GoesOn j s t (record { id = sealed.share.id; name = text; lease = lease; layer = sealed.layer; usage = u } ∷ [])) counted
       (taped s t (calls.Commit sealed.share.slot sealed.share.id text lease) (Layer sealed.layer) (replies.Committed sealed.share.id usage) call (commits_as name text lease end named))))
 
 -- ---- what is known of a snapshot, once the tape has gone on
 
-pub ready : {inodes : ℕ} → (old new : SessionValue) (j : Job) (before after : ActiveValue) → IsFresh inodes old.tape j before → GoesOn j old new [] → IsSameSnapshot before after → all_after j.ops before.layer before.lowers ≡ Ok after.layer → IsReady inodes new.tape j after
+pub ready : {inodes : ℕ} → (old new : SessionValue) (j : Job) (before after : ActiveValue) → IsFresh inodes old.tape j before → GoesOn j old new [] → IsSameSnapshot before after → all_after j.ops before.layer before.lowers ≡ Ok after.layer → IsReadyToEnd inodes new.tape j after
 ready old new j before after fresh goes same done = record {
   prepared = subst (λ (l : List Entry). Any (IsPrepareOf j after.share.id) l) (sym goes.tape) (any_left (IsPrepareOf j after.share.id) old.tape goes.more (subst (λ id. Any (IsPrepareOf j id) old.tape) (sym same.id) fresh.prepared));
   made = record { lowers = before.lowers; base = fresh.base; made = ap (λ (t : Tree). all_after j.ops t before.lowers) (sym fresh.layer) ∙ done };
@@ -168,9 +168,9 @@ pub ends_so : {inodes : ℕ} → (old new : SessionValue) (j : Job) (end : Ended
 ends_so {inodes = inodes} old new j end none own goes = record { granted = []; goes = goes; of = subst (λ (l : List Done). AllZip (IsCommitOf inodes new.tape) l []) (sym none) tt; own = own }
 
 -- a job that was committed
-pub committed_so : {inodes : ℕ} → (old new : SessionValue) (j : Job) (a : ActiveValue) (name : Bytes) (lease : Option Bytes) (id : ℕ) (usage : Usage) → j.end ≡ ends.Commit name lease → IsReady inodes old.tape j a → id ≡ a.share.id → usage ≡ count_of a.layer → GoesOn j old new (granted a name lease ∷ []) → HasRunJob inodes old new j (ended.Committed id usage)
+pub committed_so : {inodes : ℕ} → (old new : SessionValue) (j : Job) (a : ActiveValue) (name : Bytes) (lease : Option Bytes) (id : ℕ) (usage : Usage) → j.end ≡ ends.Commit name lease → IsReadyToEnd inodes old.tape j a → id ≡ a.share.id → usage ≡ count_of a.layer → GoesOn j old new (commit_granted a name lease ∷ []) → HasRunJob inodes old new j (ended.Committed id usage)
 committed_so old new j a name lease id usage end ready same counted goes = record {
-  granted = granted a name lease ∷ [];
+  granted = commit_granted a name lease ∷ [];
   goes = goes;
   of = (
     record {

@@ -11,7 +11,7 @@ use Rattle.snap_upper.specs.After.{Outcome, after, within_share}
 use Rattle.snap_upper.proofs.Uncharged.{after_needs_none}
 use Rattle.snap_book.specs.Active.{ActiveValue}
 use Rattle.snap_book.specs.Files.{worked}
-use Rattle.snap_book.specs.Wanted.{needed_by, wanted}
+use Rattle.snap_book.specs.Wanted.{needed_by, wanted_charge}
 use Rattle.snap_tape.specs.Tapes.{SessionValue}
 use Rattle.snap_writers.specs.declared.running.RunError.{RunError}
 use Rattle.snap_writers.specs.declared.running.RunError.TheVariants.{File, Book}
@@ -44,7 +44,7 @@ plain_error old op e none (inr is) = inr (own_error old.share.usage (after op ol
 
 module _ (s t : SessionValue) (old new : ActiveValue) (op : Op) (extra : Usage) where
   -- else the charge is refused, or memory is after it
-  charge_error : (e : FsError) (need : Usage) (error : RunError) → needed_by e ≡ Some need → IsFirst old op e → HasCharged s t old new op need (wanted need extra) (Err error) → IsErrorOf error op old.layer old.lowers
+  charge_error : (e : FsError) (need : Usage) (error : RunError) → needed_by e ≡ Some need → IsFirst old op e → HasCharged s t old new op need (wanted_charge need extra) (Err error) → IsErrorOf error op old.layer old.lowers
   charge_error e need (File own) asked first h = inl h.0
   charge_error e need (Book why) asked first h =
       let needs = is_needed op old.share.usage need old.layer old.lowers e asked first in

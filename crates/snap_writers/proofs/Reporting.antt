@@ -5,16 +5,16 @@ use Rattle.std.proofs.Common.{◌≡◌, ℕ, zero, suc, ◌+◌, ◌-◌, ◌<�
 use Rattle.std.proofs.lemmas.Bool.{eqb-true, eq-eqb}
 use Rattle.std.proofs.lemmas.List.Elements.{All-head, All-tail}
 use Rattle.snap_call.specs.declared.entry.Entry.{Entry}
-use Rattle.snap_call.specs.Journal.{own}
+use Rattle.snap_call.specs.Journal.{session_entries}
 use Rattle.snap_book.specs.Book.{BookValue}
-use Rattle.snap_tape.specs.Sessions.{IsOwn, has_number}
+use Rattle.snap_tape.specs.Sessions.{IsOwn, has_session_number}
 use Rattle.snap_tape.specs.Tapes.{SessionValue}
 use Rattle.snap_tape.proofs.Counting.{stands}
 use Rattle.snap_grants.specs.Grants.{AreKeeping, AreOrigins, IsKeeping, Origin, Stored, grants, origin_in, sum_below, worth}
 use Rattle.snap_grants.proofs.Origins.{origins}
 use Rattle.snap_grants.proofs.Tapes.{own_origins, tapes_law}
 use Rattle.snap_round.specs.declared.rule.Round.{Round}
-use Rattle.snap_store.specs.Closing.{IsClosed}
+use Rattle.snap_store.specs.Closing.{IsClosedStore}
 use Rattle.snap_writers.specs.declared.job.Job.{Job}
 use Rattle.snap_writers.specs.declared.job.Ended.{Ended}
 use Rattle.snap_writers.specs.declared.job.Ended.TheVariants as ended
@@ -48,31 +48,31 @@ sessions_keep inodes jobs n m (w ∷ ws) each = kept_with inodes (every n (m + 1
 
 -- ---- so the whole journal
 
-own_head : (e : Entry) (es : List Entry) → AreKeeping (own (e ∷ es) e.session) → IsKeeping e.call
-own_head e es all = (subst (λ (b : Bool). AreKeeping (cond b (e ∷ own es e.session) (own es e.session))) (eq-eqb e.session e.session refl) all).0
+own_head : (e : Entry) (es : List Entry) → AreKeeping (session_entries (e ∷ es) e.session) → IsKeeping e.call
+own_head e es all = (subst (λ (b : Bool). AreKeeping (cond b (e ∷ session_entries es e.session) (session_entries es e.session))) (eq-eqb e.session e.session refl) all).0
 
-own_rest : (e : Entry) (es : List Entry) (k : ℕ) (b : Bool) → AreKeeping (cond b (e ∷ own es k) (own es k)) → AreKeeping (own es k)
+own_rest : (e : Entry) (es : List Entry) (k : ℕ) (b : Bool) → AreKeeping (cond b (e ∷ session_entries es k) (session_entries es k)) → AreKeeping (session_entries es k)
 own_rest e es k true all = all.1
 own_rest e es k false all = all
 
-keeps_all : (n : ℕ) (es : List Entry) → All (λ e. e.session < n) es → ((k : ℕ) → k < n → AreKeeping (own es k)) → AreKeeping es
+keeps_all : (n : ℕ) (es : List Entry) → All (λ e. e.session < n) es → ((k : ℕ) → k < n → AreKeeping (session_entries es k)) → AreKeeping es
 keeps_all n [] below each = tt
 keeps_all n (e ∷ es) below each = (
   own_head e es (each e.session (All-head (λ x. x.session < n) e es below)),
   keeps_all n es (All-tail (λ x. x.session < n) e es below) (λ k low. own_rest e es k (e.session == k) (each k low)),
 )
 
-journal_keeps : (r : Round) (b : BookValue) (sessions : List SessionValue) → IsClosed r b sessions → AllByRecursion (λ s. AreKeeping s.tape) sessions → AreKeeping b.journal
+journal_keeps : (r : Round) (b : BookValue) (sessions : List SessionValue) → IsClosedStore r b sessions → AllByRecursion (λ s. AreKeeping s.tape) sessions → AreKeeping b.journal
 journal_keeps r b sessions closed keep = keeps_all (length sessions) b.journal closed.sessions.all.known of
   where
     own_are : AllByRecursion (IsOwn b.journal) sessions
     own_are = all_rec (IsOwn b.journal) sessions closed.sessions.tapes
 
-    of : (k : ℕ) → k < length sessions → AreKeeping (own b.journal k)
+    of : (k : ℕ) → k < length sessions → AreKeeping (session_entries b.journal k)
     of k low =
-        let there = stands (has_number k) sessions (omega (arith, closed.sessions.all.once.once k low)) in
+        let there = stands (has_session_number k) sessions (omega (arith, closed.sessions.all.once.once k low)) in
         let s = there.1 in
-        let tape : s.tape ≡ own b.journal k = all_there (IsOwn b.journal) sessions there.0 s own_are there.2 ∙ ap (own b.journal) (eqb-true s.number k there.3) in
+        let tape : s.tape ≡ session_entries b.journal k = all_there (IsOwn b.journal) sessions there.0 s own_are there.2 ∙ ap (session_entries b.journal) (eqb-true s.number k there.3) in
         subst AreKeeping tape (all_there (λ (x : SessionValue). AreKeeping x.tape) sessions there.0 s keep there.2)
 
 -- ---- what is stored, worker by worker
@@ -86,15 +86,15 @@ lists_at origin [] k = []
 lists_at origin (w ∷ ws) zero = stored_by origin w.session
 lists_at origin (w ∷ ws) (suc k) = lists_at origin ws k
 
-first_total : (h : Stored → ℕ) (origin : ℕ → Origin) (journal : List Entry) (o : Option SessionValue) (rest : List SessionValue) → AllByRecursion (IsOwn journal) (with_session o rest) → over (λ k. grants h origin (own journal k)) (with_session o rest) ≡ total h (stored_by origin o) + over (λ k. grants h origin (own journal k)) rest
+first_total : (h : Stored → ℕ) (origin : ℕ → Origin) (journal : List Entry) (o : Option SessionValue) (rest : List SessionValue) → AllByRecursion (IsOwn journal) (with_session o rest) → over (λ k. grants h origin (session_entries journal k)) (with_session o rest) ≡ total h (stored_by origin o) + over (λ k. grants h origin (session_entries journal k)) rest
 first_total h origin journal None rest are = omega arith
-first_total h origin journal (Some s) rest are = ap (λ n. n + over (λ k. grants h origin (own journal k)) rest) (ap (grants h origin) (sym are.0) ∙ granted_total h origin s.tape)
+first_total h origin journal (Some s) rest are = ap (λ n. n + over (λ k. grants h origin (session_entries journal k)) rest) (ap (grants h origin) (sym are.0) ∙ granted_total h origin s.tape)
 
 rest_own : (journal : List Entry) (o : Option SessionValue) (rest : List SessionValue) → AllByRecursion (IsOwn journal) (with_session o rest) → AllByRecursion (IsOwn journal) rest
 rest_own journal None rest are = are
 rest_own journal (Some s) rest are = are.1
 
-by_workers : (h : Stored → ℕ) (origin : ℕ → Origin) (journal : List Entry) (ws : List Worked) → AllByRecursion (IsOwn journal) (sessions_of ws) → over (λ k. grants h origin (own journal k)) (sessions_of ws) ≡ sum_below (length ws) (λ k. total h (lists_at origin ws k))
+by_workers : (h : Stored → ℕ) (origin : ℕ → Origin) (journal : List Entry) (ws : List Worked) → AllByRecursion (IsOwn journal) (sessions_of ws) → over (λ k. grants h origin (session_entries journal k)) (sessions_of ws) ≡ sum_below (length ws) (λ k. total h (lists_at origin ws k))
 by_workers h origin journal [] are = refl
 by_workers h origin journal (w ∷ ws) are = omega (
   arith,
@@ -141,7 +141,7 @@ pub record Stores (inodes : ℕ) (jobs : List Job) (ends : List Ended) (b : Book
   pub of : AllZip (IsStoredOf inodes) (done jobs ends) stored
   pub committed : (h : Stored → ℕ) → worth h b.state ≡ worth h b.opening + total h stored
 
-pub stores : {inodes : ℕ} → (jobs : List Job) (workers : ℕ) (ws : List Worked) (ends : List Ended) (r : Round) (b : BookValue) → 1 ≤ workers → AreWorked inodes jobs workers ws → AreInOrder jobs workers ws ends → IsClosed r b (sessions_of ws) → Stores inodes jobs ends b
+pub stores : {inodes : ℕ} → (jobs : List Job) (workers : ℕ) (ws : List Worked) (ends : List Ended) (r : Round) (b : BookValue) → 1 ≤ workers → AreWorked inodes jobs workers ws → AreInOrder jobs workers ws ends → IsClosedStore r b (sessions_of ws) → Stores inodes jobs ends b
 stores {inodes = inodes} jobs workers ws ends r b some worked order closed = record { each = each_own; stored = all.stored; of = all.of; committed = law }
   where
     own_are : AllByRecursion (IsOwn b.journal) (sessions_of ws)
@@ -184,7 +184,7 @@ stores {inodes = inodes} jobs workers ws ends r b some worked order closed = rec
     law h = omega (
       arith,
       tapes_law (length (sessions_of ws)) b.opening b.journal b.state closed.kept.began.idle keeps closed.sessions.all.known closed.kept.replays origin are h,
-      over_once (λ k. grants h origin (own b.journal k)) (sessions_of ws) closed.sessions.all.once,
+      over_once (λ k. grants h origin (session_entries b.journal k)) (sessions_of ws) closed.sessions.all.once,
       by_workers h origin b.journal ws own_are,
       all.total h,
       ap (λ n. sum_below n (λ k. total h (lists k))) worked.count,

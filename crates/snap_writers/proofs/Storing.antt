@@ -14,7 +14,7 @@ use Rattle.snap_tape.specs.Tapes.{SessionValue}
 use Rattle.snap_grants.specs.Grants.{AreKeeping, AreOrigins, IsKeeping, IsOrigin, Origin, Stored, grant_by, grant_of, grants}
 use Rattle.snap_writers.specs.declared.job.Job.{Job}
 use Rattle.snap_writers.specs.declared.job.Ended.{Ended}
-use Rattle.snap_writers.specs.Jobs.{Done, Granted, HasWorked, IsCommitOf, IsPrepareOf, IsStoredOf, IsWork, IsWorkFor, commit_by, commit_of, commits, done, name_of, total}
+use Rattle.snap_writers.specs.Jobs.{Done, Granted, HasWorked, IsCommitOf, IsPrepareOf, IsStoredOf, IsWork, IsWorkFor, commit_by, commit_of, commits, done, commit_name_of, total}
 
 -- ---- a tape's granted Commits, as what is stored
 
@@ -48,7 +48,7 @@ origin_is origin tape j id are (k, e, low, at, (session, slot, chain, is)) =
 stored_is : {inodes : ℕ} → (origin : ℕ → Origin) (tape : List Entry) → AreOrigins origin tape → (d : Done) (g : Granted) → IsCommitOf inodes tape d g → IsStoredOf inodes d (stored_of origin g)
 stored_is origin tape are d g is =
     let from = origin_is origin tape d.job g.id are is.prepared in
-    record { namespace = ap (λ (o : Origin). o.namespace) from; name = ap name_of is.end; parent = ap (λ (o : Origin). o.parent) from; id = is.id; made = is.made; count = is.count }
+    record { namespace = ap (λ (o : Origin). o.namespace) from; name = ap commit_name_of is.end; parent = ap (λ (o : Origin). o.parent) from; id = is.id; made = is.made; count = is.count }
 
 zip_map : {A B C : Type 0} (R : A → B → Type 0) (S : A → C → Type 0) (f : B → C) → ((x : A) (y : B) → R x y → S x (f y)) → (xs : List A) (ys : List B) → AllZip R xs ys → AllZip S xs (map f ys)
 zip_map R S f by [] [] p = tt

@@ -4,7 +4,7 @@ use Rattle.std.proofs.Common.{◌≡◌, ℕ, zero, suc, ◌+◌, ◌<◌, Bool,
 use Rattle.std.proofs.lemmas.Bool.{eqb-true, eq-eqb}
 use Rattle.std.proofs.lemmas.List.Elements.{All-head, All-tail}
 use Rattle.std.proofs.lemmas.List.Sums.{sum_by-cons}
-use Rattle.snap_tape.specs.Sessions.{AreOnce, has_number}
+use Rattle.snap_tape.specs.Sessions.{AreOnce, has_session_number}
 use Rattle.snap_tape.specs.Tapes.{SessionValue}
 use Rattle.snap_grants.specs.Grants.{sum_below}
 use Rattle.snap_grants.proofs.Tapes.{nothing, sum_more, sum_same}
@@ -36,22 +36,22 @@ sum_held n f (s ∷ ss) inside =
     (λ k other. ap (λ (b : Bool). cond b (f s.number + held f ss k) (held f ss k)) other) in
     omega (arith, rest, all)
 
-count-cons : (k : ℕ) (s : SessionValue) (ss : List SessionValue) → count_by (has_number k) (s ∷ ss) ≡ one_if (s.number == k) + count_by (has_number k) ss
-count-cons k s ss = sum_by-cons (λ x. cond (has_number k x) 1 0) s ss
+count-cons : (k : ℕ) (s : SessionValue) (ss : List SessionValue) → count_by (has_session_number k) (s ∷ ss) ≡ one_if (s.number == k) + count_by (has_session_number k) ss
+count-cons k s ss = sum_by-cons (λ x. cond (has_session_number k x) 1 0) s ss
 
-held_none : (f : ℕ → ℕ) (ss : List SessionValue) (k : ℕ) → count_by (has_number k) ss ≡ 0 → held f ss k ≡ 0
+held_none : (f : ℕ → ℕ) (ss : List SessionValue) (k : ℕ) → count_by (has_session_number k) ss ≡ 0 → held f ss k ≡ 0
 held_none f [] k none = refl
 held_none f (s ∷ ss) k none = by (s.number == k) refl (held_none f ss k)
   where
-    by : (b : Bool) → (s.number == k) ≡ b → (count_by (has_number k) ss ≡ 0 → held f ss k ≡ 0) → cond b (f s.number + held f ss k) (held f ss k) ≡ 0
+    by : (b : Bool) → (s.number == k) ≡ b → (count_by (has_session_number k) ss ≡ 0 → held f ss k ≡ 0) → cond b (f s.number + held f ss k) (held f ss k) ≡ 0
     by true e rest = absurd (omega (arith, none, count-cons k s ss, ap one_if e))
     by false e rest = rest (omega (arith, none, count-cons k s ss, ap one_if e))
 
-held_once : (f : ℕ → ℕ) (ss : List SessionValue) (k : ℕ) → count_by (has_number k) ss ≡ 1 → held f ss k ≡ f k
+held_once : (f : ℕ → ℕ) (ss : List SessionValue) (k : ℕ) → count_by (has_session_number k) ss ≡ 1 → held f ss k ≡ f k
 held_once f [] k once = absurd (omega (arith, once))
 held_once f (s ∷ ss) k once = by (s.number == k) refl (held_once f ss k)
   where
-    by : (b : Bool) → (s.number == k) ≡ b → (count_by (has_number k) ss ≡ 1 → held f ss k ≡ f k) → cond b (f s.number + held f ss k) (held f ss k) ≡ f k
+    by : (b : Bool) → (s.number == k) ≡ b → (count_by (has_session_number k) ss ≡ 1 → held f ss k ≡ f k) → cond b (f s.number + held f ss k) (held f ss k) ≡ f k
     by true e rest =
         let none = held_none f ss k (omega (arith, once, count-cons k s ss, ap one_if e)) in
         omega (arith, none, ap f (eqb-true s.number k e))

@@ -10,7 +10,7 @@ use Rattle.snap_call.specs.declared.call.Call.TheVariants as calls
 use Rattle.snap_call.specs.declared.call.Given.TheVariants.{Nothing}
 use Rattle.snap_call.specs.declared.entry.Entry.{Entry}
 use Rattle.snap_call.specs.declared.reply.Reply.TheVariants as replies
-use Rattle.snap_call.specs.Journal.{entry}
+use Rattle.snap_call.specs.Journal.{call_entry}
 use Rattle.snap_tape.specs.Tapes.{SessionValue}
 use Rattle.snap_writers.specs.declared.job.Job.{Job}
 use Rattle.snap_writers.specs.declared.job.Ended.{Ended}
@@ -55,7 +55,7 @@ zip_none : (inodes : ℕ) → (t : List Entry) (gs : List Granted) → AllZip (I
 zip_none inodes t [] p = refl
 zip_none inodes t (g ∷ gs) p = absurd p
 
-pub begins : {inodes : ℕ} → (all : List Job) (s : SessionValue) (ends : List Ended) → ends ≡ none_run all → s.tape ≡ entry s.number calls.Session Nothing replies.Opened ∷ [] → IsGoing inodes all all s ends 0
+pub begins : {inodes : ℕ} → (all : List Job) (s : SessionValue) (ends : List Ended) → ends ≡ none_run all → s.tape ≡ call_entry s.number calls.Session Nothing replies.Opened ∷ [] → IsGoing inodes all all s ends 0
 begins {inodes = inodes} all s ends are tape = record {
   front = [];
   count = omega arith;
@@ -84,7 +84,7 @@ goes {inodes = inodes} all left j s t ends place e was job = record {
   are = ap (λ (es : List Ended). set es place e) was.are ∙ (set_at was.front ended.NotRun (none_run left) e place was.behind ∙ sym (append_assoc was.front (e ∷ []) (none_run left)));
   among = λ call work. was.among call (any_right (λ (x : Job). IsWorkFor x call) (j ∷ []) left work);
   rest = was.rest ++ job.goes.more;
-  tape = job.goes.tape ∙ (ap (λ (l : List Entry). l ++ job.goes.more) was.tape ∙ ap (λ n. entry n calls.Session Nothing replies.Opened ∷ (was.rest ++ job.goes.more)) (sym job.goes.number));
+  tape = job.goes.tape ∙ (ap (λ (l : List Entry). l ++ job.goes.more) was.tape ∙ ap (λ n. call_entry n calls.Session Nothing replies.Opened ∷ (was.rest ++ job.goes.more)) (sym job.goes.number));
   calls = all_append (λ x. IsWork all x.call) was.rest job.goes.more was.calls (works all left j s ends place was job.goes.more job.goes.calls);
   committed = was.committed ++ with_end j e [];
   done = λ es.
@@ -106,7 +106,7 @@ stops {inodes = inodes} all left j s t ends place was job = (
   counts,
   record {
     rest = was.rest ++ job.goes.more;
-    tape = job.goes.tape ∙ (ap (λ (l : List Entry). l ++ job.goes.more) was.tape ∙ ap (λ n. entry n calls.Session Nothing replies.Opened ∷ (was.rest ++ job.goes.more)) (sym job.goes.number));
+    tape = job.goes.tape ∙ (ap (λ (l : List Entry). l ++ job.goes.more) was.tape ∙ ap (λ n. call_entry n calls.Session Nothing replies.Opened ∷ (was.rest ++ job.goes.more)) (sym job.goes.number));
     calls = all_append (λ x. IsWork all x.call) was.rest job.goes.more was.calls (works all left j s ends place was job.goes.more job.goes.calls);
     commits = subst (λ (l : List Done). AllZip (IsCommitOf inodes t.tape) l (commits t.tape)) (sym are) (subst (λ (l : List Granted). AllZip (IsCommitOf inodes t.tape) was.committed l) (sym grown) before);
     each = subst (AllZip (IsEndOf inodes) all) (sym was.are) (was.own (none_run (j ∷ left)) (none_own inodes (j ∷ left)));

@@ -10,7 +10,7 @@ use Rattle.snap_call.specs.declared.call.Call.TheVariants as calls
 use Rattle.snap_call.specs.declared.call.Given.TheVariants.{Nothing}
 use Rattle.snap_call.specs.declared.entry.Entry.{Entry}
 use Rattle.snap_call.specs.declared.reply.Reply.TheVariants as replies
-use Rattle.snap_call.specs.Journal.{entry}
+use Rattle.snap_call.specs.Journal.{call_entry}
 use Rattle.snap_upper.specs.declared.op.Op.{Op}
 use Rattle.snap_book.specs.Active.{ActiveValue, fresh}
 use Rattle.snap_tape.specs.Tapes.{SessionValue}
@@ -30,8 +30,8 @@ pub record GoesOn (j : Job) (old new : SessionValue) (granted : List Granted) : 
   pub commits : commits more ≡ granted
 
 -- the commit of the snapshot
-abbrev pub granted : ActiveValue → Bytes → Option Bytes → Granted
-granted a name lease = record { id = a.share.id; name = name; lease = lease; layer = a.layer; usage = count_of a.layer }
+abbrev pub commit_granted : ActiveValue → Bytes → Option Bytes → Granted
+commit_granted a name lease = record { id = a.share.id; name = name; lease = lease; layer = a.layer; usage = count_of a.layer }
 
 -- the job's snapshot, as it was prepared: a root alone
 pub record IsFresh (inodes : ℕ) (tape : List Entry) (j : Job) (a : ActiveValue) : Type 0 where
@@ -40,7 +40,7 @@ pub record IsFresh (inodes : ℕ) (tape : List Entry) (j : Job) (a : ActiveValue
   pub layer : a.layer ≡ fresh inodes a.lowers
 
 -- and once all its operations are done
-pub record IsReady (inodes : ℕ) (tape : List Entry) (j : Job) (a : ActiveValue) : Type 0 where
+pub record IsReadyToEnd (inodes : ℕ) (tape : List Entry) (j : Job) (a : ActiveValue) : Type 0 where
   pub prepared : Any (IsPrepareOf j a.share.id) tape
   pub made : IsMadeBy inodes j a.layer
 
@@ -72,7 +72,7 @@ pub record IsGoing (inodes : ℕ) (all left : List Job) (s : SessionValue) (ends
   pub are : ends ≡ front ++ none_run left
   pub among : (call : Call) → IsWork left call → IsWork all call
   pub rest : List Entry
-  pub tape : s.tape ≡ entry s.number calls.Session Nothing replies.Opened ∷ rest
+  pub tape : s.tape ≡ call_entry s.number calls.Session Nothing replies.Opened ∷ rest
   pub calls : AllByRecursion (λ e. IsWork all e.call) rest
   pub committed : List Done
   pub done : (es : List Ended) → done all (front ++ es) ≡ committed ++ done left es

@@ -19,14 +19,14 @@ use Rattle.snap_call.specs.declared.refusal.Refusal.{Refusal}
 use Rattle.snap_call.specs.declared.refusal.Refusal.TheVariants as refusals
 use Rattle.snap_call.specs.declared.reply.Reply.{Reply}
 use Rattle.snap_call.specs.declared.reply.Reply.TheVariants as replies
-use Rattle.snap_call.specs.Journal.{entry}
+use Rattle.snap_call.specs.Journal.{call_entry}
 use Rattle.snap_book.specs.Active.{fresh}
 use Rattle.snap_book.specs.Book.{BookValue}
-use Rattle.snap_book.specs.Wanted.{wanted}
+use Rattle.snap_book.specs.Wanted.{wanted_charge}
 use Rattle.snap_tape.specs.Tapes.{SessionValue}
 use Rattle.snap_grants.specs.Grants.{Stored, worth}
 use Rattle.snap_round.specs.declared.rule.Round.{Round}
-use Rattle.snap_store.specs.Closing.{IsClosed}
+use Rattle.snap_store.specs.Closing.{IsClosedStore}
 use Rattle.snap_writers.specs.declared.job.Job.{Job}
 use Rattle.snap_writers.specs.declared.job.End.{End}
 use Rattle.snap_writers.specs.declared.job.End.TheVariants as ends
@@ -94,7 +94,7 @@ commits (e ∷ es) = commit_of e.call e.given e.reply (commits es)
 -- a call that a worker makes for the job: its Prepare, without labels; a Charge, which wants the job's extra beyond the need; its Commit; or a Discard
 abbrev pub IsWorkFor : Job → Call → Type 0
 IsWorkFor j (calls.Prepare namespace key parent labels) = (namespace ≡ j.namespace) × (key ≡ j.key) × (parent ≡ j.parent) × (labels ≡ [])
-IsWorkFor j (calls.Charge slot id need want) = want ≡ wanted need j.extra
+IsWorkFor j (calls.Charge slot id need want) = want ≡ wanted_charge need j.extra
 IsWorkFor j (calls.Commit slot id name lease) = j.end ≡ ends.Commit name lease
 IsWorkFor j (calls.Discard slot id) = Unit {0}
 IsWorkFor j call = ⊥
@@ -105,7 +105,7 @@ IsWork jobs call = Any (λ j. IsWorkFor j call) jobs
 
 -- the entry is of a Prepare for the job, without labels, which was granted the id
 abbrev pub IsPrepareOf : Job → ℕ → Entry → Type 0
-IsPrepareOf j id e = (session slot : ℕ) × (chain : List ℕ) × (e ≡ entry session (calls.Prepare j.namespace j.key j.parent []) Nothing (replies.Prepared id slot chain))
+IsPrepareOf j id e = (session slot : ℕ) × (chain : List ℕ) × (e ≡ call_entry session (calls.Prepare j.namespace j.key j.parent []) Nothing (replies.Prepared id slot chain))
 
 -- ---- what a job's operations make
 
@@ -166,7 +166,7 @@ pub record IsCommitOf (inodes : ℕ) (tape : List Entry) (d : Done) (g : Granted
 -- a worker's session: its tape begins with its own opening, and has calls for its jobs alone after it; its granted Commits are, in order, those of the jobs that ended Committed; and each end is its job's
 pub record HasWorked (inodes : ℕ) (jobs : List Job) (es : List Ended) (s : SessionValue) : Type 0 where
   pub rest : List Entry
-  pub tape : s.tape ≡ entry s.number calls.Session Nothing replies.Opened ∷ rest
+  pub tape : s.tape ≡ call_entry s.number calls.Session Nothing replies.Opened ∷ rest
   pub calls : AllByRecursion (λ e. IsWork jobs e.call) rest
   pub commits : AllZip (IsCommitOf inodes s.tape) (done jobs es) (commits s.tape)
   pub each : AllZip (IsEndOf inodes) jobs es
@@ -188,14 +188,14 @@ pub record IsWorked (inodes : ℕ) (jobs : List Job) (worker workers : ℕ) (w :
 -- ---- what a run of all workers owes
 
 -- the name that an end commits under
-abbrev pub name_of : End → Option Bytes
-name_of (ends.Commit name lease) = Some name
-name_of ends.Discard = None
+abbrev pub commit_name_of : End → Option Bytes
+commit_name_of (ends.Commit name lease) = Some name
+commit_name_of ends.Discard = None
 
 -- the committed snapshot is the job's: of its namespace, under its name and over its parent, of the id that its end tells, with the layer that the job's operations make; and the usage that its end tells is the count over it
 pub record IsStoredOf (inodes : ℕ) (d : Done) (s : Stored) : Type 0 where
   pub namespace : s.namespace ≡ d.job.namespace
-  pub name : name_of d.job.end ≡ Some s.name
+  pub name : commit_name_of d.job.end ≡ Some s.name
   pub parent : s.parent ≡ d.job.parent
   pub id : s.id ≡ d.id
   pub made : IsMadeBy inodes d.job s.layer
@@ -211,7 +211,7 @@ pub record IsReport (r : Round) (jobs : List Job) (es : List Ended) (b : BookVal
   pub count : length es ≡ length jobs
   pub each : AllZip (IsEndOf r.opening.layer_inodes) jobs es
   pub sessions : List SessionValue
-  pub closed : IsClosed r b sessions
+  pub closed : IsClosedStore r b sessions
   pub stored : List Stored
   pub of : AllZip (IsStoredOf r.opening.layer_inodes) (done jobs es) stored
   pub committed : (h : Stored → ℕ) → worth h b.state ≡ worth h b.opening + total h stored

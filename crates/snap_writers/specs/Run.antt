@@ -13,15 +13,15 @@ use Rattle.snap_upper.specs.declared.op.Op.{Op}
 use Rattle.snap_upper.specs.After.{Outcome, after, lists_names}
 use Rattle.snap_book.specs.Active.{ActiveValue}
 use Rattle.snap_book.specs.Files.{worked}
-use Rattle.snap_book.specs.Wanted.{needed_by, wanted}
+use Rattle.snap_book.specs.Wanted.{needed_by, wanted_charge}
 use Rattle.snap_tape.specs.Tapes.{RefusedOn, SessionValue, Taped}
 use Rattle.snap_store.specs.Values.{IsChargedTo}
 use Rattle.snap_writers.specs.declared.running.RunError.{RunError}
 use Rattle.snap_writers.specs.declared.running.RunError.TheVariants.{File, Book}
 
 -- the snapshot with this layer, and with a share of so much; all else stays
-abbrev pub with_share : ActiveValue → Tree → Usage → ActiveValue
-with_share a layer now = record { namespace = a.namespace; key = a.key; lowers = a.lowers; layer = layer; share = record a.share { usage = now } }
+abbrev pub with_layer_and_share : ActiveValue → Tree → Usage → ActiveValue
+with_layer_and_share a layer now = record { namespace = a.namespace; key = a.key; lowers = a.lowers; layer = layer; share = record a.share { usage = now } }
 
 -- the charge was made: its entry is on the tape, and the share is the wanted amount, or else the needed one
 pub record IsCharged (s t : SessionValue) (a : ActiveValue) (need want now : Usage) : Type 0 where
@@ -30,18 +30,18 @@ pub record IsCharged (s t : SessionValue) (a : ActiveValue) (need want now : Usa
 
 -- where a charge is needed: it is made, and the operation done; or memory for that is refused, and the charge stays as spare; or the charge is refused, and the snapshot is as it was
 abbrev pub HasCharged : SessionValue → SessionValue → ActiveValue → ActiveValue → Op → Usage → Usage → Result Unit RunError → Type 0
-HasCharged s t old new op need want (Ok done) = IsCharged s t old need want new.share.usage × (after op old.layer old.lowers ≡ Ok new.layer) × (new ≡ with_share old new.layer new.share.usage)
-HasCharged s t old new op need want (Err (File e)) = (e ≡ OutOfMemory no_memory) × IsCharged s t old need want new.share.usage × (new ≡ with_share old old.layer new.share.usage)
+HasCharged s t old new op need want (Ok done) = IsCharged s t old need want new.share.usage × (after op old.layer old.lowers ≡ Ok new.layer) × (new ≡ with_layer_and_share old new.layer new.share.usage)
+HasCharged s t old new op need want (Err (File e)) = (e ≡ OutOfMemory no_memory) × IsCharged s t old need want new.share.usage × (new ≡ with_layer_and_share old old.layer new.share.usage)
 HasCharged s t old new op need want (Err (Book why)) = RefusedOn s t (Charge old.share.slot old.share.id need want) Nothing why × (new ≡ old)
 
 -- what comes of an error: the charge that it asks for, or it is the answer, no call is made, and all is as it was
 abbrev pub HasFailed : SessionValue → SessionValue → ActiveValue → ActiveValue → Op → Usage → FsError → Option Usage → Result Unit RunError → Type 0
-HasFailed s t old new op extra e (Some need) result = HasCharged s t old new op need (wanted need extra) result
+HasFailed s t old new op extra e (Some need) result = HasCharged s t old new op need (wanted_charge need extra) result
 HasFailed s t old new op extra e None result = (result ≡ Err (File e)) × (t ≡ s) × (new ≡ old)
 
 -- what comes of the operation's first answer: it is done within the share, and no call is made; or its error
 abbrev pub Follows : SessionValue → SessionValue → ActiveValue → ActiveValue → Op → Usage → Outcome → Result Unit RunError → Type 0
-Follows s t old new op extra (Ok next) result = (result ≡ Ok tt) × (t ≡ s) × (new ≡ with_share old next old.share.usage)
+Follows s t old new op extra (Ok next) result = (result ≡ Ok tt) × (t ≡ s) × (new ≡ with_layer_and_share old next old.share.usage)
 Follows s t old new op extra (Err e) result = HasFailed s t old new op extra e (needed_by e) result
 
 -- the first answer is the operation's within the share, or want of memory; where no names of a directory are listed, it is the operation's error where there is one, and never want of memory in its place

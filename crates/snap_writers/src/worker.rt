@@ -3,7 +3,7 @@ ghost use Rattle.std.specs.Prelude.{◌≡◌, ◌<◌, ◌≤◌, [], ◌∷◌
 ghost use Rattle.snap_usage.specs.Counted.{count_of};
 ghost use Rattle.snap_upper.specs.After.{after};
 ghost use Rattle.snap_writers.specs.Run.{IsSameSnapshot};
-ghost use Rattle.snap_call.specs.Journal.{entry};
+ghost use Rattle.snap_call.specs.Journal.{call_entry};
 ghost use Rattle.snap_call.specs.declared.call.Call.TheVariants as calls;
 ghost use Rattle.snap_call.specs.declared.call.Given.TheVariants.{Nothing};
 ghost use Rattle.snap_call.specs.declared.reply.Reply.TheVariants as replies;
@@ -11,7 +11,7 @@ ghost use Rattle.snap_writers.specs.declared.job.Job.{Job as JobValue};
 ghost use Rattle.snap_writers.specs.declared.job.End.TheVariants.{Commit};
 ghost use Rattle.snap_writers.specs.declared.job.Ended.TheVariants as ended;
 ghost use Rattle.snap_writers.specs.Jobs.{IsErrorOf, IsWorked, all_after, jobs_of, unprepared};
-ghost use Rattle.snap_writers.specs.Going.{GoesOn, HasRunJob, IsFresh, IsReady, IsStopOf, end_or, granted, none_run};
+ghost use Rattle.snap_writers.specs.Going.{GoesOn, HasRunJob, IsFresh, IsReadyToEnd, IsStopOf, end_or, commit_granted, none_run};
 
 use crate::job::{End, Ended, Ends, Gate, Job, Worked};
 use crate::running::{RunError, run};
@@ -143,7 +143,7 @@ impl<'a, N: RoundName, R: Wait, G: Gate> Worker<'a, N, R, G> {
     ) -> Result<Usage, Refusal>
         requires room { 0 < self.old.session.spare }
         requires end { job.now.end ≡ Commit name.now lease.now }
-        ensures granted { IfOk result (λ usage. GoesOn job.now self.old.session self.new.session (granted active name.now lease.now ∷ [])) }
+        ensures granted { IfOk result (λ usage. GoesOn job.now self.old.session self.new.session (commit_granted active name.now lease.now ∷ [])) }
         ensures count { IfOk result (λ usage. usage ≡ count_of active.layer) }
         ensures refused { IfErr result (λ _. GoesOn job.now self.old.session self.new.session []) }
         ensures store { self.new.store ≡ self.old.store }
@@ -175,7 +175,7 @@ impl<'a, N: RoundName, R: Wait, G: Gate> Worker<'a, N, R, G> {
     fn end(&mut self, active: Active<N>, job: &Job) -> Ended
         requires room { 0 < self.old.session.spare }
         requires may { self.old.may_step ≡ true }
-        requires ready { IsReady self.old.store.now.opening.layer_inodes self.old.session.tape job.now active }
+        requires ready { IsReadyToEnd self.old.store.now.opening.layer_inodes self.old.session.tape job.now active }
         ensures run { HasRunJob self.old.store.now.opening.layer_inodes self.old.session self.new.session job.now result }
         ensures store { self.new.store ≡ self.old.store }
     {
@@ -239,7 +239,7 @@ impl<'a, N: RoundName, R: Wait, G: Gate> Worker<'a, N, R, G> {
     fn run_all(self, jobs: &[Job], worker: u32, workers: u32, ends: Ends) -> Worked
         requires worker { (1 ≤ worker) × (worker ≤ workers) }
         requires ends { ends ≡ none_run (jobs_of jobs.now worker workers) }
-        requires session { self.session.tape ≡ entry self.session.number calls.Session Nothing replies.Opened ∷ [] }
+        requires session { self.session.tape ≡ call_entry self.session.number calls.Session Nothing replies.Opened ∷ [] }
         ensures { IsWorked self.entry.store.now.opening.layer_inodes jobs.now worker workers result }
     {
         let mut this = self;

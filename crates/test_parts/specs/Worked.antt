@@ -6,19 +6,19 @@ use Rattle.snap_call.specs.declared.call.Call.TheVariants as calls
 use Rattle.snap_call.specs.declared.call.Given.TheVariants.{Nothing}
 use Rattle.snap_call.specs.declared.entry.Entry.{Entry}
 use Rattle.snap_call.specs.declared.reply.Reply.TheVariants.{Opened, Prepared, Charged}
-use Rattle.snap_call.specs.Journal.{entry}
+use Rattle.snap_call.specs.Journal.{call_entry}
 
 abbrev pub usage : ℕ → ℕ → Usage
 usage blocks inodes = record { blocks = blocks; inodes = inodes }
 
 abbrev pub opened : Entry
-opened = entry 0 calls.Session Nothing Opened
+opened = call_entry 0 calls.Session Nothing Opened
 
 abbrev pub made : Entry
-made = entry 0 (calls.Prepare (97 ∷ []) (107 ∷ []) [] []) Nothing (Prepared 1 0 [])
+made = call_entry 0 (calls.Prepare (97 ∷ []) (107 ∷ []) [] []) Nothing (Prepared 1 0 [])
 
 abbrev pub charged : Entry
-charged = entry 0 (calls.Charge 0 1 (usage 4 3) (usage 4 3)) Nothing (Charged (usage 4 3))
+charged = call_entry 0 (calls.Charge 0 1 (usage 4 3) (usage 4 3)) Nothing (Charged (usage 4 3))
 
 abbrev pub small_round : List Entry
 small_round = opened ∷ made ∷ charged ∷ []

@@ -1,6 +1,6 @@
 // A record in memory of its own.
 ghost use Rattle.std.specs.Prelude.{◌≡◌, IfOk, IfErr};
-ghost use Rattle.snap_call.specs.Spaces.{edited};
+ghost use Rattle.snap_call.specs.Spaces.{edited_record};
 
 use crate::record_edit::RecordEdit;
 use snap_path::NoMemory;
@@ -55,7 +55,7 @@ impl BoxedRecord {
     }
 
     pub(super) fn edit(&mut self, edit: RecordEdit)
-        ensures { self.new ≡ edited edit self.old }
+        ensures { self.new ≡ edited_record edit self.old }
     {
         match edit {
             RecordEdit::Content(content) => self.boxed.content = content,

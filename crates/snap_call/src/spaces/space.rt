@@ -1,8 +1,8 @@
 // The records of one namespace.
 ghost use Rattle.std.specs.Prelude.{◌≡◌, ◌<◌, ◌+◌, ◌^◌, ℕ, [], ◌++◌, length, false, map, option_copied, OnOk, OnErr, IfErr, IfOk};
 ghost use Rattle.std.specs.Map.{values_of};
-ghost use Rattle.snap_call.specs.Records.{record_at, has_key, child_count, with_record, without_key, page};
-ghost use Rattle.snap_call.specs.Spaces.{IsOf, AreGroups, beginning, joined, edited_at};
+ghost use Rattle.snap_call.specs.Records.{record_at, has_key, child_count, with_record, without_key, info_page};
+ghost use Rattle.snap_call.specs.Spaces.{IsOf, AreGroups, beginning, joined_records, edited_at};
 
 use super::boxed_record::BoxedRecord;
 use super::group::Group;
@@ -37,13 +37,13 @@ impl Model for Space {
     ghost use Rattle.std.specs.Prelude.{List};
     ghost use Rattle.std.specs.Map.{values_of};
     ghost use Rattle.snap_record.specs.declared.record.Record.{Record};
-    ghost use Rattle.snap_call.specs.Spaces.{joined, AreGroups, AreParentCounts};
+    ghost use Rattle.snap_call.specs.Spaces.{joined_records, AreGroups, AreParentCounts};
 
     ghost Value = { List Record };
 
-    ghost view = { λ s. joined (values_of s.map.entries) };
+    ghost view = { λ s. joined_records (values_of s.map.entries) };
 
-    ghost invariant = { λ s. AreGroups s.map.entries × AreParentCounts (joined (values_of s.map.entries)) s.parents };
+    ghost invariant = { λ s. AreGroups s.map.entries × AreParentCounts (joined_records (values_of s.map.entries)) s.parents };
 }
 
 fn beginning_of(key: &str) -> Beginning
@@ -138,7 +138,7 @@ impl Space {
         most: usize,
         asked: &Filter,
     ) -> Result<Sequence<Info>, AllocError>
-        ensures { IfOk result (λ infos. (place : ℕ) → IsOf place self.now → infos ≡ page place after.now most asked.now self.now) }
+        ensures { IfOk result (λ infos. (place : ℕ) → IsOf place self.now → infos ≡ info_page place after.now most asked.now self.now) }
     {
         let start = Bound::Included(beginning_of(after));
         let mut infos = Sequence::new(alloc);
@@ -174,11 +174,11 @@ fn put(
     added: Record,
 ) -> Result<(), (NoMemory, Record)>
     requires groups { AreGroups map.old.entries }
-    requires of { IsOf added.namespace (joined (values_of map.old.entries)) }
-    requires absent { has_key added.namespace added.key (joined (values_of map.old.entries)) ≡ false }
+    requires of { IsOf added.namespace (joined_records (values_of map.old.entries)) }
+    requires absent { has_key added.namespace added.key (joined_records (values_of map.old.entries)) ≡ false }
     ensures groups { AreGroups map.new.entries }
-    ensures ok { OnOk result (joined (values_of map.new.entries) ≡ with_record added (joined (values_of map.old.entries))) }
-    ensures err { OnErr result (joined (values_of map.new.entries) ≡ joined (values_of map.old.entries)) }
+    ensures ok { OnOk result (joined_records (values_of map.new.entries) ≡ with_record added (joined_records (values_of map.old.entries))) }
+    ensures err { OnErr result (joined_records (values_of map.new.entries) ≡ joined_records (values_of map.old.entries)) }
     ensures value_returned { IfErr result (λ back. back.1 ≡ added) }
 {
     let beginning = beginning_of(added.key.as_str());
@@ -202,8 +202,8 @@ fn put(
 fn take_out(map: &mut BTreeMap<Beginning, Group>, key: &str) -> Option<Record>
     requires { AreGroups map.old.entries }
     ensures groups { AreGroups map.new.entries }
-    ensures taken { (place : ℕ) → IsOf place (joined (values_of map.old.entries)) → joined (values_of map.new.entries) ≡ without_key place key.now (joined (values_of map.old.entries)) }
-    ensures record_taken { (place : ℕ) → IsOf place (joined (values_of map.old.entries)) → result ≡ record_at place key.now (joined (values_of map.old.entries)) }
+    ensures taken { (place : ℕ) → IsOf place (joined_records (values_of map.old.entries)) → joined_records (values_of map.new.entries) ≡ without_key place key.now (joined_records (values_of map.old.entries)) }
+    ensures record_taken { (place : ℕ) → IsOf place (joined_records (values_of map.old.entries)) → result ≡ record_at place key.now (joined_records (values_of map.old.entries)) }
 {
     let beginning = beginning_of(key);
     let group = map.get_mut(&beginning)?;

@@ -3,7 +3,7 @@ use Rattle.std.specs.Prelude.{Result, Ok, Err, IfOk}
 use Rattle.snap_call.specs.Records.{charge_of}
 use Rattle.snap_call.specs.declared.entry.Entry.{Entry}
 use Rattle.snap_call.proofs.Replaying.{Replays-entries}
-use Rattle.snap_history.specs.Changes.{changes_of, charge_before, infos_of}
+use Rattle.snap_history.specs.Changes.{changes_of, charge_before, entry_infos_of}
 use Rattle.snap_history.specs.History.{history_page}
 use Rattle.snap_history.proofs.Law.{told_history}
 use Rattle.snap_history.proofs.charges.history.Goals as goal
@@ -22,5 +22,5 @@ returns c =
     let opening : charge_before c.args.now c.deref.result.now ≡ charge_before (charge_of place t.records) (changes_of c.args.name.now c.args.held.now es) =
     (λ i. charge_before (sym charged i) ((c.deref.ensures.value ∙ c.in_ok-changes.ensures) i)) in
     is ∙ ap (history_page c.args.after c.args.most)
-    ((λ i. infos_of c.args.name.now (first i) c.args.held.now ((c.charge_before-opening.ensures ∙ opening) i) es) ∙ told_history c.args.name.now place c.args.held.now s es t good shares replays named))
+    ((λ i. entry_infos_of c.args.name.now (first i) c.args.held.now ((c.charge_before-opening.ensures ∙ opening) i) es) ∙ told_history c.args.name.now place c.args.held.now s es t good shares replays named))
     c.infos.ensures

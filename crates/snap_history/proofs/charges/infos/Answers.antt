@@ -3,7 +3,7 @@ use Rattle.std.proofs.lemmas.Bool.Decides.{nat_tests}
 use Rattle.std.proofs.lemmas.List.{drop_more}
 use Rattle.std.specs.Prelude.{◌&&◌, nat_lt}
 use Rattle.snap_call.specs.declared.entry.Entry.{Entry}
-use Rattle.snap_history.specs.Changes.{infos_of}
+use Rattle.snap_history.specs.Changes.{entry_infos_of}
 use Rattle.snap_history.specs.Entries.{entry_info}
 use Rattle.snap_history.specs.declared.info.EntryInfo.{EntryInfo}
 use Rattle.snap_history.proofs.Pages.{next_infos, next_page, page_with}
@@ -49,9 +49,9 @@ loop-entry-preserved c =
     record {
       number = omega arith;
       page =
-          ap (λ (l : List EntryInfo). page_with c.args.after c.args.most l (infos_of c.args.name.now number c.follow.new.self c.turned-charge.result (drop (i + 1) es))) found
+          ap (λ (l : List EntryInfo). page_with c.args.after c.args.most l (entry_infos_of c.args.name.now number c.follow.new.self c.turned-charge.result (drop (i + 1) es))) found
           ∙ sym (next_page c.args.after c.args.most c.loop-entry.number c.args.name.now c.loop-entry.shares c.loop-entry.charge infos e (drop (i + 1) es) c.change_of-change.result c.turned-charge.result c.follow.new.self c.is_own.result
           c.change_of-change.ensures c.turned-charge.ensures c.follow.ensures c.is_own.ensures)
-          ∙ ap (λ (l : List Entry). page_with c.args.after c.args.most infos (infos_of c.args.name.now c.loop-entry.number c.loop-entry.shares c.loop-entry.charge l)) (sym here)
+          ∙ ap (λ (l : List Entry). page_with c.args.after c.args.most infos (entry_infos_of c.args.name.now c.loop-entry.number c.loop-entry.shares c.loop-entry.charge l)) (sym here)
           ∙ c.loop-entry.invariant.page;
     }

@@ -1,5 +1,5 @@
 use Rattle.std.proofs.Common.{◌≡◌, ◌+◌, drop}
-use Rattle.snap_history.specs.Changes.{infos_of}
+use Rattle.snap_history.specs.Changes.{entry_infos_of}
 use Rattle.snap_history.specs.History.{history_page}
 use Rattle.snap_history.proofs.Pages.{page_with}
 use Rattle.snap_history.proofs.charges.infos.Given as goal
@@ -8,5 +8,5 @@ use Rattle.snap_history.proofs.charges.infos.Given as goal
 abbrev pub invariant-loop-entry : goal.invariant-loop-entry
 invariant-loop-entry l = record {
   number : l.number ≡ l.fn.before + l.entry-index;
-  page : page_with l.after l.most l.infos (infos_of l.name l.number l.shares l.charge (drop l.entry-index l.entries)) ≡ history_page l.after l.most (infos_of l.name l.fn.before l.held l.fn.opening l.entries);
+  page : page_with l.after l.most l.infos (entry_infos_of l.name l.number l.shares l.charge (drop l.entry-index l.entries)) ≡ history_page l.after l.most (entry_infos_of l.name l.fn.before l.held l.fn.opening l.entries);
 }

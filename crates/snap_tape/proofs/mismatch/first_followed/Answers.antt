@@ -3,7 +3,7 @@ use Rattle.std.proofs.Common.{◌≡◌, ◌∷◌, [], List, Some, take, sym, a
 use Rattle.std.proofs.lemmas.List.{take_all}
 use Rattle.std.proofs.lemmas.Option.{slice_get-get_or}
 use Rattle.snap_call.specs.declared.entry.Entry.{Entry}
-use Rattle.snap_call.specs.Journal.{own}
+use Rattle.snap_call.specs.Journal.{session_entries}
 use Rattle.snap_tape.specs.Tapes.{SessionValue}
 use Rattle.snap_tape.specs.Sessions.{IsFirstMismatch}
 use Rattle.snap_tape.specs.Following.{IsDifference, IsProgress}
@@ -21,8 +21,8 @@ loop-place-preserved c journal followed =
     let start : Progress = record { place = 0; differs = false } in
     let start_at : Progress = get_or progress i start in
     let each = followed.each i s start_at there (slice_get-get_or progress i start (omega (arith, c.loop-place-test.true, c.requires))) in
-    let differ = c.end-difference.ensures (own journal s.number) (subst (λ (l : List Entry). IsProgress l (own journal s.number) start_at) (sym c.tape.ensures) each) in
-    let one = c.mismatch_at.ensures journal (subst (λ (l : List Entry). IsDifference l (own journal s.number) c.end-difference.result) c.tape.ensures differ) in
+    let differ = c.end-difference.ensures (session_entries journal s.number) (subst (λ (l : List Entry). IsProgress l (session_entries journal s.number) start_at) (sym c.tape.ensures) each) in
+    let one = c.mismatch_at.ensures journal (subst (λ (l : List Entry). IsDifference l (session_entries journal s.number) c.end-difference.result) c.tape.ensures differ) in
     subst (λ (l : List SessionValue). IsFirstMismatch journal l c.earlier-first.result) (sym (taken_more sessions i s c.loop-place-test.true c.index-sessions-place.is))
     (c.earlier-first.ensures journal (take i sessions) (s ∷ []) (c.loop-place.invariant journal followed) one)
 

@@ -4,7 +4,7 @@ use Rattle.snap_merge.specs.declared.error.FsError.TheVariants.{OutOfMemory}
 use Rattle.snap_usage.specs.declared.usage.Usage.{Usage}
 use Rattle.snap_book.specs.Active.{ActiveValue}
 use Rattle.snap_book.specs.Files.{worked}
-use Rattle.snap_writers.specs.Run.{IsCharged, with_share}
+use Rattle.snap_writers.specs.Run.{IsCharged, with_layer_and_share}
 use Rattle.snap_writers.proofs.Needing.{only_memory}
 use Rattle.snap_writers.proofs.running.charge_and_apply.Goals as goal
 
@@ -21,5 +21,5 @@ returns-in-Err-apply-clause-charged g c =
     let share = ap (λ (a : ActiveValue). a.share.usage) same in (
       memory,
       subst (λ (u : Usage). IsCharged c.args.session.now c.charge.new.session old c.args.need c.args.want u) (sym share) (record { taped = c.in-Ok.ensures.granted; amount = c.in-Ok.ensures.amount }),
-      same ∙ (c.in-Ok.ensures.share ∙ ap (λ (u : Usage). with_share old old.layer u) (sym share)),
+      same ∙ (c.in-Ok.ensures.share ∙ ap (λ (u : Usage). with_layer_and_share old old.layer u) (sym share)),
     )

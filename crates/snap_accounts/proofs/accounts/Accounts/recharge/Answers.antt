@@ -8,7 +8,7 @@ use Rattle.snap_call.specs.declared.state.State.{State}
 use Rattle.snap_call.specs.Good.{Good}
 use Rattle.snap_call.specs.Records.{charge_of, charge_at, active_at, recharged, open_count}
 use Rattle.snap_call.specs.State.{limit_at}
-use Rattle.snap_call.specs.Step.{fits as fits_in}
+use Rattle.snap_call.specs.Step.{fits_limit as fits_in}
 use Rattle.snap_call.proofs.Sums.{charge_with}
 use Rattle.snap_call.proofs.Slots.{charge_at-issued}
 use Rattle.snap_call.proofs.Counts.{open_count-recharged}

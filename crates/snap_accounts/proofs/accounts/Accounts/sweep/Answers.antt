@@ -8,7 +8,7 @@ use Rattle.snap_call.specs.Records.{charge_of, open_count}
 use Rattle.snap_call.specs.Step.{swept_at}
 use Rattle.snap_call.proofs.Sweeping.{open_count-unswept, swept_covers}
 use Rattle.snap_accounts.specs.Accounts.{AreAccounts}
-use Rattle.snap_accounts.specs.Changes.{IsSweep}
+use Rattle.snap_accounts.specs.Changes.{IsSweepAt}
 use Rattle.snap_accounts.proofs.Sweeps.{accounts_swept, stay}
 use Rattle.snap_accounts.proofs.accounts.Accounts.sweep.Goals as goal
 
@@ -19,8 +19,8 @@ difference-rest-requires g c =
     (subst (λ (u : Usage). Covers (charge_of c.args.place s.records) u) (sym c.requires.possible.charged) (swept_covers s c.args.namespace.now c.args.place c.args.moment))
 
 -- what the sweep takes away, of the state inside
-possible : (g : _) (c : goal.After-self-1 g) → IsSweep c.self.inside.state c.args.place c.args.namespace.now c.args.moment c.args.keys.now c.args.freed
-possible g c = subst (λ (u : State). IsSweep u c.args.place c.args.namespace.now c.args.moment c.args.keys.now c.args.freed) (sym c.self.view_is) c.requires.possible
+possible : (g : _) (c : goal.After-self-1 g) → IsSweepAt c.self.inside.state c.args.place c.args.namespace.now c.args.moment c.args.keys.now c.args.freed
+possible g c = subst (λ (u : State). IsSweepAt u c.args.place c.args.namespace.now c.args.moment c.args.keys.now c.args.freed) (sym c.self.view_is) c.requires.possible
 
 left : (g : _) (c : goal.After-self-1 g) → c.take_keys.new.self ≡ unswept c.self.inside.state c.args.namespace.now c.args.place c.args.moment
 left g c = c.take_keys.ensures ∙ stay c.self.inside.state c.args.place c.args.namespace.now c.args.moment c.args.keys.now c.args.freed (possible g c) c.self.invariant.good

@@ -4,7 +4,7 @@ use Rattle.snap_call.specs.declared.call.Given.TheVariants.{Layer}
 use Rattle.snap_call.specs.declared.entry.Entry.{Entry}
 use Rattle.snap_call.specs.declared.reply.Reply.TheVariants.{Committed, Refused}
 use Rattle.snap_call.specs.declared.state.State.{State}
-use Rattle.snap_call.specs.Journal.{entry}
+use Rattle.snap_call.specs.Journal.{call_entry}
 use Rattle.snap_call.specs.Records.{open_count}
 use Rattle.snap_book.specs.Active.{ActiveValue}
 use Rattle.snap_book.specs.Book.{BookValue, Kept, Recorded}
@@ -16,7 +16,7 @@ pub invariant_of-self-in-Err-checked : goal.invariant_of-self-in-Err-checked
 invariant_of-self-in-Err-checked g c =
     let share = c.meet.new.share in
     let kept : Kept c.meet.new.self c.self.inside.journal = subst (λ (s : State). Kept s c.self.inside.journal) (sym c.meet.ensures.same) c.self.invariant in
-    let e : Entry = entry c.args.session (calls.Commit share.slot share.id c.args.name.now c.args.lease.now) (Layer c.sealed.inside.layer) (Refused c.in-Err-checked.why) in
+    let e : Entry = call_entry c.args.session (calls.Commit share.slot share.id c.args.name.now c.args.lease.now) (Layer c.sealed.inside.layer) (Refused c.in-Err-checked.why) in
     let made = refused_commit c.meet.new.self c.count_entry.new.self c.self.inside.accounts share c.sealed.inside.share c.slot.result c.args.session c.args.name.now c.args.lease.now c.sealed.inside.layer
     c.check_commit-checked.result c.in-Err-checked.why c.in-Ok.pair.0 c.meet.ensures.same c.meet.ensures.share c.slot.ensures c.meet.ensures.met c.sealed.invariant.1
     c.in-Ok.ensures.first c.in-Err-checked.is (c.in-Err-checked.ensures.refused c.sealed.inside.layer) c.count_entry.ensures in
@@ -32,7 +32,7 @@ returns-in-Err-checked-clause-refused g c =
     let old : BookValue = c.args.self.now in
     let k = c.push.new.self in
     let new : BookValue = record { state = c.count_entry.new.self; journal = k.entries; opening = k.opening; limit = k.limit; copy = k.copy } in
-    let e : Entry = entry c.args.session (calls.Commit share.slot share.id c.args.name.now c.args.lease.now) (Layer c.sealed.inside.layer) (Refused c.in-Err-checked.why) in
+    let e : Entry = call_entry c.args.session (calls.Commit share.slot share.id c.args.name.now c.args.lease.now) (Layer c.sealed.inside.layer) (Refused c.in-Err-checked.why) in
     let made = refused_commit c.meet.new.self c.count_entry.new.self c.self.inside.accounts share c.sealed.inside.share c.slot.result c.args.session c.args.name.now c.args.lease.now c.sealed.inside.layer
     c.check_commit-checked.result c.in-Err-checked.why c.in-Ok.pair.0 c.meet.ensures.same c.meet.ensures.share c.slot.ensures c.meet.ensures.met c.sealed.invariant.1
     c.in-Ok.ensures.first c.in-Err-checked.is (c.in-Err-checked.ensures.refused c.sealed.inside.layer) c.count_entry.ensures in
@@ -51,7 +51,7 @@ pub invariant_of-self-in-Ok-commit : goal.invariant_of-self-in-Ok-commit
 invariant_of-self-in-Ok-commit g c =
     let share = c.meet.new.share in
     let kept : Kept c.meet.new.self c.self.inside.journal = subst (λ (s : State). Kept s c.self.inside.journal) (sym c.meet.ensures.same) c.self.invariant in
-    let e : Entry = entry c.args.session (calls.Commit share.slot share.id c.args.name.now c.args.lease.now) (Layer c.sealed.inside.layer) (Committed share.id c.in-Ok-commit.usage) in
+    let e : Entry = call_entry c.args.session (calls.Commit share.slot share.id c.args.name.now c.args.lease.now) (Layer c.sealed.inside.layer) (Committed share.id c.in-Ok-commit.usage) in
     let call = sym c.in-Commit.is ∙ (ap (λ (e : Entry). e.call) c.entry-2.ensures ∙ ap (λ (e : Entry). e.call) c.in-Ok.ensures.first) in
     let made = granted_commit c.meet.new.self c.commit.new.accounts share c.args.session c.in-Commit.slot c.in-Commit.id c.args.name.now c.in-Commit.name c.args.lease.now c.in-Commit.lease c.sealed.inside.layer c.in-Ok-commit.usage
     c.check_commit-checked.result _ c.in-Ok.pair.0 c.in-Ok.ensures.first c.in_default-checked.is c.in-Ok-commit.ensures.count call c.in-Ok-commit.ensures.step in
@@ -66,7 +66,7 @@ returns-in-Ok-commit-clause-granted g c =
     let old : BookValue = c.args.self.now in
     let k = c.push-in-Ok-commit.new.self in
     let new : BookValue = record { state = c.commit.new.accounts; journal = k.entries; opening = k.opening; limit = k.limit; copy = k.copy } in
-    let e : Entry = entry c.args.session (calls.Commit share.slot share.id c.args.name.now c.args.lease.now) (Layer c.sealed.inside.layer) (Committed share.id c.in-Ok-commit.usage) in
+    let e : Entry = call_entry c.args.session (calls.Commit share.slot share.id c.args.name.now c.args.lease.now) (Layer c.sealed.inside.layer) (Committed share.id c.in-Ok-commit.usage) in
     let call = sym c.in-Commit.is ∙ (ap (λ (e : Entry). e.call) c.entry-2.ensures ∙ ap (λ (e : Entry). e.call) c.in-Ok.ensures.first) in
     let made = granted_commit c.meet.new.self c.commit.new.accounts share c.args.session c.in-Commit.slot c.in-Commit.id c.args.name.now c.in-Commit.name c.args.lease.now c.in-Commit.lease c.sealed.inside.layer c.in-Ok-commit.usage
     c.check_commit-checked.result _ c.in-Ok.pair.0 c.in-Ok.ensures.first c.in_default-checked.is c.in-Ok-commit.ensures.count call c.in-Ok-commit.ensures.step in

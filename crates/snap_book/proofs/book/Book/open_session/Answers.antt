@@ -1,5 +1,5 @@
 use Rattle.std.proofs.Common.{◌≡◌, ◌<◌, sym, ap, subst, length, arith}
-use Rattle.snap_call.specs.Journal.{entry}
+use Rattle.snap_call.specs.Journal.{call_entry}
 use Rattle.snap_call.specs.declared.state.State.{State}
 use Rattle.snap_call.specs.declared.call.Call.TheVariants as calls
 use Rattle.snap_call.specs.declared.call.Given.TheVariants.{Nothing}
@@ -17,7 +17,7 @@ invariant_of-self-2 g c =
     let j : JournalValue = c.self.inside.journal in
     let kept = c.take_session_room.ensures in
     let made = subst (λ (v : JournalValue). v ≡ record j { room = v.room }) (sym kept) c.in_ok-admit.ensures.same in
-    kept_push _ _ _ _ _ (entry c.state.result.now.sessions calls.Session Nothing Opened) _ c.self.invariant made c.push_into.ensures.entry c.session_entry.ensures
+    kept_push _ _ _ _ _ (call_entry c.state.result.now.sessions calls.Session Nothing Opened) _ c.self.invariant made c.push_into.ensures.entry c.session_entry.ensures
     few
     (session_step s _ few c.open_session.ensures)
     (omega (arith, same, ap (λ (v : JournalValue). length v.entries) kept, ap (λ (v : JournalValue). v.limit) kept, c.open_slots.ensures, c.in_ok-admit.ensures.below))

@@ -8,7 +8,7 @@ use Rattle.snap_call.specs.declared.entry.Entry.{Entry}
 use Rattle.snap_call.specs.declared.refusal.Refusal.{Refusal}
 use Rattle.snap_call.specs.declared.reply.Reply.TheVariants.{Prepared}
 use Rattle.snap_call.specs.declared.state.State.{State}
-use Rattle.snap_call.specs.Journal.{entry}
+use Rattle.snap_call.specs.Journal.{call_entry}
 use Rattle.snap_call.specs.Records.{open_count}
 use Rattle.snap_call.specs.State.{ancestors, ids_of, is_too_deep, layers_of}
 use Rattle.snap_call.specs.Step.{step}
@@ -32,8 +32,8 @@ invariant_of-self-in-Err g c =
     let s = c.self.inside.accounts in
     let call = calls.Prepare c.args.namespace.now c.args.key.now c.args.parent.now c.args.labels.now in
     let reply = prepare_reply c.vacancy-found.result s c.args.parent.now in
-    let e : Entry = entry c.args.session call Nothing reply in
-    let is : c.in_ok-entry.entry ≡ e = c.in_ok-entry.ensures.0 ∙ (λ i. entry c.args.session (c.in_ok-call.ensures i) Nothing (c.in_ok-reply.ensures.reply i)) in
+    let e : Entry = call_entry c.args.session call Nothing reply in
+    let is : c.in_ok-entry.entry ≡ e = c.in_ok-entry.ensures.0 ∙ (λ i. call_entry c.args.session (c.in_ok-call.ensures i) Nothing (c.in_ok-reply.ensures.reply i)) in
     let moved : step s call Nothing ≡ (c.count_entry.new.self, reply) = c.in-Err.ensures.refused ∙ (λ i. (sym c.count_entry.ensures i, prepare_reply (sym c.in-Err.is i) s c.args.parent.now)) in
     let opened = ap (λ (t : State). open_count t.records) c.count_entry.ensures in
     kept_push _ _ _ _ _ e _ c.self.invariant c.in_ok-admit.ensures.same c.push.ensures.entry is tt moved
@@ -45,8 +45,8 @@ invariant_of-self-2 g c =
     let s = c.self.inside.accounts in
     let call = calls.Prepare c.args.namespace.now c.args.key.now c.args.parent.now c.args.labels.now in
     let reply = prepare_reply c.vacancy-found.result s c.args.parent.now in
-    let e : Entry = entry c.args.session call Nothing reply in
-    let is : c.in_ok-entry.entry ≡ e = c.in_ok-entry.ensures.0 ∙ (λ i. entry c.args.session (c.in_ok-call.ensures i) Nothing (c.in_ok-reply.ensures.reply i)) in
+    let e : Entry = call_entry c.args.session call Nothing reply in
+    let is : c.in_ok-entry.entry ≡ e = c.in_ok-entry.ensures.0 ∙ (λ i. call_entry c.args.session (c.in_ok-call.ensures i) Nothing (c.in_ok-reply.ensures.reply i)) in
     let moved : step s call Nothing ≡ (c.add.new.accounts, reply) = c.in-Ok.ensures.ok ∙ (λ i. (sym c.in_ok-active.ensures.added i, prepare_reply (sym c.in-Ok.is i) s c.args.parent.now)) in
     kept_push _ _ _ _ _ e _ c.self.invariant c.in_ok-admit.ensures.same c.push-2.ensures.entry is tt moved
     (omega (arith, c.in_ok-active.ensures.open, c.open_slots.ensures, c.in_ok-admit.ensures.below))
@@ -62,8 +62,8 @@ returns-clause-granted g c =
     let parent = c.args.parent.now in
     let call = calls.Prepare c.args.namespace.now c.args.key.now parent c.args.labels.now in
     let reply = prepare_reply c.vacancy-found.result s parent in
-    let e : Entry = entry c.args.session call Nothing reply in
-    let is : c.in_ok-entry.entry ≡ e = c.in_ok-entry.ensures.0 ∙ (λ i. entry c.args.session (c.in_ok-call.ensures i) Nothing (c.in_ok-reply.ensures.reply i)) in
+    let e : Entry = call_entry c.args.session call Nothing reply in
+    let is : c.in_ok-entry.entry ≡ e = c.in_ok-entry.ensures.0 ∙ (λ i. call_entry c.args.session (c.in_ok-call.ensures i) Nothing (c.in_ok-reply.ensures.reply i)) in
     let moved : step s call Nothing ≡ (c.add.new.accounts, reply) = c.in-Ok.ensures.ok ∙ (λ i. (sym c.in_ok-active.ensures.added i, prepare_reply (sym c.in-Ok.is i) s parent)) in
     let noted = recorded_push old s c.add.new.accounts j c.admit.new.self k e c.in_ok-entry.entry c.self.view_is c.in_ok-admit.ensures.same c.push-2.ensures.entry is tt moved in
     let granted = subst (λ (f : Result Vacancy Refusal). Recorded old new c.args.session call Nothing (prepare_reply f s parent)) c.in-Ok.is noted in

@@ -3,7 +3,7 @@ use Rattle.snap_call.specs.declared.call.Call.{Call}
 use Rattle.snap_call.specs.declared.call.Call.TheVariants as calls
 use Rattle.snap_call.specs.declared.call.Given.TheVariants.{Nothing}
 use Rattle.snap_call.specs.declared.entry.Entry.{Entry}
-use Rattle.snap_call.specs.Journal.{entry}
+use Rattle.snap_call.specs.Journal.{call_entry}
 use Rattle.snap_call.specs.Step.{step}
 use Rattle.snap_book.specs.Book.{BookValue, Recorded}
 use Rattle.snap_book.proofs.Keeping.{kept_push, recorded_push}
@@ -21,8 +21,8 @@ invariant_of-self-2 g c =
     let s = c.self.inside.accounts in
     let plan = c.in_ok-plan.plan in
     let call = calls.View c.args.namespace.now c.args.key.now c.args.parent.now c.args.labels.now in
-    let e : Entry = entry c.args.session call Nothing plan.reply in
-    let is : plan.entry ≡ e = c.in_ok-plan.ensures.entry ∙ ap (λ (k : Call). entry c.args.session k Nothing plan.reply) c.in_ok-call.ensures in
+    let e : Entry = call_entry c.args.session call Nothing plan.reply in
+    let is : plan.entry ≡ e = c.in_ok-plan.ensures.entry ∙ ap (λ (k : Call). call_entry c.args.session k Nothing plan.reply) c.in_ok-call.ensures in
     let moved : step s call Nothing ≡ (c.carry_out.new.self, plan.reply) =
     ap (λ (k : Call). step s k Nothing) (sym c.in_ok-call.ensures) ∙ (c.in_ok-plan.ensures.changed ∙ (λ i. (sym c.in_ok-carry_out.ensures.done i, plan.reply))) in
     kept_push _ _ _ _ _ e _ c.self.invariant c.in_ok-admit.ensures.same c.push.ensures.entry is tt moved
@@ -38,8 +38,8 @@ returns-clause-granted g c =
     let mid : BookValue = record { state = s; journal = j.entries; opening = j.opening; limit = j.limit; copy = j.copy } in
     let new : BookValue = record { state = c.carry_out.new.self; journal = k.entries; opening = k.opening; limit = k.limit; copy = k.copy } in
     let call = calls.View c.args.namespace.now c.args.key.now c.args.parent.now c.args.labels.now in
-    let e : Entry = entry c.args.session call Nothing plan.reply in
-    let is : plan.entry ≡ e = c.in_ok-plan.ensures.entry ∙ ap (λ (k : Call). entry c.args.session k Nothing plan.reply) c.in_ok-call.ensures in
+    let e : Entry = call_entry c.args.session call Nothing plan.reply in
+    let is : plan.entry ≡ e = c.in_ok-plan.ensures.entry ∙ ap (λ (k : Call). call_entry c.args.session k Nothing plan.reply) c.in_ok-call.ensures in
     let moved : step s call Nothing ≡ (c.carry_out.new.self, plan.reply) =
     ap (λ (k : Call). step s k Nothing) (sym c.in_ok-call.ensures) ∙ (c.in_ok-plan.ensures.changed ∙ (λ i. (sym c.in_ok-carry_out.ensures.done i, plan.reply))) in
     let noted : Recorded mid new c.args.session call Nothing plan.reply = recorded_push mid s c.carry_out.new.self j c.admit.new.self k e plan.entry refl c.in_ok-admit.ensures.same c.push.ensures.entry is tt moved in
@@ -64,8 +64,8 @@ returns-clause-refused g c =
     let plan = c.in_ok-plan.plan in
     let new : BookValue = record { state = c.carry_out.new.self; journal = k.entries; opening = k.opening; limit = k.limit; copy = k.copy } in
     let call = calls.View c.args.namespace.now c.args.key.now c.args.parent.now c.args.labels.now in
-    let e : Entry = entry c.args.session call Nothing plan.reply in
-    let is : plan.entry ≡ e = c.in_ok-plan.ensures.entry ∙ ap (λ (k : Call). entry c.args.session k Nothing plan.reply) c.in_ok-call.ensures in
+    let e : Entry = call_entry c.args.session call Nothing plan.reply in
+    let is : plan.entry ≡ e = c.in_ok-plan.ensures.entry ∙ ap (λ (k : Call). call_entry c.args.session k Nothing plan.reply) c.in_ok-call.ensures in
     let moved : step s call Nothing ≡ (c.carry_out.new.self, plan.reply) =
     ap (λ (k : Call). step s k Nothing) (sym c.in_ok-call.ensures) ∙ (c.in_ok-plan.ensures.changed ∙ (λ i. (sym c.in_ok-carry_out.ensures.done i, plan.reply))) in
     refused_at c.args.self.now new c.args.session call plan.reply c.in_ok-answer.answer

@@ -5,7 +5,7 @@ use Rattle.std.specs.Prelude.{if◌then◌else◌}
 use Rattle.snap_record.specs.declared.record.Record.{Record}
 use Rattle.snap_call.specs.Indexes.{name_in}
 use Rattle.snap_call.specs.Records.{is_free, is_slot}
-use Rattle.snap_call.specs.Spaces.{joined}
+use Rattle.snap_call.specs.Spaces.{joined_records}
 use Rattle.snap_call.proofs.Indexed.{open_named}
 use Rattle.snap_call.proofs.Lowest.{lowest_free-end, lowest_free-found, lowest_free-past, lowest_free-start}
 use Rattle.snap_call.proofs.records.Records.lowest_free.Goals as goal
@@ -17,7 +17,7 @@ pub returns-then-open-eq0 : goal.returns-then-open-eq0
 returns-then-open-eq0 c =
     let slot = c.loop-slot.slot in
     let names = c.self.inside.slots in
-    let named = open_named (joined c.self.inside.spaces.list.items) names c.self.invariant.1 slot in
+    let named = open_named (joined_records c.self.inside.spaces.list.items) names c.self.invariant.1 slot in
     let none : is_some (name_in slot names) ≡ false = ap is_some (c.open_from-open.ensures.free c.if-open-eq0.true) in
     let same = ap (λ (l : List Record). list_any (is_slot slot) l) c.self.view_is in
     let free : is_free slot c.args.self.now ≡ true = ap (λ (b : Bool). if b then false else true) (sym same ∙ sym named ∙ none) in
@@ -32,7 +32,7 @@ loop-slot-preserved c =
     let more : slot + (j - slot) ≡ j = omega arith in
     let within : j - slot < c.open_from-open.result = omega (arith, c.saturating_add-slot.ensures, from, below) in
     let some : is_some (name_in j names) ≡ true = subst (λ (k : ℕ). is_some (name_in k names) ≡ true) more (c.open_from-open.ensures.open (j - slot) within) in
-    let named = open_named (joined c.self.inside.spaces.list.items) names c.self.invariant.1 j in
+    let named = open_named (joined_records c.self.inside.spaces.list.items) names c.self.invariant.1 j in
     let same = ap (λ (l : List Record). list_any (is_slot j) l) c.self.view_is in
     ap (λ (b : Bool). if b then false else true) (sym same ∙ sym named ∙ some))
 

@@ -1,6 +1,6 @@
 use Rattle.std.proofs.Common.{◌≡◌, ◌<◌, ◌≤◌, length, get_or, subst, ap, ◌∙◌}
 use Rattle.std.proofs.lemmas.Result.{IfOk-weaker}
-use Rattle.snap_call.specs.Records.{page}
+use Rattle.snap_call.specs.Records.{info_page}
 use Rattle.snap_call.proofs.Joined.{lent-of, joined-page, joined-page-past}
 use Rattle.snap_call.proofs.records.Records.page.Goals as goal
 
@@ -13,9 +13,9 @@ returns-in-Some c =
     let of = lent-of rss c.self.inside.spaces.count c.self.invariant.0 c.args.place lt rs at in
     IfOk-weaker c.page.result _ _
     (λ infos given. given c.args.place of
-    ∙ ap (page c.args.place c.args.after.now c.args.most c.args.asked.now) at
+    ∙ ap (info_page c.args.place c.args.after.now c.args.most c.args.asked.now) at
     ∙ joined-page c.args.place c.args.after.now c.args.asked.now c.args.most rss rs c.self.invariant.0.from lt
-    ∙ ap (page c.args.place c.args.after.now c.args.most c.args.asked.now) c.self.view_is)
+    ∙ ap (info_page c.args.place c.args.after.now c.args.most c.args.asked.now) c.self.view_is)
     c.page.ensures
 
 pub returns-in-None : goal.returns-in-None
@@ -24,4 +24,4 @@ returns-in-None c =
     let le : length rss ≤ c.args.place = subst (λ l. length l ≤ c.args.place) c.deref.ensures.value c.in-None.ensures.lookup.3 in
     c.new.ensures
     ∙ joined-page-past c.args.place c.args.after.now c.args.asked.now c.args.most rss c.self.invariant.0.from le
-    ∙ ap (page c.args.place c.args.after.now c.args.most c.args.asked.now) c.self.view_is
+    ∙ ap (info_page c.args.place c.args.after.now c.args.most c.args.asked.now) c.self.view_is

@@ -4,7 +4,7 @@ use Rattle.std.specs.Cmp.Lexicographic.{slice_cmp}
 use Rattle.std.specs.Ordering.{is_lt, nat_cmp}
 use Rattle.std.specs.Prelude.{◌==◌, bytes_eq}
 use Rattle.std.proofs.lemmas.Bool.{and_parts, eqb-true}
-use Rattle.snap_call.specs.Records.{is_named, record_at, page}
+use Rattle.snap_call.specs.Records.{is_named, record_at, info_page}
 use Rattle.snap_call.proofs.Lists.{find-passes}
 use Rattle.snap_call.proofs.Named.{page-one, page-unasked, page-before, page-none}
 use Rattle.snap_call.proofs.records.Records.page_at.Goals as goal
@@ -19,7 +19,7 @@ returns c =
     let r = c.in-Some.record.now in
     let found : record_at place c.args.key.now c.args.self.now ≡ Some r = sym c.record_at.ensures ∙ ap option_copied c.in-Some.is in
     let of : r.namespace ≡ place = eqb-true r.namespace place (and_parts (r.namespace == place) (bytes_eq r.key c.args.key.now) (find-passes (is_named place c.args.key.now) c.args.self.now r found)).0 in
-    let shown : page place after most asked (r ∷ []) ≡ page place after most asked (option_to_list (record_at place c.args.key.now c.args.self.now)) = ap (λ o. page place after most asked (option_to_list o)) (sym found) in
+    let shown : info_page place after most asked (r ∷ []) ≡ info_page place after most asked (option_to_list (record_at place c.args.key.now c.args.self.now)) = ap (λ o. info_page place after most asked (option_to_list o)) (sym found) in
     elim c.if-most-gt0.branch [
       | then-most-gt0+then-lt+then-matches+in_ok-info+in_ok-push w ↦
           w.infos-is

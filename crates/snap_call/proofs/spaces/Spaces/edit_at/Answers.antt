@@ -1,12 +1,12 @@
 use Rattle.std.proofs.Common.{◌<◌, ◌≤◌, length, sym, arith}
-use Rattle.snap_call.specs.Spaces.{edited}
+use Rattle.snap_call.specs.Spaces.{edited_record}
 use Rattle.snap_call.proofs.Joined.{joined-amended-past, put-edited, counted-edited}
 use Rattle.snap_call.proofs.spaces.Spaces.edit_at.Goals as goal
 
 pub returns-then-place-len-clause-edited : goal.returns-then-place-len-clause-edited
 returns-then-place-len-clause-edited c =
     let le : length c.args.self.now.list.items ≤ c.args.place = omega (arith, c.if-place-len.true, c.len.ensures, c.args.self.now.list.ok.0) in
-    sym (joined-amended-past c.args.place c.args.key.now (edited c.args.edit) c.args.self.now.list.items c.requires.from le)
+    sym (joined-amended-past c.args.place c.args.key.now (edited_record c.args.edit) c.args.self.now.list.items c.requires.from le)
 
 pub returns-clause-counted : goal.returns-clause-counted
 returns-clause-counted c =

@@ -1,6 +1,6 @@
 use Rattle.std.proofs.Common.{◌≡◌, ◌<◌, false, length, ap, sym, subst, ◌∙◌, arith, rules}
 use Rattle.snap_call.specs.Records.{has_key, with_record}
-use Rattle.snap_call.specs.Spaces.{AreCounted, joined}
+use Rattle.snap_call.specs.Spaces.{AreCounted, joined_records}
 use Rattle.snap_call.proofs.Lengths.{length-joined}
 use Rattle.snap_call.proofs.Joined.{counted-grown, added-of, added-absent, put-added, counted-added}
 use Rattle.snap_call.proofs.spaces.Spaces.put.Goals as goal
@@ -18,7 +18,7 @@ insert-requires-clause-absent c =
     let rss = c.grow.new.spaces.items in
     let o = counted-grown c.args.self.now.list.items rss c.args.self.now.count c.requires.counted c.grow.ensures.from c.grow.ensures.same in
     let lt : r.namespace < length rss = omega (arith, c.in_default.ensures.room, c.grow.new.spaces.ok.0) in
-    let none : has_key r.namespace r.key (joined rss) ≡ false = ap (has_key r.namespace r.key) c.grow.ensures.same ∙ c.requires.new in
+    let none : has_key r.namespace r.key (joined_records rss) ≡ false = ap (has_key r.namespace r.key) c.grow.ensures.same ∙ c.requires.new in
     added-absent rss c.args.self.now.count o r lt c.index_mut-space.result.now c.index_mut-space.ensures.value none
 
 pub insert-requires-clause-few : goal.insert-requires-clause-few

@@ -4,7 +4,7 @@ use Rattle.std.specs.BTreeMap.{insert_entry}
 use Rattle.std.specs.Option.{option_copied_mut}
 use Rattle.snap_record.specs.declared.record.Record.{Record}
 use Rattle.snap_call.specs.Records.{has_key, with_record}
-use Rattle.snap_call.specs.Spaces.{IsOf, AreGroups, joined, beginning, beginning_cmp}
+use Rattle.snap_call.specs.Spaces.{IsOf, AreGroups, joined_records, beginning, beginning_cmp}
 use Rattle.snap_call.proofs.Groups.{at_beginning, all-found, absent-in, set-same, is-inserted, added-to, added-alone, all-added, groups-added}
 use Rattle.snap_call.proofs.spaces.space.put.Goals as goal
 
@@ -91,4 +91,4 @@ returns-clause-err c =
     let g = c.in-Some.group.now in
     let found : lookup (at_beginning p) es ≡ Some g = sym c.get_mut.ensures.value ∙ ap option_copied_mut c.in-Some.is in
     let h = c.get_mut.follows.holds c.insert-2.new.self in
-    ap (λ l. joined (values_of l)) (h.0 ∙ ap (λ x. set_value (at_beginning p) es x) c.in-Err-insert.ensures.err ∙ set-same (at_beginning p) es g found)
+    ap (λ l. joined_records (values_of l)) (h.0 ∙ ap (λ x. set_value (at_beginning p) es x) c.in-Err-insert.ensures.err ∙ set-same (at_beginning p) es g found)

@@ -2,7 +2,7 @@ use Rattle.std.proofs.Common.{◌≡◌, true≢false, None, Some, subst, sym, a
 use Rattle.std.specs.Map.{lookup, values_of}
 use Rattle.std.specs.BTreeMap.{values}
 use Rattle.std.specs.Option.{option_copied_mut}
-use Rattle.snap_call.specs.Spaces.{AreGroups, joined}
+use Rattle.snap_call.specs.Spaces.{AreGroups, joined_records}
 use Rattle.snap_call.proofs.Groups.{at_beginning, all-found, groups-found, groups-found_none, groups-without_none, put-without, groups-put_without, groups-put_none, all-removed, groups-removed}
 use Rattle.snap_call.proofs.spaces.space.take_out.Goals as goal
 use Rattle.snap_call.proofs.spaces.space.take_out.Goals.{then-is_empty+in-Some-1, then-is_empty+in-None-1, else-is_empty}
@@ -12,7 +12,7 @@ returns-in_err-group-clause-taken c = λ place of.
     let es = c.args.map.now.entries in
     let p = c.beginning_of-beginning.result in
     let absent : lookup (at_beginning p) es ≡ None = sym c.get_mut.ensures.value ∙ ap option_copied_mut c.in_err-group.was in
-    ap (λ vs. joined vs) (ap values c.get_mut.follows.holds-at-none)
+    ap (λ vs. joined_records vs) (ap values c.get_mut.follows.holds-at-none)
     ∙ sym (groups-without_none place c.args.key.now p c.beginning_of-beginning.ensures es c.requires of absent)
 
 pub returns-in_err-group-clause-record_taken : goal.returns-in_err-group-clause-record_taken
@@ -78,9 +78,9 @@ returns-clause-taken c = λ place of.
     let h = c.get_mut.follows.holds w in
     let rest = put-without es _ p g w c.requires found h.0 h.4 c.args.key.now c.beginning_of-beginning.ensures c.remove.ensures.taken place of in
     elim c.if-is_empty.branch [
-      | then-is_empty+in-Some-1 b ↦ ap (λ m. joined (values_of m.entries)) b.map-is ∙ all-removed es _ p g w c.requires found h.0 h.4 c.args.key.now c.beginning_of-beginning.ensures c.remove.ensures.taken _ (c.is_empty.ensures.0 b.if-is_empty.true) b.remove-then-is_empty.ensures.entries
-      | then-is_empty+in-None-1 b ↦ ap (λ m. joined (values_of m.entries)) b.map-is ∙ all-removed es _ p g w c.requires found h.0 h.4 c.args.key.now c.beginning_of-beginning.ensures c.remove.ensures.taken _ (c.is_empty.ensures.0 b.if-is_empty.true) b.remove-then-is_empty.ensures.entries
-      | else-is_empty b ↦ ap (λ m. joined (values_of m.entries)) b.map-is
+      | then-is_empty+in-Some-1 b ↦ ap (λ m. joined_records (values_of m.entries)) b.map-is ∙ all-removed es _ p g w c.requires found h.0 h.4 c.args.key.now c.beginning_of-beginning.ensures c.remove.ensures.taken _ (c.is_empty.ensures.0 b.if-is_empty.true) b.remove-then-is_empty.ensures.entries
+      | then-is_empty+in-None-1 b ↦ ap (λ m. joined_records (values_of m.entries)) b.map-is ∙ all-removed es _ p g w c.requires found h.0 h.4 c.args.key.now c.beginning_of-beginning.ensures c.remove.ensures.taken _ (c.is_empty.ensures.0 b.if-is_empty.true) b.remove-then-is_empty.ensures.entries
+      | else-is_empty b ↦ ap (λ m. joined_records (values_of m.entries)) b.map-is
     ]
     ∙ rest
 

@@ -1,7 +1,7 @@
 use Rattle.std.proofs.Common.{◌≡◌, length, true, false, sym, ap, ◌∙◌, subst}
 use Rattle.std.specs.Prelude.{◌==◌}
 use Rattle.snap_lines.specs.Lines.{is_open}
-use Rattle.snap_lines.specs.Runs.{Behind, within, line_in, Leaves, StopsAtEnd}
+use Rattle.snap_lines.specs.Runs.{Behind, within, line_in, LeavesLine, StopsAtEnd}
 use Rattle.snap_lines.proofs.TranscriptLaws.{on_ok, if_err, empty_list, more_list, none_is, end_none, end_ok, end_value, end_stops}
 use Rattle.snap_lines.proofs.reader.Reader.finish.Goals as goal
 
@@ -35,5 +35,5 @@ returns-clause-err g c =
     let old = within c.args.self.now c.args.taker.now in
     let x = g.W.Write.contents c.args.output.now in
     let y = g.W.Write.contents c.take_line.new.output in
-    if_err {P = λ stop. Leaves effect old (line_in c.args.self.now.pending false) stop x y} {Q = λ stop. StopsAtEnd effect old stop x y} c.take_line.result
+    if_err {P = λ stop. LeavesLine effect old (line_in c.args.self.now.pending false) stop x y} {Q = λ stop. StopsAtEnd effect old stop x y} c.take_line.result
     (λ stop h. end_stops effect old stop x y no_feed (more_list _ e) h) c.take_line.ensures.err

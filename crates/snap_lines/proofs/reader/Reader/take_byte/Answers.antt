@@ -7,7 +7,7 @@ use Rattle.snap_script.specs.declared.fault.Fault.TheVariants.{TooLong}
 use Rattle.snap_script.specs.declared.fault.Shortage.TheVariants.{Allocator}
 use Rattle.snap_lines.specs.Lines.{is_open}
 use Rattle.snap_lines.specs.Transcripts.{max_line, next_number}
-use Rattle.snap_lines.specs.Runs.{Behind, within, kept, Goes, StopsIn}
+use Rattle.snap_lines.specs.Runs.{Behind, within, kept_length, Goes, StopsIn}
 use Rattle.snap_lines.specs.declared.stop.Stop.{Stop}
 use Rattle.snap_lines.specs.declared.stop.Stop.TheVariants.{OutOfMemory}
 use Rattle.snap_lines.proofs.TranscriptLaws.{on_ok, if_err, err_is, newline_goes, newline_stops, byte_run, cut_goes, is_cut, long_ends, stops_before}
@@ -36,7 +36,7 @@ returns-clause-ok g c = byte_run g.T.TakeLine.effect c.args.taker.now _ _ _ _ _ 
 pub returns-then-len-gt-MAX_LINE_BYTES-clause-ok : goal.returns-then-len-gt-MAX_LINE_BYTES-clause-ok
 returns-then-len-gt-MAX_LINE_BYTES-clause-ok g c =
     let no_feed = subst (λ (z : Behind). is_open z.pending ≡ true) c.self.view_is c.self.invariant.1 in
-    let fits = subst (λ (z : Behind). length z.pending ≤ kept z.left) c.self.view_is c.self.invariant.0 in
+    let fits = subst (λ (z : Behind). length z.pending ≤ kept_length z.left) c.self.view_is c.self.invariant.0 in
     let len = ap length c.as_slice-len.ensures.value ∙ ap (λ (z : Behind). length z.pending) c.self.view_is in
     let cut = is_cut c.args.self.now.left (length c.args.self.now.pending) fits (subst (λ n. max_line < n) len c.if-len-gt-MAX_LINE_BYTES.true) in
     cut_goes g.T.TakeLine.effect (within c.args.self.now c.args.taker.now) c.args.b _ (ne_eqb _ _ c.if-b-eq10.false) no_feed cut.0 cut.1

@@ -3,7 +3,7 @@ use Rattle.std.proofs.lemmas.Result.{err_from_is_err_and}
 use Rattle.snap_lines.specs.Effects.{text_bytes}
 use Rattle.snap_lines.specs.Lines.{is_open}
 use Rattle.snap_lines.specs.Transcripts.{next_number, passes}
-use Rattle.snap_lines.specs.Runs.{Behind, within, kept, line_in, Leaves}
+use Rattle.snap_lines.specs.Runs.{Behind, within, kept_length, line_in, LeavesLine}
 use Rattle.snap_lines.specs.declared.stop.Stop.{Stop}
 use Rattle.snap_lines.proofs.TranscriptLaws.{err_is, effect_over, effect_fits, leaves_refused, leaves_broken, run_after, line_len}
 use Rattle.snap_lines.proofs.reader.Reader.take_line.Goals as goal
@@ -16,7 +16,7 @@ returns-clause-ok g c =
     let fits : passes c.args.self.now.left (length (line_in c.args.self.now.pending c.args.ended)) ≡ false =
     ap (λ (z : Behind). passes z.left (length (line_in c.args.self.now.pending c.args.ended))) (sym c.self.view_is) ∙ ap (passes c.self.inside.left) (sym len) ∙ sym c.passes.ensures ∙ c.if-passes.false in
     let no_feed = subst (λ (z : Behind). is_open z.pending ≡ true) c.self.view_is c.self.invariant.1 in
-    let short = subst (λ (z : Behind). length z.pending ≤ kept z.left) c.self.view_is c.self.invariant.0 in
+    let short = subst (λ (z : Behind). length z.pending ≤ kept_length z.left) c.self.view_is c.self.invariant.0 in
     let same = ap (λ (z : Behind). effect c.args.taker.now z.pending) (sym c.self.view_is) ∙ ap (effect c.args.taker.now) (sym c.as_slice-line.ensures.value) in (
       text_bytes c.in_ok-text.text,
       effect_fits effect (within c.args.self.now c.args.taker.now).place c.args.self.now.pending c.args.ended no_feed short fits ∙ same ∙ c.in_ok-text.ensures.ok,
@@ -34,7 +34,7 @@ returns-then-passes-clause-err g c =
     let len = line_len c.args.self.now.pending c.args.ended (length c.as_slice-line.result.now) c.from.result pending c.from.ensures in
     let over : passes c.args.self.now.left (length (line_in c.args.self.now.pending c.args.ended)) ≡ true =
     ap (λ (z : Behind). passes z.left (length (line_in c.args.self.now.pending c.args.ended))) (sym c.self.view_is) ∙ ap (passes c.self.inside.left) (sym len) ∙ sym c.passes.ensures ∙ c.if-passes.true in
-    subst (λ (s : Stop). Leaves effect old line s x x) (sym c.fault.ensures) ((effect_over effect old.place line over, ap (λ (z : Behind). next_number z.lines) c.self.view_is), refl)
+    subst (λ (s : Stop). LeavesLine effect old line s x x) (sym c.fault.ensures) ((effect_over effect old.place line over, ap (λ (z : Behind). next_number z.lines) c.self.view_is), refl)
 
 pub returns-in_err-text-clause-err : goal.returns-in_err-text-clause-err
 returns-in_err-text-clause-err g c =
@@ -46,7 +46,7 @@ returns-in_err-text-clause-err g c =
     let fits : passes c.args.self.now.left (length (line_in c.args.self.now.pending c.args.ended)) ≡ false =
     ap (λ (z : Behind). passes z.left (length (line_in c.args.self.now.pending c.args.ended))) (sym c.self.view_is) ∙ ap (passes c.self.inside.left) (sym len) ∙ sym c.passes.ensures ∙ c.if-passes.false in
     let no_feed = subst (λ (z : Behind). is_open z.pending ≡ true) c.self.view_is c.self.invariant.1 in
-    let short = subst (λ (z : Behind). length z.pending ≤ kept z.left) c.self.view_is c.self.invariant.0 in
+    let short = subst (λ (z : Behind). length z.pending ≤ kept_length z.left) c.self.view_is c.self.invariant.0 in
     let same = ap (λ (z : Behind). effect c.args.taker.now z.pending) (sym c.self.view_is) ∙ ap (effect c.args.taker.now) (sym c.as_slice-line.ensures.value) in
     err_is _ c.from_residual.result p.0 c.in_err-text.field-0.0 p.1 (cc p.2)
     (leaves_refused effect old (line_in c.args.self.now.pending c.args.ended) _ c.self.inside.lines c.in_err-text.field-0.0 (g.W.Write.contents c.args.output.now)
@@ -62,7 +62,7 @@ returns-in_err-write_text-clause-err g c =
     let fits : passes c.args.self.now.left (length (line_in c.args.self.now.pending c.args.ended)) ≡ false =
     ap (λ (z : Behind). passes z.left (length (line_in c.args.self.now.pending c.args.ended))) (sym c.self.view_is) ∙ ap (passes c.self.inside.left) (sym len) ∙ sym c.passes.ensures ∙ c.if-passes.false in
     let no_feed = subst (λ (z : Behind). is_open z.pending ≡ true) c.self.view_is c.self.invariant.1 in
-    let short = subst (λ (z : Behind). length z.pending ≤ kept z.left) c.self.view_is c.self.invariant.0 in
+    let short = subst (λ (z : Behind). length z.pending ≤ kept_length z.left) c.self.view_is c.self.invariant.0 in
     let same = ap (λ (z : Behind). effect c.args.taker.now z.pending) (sym c.self.view_is) ∙ ap (effect c.args.taker.now) (sym c.as_slice-line.ensures.value) in
     err_is _ c.from_residual-in_err-write_text.result p.0 c.in_err-write_text.field-0.0 p.1 (cc p.2)
     (leaves_broken effect old (line_in c.args.self.now.pending c.args.ended) _ c.in_err-write_text.field-0.0 _ _

@@ -5,7 +5,7 @@ use Rattle.snap_call.specs.declared.reply.Reply.TheVariants as replies
 use Rattle.snap_script.specs.declared.answer.Answer.{Answer}
 use Rattle.snap_script.specs.declared.answer.Answer.TheVariants as answers
 use Rattle.snap_session.specs.Opened.{OpenedValue}
-use Rattle.snap_session.specs.Commands.{started, store_begun, told}
+use Rattle.snap_session.specs.Commands.{started, store_begun, answer_of_step}
 use Rattle.snap_session.proofs.script.Script.start.Goals as goal
 
 pub returns-in-Ok-clause-store : goal.returns-in-Ok-clause-store
@@ -15,5 +15,5 @@ returns-in-Ok-clause-store g c =
     let names : map (λ (n : Namespace). n.name) config.namespaces ≡ c.in_ok-names.names = ap (map (λ (n : Namespace). n.name)) (sym c.as_slice.ensures) ∙ sym c.in_ok-names.ensures in
     let made : store_begun config ≡ started c.in_ok-names.names (c.in-Ok.world, begun.0) = (λ i. started (names i) (begun.2 i)) in
     let stands : started c.in_ok-names.names (c.in-Ok.world, begun.0) ≡ (Some (record { world = c.in-Ok.world; names = c.in_ok-names.names }), answers.Reply replies.Done) =
-    ap (λ (t : Bool). let z : Option OpenedValue × Answer = if t then (Some (record { world = c.in-Ok.world; names = c.in_ok-names.names }), answers.Reply replies.Done) else (None, told 0 0 c.in-Ok.world begun.0) in z) begun.1 in
+    ap (λ (t : Bool). let z : Option OpenedValue × Answer = if t then (Some (record { world = c.in-Ok.world; names = c.in_ok-names.names }), answers.Reply replies.Done) else (None, answer_of_step 0 0 c.in-Ok.world begun.0) in z) begun.1 in
     made ∙ stands

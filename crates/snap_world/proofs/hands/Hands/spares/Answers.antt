@@ -1,7 +1,7 @@
 use Rattle.std.proofs.Common.{◌<◌, length, ◌∙◌, ap, sym, arith}
 use Rattle.snap_usage.specs.declared.usage.Usage.{Usage}
 use Rattle.snap_ledger.specs.States.{plus}
-use Rattle.snap_world.specs.Sums.{spare_in, sum_below}
+use Rattle.snap_world.specs.Sums.{spare_in, hand_sum_below}
 use Rattle.snap_world.proofs.Summing.{sum_next, sum_start, sum_within}
 use Rattle.snap_world.proofs.hands.Hands.spares.Goals as goal
 
@@ -12,7 +12,7 @@ pub loop-slot-preserved : goal.loop-slot-preserved
 loop-slot-preserved g c =
     c.plus-sum.ensures
     ∙ ap (λ (u : Usage). plus u c.spare_in.result) c.loop-slot.invariant
-    ∙ ap (plus (sum_below spare_in c.args.place c.args.self.now c.loop-slot.slot)) c.spare_in.ensures
+    ∙ ap (plus (hand_sum_below spare_in c.args.place c.args.self.now c.loop-slot.slot)) c.spare_in.ensures
     ∙ sym (sum_next spare_in c.args.place c.args.self.now c.loop-slot.slot)
 
 pub plus-sum-requires-clause-blocks : goal.plus-sum-requires-clause-blocks

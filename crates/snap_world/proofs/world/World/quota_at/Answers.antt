@@ -6,7 +6,7 @@ use Rattle.snap_call.specs.declared.state.State.{State}
 use Rattle.snap_call.specs.Records.{charge_of, sum_of}
 use Rattle.snap_call.specs.State.{limit_at}
 use Rattle.snap_world.specs.Quota.{active_usage, committed_usage, quota_at, spare_usage}
-use Rattle.snap_world.specs.Sums.{share_in, sum_below}
+use Rattle.snap_world.specs.Sums.{share_in, hand_sum_below}
 use Rattle.snap_world.specs.World.{WorldValue, world_of}
 use Rattle.snap_world.proofs.Summing.{charge_covers, committed_left, quota_is, shares_are, shares_few, spares_are, spares_few}
 use Rattle.snap_world.proofs.world.World.quota_at.Goals as goal
@@ -50,7 +50,7 @@ returns g c =
     let w = world_of c.self.inside.book c.self.inside.hands in
     let limit : c.limit_at-limit.result ≡ limit_at place w.state.namespaces = c.limit_at-limit.ensures ∙ ap (λ (s : State). limit_at place s.namespaces) c.state.ensures in
     let charged : c.total_at-charged.result ≡ charge_of place w.state.records = c.total_at-charged.ensures.total in
-    let shares : c.shares-active.result ≡ sum_below share_in place w.hands (length w.hands) = c.shares-active.ensures in
+    let shares : c.shares-active.result ≡ hand_sum_below share_in place w.hands (length w.hands) = c.shares-active.ensures in
     let committed : c.difference-committed.result ≡ sum_of committed_usage place w.state.records =
     c.difference-committed.ensures
     ∙ ap (λ (u : Usage). minus u c.shares-active.result) charged

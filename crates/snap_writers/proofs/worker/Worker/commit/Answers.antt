@@ -1,7 +1,7 @@
 use Rattle.std.proofs.Common.{[], ◌∷◌}
 use Rattle.snap_call.specs.declared.call.Call.TheVariants as calls
 use Rattle.snap_call.specs.declared.call.Given.TheVariants.{Layer}
-use Rattle.snap_writers.specs.Going.{granted}
+use Rattle.snap_writers.specs.Going.{commit_granted}
 use Rattle.snap_writers.proofs.Calling.{commit_goes, commits_as, refused, then_on, untaped}
 use Rattle.snap_writers.proofs.worker.Worker.commit.Goals as goal
 
@@ -11,7 +11,7 @@ returns-in-Ok-commit-clause-granted g c =
     let j = c.args.job.now in
     let mid = c.reserve.new.self in
     let new = c.commit.new.session in
-    then_on j old mid new (granted c.args.active c.args.name.now c.args.lease.now ∷ []) (untaped j old mid c.reserve.ensures.same)
+    then_on j old mid new (commit_granted c.args.active c.args.name.now c.args.lease.now ∷ []) (untaped j old mid c.reserve.ensures.same)
     (commit_goes j mid new c.args.active c.in-Ok.sealed c.args.name.now c.as_str.result.now c.args.lease.now c.in-Ok-commit.usage c.requires.end c.in-Ok.ensures.ok c.as_str.ensures c.in-Ok-commit.ensures.count c.in-Ok-commit.ensures.granted)
 
 pub returns-in-Err-commit-clause-refused : goal.returns-in-Err-commit-clause-refused

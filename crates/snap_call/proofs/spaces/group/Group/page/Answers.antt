@@ -2,7 +2,7 @@ use Rattle.std.proofs.Common.{◌≡◌, sym, ap, ◌∙◌, ◌++◌, ◌-◌, 
 use Rattle.std.specs.Map.{values_of}
 use Rattle.std.specs.Option.{option_to_list}
 use Rattle.snap_record.specs.Records.{info_of}
-use Rattle.snap_call.specs.Spaces.{is_after, is_asked, infos_of}
+use Rattle.snap_call.specs.Spaces.{is_key_after, is_asked, infos_of}
 use Rattle.snap_call.proofs.Entries.{values-after, infos-pushed}
 use Rattle.snap_call.proofs.spaces.group.Group.page.Goals as goal
 
@@ -14,8 +14,8 @@ loop-boxed-init c =
     ap (λ l. c.args.before ++ infos_of (c.args.most - length c.args.before) c.args.asked.now l)
     (ap values_of (c.into_iter-boxed-iterator.ensures.into_iter_gives ∙ c.range-boxed-items.ensures.between tt)
     ∙ values-after c.in_ok-start.start es c.self.invariant.1
-    ∙ ap (λ t. filter (is_after t) (values_of es)) c.in_ok-start.ensures.ok
-    ∙ ap (filter (is_after after)) shown)
+    ∙ ap (λ t. filter (is_key_after t) (values_of es)) c.in_ok-start.ensures.ok
+    ∙ ap (filter (is_key_after after)) shown)
 
 pub loop-boxed-preserved-in_ok-push-2 : goal.loop-boxed-preserved-in_ok-push-2
 loop-boxed-preserved-in_ok-push-2 c =

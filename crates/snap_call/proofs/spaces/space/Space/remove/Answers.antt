@@ -3,14 +3,14 @@ use Rattle.std.specs.Map.{values_of}
 use Rattle.snap_counts.specs.Counts.{count_in}
 use Rattle.snap_counts.proofs.Lists.{one_if}
 use Rattle.snap_call.specs.Records.{is_named, record_at}
-use Rattle.snap_call.specs.Spaces.{AreParentCounts, place_of, joined}
+use Rattle.snap_call.specs.Spaces.{AreParentCounts, first_place_of, joined_records}
 use Rattle.snap_call.proofs.Entries.{parents-removed, without-none}
 use Rattle.snap_call.proofs.spaces.space.Space.remove.Goals as goal
 
 pub invariant_of-self : goal.invariant_of-self
 invariant_of-self c =
-    let rs = joined (values_of c.self.inside.map.entries) in
-    let n = place_of rs in
+    let rs = joined_records (values_of c.self.inside.map.entries) in
+    let n = first_place_of rs in
     let of = c.self.invariant.0.alike in
     let none : record_at n c.args.key.now rs ≡ None = sym (c.take_out.ensures.record_taken n of) ∙ c.in_err-removed.was in
     let same = c.take_out.ensures.taken n of ∙ without-none (is_named n c.args.key.now) rs none in
@@ -18,8 +18,8 @@ invariant_of-self c =
 
 pub invariant_of-self-2 : goal.invariant_of-self-2
 invariant_of-self-2 c =
-    let rs = joined (values_of c.self.inside.map.entries) in
-    let n = place_of rs in
+    let rs = joined_records (values_of c.self.inside.map.entries) in
+    let n = first_place_of rs in
     let of = c.self.invariant.0.alike in
     let counts = c.self.inside.parents in
     let r = c.in_ok-removed.removed in
