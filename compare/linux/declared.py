@@ -1,7 +1,7 @@
 """Where a command is declared to be answered in another way than by Linux.
 
 A rule looks at a command before it is made, in the root of this process, and tells what both sides have to answer.
-The names are those of the cases in `cases`, and of the table in docs/DECISIONS.md.
+The names are those of the cases in `cases`, and of the list in docs/DECISIONS.md.
 """
 
 import os

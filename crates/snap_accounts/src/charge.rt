@@ -140,6 +140,7 @@ impl<N: StoreName> Accounts<N> {
     /// number of records.
     pub fn charge(&mut self, share: &mut Share<N>, need: Usage, want: Usage) -> Result<Usage, Usage>
         requires slot { share.old.slot < max_slots }
+        requires met { Meets (charge_at share.old.slot self.old.records) share.old }
         requires entries { self.old.entries < 2 ^ 63 }
         ensures allowed { IsOpenSlot share.old.id (active_at share.old.slot self.old.records) }
         ensures granted { IfOk result (λ now. charge_step self.old share.old.slot need want (active_at share.old.slot self.old.records) ≡ (self.new, Charged now)) }
@@ -149,7 +150,7 @@ impl<N: StoreName> Accounts<N> {
         ensures more { IfOk result (λ now. Covers now share.old.usage) }
         ensures open { open_count self.new.records ≡ open_count self.old.records }
     {
-        let held = self.meet(share);
+        let held = share.held();
         let place = self.place(share.slot());
         match self.grant(place, held, need, want) {
             Some(to) => {
@@ -179,6 +180,7 @@ impl<N: StoreName> Accounts<N> {
     /// memory. The cost grows with the logarithm of the number of records.
     pub fn trim(&mut self, share: &mut Share<N>, count: Usage)
         requires slot { share.old.slot < max_slots }
+        requires met { Meets (charge_at share.old.slot self.old.records) share.old }
         requires entries { self.old.entries < 2 ^ 63 }
         requires count { Covers share.old.usage count }
         requires one { CoversOne count }
@@ -187,7 +189,7 @@ impl<N: StoreName> Accounts<N> {
         ensures share { share.new ≡ record share.old { usage = count } }
         ensures open { open_count self.new.records ≡ open_count self.old.records }
     {
-        let held = self.meet(share);
+        let held = share.held();
         let place = self.place(share.slot());
         self.show_that_less_fits(place, held, count);
         self.recharge(share, place, count);

@@ -3,7 +3,7 @@ ghost use Rattle.std.specs.Prelude.{◌≡◌, ◌<◌, ◌+◌, ◌^◌, ◌&&�
 ghost use Rattle.std.specs.Option.{option_map_or};
 ghost use Rattle.snap_layer.specs.Tree.{Tree};
 ghost use Rattle.snap_usage.specs.Counted.{Covers, count_of};
-ghost use Rattle.snap_ledger.specs.States.{minus, plus};
+ghost use Rattle.snap_ledger.specs.States.{Meets, minus, plus};
 ghost use Rattle.snap_call.specs.Forms.{is_key};
 ghost use Rattle.snap_call.specs.Records.{charge_of, charge_at, active_at, open_count, max_slots};
 ghost use Rattle.snap_call.specs.Step.{commit_as, refused, IsCovered};
@@ -89,6 +89,7 @@ impl<N: StoreName> Accounts<N> {
         layer: &Shared,
     ) -> Result<Usage, (NoMemory, Share<N>)>
         requires slot { share.slot < max_slots }
+        requires met { Meets (charge_at share.slot self.old.records) share }
         requires entries { self.old.entries < 2 ^ 63 }
         requires covers { Covers share.usage (count_of layer.now) }
         requires possible { CanCommit self.old share.slot name.now lease.now }
@@ -99,9 +100,8 @@ impl<N: StoreName> Accounts<N> {
         ensures unchanged { OnErr result (self.new ≡ self.old) }
         ensures returned { IfErr result (λ back. back.1 ≡ share) }
     {
-        let mut share = share;
         let slot = share.slot();
-        let held = self.meet(&mut share);
+        let held = share.held();
         let place = self.place(slot);
         let usage = count(layer.layer());
         let after = self.total_with(place, held, usage);

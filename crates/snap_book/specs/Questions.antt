@@ -1,6 +1,6 @@
 -- What is asked of a book without an entry, beyond one record.
 -- Cited by `Book::chain_usage`, `World::chain_usage`, `replay_within` and others.
-use Rattle.std.specs.Prelude.{List, [], ◌∷◌, Result, Ok, Err}
+use Rattle.std.specs.Prelude.{List, [], ◌∷◌, Result, Ok}
 use Rattle.snap_usage.specs.declared.usage.Usage.{Usage}
 use Rattle.snap_usage.specs.Counted.{no_usage}
 use Rattle.snap_ledger.specs.States.{plus}
@@ -10,18 +10,13 @@ use Rattle.snap_record.specs.declared.record.Record.{Record}
 use Rattle.snap_call.specs.declared.refusal.Refusal.{Refusal}
 use Rattle.snap_call.specs.declared.state.State.{State}
 use Rattle.snap_call.specs.State.{ancestors}
-use Rattle.snap_book.specs.Slot.{found_of}
+use Rattle.snap_book.specs.Slot.{found_of, result_and_then}
 
 -- what these snapshots are charged together
 abbrev pub usage_of_all : List Record → Usage
 usage_of_all [] = no_usage
 usage_of_all (r ∷ rs) = plus (usage_of r.content) (usage_of_all rs)
 
--- what a snapshot is charged together with its committed ancestors
-abbrev pub chain_usage_if : List Record → Result Record Refusal → Result Usage Refusal
-chain_usage_if rs (Ok r) = Ok (usage_of_all (r ∷ ancestors r.namespace r.parent rs))
-chain_usage_if rs (Err why) = Err why
-
--- that of the snapshot of this key in the namespace, or why there is none
+-- what the snapshot of this key in the namespace is charged together with its committed ancestors, or why there is none
 abbrev pub chain_usage : State → Bytes → Bytes → Result Usage Refusal
-chain_usage s namespace key = chain_usage_if s.records (found_of s namespace key)
+chain_usage s namespace key = result_and_then (λ r. Ok (usage_of_all (r ∷ ancestors r.namespace r.parent s.records))) (found_of s namespace key)

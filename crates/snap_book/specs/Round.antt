@@ -1,6 +1,7 @@
 -- The next round of a book.
 -- Cited by `Book::next_round`, `Book::roll`, `replay_within` and others.
 use Rattle.std.specs.Prelude.{ℕ, ◌+◌, ◌^◌, nat_le, nat_lt, if◌then◌else◌, Result, Ok, Err}
+use Rattle.std.specs.Result.{result_and}
 use Rattle.snap_call.specs.declared.refusal.Refusal.{Refusal}
 use Rattle.snap_call.specs.declared.refusal.Refusal.TheVariants.{BadArgument, JournalFull, NumbersSpent}
 use Rattle.snap_call.specs.declared.state.State.{State}
@@ -17,11 +18,6 @@ round_answer s journal =
     if nat_lt (2 ^ 62) (s.entries + journal) then Err NumbersSpent else
     Ok tt
 
--- a round that may begin has to have, beside the entries that open snapshots are owed, one more
-abbrev pub with_room : ℕ → ℕ → Result Unit Refusal → Result Unit Refusal
-with_room journal owed (Ok done) = if nat_le journal owed then Err JournalFull else Ok tt
-with_room journal owed (Err why) = Err why
-
 -- the answer where snapshots may be open: as above, and the journal has an entry for the end of each, and one more
 abbrev pub roll_answer : State → ℕ → Result Unit Refusal
-roll_answer s journal = with_room journal (open_count s.records) (round_answer s journal)
+roll_answer s journal = result_and (round_answer s journal) (if nat_le journal (open_count s.records) then Err JournalFull else Ok tt)

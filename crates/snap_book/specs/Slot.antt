@@ -12,6 +12,11 @@ use Rattle.snap_call.specs.declared.state.State.{State}
 use Rattle.snap_call.specs.Records.{record_at}
 use Rattle.snap_call.specs.State.{place_of}
 
+-- what follows a value; an error stays
+abbrev pub result_and_then : {A B E : Type 0} → (A → Result B E) → Result A E → Result B E
+result_and_then f (Ok x) = f x
+result_and_then f (Err e) = Err e
+
 -- the record of this key in the namespace, or why there is none
 abbrev pub found_of : State → Bytes → Bytes → Result Record Refusal
 found_of s namespace key = option_map_or (λ place. ok_or (record_at place key s.records) NotFound) (place_of namespace s.namespaces) (Err NoNamespace)
@@ -21,10 +26,6 @@ abbrev pub slot_and_id_in : ℕ → Content → Result (ℕ × ℕ) Refusal
 slot_and_id_in id (Active slot charged) = Ok (slot, id)
 slot_and_id_in id content = Err NotActive
 
-abbrev pub slot_if : Result Record Refusal → Result (ℕ × ℕ) Refusal
-slot_if (Ok r) = slot_and_id_in r.id r.content
-slot_if (Err why) = Err why
-
 -- the slot and the id of the active snapshot of this key in the namespace, or why there is none
 abbrev pub slot_and_id_of : State → Bytes → Bytes → Result (ℕ × ℕ) Refusal
-slot_and_id_of s namespace key = slot_if (found_of s namespace key)
+slot_and_id_of s namespace key = result_and_then (λ r. slot_and_id_in r.id r.content) (found_of s namespace key)

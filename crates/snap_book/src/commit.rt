@@ -67,6 +67,7 @@ impl<N: StoreName> Sealed<N> {
         lease: &Option<Text>,
     ) -> Result<Usage, (NoMemory, Sealed<N>)>
         requires entries { accounts.old.entries < 2 ^ 63 }
+        requires met { Meets (charge_at self.share.slot accounts.old.records) self.share }
         requires possible { CanCommit accounts.old self.share.slot name.now lease.now }
         ensures allowed { IsCovered self.share.id (count_of self.layer) (active_at self.share.slot accounts.old.records) }
         ensures step { IfOk result (λ usage. commit_as accounts.old self.share.slot name.now lease.now self.layer (active_at self.share.slot accounts.old.records) ≡ (accounts.new, Committed self.share.id usage)) }

@@ -1,6 +1,6 @@
 -- Labels and the number of the last change are seen by nothing but an info: what is the same of two lists that differ in these alone.
 use Rattle.std.proofs.Common.{◌≡◌, ℕ, zero, suc, ◌+◌, Bool, true, false, cond, List, [], ◌∷◌, map, Option, Some, None, IsSome, refl, sym, ap, ◌∙◌}
-use Rattle.std.specs.List.{AllByRecursion, find}
+use Rattle.std.specs.List.{AllByRecursion, cons_option, find}
 use Rattle.std.specs.List.Sorted.{IsStrictlySortedBy}
 use Rattle.std.specs.Option.{option_map, is_some}
 use Rattle.std.specs.declared.cmp.Ordering.TheVariants.{Less}
@@ -11,7 +11,7 @@ use Rattle.snap_record.specs.Labels.{Bytes, Label}
 use Rattle.snap_record.specs.declared.record.Record.{Record}
 use Rattle.snap_call.specs.declared.config.Namespace.{Namespace}
 use Rattle.snap_call.specs.Records.{record_cmp, is_named, record_at, is_slot, active_at, is_committed, committed_at, charge_of, charge_if, charge_at, open_count, with_labels, relabelled, AllPairwise}
-use Rattle.snap_call.specs.State.{place_of, chain_from, is_base, ancestors, ids_of, with_layer, layers_of}
+use Rattle.snap_call.specs.State.{place_of, chain_from, is_base, ancestors, ids_of, layer_of, layers_of}
 use Rattle.snap_call.specs.Good.{IsGuarding}
 use Rattle.snap_call.proofs.Lists.{all-map, some_same, none_some, if_committed, active_one, open_count-cons}
 use Rattle.snap_call.proofs.Chains.{HasParent, NamesStand, chain, chain_over}
@@ -106,7 +106,7 @@ chain_from-bare (suc n) rs place (b ∷ bs) =
 
 pub layers_of-bare : (rs : List Record) → layers_of (map bare rs) ≡ layers_of rs
 layers_of-bare [] = refl
-layers_of-bare (r ∷ rs) = ap (with_layer r.content) (layers_of-bare rs)
+layers_of-bare (r ∷ rs) = ap (cons_option (layer_of r.content)) (layers_of-bare rs)
 
 pub ids_of-bare : (rs : List Record) → ids_of (map bare rs) ≡ ids_of rs
 ids_of-bare [] = refl

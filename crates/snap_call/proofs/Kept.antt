@@ -227,34 +227,43 @@ limits_from [] place all low = absurd (omega arith)
 limits_from (n ∷ ns) zero all low = let h = and_parts (is_namespace n) (list_all is_namespace ns) all in (and_parts (is_text 255 n.name) (is_limit n.limit) h.0).1
 limits_from (n ∷ ns) (suc place) all low = let h = and_parts (is_namespace n) (list_all is_namespace ns) all in limits_from ns place h.1 (omega arith)
 
+-- each part of a configuration has its form
+six : (a b d f g h : Bool) → (a && (b && (d && (f && (g && (h && true)))))) ≡ true → (a ≡ true) × (b ≡ true) × (d ≡ true) × (g ≡ true) × (h ≡ true)
+six a b d f g h e =
+    let p = and_parts a (b && (d && (f && (g && (h && true))))) e in
+    let q = and_parts b (d && (f && (g && (h && true)))) p.1 in
+    let r = and_parts d (f && (g && (h && true))) q.1 in
+    let s = and_parts f (g && (h && true)) r.1 in
+    let t = and_parts g (h && true) s.1 in
+    (p.0, q.0, r.0, t.0, (and_parts h true t.1).0)
+
+abbrev are_spaces : List Namespace → Bool
+are_spaces ns = list_all is_namespace ns && nat_le (length ns) 64 && have_distinct_names ns
+
+parts_formed : (c : Config) → is_config c ≡ true
+    → (is_root_text c.root ≡ true) × (are_spaces c.namespaces ≡ true) × (is_slots c.slots ≡ true) × (nat_le 1 c.first_id ≡ true) × (is_layer_limit c.layer_inodes ≡ true)
+parts_formed c e = six (is_root_text c.root) (are_spaces c.namespaces) (is_slots c.slots) (nat_le c.journal max_journal) (nat_le 1 c.first_id) (is_layer_limit c.layer_inodes) e
+
+root_formed : (c : Config) → is_config c ≡ true → is_root_text c.root ≡ true
+root_formed c e = (parts_formed c e).0
+
 -- the namespaces have their form, and their names are distinct
 namespaces_formed : (c : Config) → is_config c ≡ true → (list_all is_namespace c.namespaces ≡ true) × (have_distinct_names c.namespaces ≡ true)
 namespaces_formed c e =
-    let root = is_root_text c.root in
     let each = list_all is_namespace c.namespaces in
     let few = nat_le (length c.namespaces) 64 in
-    let apart = have_distinct_names c.namespaces in
-    let slots = is_slots c.slots in
-    let journal = nat_le c.journal max_journal in
-    let g = and_parts (root && each && few && apart && slots && journal && nat_le 1 c.first_id) (is_layer_limit c.layer_inodes) e in
-    let h = and_parts (root && each && few && apart && slots && journal) (nat_le 1 c.first_id) g.0 in
-    let i = and_parts (root && each && few && apart && slots) journal h.0 in
-    let s = and_parts (root && each && few && apart) slots i.0 in
-    let j = and_parts (root && each && few) apart s.0 in
-    ((and_parts root each (and_parts (root && each) few j.0).0).1, j.1)
-
-root_formed : (c : Config) → is_config c ≡ true → is_root_text c.root ≡ true
-root_formed c e = (and_parts _ _ (and_parts _ _ (and_parts _ _ (and_parts _ _ (and_parts _ _ (and_parts _ _ (and_parts _ _ e).0).0).0).0).0).0).0
-
-first_given : (c : Config) → is_config c ≡ true → 0 < c.first_id
-first_given c e = let first : nat_le 1 c.first_id ≡ true = (and_parts _ _ (and_parts _ _ e).0).1 in grind (arith, nat_tests)
+    let formed = and_parts (each && few) (have_distinct_names c.namespaces) (parts_formed c e).1 in
+    ((and_parts each few formed.0).0, formed.1)
 
 slots_given : (c : Config) → is_config c ≡ true → (1 ≤ c.slots) × (c.slots ≤ max_slots)
 slots_given c e =
-    let parts = and_parts (nat_le 1 c.slots) (nat_le c.slots max_slots) (and_parts _ (is_slots c.slots) (and_parts _ _ (and_parts _ _ (and_parts _ _ e).0).0).0).1 in
+    let parts = and_parts (nat_le 1 c.slots) (nat_le c.slots max_slots) (parts_formed c e).2 in
     let some : nat_le 1 c.slots ≡ true = parts.0 in
     let few : nat_le c.slots max_slots ≡ true = parts.1 in
     (grind (arith, nat_tests), grind (arith, nat_tests))
+
+first_given : (c : Config) → is_config c ≡ true → 0 < c.first_id
+first_given c e = let first : nat_le 1 c.first_id ≡ true = (parts_formed c e).3 in grind (arith, nat_tests)
 
 pub good_opening : (c : Config) → is_config c ≡ true → Good (opening c)
 unfolding IsStrictlySortedBy
@@ -277,7 +286,7 @@ good_opening c e = record {
   open_slots = tt;
   shown = tt;
   chains = tt;
-  layers = (and_parts _ _ e).1;
+  layers = (parts_formed c e).4;
 }
 
 -- ---- a journal

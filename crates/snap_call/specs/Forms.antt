@@ -54,18 +54,10 @@ is_slots n = nat_le 1 n && nat_le n max_slots
 abbrev pub is_layer_limit : ℕ → Bool
 is_layer_limit inodes = nat_le 1 inodes && nat_le inodes most_inodes
 
--- what a store can be opened with
-abbrev pub is_config : Config → Bool
-is_config c = is_root_text c.root && list_all is_namespace c.namespaces && nat_le (length c.namespaces) 64 && have_distinct_names c.namespaces && is_slots c.slots && nat_le c.journal max_journal && nat_le 1 c.first_id && is_layer_limit c.layer_inodes
-
--- the namespaces have their forms, are at most 64, and have distinct names
-abbrev pub are_namespaces_formed : List Namespace → Bool
-are_namespaces_formed ns = list_all is_namespace ns && nat_le (length ns) 64 && have_distinct_names ns
-
--- the part of a configuration has its form
+-- the part of a configuration has its form; of namespaces there are at most 64
 abbrev pub has_form : Config → ConfigField → Bool
 has_form c fields.Root = is_root_text c.root
-has_form c fields.Namespaces = are_namespaces_formed c.namespaces
+has_form c fields.Namespaces = list_all is_namespace c.namespaces && nat_le (length c.namespaces) 64 && have_distinct_names c.namespaces
 has_form c fields.Slots = is_slots c.slots
 has_form c fields.Journal = nat_le c.journal max_journal
 has_form c fields.FirstId = nat_le 1 c.first_id
@@ -75,6 +67,10 @@ has_form c fields.LayerInodes = is_layer_limit c.layer_inodes
 abbrev pub config_fields : List ConfigField
 config_fields = fields.Root ∷ fields.Namespaces ∷ fields.Slots ∷ fields.Journal ∷ fields.FirstId ∷ fields.LayerInodes ∷ []
 
--- the first of them that is malformed
+-- what a store can be opened with: each part has its form
+abbrev pub is_config : Config → Bool
+is_config c = list_all (has_form c) config_fields
+
+-- the first part that is malformed
 abbrev pub bad_field : Config → Option ConfigField
 bad_field c = find (λ field. not (has_form c field)) config_fields

@@ -146,10 +146,6 @@ info_page place after most asked rs = map info_of (take most (filter (is_walked 
 abbrev pub committed_as : Bytes → Tree → ℕ → Record → Record
 committed_as name layer number r = record r { key = name; content = Committed layer (count_of layer); created = number; updated = number }
 
--- the slot is free
-abbrev pub is_free : ℕ → List Record → Bool
-is_free slot rs = if list_any (is_slot slot) rs then false else true
-
 -- the slots of a store that isn't given a number of them
 abbrev pub default_slots : ℕ
 default_slots = 64
@@ -166,10 +162,10 @@ max_sessions = 65536
 abbrev pub max_journal : ℕ
 max_journal = 1048576
 
--- of the slots below a number, the lowest that is free
+-- of the slots below a number, the lowest that is free: in which no snapshot is active
 unfoldable pub lowest_free : ℕ → List Record → Option ℕ
 lowest_free zero rs = None
-lowest_free (suc n) rs = option_or (lowest_free n rs) (if is_free n rs then Some n else None)
+lowest_free (suc n) rs = option_or (lowest_free n rs) (if list_any (is_slot n) rs then None else Some n)
 
 -- R holds of any two items, the earlier one first
 abbrev pub AllPairwise : {X : Type 0} → (X → X → Type 0) → List X → Type 0

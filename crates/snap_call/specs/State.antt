@@ -1,6 +1,6 @@
 -- The state of a store.
 -- Cited by `Records::is_present`, `Records::is_base`, `Records::is_too_deep` and others.
-use Rattle.std.specs.Prelude.{ℕ, zero, suc, Bool, true, List, [], ◌∷◌, Option, None, Some, option_and_then, unwrap_or, position, slice_get, map, not, bytes_eq}
+use Rattle.std.specs.Prelude.{ℕ, zero, suc, Bool, true, List, [], ◌∷◌, Option, None, Some, option_and_then, unwrap_or, position, slice_get, map, filter_map, not, bytes_eq}
 use Rattle.std.specs.Option.{option_map, option_map_or, is_some}
 use Rattle.snap_layer.specs.Edits.{root_only}
 use Rattle.snap_layer.specs.Tree.{Tree}
@@ -72,17 +72,17 @@ is_too_deep place parent rs = not (is_some (chain_from 64 rs place parent))
 abbrev pub ancestors : ℕ → Bytes → List Record → List Record
 ancestors place parent rs = unwrap_or (chain_from 64 rs place parent) []
 
+-- the stored layer of a committed snapshot
+abbrev pub layer_of : Content → Option Tree
+layer_of (Committed layer usage) = Some layer
+layer_of content = None
+
 -- their ids and their layers, in the same order
 abbrev pub ids_of : List Record → List ℕ
 ids_of rs = map (λ r. r.id) rs
 
-abbrev pub with_layer : Content → List Tree → List Tree
-with_layer (Committed layer usage) layers = layer ∷ layers
-with_layer content layers = layers
-
 abbrev pub layers_of : List Record → List Tree
-layers_of [] = []
-layers_of (r ∷ rs) = with_layer r.content (layers_of rs)
+layers_of rs = filter_map (λ r. layer_of r.content) rs
 
 -- these layers; where there are none, one empty layer, whose root has the permission bits 755 in octal
 abbrev pub or_empty : List Tree → List Tree

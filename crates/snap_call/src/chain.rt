@@ -1,7 +1,7 @@
 // The committed ancestors of a snapshot.
-ghost use Rattle.std.specs.Prelude.{◌≡◌, false, [], ◌++◌, IfOk, OnOk, IsSome, is_some, unwrap_or, option_copied};
+ghost use Rattle.std.specs.Prelude.{◌≡◌, false, [], ◌++◌, IfOk, OnOk, IsSome, is_some, unwrap_or, option_copied, option_to_list};
 ghost use Rattle.snap_call.specs.Records.{is_committed, committed_at};
-ghost use Rattle.snap_call.specs.State.{chain_from, ancestors, ids_of, layers_of, with_layer, is_present, is_base, is_too_deep};
+ghost use Rattle.snap_call.specs.State.{chain_from, ancestors, ids_of, layer_of, layers_of, is_present, is_base, is_too_deep};
 
 use crate::limits::MAX_ANCESTORS;
 use crate::records::Records;
@@ -29,7 +29,7 @@ pub fn is_committed(snapshot: &Record) -> bool
 
 // Puts the layer of a committed record last.
 fn put_layer(content: &Content, layers: &mut Sequence<Shared>) -> Result<(), AllocError>
-    ensures { OnOk result (layers.new ≡ layers.old ++ with_layer content.now []) }
+    ensures { OnOk result (layers.new ≡ layers.old ++ option_to_list (layer_of content.now)) }
 {
     if let Content::Committed { layer, .. } = content {
         layers.push(layer.again()?)?;

@@ -1,5 +1,6 @@
-ghost use Rattle.std.specs.Prelude.{◌≡◌, None, true, ◌↔◌};
-ghost use Rattle.snap_call.specs.Forms.{are_namespaces_formed, bad_field, is_config, is_layer_limit};
+ghost use Rattle.std.specs.Prelude.{◌≡◌, None, true, ◌↔◌, ◌&&◌, nat_le, length};
+ghost use Rattle.std.specs.List.{list_all};
+ghost use Rattle.snap_call.specs.Forms.{bad_field, have_distinct_names, is_config, is_layer_limit, is_namespace};
 
 use crate::forms::{are_namespaces, has_distinct_names, is_slots};
 use crate::limits::{MAX_JOURNAL, MAX_NAMESPACES};
@@ -60,7 +61,7 @@ pub enum ConfigField {
 
 /// Whether the namespaces have their forms, are no more than a store can have, and have distinct names.
 fn are_formed(namespaces: &[Namespace]) -> bool
-    ensures { result ≡ are_namespaces_formed namespaces.now }
+    ensures { result ≡ (list_all is_namespace namespaces.now && nat_le (length namespaces.now) 64 && have_distinct_names namespaces.now) }
 {
     are_namespaces(namespaces)
         && namespaces.len() <= MAX_NAMESPACES

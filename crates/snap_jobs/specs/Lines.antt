@@ -1,15 +1,14 @@
 -- What the lines of a script of jobs say; cited by the public clauses of `JobLines`.
 -- Cited by `JobLines::new`, `JobLines as TakeLine`, `write_jobs_within` and others.
 use Rattle.std.specs.Prelude.{ℕ, if◌then◌else◌, List, [], ◌∷◌, ◌++◌, length, map, nat_lt, Option, Some, None, Result, Ok, Err}
+use Rattle.std.specs.Option.{option_map_or}
 use Rattle.snap_record.specs.Labels.{Bytes}
-use Rattle.snap_call.specs.Forms.{is_config}
+use Rattle.snap_call.specs.Forms.{bad_field}
 use Rattle.snap_call.specs.State.{opening}
 use Rattle.snap_call.specs.declared.config.Config.{Config}
 use Rattle.snap_round.specs.declared.rule.Round.{Round}
-use Rattle.snap_script.specs.declared.fault.Field.TheVariants.{Open}
-use Rattle.snap_script.specs.declared.fault.Found.TheVariants.{Object}
 use Rattle.snap_script.specs.declared.fault.Fault.{Fault}
-use Rattle.snap_script.specs.declared.fault.Fault.TheVariants.{TooLong, BadField}
+use Rattle.snap_script.specs.declared.fault.Fault.TheVariants.{TooLong, BadOpen}
 use Rattle.snap_script.specs.declared.unknown.FieldRule.{FieldRule}
 use Rattle.snap_script.specs.Lines.{is_empty, object_in, opening_of, told_by_rule}
 use Rattle.snap_script.specs.Results.{◌>>=◌}
@@ -24,9 +23,13 @@ pub record ReadValue : Type 0 where
   pub names : List Bytes
   pub jobs : List Job
 
--- a store of the configuration, where this has its form, and no job
+-- a store of the configuration, and no job
+abbrev pub opened : Config → ReadValue
+opened config = record { round = record { opening = opening config; limit = config.journal }; names = map (λ n. n.name) config.namespaces; jobs = [] }
+
+-- the same, unless a part of the configuration is malformed: the first such is a fault
 abbrev pub opened_as : Config → Result ReadValue Fault
-opened_as config = if is_config config then Ok (record { round = record { opening = opening config; limit = config.journal }; names = map (λ n. n.name) config.namespaces; jobs = [] }) else Err (BadField Open (Some Object))
+opened_as config = option_map_or (λ field. Err (BadOpen (Some field))) (bad_field config) (Ok (opened config))
 
 -- one job more
 abbrev pub with_job : ReadValue → Job → ReadValue

@@ -10,9 +10,7 @@ use snap_json::Scratch;
 use snap_lines::TakeLine;
 use snap_path::NoMemory;
 use snap_record::{Sequence, Text};
-use snap_script::{
-    Fault, Field, FieldRule, Found, ReadError, is_empty, names_of, read_object, read_open,
-};
+use snap_script::{Fault, FieldRule, ReadError, is_empty, names_of, read_object, read_open};
 use snap_store::{NewStore, RoundName, Store};
 use snap_writers::Job;
 use std::alloc::Global;
@@ -82,8 +80,8 @@ impl<N: RoundName> JobLines<N> {
         ensures read { Gives (λ _. self.new.read) result (there (opened_as config)) }
         ensures fields { self.new.fields ≡ self.old.fields }
     {
-        if !config.is_valid() {
-            return Err(ReadError::Fault(Fault::BadField(Field::Open, Some(Found::Object))));
+        if let Some(field) = config.bad_field() {
+            return Err(ReadError::Fault(Fault::BadOpen(Some(field))));
         }
         let names = names_of(alloc, config.namespaces.as_slice())?;
         if let Some(no_memory) = self.refused {
@@ -149,8 +147,8 @@ impl<N: RoundName> Read<N> {
 
 /// Takes the lines of a script of jobs. None has an answer: the jobs are run once all lines are read.
 ///
-/// The first line that isn't empty has the faults of `open`, and last `BadField` of `Open` where the store is
-/// refused. The line of a job has `TooLong` where 65,536 jobs were read; then `NotJson`, `NotAnObject`, `UnknownField`
+/// The first line that isn't empty has the faults of `open`, and last `BadOpen` where the configuration is
+/// malformed. The line of a job has `TooLong` where 65,536 jobs were read; then `NotJson`, `NotAnObject`, `UnknownField`
 /// where not any field may stand, and `BadField` with the first of its fields, or `Operation` with the first of its
 /// operations that has a fault. Where any field may stand, each fault is brief. `OutOfMemory` where memory was refused.
 ///
@@ -169,16 +167,9 @@ impl<N: RoundName> TakeLine for JobLines<N> {
             None => self.read_first(alloc, line),
             Some(read) => read.take_job(alloc, self.fields, line),
         };
-        match self.fields {
-            FieldRule::Any => match read {
-                Ok(()) => Ok(None),
-                Err(ReadError::Fault(fault)) => Err(ReadError::Fault(fault.brief())),
-                Err(ReadError::OutOfMemory(shortage)) => Err(ReadError::OutOfMemory(shortage)),
-            },
-            FieldRule::Known | FieldRule::KnownAndId => {
-                read?;
-                Ok(None)
-            }
+        match read {
+            Ok(()) => Ok(None),
+            Err(error) => Err(error.told(self.fields)),
         }
     }
 }

@@ -47,7 +47,9 @@ fn read_alone<'a>(alloc: Global, reader: &mut Reader<'a>) -> Result<Option<Value
     ensures not_json { result ≡ Err Unreadable.NotJson
         → converted of_json (value 127 reader.old) ≡ None }
 {
-    let token = reader.next().ok_or(Unreadable::NotJson)?;
+    let Some(token) = reader.next() else {
+        return Err(Unreadable::NotJson);
+    };
     match token {
         Token::BeginObject => {
             let members = read_members(alloc, reader, MAX_DEPTH - 1)?;
@@ -106,7 +108,9 @@ fn check_items(reader: &mut Reader<'_>, depth: usize) -> Result<(), Invalid>
         (converted of_items (items (value depth) (length reader.old) reader.old) ≡ None) }
 {
     'items: while !reader.take_end_array() {
-        let token = reader.next().ok_or(Invalid)?;
+        let Some(token) = reader.next() else {
+            return Err(Invalid);
+        };
         check(token, reader, depth)?;
     }
     Ok(())
@@ -123,7 +127,9 @@ fn check_members(reader: &mut Reader<'_>, depth: usize) -> Result<(), Invalid>
         (members (value depth) (length reader.old) reader.old) ≡ None) }
 {
     'members: while let Some(_) = reader.next_key()? {
-        let token = reader.next().ok_or(Invalid)?;
+        let Some(token) = reader.next() else {
+            return Err(Invalid);
+        };
         check(token, reader, depth)?;
     }
     Ok(())
@@ -137,7 +143,9 @@ fn read<'a>(alloc: Global, reader: &mut Reader<'a>, depth: usize) -> Result<Valu
     ensures not_json { result ≡ Err Unreadable.NotJson
         → converted of_json (value depth reader.old) ≡ None }
 {
-    let token = reader.next().ok_or(Unreadable::NotJson)?;
+    let Some(token) = reader.next() else {
+        return Err(Unreadable::NotJson);
+    };
     match token {
         Token::String(text) => Ok(Value::String(text)),
         Token::Number(text) => match number(text) {

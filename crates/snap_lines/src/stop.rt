@@ -64,7 +64,8 @@ fn fault_status(fault: &Fault) -> u8
         | Fault::NoSuchCommand(_)
         | Fault::UnknownField(_, _)
         | Fault::BadField(_, _)
-        | Fault::Operation(_, _) => 2,
+        | Fault::Operation(_, _)
+        | Fault::BadOpen(_) => 2,
     }
 }
 

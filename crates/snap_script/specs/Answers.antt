@@ -215,7 +215,9 @@ reply_data (replies.Refused (refusals.OverLimit free_blocks free_inodes)) = obje
     (member (codes "free") (usage_data (record { blocks = free_blocks; inodes = free_inodes }))
     (only (codes "from") (string (codes "book")))))
 reply_data (replies.Refused refusal) = error_data (refusal_name refusal) (codes "book")
-reply_data reply = object (only (codes "ok") (boolean true))
+reply_data replies.Opened = object (only (codes "ok") (boolean true))
+reply_data replies.Trimmed = object (only (codes "ok") (boolean true))
+reply_data replies.Done = object (only (codes "ok") (boolean true))
 
 -- an answer: a reply has its own data, and the bytes of a file are in lower hexadecimal
 abbrev pub answer_data : Answer → Data

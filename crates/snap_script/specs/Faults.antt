@@ -1,6 +1,6 @@
 -- What a line's faults are called; cited by the public clauses of `Field` and `Fault`.
 -- Cited by `Field::name`, `Fault as Display`, `read_open` and others.
-use Rattle.std.specs.Prelude.{ℕ, List, ◌++◌, Option, Some, None, Result, Ok, Err, codes, decimal}
+use Rattle.std.specs.Prelude.{ℕ, List, ◌++◌, Option, Some, None, codes, decimal}
 use Rattle.snap_script.specs.declared.fault.Field.{Field}
 use Rattle.snap_script.specs.declared.fault.Field.TheVariants as fields
 use Rattle.snap_script.specs.declared.fault.Found.{Found}
@@ -9,6 +9,11 @@ use Rattle.snap_script.specs.declared.fault.Fault.{Fault}
 use Rattle.snap_script.specs.declared.fault.Fault.TheVariants as faults
 use Rattle.snap_script.specs.declared.fault.OperationFault.{OperationFault}
 use Rattle.snap_script.specs.declared.fault.OperationFault.TheVariants as operation_faults
+use Rattle.snap_script.specs.declared.fault.ReadError.{ReadError}
+use Rattle.snap_script.specs.declared.fault.ReadError.TheVariants as errors
+use Rattle.snap_script.specs.declared.unknown.FieldRule.{FieldRule}
+use Rattle.snap_script.specs.declared.unknown.FieldRule.TheVariants as rules
+use Rattle.snap_script.specs.Answers.{config_field_name}
 use Rattle.snap_script.specs.Refusals.{refused_name}
 
 -- a field's name, as it stands in a line
@@ -54,7 +59,6 @@ field_name fields.Fill = codes "fill"
 field_name fields.Extra = codes "extra"
 field_name fields.Ops = codes "ops"
 field_name fields.End = codes "end"
-field_name fields.Open = codes "open"
 
 -- what a field has to be: the kind of its value, and the words for it
 abbrev pub wanted : Field → Found × List ℕ
@@ -89,7 +93,6 @@ wanted fields.Extra = (Array, codes "[blocks, inodes]")
 wanted fields.Fill = (Array, codes "[byte, number up to 1048576]")
 wanted fields.Ops = (Array, codes "an array of objects")
 wanted fields.Labels = (Object, codes "an object of texts, in a walk also of nulls,")
-wanted fields.Open = (Object, codes "an object that opens a store")
 wanted field = (Text, codes "a text")
 
 -- the words for what is there, where a value of a kind is wanted
@@ -136,6 +139,8 @@ fault_words (faults.NoSuchCommand (Some near)) = codes "no such command: " ++ (n
 fault_words (faults.UnknownField name near) = unknown_field_words name near
 fault_words (faults.BadField field found) = bad_field_words field found
 fault_words (faults.Operation number fault) = codes "operation " ++ (decimal number ++ (codes ": " ++ operation_words fault))
+fault_words (faults.BadOpen None) = codes "bad field open"
+fault_words (faults.BadOpen (Some field)) = codes "bad field open: malformed " ++ config_field_name field
 fault_words (faults.Refused why) = refused_name why
 
 -- the fault of the operation of this number, of what a value is no operation for
@@ -144,7 +149,13 @@ of_operation number faults.NotAnObject = faults.Operation number operation_fault
 of_operation number (faults.NoSuchCommand near) = faults.Operation number (operation_faults.NoSuchCommand near)
 of_operation number (faults.UnknownField name near) = faults.Operation number (operation_faults.UnknownField name near)
 of_operation number (faults.BadField field found) = faults.Operation number (operation_faults.BadField field found)
-of_operation number fault = fault
+of_operation number faults.TooLong = faults.TooLong
+of_operation number faults.NotJson = faults.NotJson
+of_operation number faults.FirstLineMustBeOpen = faults.FirstLineMustBeOpen
+of_operation number faults.OpenTwice = faults.OpenTwice
+of_operation number (faults.Operation place fault) = faults.Operation place fault
+of_operation number (faults.BadOpen field) = faults.BadOpen field
+of_operation number (faults.Refused why) = faults.Refused why
 
 -- the fault of the job's line, without the operation's place and what is wanted, there or near: a value that is no object is a bad field `ops`, and a word of no file command a bad field `do`
 abbrev pub operation_brief : OperationFault → Fault
@@ -159,9 +170,21 @@ brief (faults.NoSuchCommand near) = faults.NoSuchCommand None
 brief (faults.UnknownField name near) = faults.UnknownField name None
 brief (faults.BadField field found) = faults.BadField field None
 brief (faults.Operation number fault) = operation_brief fault
-brief fault = fault
+brief (faults.BadOpen field) = faults.BadOpen None
+brief faults.TooLong = faults.TooLong
+brief faults.NotJson = faults.NotJson
+brief faults.NotAnObject = faults.NotAnObject
+brief faults.FirstLineMustBeOpen = faults.FirstLineMustBeOpen
+brief faults.OpenTwice = faults.OpenTwice
+brief (faults.Refused why) = faults.Refused why
 
--- what was read, with a brief fault
-abbrev pub briefly : {A : Type 0} → Result A Fault → Result A Fault
-briefly (Ok a) = Ok a
-briefly (Err fault) = Err (brief fault)
+-- the fault as the rule tells it: where any field may stand in a line, it is brief
+abbrev pub fault_told : FieldRule → Fault → Fault
+fault_told rules.Any fault = brief fault
+fault_told rules.Known fault = fault
+fault_told rules.KnownAndId fault = fault
+
+-- the same of what a read ends with
+abbrev pub error_told : FieldRule → ReadError → ReadError
+error_told rule (errors.Fault fault) = errors.Fault (fault_told rule fault)
+error_told rule (errors.OutOfMemory want) = errors.OutOfMemory want

@@ -22,7 +22,23 @@ use Rattle.snap_script.specs.declared.verb.LookupVerb.TheVariants as lookup_verb
 use Rattle.snap_script.specs.Faults.{field_name}
 use Rattle.snap_script.specs.Near.{is_near}
 
--- the fields that each command has, with and without a default; the first three of a file command are those that a job has for all its operations
+-- the fields of an operation, with and without a default
+abbrev pub operation_fields : FileVerb → List Field
+operation_fields (file_verbs.At path_verbs.Mkdir) = fields.Path ∷ fields.Mode ∷ []
+operation_fields (file_verbs.At path_verbs.Create) = fields.Path ∷ fields.Mode ∷ []
+operation_fields (file_verbs.At path_verbs.Put) = fields.Path ∷ fields.Mode ∷ fields.Size ∷ fields.Digest ∷ []
+operation_fields (file_verbs.At path_verbs.Write) = fields.Path ∷ fields.Offset ∷ fields.Text ∷ fields.Fill ∷ []
+operation_fields (file_verbs.At path_verbs.Truncate) = fields.Path ∷ fields.Size ∷ []
+operation_fields (file_verbs.At path_verbs.SetMode) = fields.Path ∷ fields.Mode ∷ []
+operation_fields (file_verbs.At path_verbs.Symlink) = fields.Path ∷ fields.Target ∷ []
+operation_fields (file_verbs.At path_verbs.Unlink) = fields.Path ∷ []
+operation_fields (file_verbs.At path_verbs.Rmdir) = fields.Path ∷ []
+operation_fields (file_verbs.At path_verbs.Opaque) = fields.Path ∷ []
+operation_fields (file_verbs.At path_verbs.Whiteout) = fields.Path ∷ []
+operation_fields file_verbs.Link = fields.From ∷ fields.To ∷ []
+operation_fields file_verbs.Rename = fields.From ∷ fields.To ∷ []
+
+-- the fields that each command has: a file command those of its operation, and before them what a job has for all its operations
 abbrev pub fields_of : Verb → List Field
 fields_of verbs.Open = fields.Root ∷ fields.Namespaces ∷ fields.Journal ∷ fields.Slots ∷ fields.LayerInodes ∷ []
 fields_of verbs.Reopen = fields.Journal ∷ []
@@ -46,19 +62,7 @@ fields_of (verbs.Call kinds.LeaseAdd) = fields.Namespace ∷ fields.Lease ∷ fi
 fields_of (verbs.Call kinds.LeaseDrop) = fields.Namespace ∷ fields.Lease ∷ fields.Name ∷ []
 fields_of (verbs.Call kinds.LeaseRelease) = fields.Namespace ∷ fields.Lease ∷ []
 fields_of (verbs.Call kinds.Sweep) = fields.Namespace ∷ fields.Moment ∷ fields.Try ∷ []
-fields_of (verbs.File (file_verbs.At path_verbs.Mkdir)) = fields.Namespace ∷ fields.Key ∷ fields.Extra ∷ fields.Path ∷ fields.Mode ∷ []
-fields_of (verbs.File (file_verbs.At path_verbs.Create)) = fields.Namespace ∷ fields.Key ∷ fields.Extra ∷ fields.Path ∷ fields.Mode ∷ []
-fields_of (verbs.File (file_verbs.At path_verbs.Put)) = fields.Namespace ∷ fields.Key ∷ fields.Extra ∷ fields.Path ∷ fields.Mode ∷ fields.Size ∷ fields.Digest ∷ []
-fields_of (verbs.File (file_verbs.At path_verbs.Write)) = fields.Namespace ∷ fields.Key ∷ fields.Extra ∷ fields.Path ∷ fields.Offset ∷ fields.Text ∷ fields.Fill ∷ []
-fields_of (verbs.File (file_verbs.At path_verbs.Truncate)) = fields.Namespace ∷ fields.Key ∷ fields.Extra ∷ fields.Path ∷ fields.Size ∷ []
-fields_of (verbs.File (file_verbs.At path_verbs.SetMode)) = fields.Namespace ∷ fields.Key ∷ fields.Extra ∷ fields.Path ∷ fields.Mode ∷ []
-fields_of (verbs.File (file_verbs.At path_verbs.Symlink)) = fields.Namespace ∷ fields.Key ∷ fields.Extra ∷ fields.Path ∷ fields.Target ∷ []
-fields_of (verbs.File (file_verbs.At path_verbs.Unlink)) = fields.Namespace ∷ fields.Key ∷ fields.Extra ∷ fields.Path ∷ []
-fields_of (verbs.File (file_verbs.At path_verbs.Rmdir)) = fields.Namespace ∷ fields.Key ∷ fields.Extra ∷ fields.Path ∷ []
-fields_of (verbs.File (file_verbs.At path_verbs.Opaque)) = fields.Namespace ∷ fields.Key ∷ fields.Extra ∷ fields.Path ∷ []
-fields_of (verbs.File (file_verbs.At path_verbs.Whiteout)) = fields.Namespace ∷ fields.Key ∷ fields.Extra ∷ fields.Path ∷ []
-fields_of (verbs.File file_verbs.Link) = fields.Namespace ∷ fields.Key ∷ fields.Extra ∷ fields.From ∷ fields.To ∷ []
-fields_of (verbs.File file_verbs.Rename) = fields.Namespace ∷ fields.Key ∷ fields.Extra ∷ fields.From ∷ fields.To ∷ []
+fields_of (verbs.File verb) = fields.Namespace ∷ fields.Key ∷ fields.Extra ∷ operation_fields verb
 fields_of (verbs.Lookup lookup_verbs.Look) = fields.Namespace ∷ fields.Key ∷ fields.Path ∷ fields.Peek ∷ []
 fields_of (verbs.Lookup lookup_verbs.List) = fields.Namespace ∷ fields.Key ∷ fields.Path ∷ fields.Peek ∷ []
 fields_of (verbs.Lookup lookup_verbs.Read) = fields.Namespace ∷ fields.Key ∷ fields.Path ∷ fields.Peek ∷ fields.Offset ∷ fields.Most ∷ []
@@ -110,15 +114,6 @@ known_fields rules.Known verb line = known_within (common_fields rules.Known) (f
 known_fields rules.KnownAndId verb line = known_within (common_fields rules.KnownAndId) (fields_of verb) line
 
 -- ---- jobs
-
--- the fields of a file command without those that a job has for all its operations
-abbrev pub without_shared : List Field → List Field
-without_shared (_ ∷ _ ∷ _ ∷ own) = own
-without_shared those = []
-
--- the fields of an operation beside its word
-abbrev pub operation_fields : FileVerb → List Field
-operation_fields verb = without_shared (fields_of (verbs.File verb))
 
 -- an operation has no field but its word and those that it may have
 unfoldable pub known_operation : FieldRule → FileVerb → Data → Result Unit Fault

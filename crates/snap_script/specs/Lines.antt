@@ -17,7 +17,7 @@ use Rattle.snap_script.specs.declared.unknown.FieldRule.{FieldRule}
 use Rattle.snap_script.specs.declared.unknown.FieldRule.TheVariants as rules
 use Rattle.snap_script.specs.declared.verb.Verb.{Verb}
 use Rattle.snap_script.specs.declared.verb.Verb.TheVariants.{Open}
-use Rattle.snap_script.specs.Faults.{briefly}
+use Rattle.snap_script.specs.Faults.{fault_told}
 use Rattle.snap_script.specs.Fields.{text, optional, as_natural}
 use Rattle.snap_script.specs.Words.{near_command, verb_of}
 use Rattle.snap_script.specs.Commands.{config_of, command_of}
@@ -60,27 +60,27 @@ command_in rule opened line = do
   session ← optional as_natural fields.Session (Ok 0) line
   Ok (lines.Command session (← command_of verb line))
 
--- what was read, as the rule tells it: where any field may stand, a fault is brief
+-- what was read, with a fault as the rule tells it
 abbrev pub told_by_rule : {A : Type 0} → FieldRule → Result A Fault → Result A Fault
-told_by_rule rules.Any reading = briefly reading
-told_by_rule rule reading = reading
+told_by_rule rule (Ok a) = Ok a
+told_by_rule rule (Err fault) = Err (fault_told rule fault)
 
 -- the command of a line that isn't empty
 unfoldable pub command_line : FieldRule → Bool → List ℕ → Result Line Fault
 command_line rule opened bytes = do told_by_rule rule (command_in rule opened (← object_in bytes))
 
--- the session of a line that opens a store where none is named: where not any field may stand it is tested all the same
-unfoldable pub session_in : FieldRule → Data → Result ℕ Fault
-session_in rules.Any line = Ok 0
-session_in rules.Known line = optional as_natural fields.Session (Ok 0) line
-session_in rules.KnownAndId line = optional as_natural fields.Session (Ok 0) line
+-- the session of a line that opens a store where none is named is a number, but where any field may stand
+unfoldable pub session_known : FieldRule → Data → Result Unit Fault
+session_known rules.Any line = Ok tt
+session_known rules.Known line = do session ← optional as_natural fields.Session (Ok 0) line; Ok tt
+session_known rules.KnownAndId line = do session ← optional as_natural fields.Session (Ok 0) line; Ok tt
 
 -- the store that a first line opens, where no session is named
 unfoldable pub opening_of : FieldRule → Data → Result Config Fault
 opening_of rule line = do
   verb ← allowed false (← text fields.Do line)
   known ← known_fields rule Open line
-  session ← session_in rule line
+  session ← session_known rule line
   config_of line
 
 -- a line, without its line feed, by the fields that it may have: at most 16 MiB

@@ -1,6 +1,6 @@
 ghost use Rattle.std.specs.Prelude.{◌≡◌, IfOk, string_bytes};
 ghost use Rattle.snap_call.specs.declared.reply.Reply.TheVariants as replies;
-ghost use Rattle.snap_script.specs.Answers.{answer_data, answer_line, answer_told, brief_answer, change_data, node_data, quota_data, shown_data};
+ghost use Rattle.snap_script.specs.Answers.{answer_data, answer_line, answer_told, change_data, node_data, quota_data, shown_data};
 ghost use Rattle.snap_script.specs.declared.answer.Answer.TheVariants as answers;
 
 use crate::to_json::{ToJson, member, only, pair};
@@ -283,23 +283,16 @@ impl Answer {
         Answer::Reply(Reply::Refused(why))
     }
 
-    /// The answer; the refusal of a store without the field.
-    fn brief(self) -> Answer
-        ensures { result ≡ brief_answer self }
-    {
-        match &self {
-            Answer::BadConfig(_) => Answer::refused(Refusal::BadArgument),
-            _ => self,
-        }
-    }
-
     /// The answer as the rule tells it: where any field may stand in a line, the refusal of a store doesn't name
     /// the field. Takes no memory.
     pub fn told(self, rule: FieldRule) -> Answer
         ensures { result ≡ answer_told rule self }
     {
         match rule {
-            FieldRule::Any => self.brief(),
+            FieldRule::Any => match &self {
+                Answer::BadConfig(_) => Answer::refused(Refusal::BadArgument),
+                _ => self,
+            },
             FieldRule::Known | FieldRule::KnownAndId => self,
         }
     }

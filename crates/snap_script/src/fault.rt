@@ -1,10 +1,13 @@
 ghost use Rattle.std.specs.Prelude.{◌≡◌, Some};
 ghost use Rattle.snap_path.specs.Memory.{no_memory};
-ghost use Rattle.snap_script.specs.Faults.{bad_field_words, brief, fault_words, field_name, found_words, of_operation, operation_brief, operation_words, unknown_field_words, wanted};
+ghost use Rattle.snap_script.specs.Faults.{bad_field_words, brief, error_told, fault_told, fault_words, field_name, found_words, of_operation, operation_brief, operation_words, unknown_field_words, wanted};
 ghost use Rattle.snap_script.specs.declared.fault.ReadError.TheVariants as errors;
 ghost use Rattle.snap_script.specs.declared.fault.Shortage.TheVariants.{Allocator};
 
 use crate::refused::Refused;
+use crate::unknown::FieldRule;
+use crate::values::config_field_name;
+use snap_call::ConfigField;
 use snap_path::NoMemory;
 use snap_record::Text;
 use std::alloc::{AllocError, AllocFailed};
@@ -70,8 +73,6 @@ pub enum Field {
     Ops,
     /// The end of a job.
     End,
-    /// No field: the store of a script of jobs, where its `open` is refused.
-    Open,
 }
 
 /// What stands where a field has to be.
@@ -113,6 +114,8 @@ pub enum Fault {
     BadField(Field, Option<Found>),
     /// The operation of a job that has this number, counted from 1, has the fault.
     Operation(u64, OperationFault),
+    /// The store of a script of jobs is refused for its configuration; and its first malformed part, where that is told.
+    BadOpen(Option<ConfigField>),
     /// The command was refused, where a run ends at that.
     Refused(Refused),
 }
@@ -195,7 +198,6 @@ impl Field {
             Field::Extra => "extra",
             Field::Ops => "ops",
             Field::End => "end",
-            Field::Open => "open",
         }
     }
 
@@ -249,7 +251,6 @@ impl Field {
                 Found::Object,
                 "an object of texts, in a walk also of nulls,",
             ),
-            Field::Open => (Found::Object, "an object that opens a store"),
         }
     }
 }
@@ -301,7 +302,23 @@ impl Fault {
             Fault::UnknownField(name, _) => Fault::UnknownField(name, None),
             Fault::BadField(field, _) => Fault::BadField(field, None),
             Fault::Operation(_, fault) => fault.brief(),
-            other => other,
+            Fault::BadOpen(_) => Fault::BadOpen(None),
+            Fault::TooLong
+            | Fault::NotJson
+            | Fault::NotAnObject
+            | Fault::FirstLineMustBeOpen
+            | Fault::OpenTwice
+            | Fault::Refused(_) => self,
+        }
+    }
+
+    /// The fault as the rule tells it: where any field may stand in a line, it is brief. Takes no memory.
+    fn told(self, rule: FieldRule) -> Fault
+        ensures { result ≡ fault_told rule self }
+    {
+        match rule {
+            FieldRule::Any => self.brief(),
+            FieldRule::Known | FieldRule::KnownAndId => self,
         }
     }
 
@@ -320,7 +337,26 @@ impl Fault {
             Fault::BadField(field, found) => {
                 Fault::Operation(number, OperationFault::BadField(field, found))
             }
-            other => other,
+            Fault::TooLong
+            | Fault::NotJson
+            | Fault::FirstLineMustBeOpen
+            | Fault::OpenTwice
+            | Fault::Operation(_, _)
+            | Fault::BadOpen(_)
+            | Fault::Refused(_) => self,
+        }
+    }
+}
+
+impl ReadError {
+    /// The error with its fault as the rule tells it: where any field may stand in a line, that is
+    /// [brief](Fault::brief). Takes no memory.
+    pub fn told(self, rule: FieldRule) -> ReadError
+        ensures { result ≡ error_told rule self }
+    {
+        match self {
+            ReadError::Fault(fault) => ReadError::Fault(fault.told(rule)),
+            ReadError::OutOfMemory(shortage) => ReadError::OutOfMemory(shortage),
         }
     }
 }
@@ -397,6 +433,11 @@ impl fmt::Display for Fault {
             Fault::UnknownField(name, near) => UnknownField(name, *near).fmt(f),
             Fault::BadField(field, found) => BadField(*field, *found).fmt(f),
             Fault::Operation(number, fault) => write!(f, "operation {number}: {fault}"),
+            Fault::BadOpen(None) => f.write_str("bad field open"),
+            Fault::BadOpen(Some(field)) => {
+                let malformed = config_field_name(*field);
+                write!(f, "bad field open: malformed {malformed}")
+            }
             Fault::Refused(why) => f.write_str(why.name()),
         }
     }

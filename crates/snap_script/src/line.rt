@@ -1,10 +1,8 @@
 ghost use Rattle.std.specs.Prelude.{◌≡◌, IfOk, option_map};
 ghost use Rattle.snap_json.specs.View.{view};
-ghost use Rattle.snap_script.specs.Lines.{is_empty, object_in, allowed, command_in, command_line, session_in, opening_of, line_of};
+ghost use Rattle.snap_script.specs.Lines.{is_empty, object_in, allowed, command_in, session_known, opening_of, line_of};
 ghost use Rattle.snap_script.specs.Gives.{Gives};
 ghost use Rattle.snap_script.specs.declared.fault.Fault.TheVariants.{NoSuchCommand};
-ghost use Rattle.snap_script.specs.Faults.{briefly};
-ghost use Rattle.snap_script.specs.declared.unknown.FieldRule.TheVariants.{Any};
 
 use crate::command::Command;
 use crate::fault::{Fault, Field, ReadError};
@@ -108,42 +106,17 @@ pub(crate) fn command_in(
     Ok(Line::Command { session, command })
 }
 
-/// The same where any field may stand: a fault is brief.
-fn command_by_any(alloc: Global, opened: bool, line: &Value<'_>) -> Result<Line, ReadError>
-    ensures { Gives (λ line. line) result (briefly (command_in Any opened (view line.now))) }
-{
-    match command_in(alloc, FieldRule::Any, opened, line) {
-        Ok(line) => Ok(line),
-        Err(ReadError::Fault(fault)) => Err(ReadError::Fault(fault.brief())),
-        Err(ReadError::OutOfMemory(shortage)) => Err(ReadError::OutOfMemory(shortage)),
-    }
-}
-
-#[tactic(auto, unfolding(crate::specs::Lines::command_line))]
-fn command_line(
-    alloc: Global,
-    rule: FieldRule,
-    opened: bool,
-    bytes: &[u8],
-    scratch: &mut Scratch,
-) -> Result<Line, ReadError>
-    ensures { Gives (λ line. line) result (command_line rule opened bytes.now) }
-{
-    let line = read_object(alloc, bytes, scratch)?;
-    match rule {
-        FieldRule::Any => command_by_any(alloc, opened, &line),
-        FieldRule::Known | FieldRule::KnownAndId => command_in(alloc, rule, opened, &line),
-    }
-}
-
-/// The session of a line that opens a store where none is named.
-#[tactic(auto, unfolding(crate::specs::Lines::session_in))]
-fn session_in(rule: FieldRule, line: &Value<'_>) -> Result<u64, Fault>
-    ensures { result ≡ session_in rule (view line.now) }
+/// That a line which opens a store where no session is named may have what stands for one.
+#[tactic(auto, unfolding(crate::specs::Lines::session_known))]
+fn session_known(rule: FieldRule, line: &Value<'_>) -> Result<(), Fault>
+    ensures { result ≡ session_known rule (view line.now) }
 {
     match rule {
-        FieldRule::Any => Ok(0),
-        FieldRule::Known | FieldRule::KnownAndId => number_or(0, Field::Session, line),
+        FieldRule::Any => Ok(()),
+        FieldRule::Known | FieldRule::KnownAndId => {
+            number_or(0, Field::Session, line)?;
+            Ok(())
+        }
     }
 }
 
@@ -160,7 +133,7 @@ pub fn read_open(alloc: Global, rule: FieldRule, line: &Value<'_>) -> Result<Con
     let word = lent_text(Field::Do, line)?;
     allowed(alloc, false, word)?;
     known_fields(alloc, rule, Verb::Open, line)?;
-    session_in(rule, line)?;
+    session_known(rule, line)?;
     config_of(alloc, line)
 }
 
@@ -172,7 +145,7 @@ pub fn read_open(alloc: Global, rule: FieldRule, line: &Value<'_>) -> Result<Con
 /// `OutOfMemory` where memory for the line's value or for the command was refused. The memory and the
 /// cost grow with the line, and a `fill` takes as many bytes as it asks for. The scratch keeps what it took for the
 /// next line.
-#[tactic(auto, unfolding(crate::specs::Lines::line_of))]
+#[tactic(auto, unfolding(crate::specs::Lines::command_line, crate::specs::Lines::line_of))]
 pub fn read_line(
     alloc: Global,
     bytes: &[u8],
@@ -188,5 +161,9 @@ pub fn read_line(
     if is_empty(bytes) {
         return Ok(Line::Empty);
     }
-    command_line(alloc, rule, opened, bytes, scratch)
+    let line = read_object(alloc, bytes, scratch)?;
+    match command_in(alloc, rule, opened, &line) {
+        Ok(line) => Ok(line),
+        Err(error) => Err(error.told(rule)),
+    }
 }

@@ -166,7 +166,7 @@ pub(crate) fn error(
 }
 
 /// The field of `open` that gives a part of a configuration; no line gives the first id.
-fn config_field_name(field: ConfigField) -> &'static str
+pub(crate) fn config_field_name(field: ConfigField) -> &'static str
     ensures { result.now ≡ config_field_name field }
 {
     match field {

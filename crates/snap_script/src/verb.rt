@@ -1,6 +1,4 @@
 ghost use Rattle.std.specs.Prelude.{◌≡◌, find, map, option_map};
-ghost use Rattle.std.specs.Map.{lookup};
-ghost use Rattle.std.specs.Str.{bytes_eq};
 ghost use Rattle.snap_script.specs.Near.{is_near};
 ghost use Rattle.snap_script.specs.Words.{is_file, near_command, near_file_command, near_file_word, verb_of};
 
@@ -110,10 +108,11 @@ const WORDS: [(&str, Verb); 46] = [
     ("report", Verb::Report),
 ];
 
-/// The verb that a table has for the word.
-fn verb_in(mut table: &[(&str, Verb)], word: &str) -> Option<Verb>
-    ensures { result ≡ lookup (bytes_eq word.now) (map (λ p. (p.0.now, p.1)) table.entry.now) }
+/// The verb of a word.
+pub(crate) fn verb_of(word: &str) -> Option<Verb>
+    ensures { result ≡ verb_of word.now }
 {
+    let mut table: &[(&str, Verb)] = &WORDS;
     while let [entry, rest @ ..] = table {
         if word == entry.0 {
             return Some(entry.1);
@@ -121,13 +120,6 @@ fn verb_in(mut table: &[(&str, Verb)], word: &str) -> Option<Verb>
         table = rest;
     }
     None
-}
-
-/// The verb of a word.
-pub(crate) fn verb_of(word: &str) -> Option<Verb>
-    ensures { result ≡ verb_of word.now }
-{
-    verb_in(&WORDS, word)
 }
 
 /// The first word of a table that is near.

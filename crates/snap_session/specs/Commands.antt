@@ -34,6 +34,7 @@ use Rattle.snap_world.specs.declared.step.Answer.TheVariants as step_answers
 use Rattle.snap_world.specs.World.{WorldValue}
 use Rattle.snap_world.specs.Move.{move}
 use Rattle.snap_world.specs.Stacks.{peeked_of, stack_of}
+use Rattle.snap_world.specs.Quota.{layer_count_at}
 use Rattle.snap_world.specs.Round.{reopened}
 use Rattle.snap_script.specs.declared.answer.Shown.{Shown}
 use Rattle.snap_script.specs.declared.answer.Shown.TheVariants as shown
@@ -44,7 +45,7 @@ use Rattle.snap_script.specs.declared.command.Command.TheVariants as commands
 use Rattle.snap_script.specs.declared.command.Lookup.{Lookup}
 use Rattle.snap_script.specs.declared.command.Lookup.TheVariants as lookups
 use Rattle.snap_session.specs.Found.{found_or_else, refusal_answer}
-use Rattle.snap_session.specs.Opened.{OpenedValue, new_world, share_at, layer_count_at, totals_of}
+use Rattle.snap_session.specs.Opened.{OpenedValue, new_world, share_at, totals_of}
 use Rattle.snap_session.specs.Diff.{diff}
 use Rattle.snap_session.specs.Journal.{journal_of}
 use Rattle.snap_session.specs.Leases.{leases}
@@ -58,7 +59,7 @@ abbrev pub answer_of_step : ℕ → ℕ → WorldValue → StepAnswer → Answer
 answer_of_step session slot w (step_answers.Reply replies.Opened) = answers.Session session
 answer_of_step session slot w (step_answers.Reply replies.Trimmed) = answers.Share (share_at slot w)
 answer_of_step session slot w (step_answers.Reply reply) = answers.Reply reply
-answer_of_step session slot w (step_answers.File (Ok done)) = answers.Changed (layer_count_at slot w) (share_at slot w)
+answer_of_step session slot w (step_answers.File (Ok done)) = answers.Changed (layer_count_at slot w.hands) (share_at slot w)
 answer_of_step session slot w (step_answers.File (Err e)) = answers.Failed e
 answer_of_step session slot w step_answers.NoSession = answers.NoSession
 answer_of_step session slot w step_answers.NoHand = answers.NoHand
@@ -73,8 +74,7 @@ stepped session slot step w = telling session slot (move w step)
 
 -- what follows, or the refusal; no step is made where it is refused
 abbrev pub world_unless_refused : {A : Type 0} → WorldValue → (A → WorldValue × Answer) → Result A Refusal → WorldValue × Answer
-world_unless_refused w next (Ok found) = next found
-world_unless_refused w next (Err why) = (w, refusal_answer why)
+world_unless_refused w next found = found_or_else next (λ why. (w, refusal_answer why)) found
 
 -- ---- commands on an active snapshot
 

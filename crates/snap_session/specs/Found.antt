@@ -10,7 +10,7 @@ use Rattle.snap_script.specs.declared.answer.Answer.TheVariants as answers
 abbrev pub refusal_answer : Refusal → Answer
 refusal_answer why = answers.Reply (replies.Refused why)
 
--- the answer for what was found, or else for why nothing was
-abbrev pub found_or_else : {A E : Type 0} → (A → Answer) → (E → Answer) → Result A E → Answer
+-- what follows what was found, or else why nothing was
+abbrev pub found_or_else : {A B E : Type 0} → (A → B) → (E → B) → Result A E → B
 found_or_else answer other (Ok found) = answer found
 found_or_else answer other (Err why) = other why

@@ -3,7 +3,7 @@
 use Rattle.std.specs.Prelude.{ℕ, Bool, false, List, [], Option, None, replicate, map, unwrap_or}
 use Rattle.std.specs.Option.{option_map}
 use Rattle.snap_usage.specs.declared.usage.Usage.{Usage}
-use Rattle.snap_usage.specs.Counted.{count_of, no_usage}
+use Rattle.snap_usage.specs.Counted.{no_usage}
 use Rattle.snap_record.specs.Labels.{Bytes}
 use Rattle.snap_call.specs.declared.config.Config.{Config}
 use Rattle.snap_call.specs.Records.{charge_of}
@@ -31,10 +31,6 @@ new_world c = record { state = opening c; journal = []; opening = opening c; lim
 -- what the snapshot in the slot is charged; nothing where there is none
 abbrev pub share_at : ℕ → WorldValue → Usage
 share_at slot w = unwrap_or (option_map (λ h. h.snapshot.share.usage) (hand_at slot w.hands)) no_usage
-
--- what its layer takes
-abbrev pub layer_count_at : ℕ → WorldValue → Usage
-layer_count_at slot w = unwrap_or (option_map (λ h. count_of h.snapshot.layer) (hand_at slot w.hands)) no_usage
 
 -- what the namespace of this name is charged
 abbrev pub total_of : WorldValue → Bytes → Usage

@@ -1,6 +1,6 @@
 -- What namespaces may take and what they take.
 -- Cited by `Runner::new`, `Runner as TakeLine`, `replay_within` and others.
-use Rattle.std.specs.Prelude.{List, [], ◌∷◌, Option, option_map, filter_map}
+use Rattle.std.specs.Prelude.{[], ◌∷◌, Option, option_map, filter_map}
 use Rattle.std.specs.Option.{option_map_or}
 use Rattle.snap_record.specs.Labels.{Bytes}
 use Rattle.snap_call.specs.declared.refusal.Refusal.TheVariants.{NoNamespace}
@@ -21,14 +21,10 @@ quota_info q = record { limit = q.limit; charged = q.charged; committed = q.comm
 abbrev pub named_quota : WorldValue → Bytes → Option (Bytes × QuotaInfo)
 named_quota w name = option_map (λ q. (name, quota_info q)) (quota w name)
 
--- of each of these names
-abbrev pub quotas : WorldValue → List Bytes → List (Bytes × QuotaInfo)
-quotas w names = filter_map (named_quota w) names
-
 -- that of the one namespace, or that there is none
 abbrev pub one_quota : Option (Bytes × QuotaInfo) → Answer
 one_quota found = option_map_or (λ quota. answers.Quota (quota ∷ [])) found (refusal_answer NoNamespace)
 
 -- those of all namespaces, or of the one that is named
 abbrev pub quota_answer : OpenedValue → Option Bytes → Answer
-quota_answer s namespace = option_map_or (λ name. one_quota (named_quota s.world name)) namespace (answers.Quota (quotas s.world s.names))
+quota_answer s namespace = option_map_or (λ name. one_quota (named_quota s.world name)) namespace (answers.Quota (filter_map (named_quota s.world) s.names))

@@ -1,7 +1,6 @@
 // The commands that are calls of the store, and two of its calls asked without an entry.
 ghost use Rattle.std.specs.Prelude.{◌≡◌, IfOk};
 ghost use Rattle.snap_call.specs.declared.call.Call.TheVariants as calls;
-ghost use Rattle.snap_book.specs.Slot.{slot_and_id_of};
 ghost use Rattle.snap_world.specs.declared.step.Step.TheVariants.{Locked};
 ghost use Rattle.snap_call.specs.Step.{sweep};
 ghost use Rattle.snap_book.specs.Questions.{chain_usage};
@@ -17,17 +16,6 @@ use snap_record::Text;
 use snap_script::Answer;
 use snap_usage::Usage;
 use snap_world::{NoMemory, World};
-
-// The slot and the id of the active snapshot of this key.
-pub(crate) fn found<N: StoreName>(
-    world: &World<N>,
-    namespace: Text,
-    key: Text,
-) -> Result<(u64, u32), Refusal>
-    ensures { result ≡ slot_and_id_of world.now.state namespace key }
-{
-    world.hand(namespace.as_str(), key.as_str())
-}
 
 pub(crate) fn session<N: StoreName>(world: &mut World<N>) -> Result<Answer, NoMemory>
     ensures { IfOk result (λ answer. stepped world.old.state.sessions 0 (Locked world.old.state.sessions calls.Session) world.old ≡ (world.new, answer)) }
@@ -46,7 +34,7 @@ pub(crate) fn charge<N: StoreName>(
 ) -> Result<Answer, NoMemory>
     ensures { IfOk result (λ answer. on_key world.old namespace key (λ slot id. stepped n slot (Locked n (calls.Charge slot id need want)) world.old) ≡ (world.new, answer)) }
 {
-    match found(world, namespace, key) {
+    match world.hand(namespace.as_str(), key.as_str()) {
         Ok((slot, id)) => called(
             world,
             n,
@@ -70,7 +58,7 @@ pub(crate) fn trim<N: StoreName>(
 ) -> Result<Answer, NoMemory>
     ensures { IfOk result (λ answer. on_key world.old namespace key (λ slot id. stepped n slot (Locked n (calls.Trim slot id)) world.old) ≡ (world.new, answer)) }
 {
-    match found(world, namespace, key) {
+    match world.hand(namespace.as_str(), key.as_str()) {
         Ok((slot, id)) => called(world, n, slot, Call::Trim { slot, id }),
         Err(why) => Ok(Answer::refused(why)),
     }
@@ -86,7 +74,7 @@ pub(crate) fn commit<N: StoreName>(
 ) -> Result<Answer, NoMemory>
     ensures { IfOk result (λ answer. on_key world.old namespace key (λ slot id. stepped n slot (Locked n (calls.Commit slot id name lease)) world.old) ≡ (world.new, answer)) }
 {
-    match found(world, namespace, key) {
+    match world.hand(namespace.as_str(), key.as_str()) {
         Ok((slot, id)) => called(
             world,
             n,
@@ -110,7 +98,7 @@ pub(crate) fn discard<N: StoreName>(
 ) -> Result<Answer, NoMemory>
     ensures { IfOk result (λ answer. on_key world.old namespace key (λ slot id. stepped n slot (Locked n (calls.Discard slot id)) world.old) ≡ (world.new, answer)) }
 {
-    match found(world, namespace, key) {
+    match world.hand(namespace.as_str(), key.as_str()) {
         Ok((slot, id)) => called(world, n, slot, Call::Discard { slot, id }),
         Err(why) => Ok(Answer::refused(why)),
     }

@@ -4,7 +4,6 @@ ghost use Rattle.snap_world.specs.declared.step.Step.TheVariants.{Hand};
 ghost use Rattle.snap_world.specs.Move.{move};
 ghost use Rattle.snap_session.specs.Commands.{on_key, need_of, is_charged, tried, performed};
 
-use crate::calls::found;
 use crate::step::{call, operate, told};
 use snap_book::{needed_by, wanted};
 use snap_call::{Call, Reply};
@@ -74,7 +73,7 @@ pub(crate) fn file<N: StoreName>(
 ) -> Result<Answer, NoMemory>
     ensures { IfOk result (λ answer. on_key world.old namespace key (λ slot id. performed n slot id operation extra world.old) ≡ (world.new, answer)) }
 {
-    match found(world, namespace, key) {
+    match world.hand(namespace.as_str(), key.as_str()) {
         Ok((slot, id)) => match operation {
             Some(op) => tried(world, n, slot, id, &op, extra),
             None => Ok(Answer::Failed(FsError::BadPath)),

@@ -1,7 +1,7 @@
 // The store that a script has opened.
-ghost use Rattle.std.specs.Prelude.{◌≡◌, IfOk, Some};
+ghost use Rattle.std.specs.Prelude.{◌≡◌, IfOk};
 ghost use Rattle.snap_session.specs.Opened.{total_of, totals_of};
-ghost use Rattle.snap_session.specs.Commands.{kept, on_store, report};
+ghost use Rattle.snap_session.specs.Commands.{on_store, report};
 
 use crate::calls::{chain_usage, charge, commit, discard, session, trim, try_sweep};
 use crate::diff::diff;
@@ -74,7 +74,7 @@ fn report<N: StoreName>(alloc: Global, world: &World<N>, names: &[Text]) -> Resu
 }
 
 // A command by a session of this number.
-fn on_store<N: StoreName>(
+pub(crate) fn on_store<N: StoreName>(
     alloc: Global,
     world: &mut World<N>,
     names: &[Text],
@@ -134,19 +134,5 @@ fn on_store<N: StoreName>(
             full,
         } => journal(alloc, world, namespace, after, most, full),
         Command::Report => report(alloc, world, names),
-    }
-}
-
-impl<N: StoreName> Opened<N> {
-    // A command by a session of this number. The names stay.
-    pub(crate) fn act(
-        &mut self,
-        alloc: Global,
-        n: u64,
-        command: Command,
-    ) -> Result<Answer, NoMemory>
-        ensures { IfOk result (λ answer. kept self.old (on_store self.old n command) ≡ (Some self.new, answer)) }
-    {
-        on_store(alloc, &mut self.world, self.names.as_slice(), n, command)
     }
 }

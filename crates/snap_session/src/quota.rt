@@ -1,6 +1,6 @@
 // What namespaces may take and what they take.
-ghost use Rattle.std.specs.Prelude.{◌≡◌, IfOk};
-ghost use Rattle.snap_session.specs.Quota.{named_quota, one_quota, quota_answer, quota_info, quotas};
+ghost use Rattle.std.specs.Prelude.{◌≡◌, IfOk, filter_map};
+ghost use Rattle.snap_session.specs.Quota.{named_quota, one_quota, quota_answer, quota_info};
 
 use snap_call::Refusal;
 use snap_ledger::StoreName;
@@ -39,7 +39,7 @@ fn quotas<N: StoreName>(
     world: &World<N>,
     names: &[Text],
 ) -> Result<Sequence<(Text, QuotaInfo)>, AllocError>
-    ensures { IfOk result (λ found. found ≡ quotas world.now names.now) }
+    ensures { IfOk result (λ found. found ≡ filter_map (named_quota world.now) names.now) }
 {
     let mut found = Sequence::new(alloc);
     for name in names {

@@ -8,7 +8,7 @@ ghost use Rattle.snap_session.specs.Commands.{is_started, store_begun, store_ope
 ghost use Rattle.snap_session.specs.Opened.{new_world, unopened};
 ghost use Rattle.snap_session.specs.Script.{script_step};
 
-use crate::opened::Opened;
+use crate::opened::{Opened, on_store};
 use crate::round::is_started;
 use crate::step::call;
 use snap_call::{Call, Config, Refusal, Reply};
@@ -138,7 +138,9 @@ impl<N: StoreName> Script<N> {
         ensures spent { OnOk result (self.new.spent ≡ self.old.spent) }
     {
         match &mut self.store {
-            Some(store) => store.act(self.alloc, n, command),
+            Some(Opened { world, names }) => {
+                on_store(self.alloc, world, names.as_slice(), n, command)
+            }
             None => match command {
                 Command::Open { config } => self.open(config),
                 _ => Ok(Answer::NoSession),

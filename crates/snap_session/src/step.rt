@@ -2,7 +2,8 @@
 ghost use Rattle.std.specs.Prelude.{◌≡◌, IfOk, false};
 ghost use Rattle.snap_world.specs.declared.step.Step.TheVariants.{Hand, Locked};
 ghost use Rattle.snap_world.specs.Move.{move};
-ghost use Rattle.snap_session.specs.Opened.{share_at, layer_count_at};
+ghost use Rattle.snap_world.specs.Quota.{layer_count_at};
+ghost use Rattle.snap_session.specs.Opened.{share_at};
 ghost use Rattle.snap_session.specs.Wanting.{is_want};
 ghost use Rattle.snap_session.specs.Commands.{answer_of_step, stepped};
 
@@ -26,7 +27,7 @@ pub(crate) fn share_at<N: StoreName>(world: &World<N>, slot: u64) -> Usage
 
 // What the layer of the snapshot in the slot takes.
 pub(crate) fn count_at<N: StoreName>(world: &World<N>, slot: u64) -> Usage
-    ensures { result ≡ layer_count_at slot world.now }
+    ensures { result ≡ layer_count_at slot world.now.hands }
 {
     match world.count(slot) {
         Some(count) => count,

@@ -1,5 +1,6 @@
 -- What a granted prepare or view hands out.
 use Rattle.std.specs.Prelude.{if◌then◌else◌, option_and_then, unwrap_or, IsSomeAnd, Bool, true, false}
+use Rattle.std.specs.List.{cons_option}
 use Rattle.std.specs.Option.{option_map}
 use Rattle.std.proofs.Common.{◌≡◌, ◌⊎◌, inl, inr, ℕ, zero, suc, List, [], ◌∷◌, length, Option, None, Some, refl, sym, ap, ◌∙◌, subst}
 use Rattle.snap_layer.specs.Edits.{root_only}
@@ -9,11 +10,11 @@ use Rattle.snap_record.specs.declared.record.Content.{Content}
 use Rattle.snap_record.specs.declared.record.Content.TheVariants.{View, Active, Committed}
 use Rattle.snap_record.specs.declared.record.Record.{Record}
 use Rattle.snap_call.specs.Records.{is_committed, record_at}
-use Rattle.snap_call.specs.State.{ancestors, chain_from, ids_of, layers_of, or_empty, shown_layers, with_layer}
+use Rattle.snap_call.specs.State.{ancestors, chain_from, ids_of, layer_of, layers_of, or_empty, shown_layers}
 
 -- ---- a chain has a layer for each id
 
-one_more : (c : Content) (ls : List Tree) → is_committed c ≡ true → length (with_layer c ls) ≡ suc (length ls)
+one_more : (c : Content) (ls : List Tree) → is_committed c ≡ true → length (cons_option (layer_of c) ls) ≡ suc (length ls)
 one_more (Committed layer usage) ls e = refl
 one_more (View layers) ls e = absurd (cc)
 one_more (Active slot charged) ls e = absurd (cc)

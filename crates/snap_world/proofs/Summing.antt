@@ -1,6 +1,6 @@
 -- A sum over the hands is the one over the records.
 use Rattle.std.proofs.Common.{◌≡◌, ◌≢◌, ℕ, zero, suc, ◌+◌, ◌-◌, ◌<◌, List, [], ◌∷◌, length, Bool, true, false, Option, None, Some, eq-eqb, refl, sym, ap, ◌∙◌, subst, ⊎_elim, arith}
-use Rattle.std.specs.Prelude.{◌==◌, ◌^◌, nat_le, if◌then◌else◌}
+use Rattle.std.specs.Prelude.{◌==◌, ◌^◌, nat_le, option_map, unwrap_or, if◌then◌else◌}
 use Rattle.std.specs.List.{AllByRecursion}
 use Rattle.std.proofs.lemmas.Bool.{and_parts, leb-true}
 use Rattle.std.proofs.lemmas.Bool.Decides.{eqb_tells}
@@ -18,7 +18,7 @@ use Rattle.snap_call.proofs.Slots.{active_at-Active, is_slot-other}
 use Rattle.snap_call.proofs.Sums.{usage, plus-none, none-plus, plus-turned, plus-joined, minus-plus, Covers-plus}
 use Rattle.snap_world.specs.declared.quota.Quota.{Quota}
 use Rattle.snap_world.specs.World.{AgreesAt, Fits, HandValue, IsHandOf, WorldValue, hand_at}
-use Rattle.snap_world.specs.Quota.{active_usage, committed_usage, spare_usage, used_by}
+use Rattle.snap_world.specs.Quota.{active_usage, committed_usage, spare_usage}
 use Rattle.snap_world.specs.Sums.{added_by, share_in, spare_in, hand_sum_below}
 
 -- what the record of a slot adds to a sum
@@ -144,7 +144,7 @@ spares_are w fits place =
     whole w fits place spare_in (spare_usage w.hands)
     (λ slot h r e d a.
     ap (λ (u : Usage). minus u (count_of h.snapshot.layer)) a.usage
-    ∙ ap (λ (o : Option HandValue). minus (usage_of r.content) (used_by o)) (sym e)
+    ∙ ap (λ (o : Option HandValue). minus (usage_of r.content) (unwrap_or (option_map (λ (g : HandValue). count_of g.snapshot.layer) o) no_usage)) (sym e)
     ∙ sym (ap (spare_usage w.hands) (active_at-Active slot w.state.records r d)))
     (idle_spare w.hands)
 

@@ -1,6 +1,6 @@
 -- What a namespace may take and what it takes, as quota tools tell it.
 -- Cited by `World::quota`, `replay_within`, `replay` and others.
-use Rattle.std.specs.Prelude.{ℕ, List, Option, None, Some, option_map}
+use Rattle.std.specs.Prelude.{ℕ, List, Option, option_map, unwrap_or}
 use Rattle.snap_usage.specs.declared.usage.Usage.{Usage}
 use Rattle.snap_usage.specs.Counted.{count_of, no_usage}
 use Rattle.snap_ledger.specs.States.{minus}
@@ -22,14 +22,13 @@ abbrev pub active_usage : Content → Usage
 active_usage (Active slot charged) = charged
 active_usage content = no_usage
 
--- what the layer of a hand takes
-abbrev pub used_by : Option HandValue → Usage
-used_by None = no_usage
-used_by (Some h) = count_of h.snapshot.layer
+-- what the layer of the slot's hand takes; nothing where there is none
+abbrev pub layer_count_at : ℕ → List (Option HandValue) → Usage
+layer_count_at slot hands = unwrap_or (option_map (λ h. count_of h.snapshot.layer) (hand_at slot hands)) no_usage
 
 -- what an active snapshot is charged beyond what its layer takes; and nothing for any other
 abbrev pub spare_usage : List (Option HandValue) → Content → Usage
-spare_usage hands (Active slot charged) = minus charged (used_by (hand_at slot hands))
+spare_usage hands (Active slot charged) = minus charged (layer_count_at slot hands)
 spare_usage hands content = no_usage
 
 -- the quota of the namespace at a place: its limit, and what it is charged, of that what its committed snapshots are, what its active ones are, and what of the latter is spare; what is free is the limit less the charge

@@ -1,6 +1,7 @@
 -- What the snapshots of a world show: the layers of an active one, its own over those of its ancestors, and those of a view.
 -- Cited by `World::call`, `World::operate`, `World::run` and others.
-use Rattle.std.specs.Prelude.{◌≡◌, ℕ, List, ◌∷◌, Option, None, Some, Result, Ok, Err, ok_or, option_map}
+use Rattle.std.specs.Prelude.{◌≡◌, ℕ, List, ◌∷◌, Option, None, Some, Result, Ok, Err, ok_or, option_and_then, option_map}
+use Rattle.std.specs.Result.{result_ok}
 use Rattle.snap_layer.specs.Tree.{Tree}
 use Rattle.snap_record.specs.Labels.{Bytes}
 use Rattle.snap_record.specs.declared.record.Content.{Content}
@@ -8,8 +9,8 @@ use Rattle.snap_record.specs.declared.record.Content.TheVariants.{View, Active, 
 use Rattle.snap_record.specs.declared.record.Record.{Record}
 use Rattle.snap_call.specs.declared.refusal.Refusal.{Refusal}
 use Rattle.snap_call.specs.declared.refusal.Refusal.TheVariants.{NotActive}
-use Rattle.snap_call.specs.State.{ancestors, layers_of, shown_layers}
-use Rattle.snap_book.specs.Slot.{found_of}
+use Rattle.snap_call.specs.State.{ancestors, layer_of, layers_of, shown_layers}
+use Rattle.snap_book.specs.Slot.{found_of, result_and_then}
 use Rattle.snap_world.specs.World.{HandValue, WorldValue, hand_at}
 
 -- the layers of the hand: its own, and those below it, nearest first (overlayfs.rst, "Upper and Lower", "Multiple lower layers")
@@ -22,27 +23,17 @@ stack_by hands (View layers) = Ok layers
 stack_by hands (Active slot charged) = ok_or (option_map layers_in (hand_at slot hands)) NotActive
 stack_by hands (Committed layer usage) = Err NotActive
 
-abbrev pub stack_in : List (Option HandValue) → Result Record Refusal → Result (List Tree) Refusal
-stack_in hands (Err why) = Err why
-stack_in hands (Ok r) = stack_by hands r.content
-
 -- the layers that the snapshot of this key in the namespace shows, or why there are none
 abbrev pub stack_of : WorldValue → Bytes → Bytes → Result (List Tree) Refusal
-stack_of w namespace key = stack_in w.hands (found_of w.state namespace key)
+stack_of w namespace key = result_and_then (λ r. stack_by w.hands r.content) (found_of w.state namespace key)
 
 -- what a committed snapshot would show: its own layer over those of its ancestors, nearest first (overlayfs.rst, "Multiple lower layers"); nothing for any other
-abbrev pub peeked_by : List Record → Record → Content → Option (List Tree)
-peeked_by rs r (Committed layer usage) = Some (layer ∷ layers_of (ancestors r.namespace r.parent rs))
-peeked_by rs r content = None
-
--- the same of the record that was found, if there is one
-abbrev pub peeked_in : List Record → Result Record Refusal → Option (List Tree)
-peeked_in rs (Err why) = None
-peeked_in rs (Ok r) = peeked_by rs r r.content
+abbrev pub peeked_by : List Record → Record → Option (List Tree)
+peeked_by rs r = option_map (λ layer. layer ∷ layers_of (ancestors r.namespace r.parent rs)) (layer_of r.content)
 
 -- the layers that the committed snapshot of this key in the namespace would show, if there is one
 abbrev pub peeked_of : WorldValue → Bytes → Bytes → Option (List Tree)
-peeked_of w namespace key = peeked_in w.state.records (found_of w.state namespace key)
+peeked_of w namespace key = option_and_then (peeked_by w.state.records) (result_ok (found_of w.state namespace key))
 
 -- the layer of a snapshot: an active one's is that of its hand; a view has none of its own
 abbrev pub own_layer : List (Option HandValue) → Content → Option Tree
@@ -50,14 +41,13 @@ own_layer hands (View layers) = None
 own_layer hands (Active slot charged) = option_map (λ h. h.snapshot.layer) (hand_at slot hands)
 own_layer hands (Committed layer usage) = Some layer
 
--- the same of the record that was found, if there is one, with the layers of its ancestors, nearest first
-abbrev pub own_in : WorldValue → Result Record Refusal → Option (Tree × List Tree)
-own_in w (Err why) = None
-own_in w (Ok r) = option_map (λ layer. (layer, layers_of (ancestors r.namespace r.parent w.state.records))) (own_layer w.hands r.content)
+-- the layer of the record's snapshot, if it has one, and those of its ancestors, nearest first
+abbrev pub own_stack_by : WorldValue → Record → Option (Tree × List Tree)
+own_stack_by w r = option_map (λ layer. (layer, layers_of (ancestors r.namespace r.parent w.state.records))) (own_layer w.hands r.content)
 
--- the layer of the snapshot of this key in the namespace, if it has one, and those of its ancestors
+-- the same of the snapshot of this key in the namespace, if there is one
 abbrev pub own_of : WorldValue → Bytes → Bytes → Option (Tree × List Tree)
-own_of w namespace key = own_in w (found_of w.state namespace key)
+own_of w namespace key = option_and_then (own_stack_by w) (result_ok (found_of w.state namespace key))
 
 -- the layers of an active snapshot are one over those of its committed ancestors, nearest first; those of a view are the ancestors' alone, or one empty layer
 abbrev pub IsOverBy : List Record → List Tree → ℕ → Bytes → Content → Type 0

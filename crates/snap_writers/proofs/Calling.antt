@@ -33,7 +33,7 @@ use Rattle.snap_writers.specs.declared.job.End.TheVariants as ends
 use Rattle.snap_writers.specs.declared.job.Ended.{Ended}
 use Rattle.snap_writers.specs.declared.job.Ended.TheVariants as ended
 use Rattle.snap_writers.specs.declared.job.Job.{Job}
-use Rattle.snap_writers.specs.Jobs.{Done, Granted, IsCommitOf, IsEndOf, IsErrorOf, IsFailed, IsPrepareOf, IsUndone, IsWorkFor, all_after, commit_by, commit_of, commits, then_after, with_end}
+use Rattle.snap_writers.specs.Jobs.{Done, Granted, IsCommitOf, IsEndOf, IsErrorOf, IsFailed, IsPrepareOf, IsUndone, IsWorkFor, all_after, commit_of, commits, then_after, with_end}
 use Rattle.snap_writers.specs.declared.worker.Stop.{Stop}
 use Rattle.snap_writers.specs.declared.worker.Stop.TheVariants.{Failed}
 use Rattle.snap_writers.specs.Going.{GoesOn, HasRunJob, IsFresh, IsReadyToEnd, IsStopOf, commit_granted}
@@ -71,12 +71,8 @@ all_map P Q f (x ∷ xs) all = (f x all.0, all_map P Q f xs all.1)
 
 -- ---- granted Commits
 
-commit_by_append : (id : ℕ) (name : Bytes) (lease : Option Bytes) (reply : Reply) (given : Given) (a b : List Granted) → commit_by id name lease reply given (a ++ b) ≡ commit_by id name lease reply given a ++ b
-commit_by_append id name lease (replies.Committed at usage) (Layer layer) a b = refl
-commit_by_append id name lease reply given a b = refl
-
 commit_of_append : (call : Call) (given : Given) (reply : Reply) (a b : List Granted) → commit_of call given reply (a ++ b) ≡ commit_of call given reply a ++ b
-commit_of_append (calls.Commit slot id name lease) given reply a b = commit_by_append id name lease reply given a b
+commit_of_append (calls.Commit slot id name lease) (Layer layer) (replies.Committed at usage) a b = refl
 commit_of_append call given reply a b = refl
 
 pub commits_append : (xs ys : List Entry) → commits (xs ++ ys) ≡ commits xs ++ commits ys
@@ -84,7 +80,7 @@ commits_append [] ys = refl
 commits_append (x ∷ xs) ys = ap (commit_of x.call x.given x.reply) (commits_append xs ys) ∙ commit_of_append x.call x.given x.reply (commits xs) (commits ys)
 
 commit_of_refused : (call : Call) (given : Given) (why : Refusal) → commit_of call given (replies.Refused why) [] ≡ []
-commit_of_refused (calls.Commit slot id name lease) given why = refl
+commit_of_refused (calls.Commit slot id name lease) (Layer layer) why = refl
 commit_of_refused call given why = refl
 
 -- a granted Commit of a tape is one of the tape with more behind it

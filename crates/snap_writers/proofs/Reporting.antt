@@ -1,6 +1,6 @@
 -- What a closed store has of the jobs of all workers.
 use Rattle.std.specs.Prelude.{◌==◌, All, cond, map, slice_get}
-use Rattle.std.specs.List.{AllByRecursion, AllZip}
+use Rattle.std.specs.List.{AllByRecursion, AllZip, cons_option}
 use Rattle.std.proofs.Common.{◌≡◌, ℕ, zero, suc, ◌+◌, ◌-◌, ◌<◌, ◌≤◌, Bool, true, false, List, [], ◌∷◌, length, Option, None, Some, inl, inr, refl, sym, ap, ◌∙◌, subst, arith}
 use Rattle.std.proofs.lemmas.Bool.{eqb-true, eq-eqb}
 use Rattle.std.proofs.lemmas.List.Elements.{All-head, All-tail}
@@ -20,7 +20,7 @@ use Rattle.snap_writers.specs.declared.job.Ended.{Ended}
 use Rattle.snap_writers.specs.declared.job.Ended.TheVariants as ended
 use Rattle.snap_writers.specs.declared.job.Worked.{Worked}
 use Rattle.snap_writers.specs.Jobs.{HaveWorked, IsEndOf, IsStoredOf, IsWorked, commits, done, every, total}
-use Rattle.snap_writers.specs.Starting.{AreInOrder, AreWorked, Each, ends_at, sessions_of, with_session}
+use Rattle.snap_writers.specs.Starting.{AreInOrder, AreWorked, Each, ends_at, sessions_of}
 use Rattle.snap_writers.proofs.Storing.{granted_total, stored_all, stored_of, tape_keeps}
 use Rattle.snap_writers.proofs.Sums.{over, over_once, sum_first}
 use Rattle.snap_writers.proofs.Walking.{done_unprepared, unprepared_own}
@@ -38,7 +38,7 @@ all_there P (y ∷ ys) zero x all there = subst P (cc) all.0
 all_there P (y ∷ ys) (suc i) x all there = all_there P ys i x all.1 there
 
 -- each session of the workers has calls that take nothing away
-kept_with : (inodes : ℕ) → (jobs : List Job) (es : List Ended) (o : Option SessionValue) (rest : List SessionValue) → HaveWorked inodes jobs es o → AllByRecursion (λ s. AreKeeping s.tape) rest → AllByRecursion (λ s. AreKeeping s.tape) (with_session o rest)
+kept_with : (inodes : ℕ) → (jobs : List Job) (es : List Ended) (o : Option SessionValue) (rest : List SessionValue) → HaveWorked inodes jobs es o → AllByRecursion (λ s. AreKeeping s.tape) rest → AllByRecursion (λ s. AreKeeping s.tape) (cons_option o rest)
 kept_with inodes jobs es None rest worked all = all
 kept_with inodes jobs es (Some s) rest worked all = (tape_keeps jobs es s worked, all)
 
@@ -86,11 +86,11 @@ lists_at origin [] k = []
 lists_at origin (w ∷ ws) zero = stored_by origin w.session
 lists_at origin (w ∷ ws) (suc k) = lists_at origin ws k
 
-first_total : (h : Stored → ℕ) (origin : ℕ → Origin) (journal : List Entry) (o : Option SessionValue) (rest : List SessionValue) → AllByRecursion (IsOwn journal) (with_session o rest) → over (λ k. grants h origin (session_entries journal k)) (with_session o rest) ≡ total h (stored_by origin o) + over (λ k. grants h origin (session_entries journal k)) rest
+first_total : (h : Stored → ℕ) (origin : ℕ → Origin) (journal : List Entry) (o : Option SessionValue) (rest : List SessionValue) → AllByRecursion (IsOwn journal) (cons_option o rest) → over (λ k. grants h origin (session_entries journal k)) (cons_option o rest) ≡ total h (stored_by origin o) + over (λ k. grants h origin (session_entries journal k)) rest
 first_total h origin journal None rest are = omega arith
 first_total h origin journal (Some s) rest are = ap (λ n. n + over (λ k. grants h origin (session_entries journal k)) rest) (ap (grants h origin) (sym are.0) ∙ granted_total h origin s.tape)
 
-rest_own : (journal : List Entry) (o : Option SessionValue) (rest : List SessionValue) → AllByRecursion (IsOwn journal) (with_session o rest) → AllByRecursion (IsOwn journal) rest
+rest_own : (journal : List Entry) (o : Option SessionValue) (rest : List SessionValue) → AllByRecursion (IsOwn journal) (cons_option o rest) → AllByRecursion (IsOwn journal) rest
 rest_own journal None rest are = are
 rest_own journal (Some s) rest are = are.1
 
@@ -103,7 +103,7 @@ by_workers h origin journal (w ∷ ws) are = omega (
   sum_first (length ws) (λ k. total h (lists_at origin (w ∷ ws) k)),
 )
 
-stored_here : (inodes : ℕ) → (origin : ℕ → Origin) (journal : List Entry) (jobs : List Job) (es : List Ended) (o : Option SessionValue) (rest : List SessionValue) → AreOrigins origin journal → AllByRecursion (IsOwn journal) (with_session o rest) → HaveWorked inodes jobs es o → AllZip (IsStoredOf inodes) (done jobs es) (stored_by origin o)
+stored_here : (inodes : ℕ) → (origin : ℕ → Origin) (journal : List Entry) (jobs : List Job) (es : List Ended) (o : Option SessionValue) (rest : List SessionValue) → AreOrigins origin journal → AllByRecursion (IsOwn journal) (cons_option o rest) → HaveWorked inodes jobs es o → AllZip (IsStoredOf inodes) (done jobs es) (stored_by origin o)
 stored_here inodes origin journal jobs es None rest are own_are (inl is) = subst (λ l. AllZip (IsStoredOf inodes) l []) (sym (ap (done jobs) is ∙ done_unprepared ended.NoThread (λ j others. refl) jobs jobs)) tt
 stored_here inodes origin journal jobs es None rest are own_are (inr (why, is)) = subst (λ l. AllZip (IsStoredOf inodes) l []) (sym (ap (done jobs) is ∙ done_unprepared (ended.NotPrepared why) (λ j others. refl) jobs jobs)) tt
 stored_here inodes origin journal jobs es (Some s) rest are own_are worked = stored_all origin jobs es s (subst (AreOrigins origin) (sym own_are.0) (own_origins origin journal are s.number)) worked

@@ -1,7 +1,7 @@
 -- What is committed in the end, by what each worker's tape was granted.
 use Rattle.std.specs.Prelude.{Any, get_or, map}
 use Rattle.std.specs.List.{AllByRecursion, AllZip}
-use Rattle.std.proofs.Common.{◌≡◌, ℕ, zero, suc, ◌+◌, ◌<◌, List, [], ◌∷◌, length, Option, refl, sym, ap, ◌∙◌, subst, arith}
+use Rattle.std.proofs.Common.{◌≡◌, ℕ, zero, suc, ◌+◌, ◌<◌, List, [], ◌∷◌, length, refl, sym, ap, ◌∙◌, subst, arith}
 use Rattle.snap_call.specs.declared.call.Call.{Call}
 use Rattle.snap_call.specs.declared.call.Call.TheVariants as calls
 use Rattle.snap_call.specs.declared.call.Given.{Given}
@@ -9,24 +9,20 @@ use Rattle.snap_call.specs.declared.call.Given.TheVariants.{Layer}
 use Rattle.snap_call.specs.declared.entry.Entry.{Entry}
 use Rattle.snap_call.specs.declared.reply.Reply.{Reply}
 use Rattle.snap_call.specs.declared.reply.Reply.TheVariants as replies
-use Rattle.snap_record.specs.Labels.{Bytes}
 use Rattle.snap_tape.specs.Tapes.{SessionValue}
-use Rattle.snap_grants.specs.Grants.{AreKeeping, AreOrigins, IsKeeping, IsOrigin, Origin, Stored, grant_by, grant_of, grants}
+use Rattle.snap_grants.specs.Grants.{AreKeeping, AreOrigins, IsKeeping, IsOrigin, Origin, Stored, grant_of, grants}
 use Rattle.snap_writers.specs.declared.job.Job.{Job}
 use Rattle.snap_writers.specs.declared.job.Ended.{Ended}
-use Rattle.snap_writers.specs.Jobs.{Done, Granted, HasWorked, IsCommitOf, IsPrepareOf, IsStoredOf, IsWork, IsWorkFor, commit_by, commit_of, commits, done, commit_name_of, total}
+use Rattle.snap_writers.specs.Jobs.{Done, Granted, HasWorked, IsCommitOf, IsPrepareOf, IsStoredOf, IsWork, IsWorkFor, commit_of, commits, done, total}
 
 -- ---- a tape's granted Commits, as what is stored
 
 abbrev pub stored_of : (ℕ → Origin) → Granted → Stored
 stored_of origin g = record { namespace = (origin g.id).namespace; name = g.name; parent = (origin g.id).parent; id = g.id; layer = g.layer }
 
-by_reply : (h : Stored → ℕ) (origin : ℕ → Origin) (id : ℕ) (name : Bytes) (lease : Option Bytes) (reply : Reply) (given : Given) (rest : List Granted) → grant_by h origin reply given id name + total h (map (stored_of origin) rest) ≡ total h (map (stored_of origin) (commit_by id name lease reply given rest))
-by_reply h origin id name lease (replies.Committed at usage) (Layer layer) rest = refl
-by_reply h origin id name lease reply given rest = omega arith
-
 by_call : (h : Stored → ℕ) (origin : ℕ → Origin) (call : Call) (given : Given) (reply : Reply) (rest : List Granted) → grant_of h origin call given reply + total h (map (stored_of origin) rest) ≡ total h (map (stored_of origin) (commit_of call given reply rest))
-by_call h origin (calls.Commit slot id name lease) given reply rest = by_reply h origin id name lease reply given rest
+by_call h origin (calls.Commit slot id name lease) (Layer layer) (replies.Committed at usage) rest = refl
+by_call h origin (calls.Commit slot id name lease) given (replies.Committed at usage) rest = omega arith
 by_call h origin call given reply rest = omega arith
 
 pub granted_total : (h : Stored → ℕ) (origin : ℕ → Origin) (es : List Entry) → grants h origin es ≡ total h (map (stored_of origin) (commits es))
@@ -48,7 +44,7 @@ origin_is origin tape j id are (k, e, low, at, (session, slot, chain, is)) =
 stored_is : {inodes : ℕ} → (origin : ℕ → Origin) (tape : List Entry) → AreOrigins origin tape → (d : Done) (g : Granted) → IsCommitOf inodes tape d g → IsStoredOf inodes d (stored_of origin g)
 stored_is origin tape are d g is =
     let from = origin_is origin tape d.job g.id are is.prepared in
-    record { namespace = ap (λ (o : Origin). o.namespace) from; name = ap commit_name_of is.end; parent = ap (λ (o : Origin). o.parent) from; id = is.id; made = is.made; count = is.count }
+    record { namespace = ap (λ (o : Origin). o.namespace) from; name = (g.lease, is.end); parent = ap (λ (o : Origin). o.parent) from; id = is.id; made = is.made; count = is.count }
 
 zip_map : {A B C : Type 0} (R : A → B → Type 0) (S : A → C → Type 0) (f : B → C) → ((x : A) (y : B) → R x y → S x (f y)) → (xs : List A) (ys : List B) → AllZip R xs ys → AllZip S xs (map f ys)
 zip_map R S f by [] [] p = tt

@@ -28,7 +28,6 @@ use Rattle.snap_grants.specs.Grants.{Stored, worth}
 use Rattle.snap_round.specs.declared.rule.Round.{Round}
 use Rattle.snap_store.specs.Closing.{IsClosedStore}
 use Rattle.snap_writers.specs.declared.job.Job.{Job}
-use Rattle.snap_writers.specs.declared.job.End.{End}
 use Rattle.snap_writers.specs.declared.job.End.TheVariants as ends
 use Rattle.snap_writers.specs.declared.job.Ended.{Ended}
 use Rattle.snap_writers.specs.declared.job.Ended.TheVariants as ended
@@ -62,9 +61,8 @@ with_end j end rest = rest
 
 -- the jobs that ended Committed, in order
 abbrev pub done : List Job → List Ended → List Done
-done [] es = []
-done (j ∷ js) [] = []
 done (j ∷ js) (e ∷ es) = with_end j e (done js es)
+done js es = []
 
 -- ---- what a tape says of them
 
@@ -76,14 +74,10 @@ pub record Granted : Type 0 where
   pub layer : Tree
   pub usage : Usage
 
--- by the reply and what was given: the granted Commit before the rest, or the rest alone
-abbrev pub commit_by : ℕ → Bytes → Option Bytes → Reply → Given → List Granted → List Granted
-commit_by id name lease (replies.Committed at usage) (Layer layer) rest = record { id = id; name = name; lease = lease; layer = layer; usage = usage } ∷ rest
-commit_by id name lease reply given rest = rest
-
--- by the call: the rest alone of any other than Commit
+-- by the call, what was given and the reply: the granted Commit before the rest, or the rest alone
 abbrev pub commit_of : Call → Given → Reply → List Granted → List Granted
-commit_of (calls.Commit slot id name lease) given reply rest = commit_by id name lease reply given rest
+commit_of (calls.Commit slot id name lease) (Layer layer) (replies.Committed at usage) rest =
+    record { id = id; name = name; lease = lease; layer = layer; usage = usage } ∷ rest
 commit_of call given reply rest = rest
 
 -- the granted Commits of a tape, in order
@@ -187,15 +181,10 @@ pub record IsWorked (inodes : ℕ) (jobs : List Job) (worker workers : ℕ) (w :
 
 -- ---- what a run of all workers owes
 
--- the name that an end commits under
-abbrev pub commit_name_of : End → Option Bytes
-commit_name_of (ends.Commit name lease) = Some name
-commit_name_of ends.Discard = None
-
 -- the committed snapshot is the job's: of its namespace, under its name and over its parent, of the id that its end tells, with the layer that the job's operations make; and the usage that its end tells is the count over it
 pub record IsStoredOf (inodes : ℕ) (d : Done) (s : Stored) : Type 0 where
   pub namespace : s.namespace ≡ d.job.namespace
-  pub name : commit_name_of d.job.end ≡ Some s.name
+  pub name : (lease : Option Bytes) × (d.job.end ≡ ends.Commit s.name lease)
   pub parent : s.parent ≡ d.job.parent
   pub id : s.id ≡ d.id
   pub made : IsMadeBy inodes d.job s.layer

@@ -1,6 +1,6 @@
 -- What workers start with, and what they give back once all have ended.
 -- Cited by `run_jobs`.
-use Rattle.std.specs.Prelude.{◌≡◌, ◌⊎◌, ℕ, zero, suc, ◌+◌, ◌<◌, ◌≤◌, List, [], ◌∷◌, length, Option, None, Some}
+use Rattle.std.specs.Prelude.{◌≡◌, ◌⊎◌, ℕ, zero, suc, ◌+◌, ◌<◌, ◌≤◌, List, [], ◌∷◌, length, filter_map}
 use Rattle.snap_tape.specs.Tapes.{SessionValue}
 use Rattle.snap_writers.specs.declared.assignment.Assignment.{Assignment}
 use Rattle.snap_writers.specs.declared.job.Job.{Job}
@@ -57,13 +57,8 @@ pub record AreInOrder (jobs : List Job) (workers : ℕ) (all : List Worked) (end
   pub each : (k : ℕ) → k < workers → every workers k ends ≡ ends_at all k
 
 -- the sessions of the workers that have one
-abbrev pub with_session : Option SessionValue → List SessionValue → List SessionValue
-with_session None rest = rest
-with_session (Some s) rest = s ∷ rest
-
 abbrev pub sessions_of : List Worked → List SessionValue
-sessions_of [] = []
-sessions_of (w ∷ ws) = with_session w.session (sessions_of ws)
+sessions_of ws = filter_map (λ w. w.session) ws
 
 -- ---- where there is no report of jobs that were all let through
 

@@ -70,14 +70,14 @@ pub check_items-items-init : goal.check_items-items-init
 check_items-items-init t c =
     (length c.args.reader.now, omega arith, λ ds. ds, none_before (converted of_items (items (value c.args.depth) (length c.args.reader.now) c.args.reader.now)), omega arith)
 
-pub check_items-returns-in_err-token-clause-not_json : goal.check_items-returns-in_err-token-clause-not_json
-check_items-returns-in_err-token-clause-not_json t c =
+pub check_items-returns-in_default-clause-not_json : goal.check_items-returns-in_default-clause-not_json
+check_items-returns-in_default-clause-not_json t c =
     let p = value c.args.depth in
     let l = c.items in
     let n = l.invariant.0 in
     let going : (after_end_array l.reader ≡ None) × (c.take_end_array.new.self ≡ l.reader) = grind arith in
     let empty : l.reader ≡ [] = grind arith in
-    on_err c.from_residual.result (l.invariant.3 ∙ ap (parse_map l.invariant.2) (item_refused p n l.reader going.0 (ap (converted of_json) (ap p empty ∙ value_is c.args.depth []))))
+    l.invariant.3 ∙ ap (parse_map l.invariant.2) (item_refused p n l.reader going.0 (ap (converted of_json) (ap p empty ∙ value_is c.args.depth [])))
 
 pub check_items-items-preserved : goal.check_items-items-preserved
 check_items-items-preserved t c =
@@ -85,10 +85,10 @@ check_items-items-preserved t c =
     let l = c.items in
     let n = l.invariant.0 in
     let going : (after_end_array l.reader ≡ None) × (c.take_end_array.new.self ≡ l.reader) = grind arith in
-    let first : l.reader ≡ token_of c.in_ok-token.token ∷ c.next.new.self = grind arith in
+    let first : l.reader ≡ token_of c.in-Some.token ∷ c.next.new.self = grind arith in
     let done = c.in_ok-check.ensures in
     let r = c.check.new.reader in
-    let one = left_some (converted of_json (p (token_of c.in_ok-token.token ∷ c.next.new.self))) r done.ok in
+    let one = left_some (converted of_json (p (token_of c.in-Some.token ∷ c.next.new.self))) r done.ok in
     let shorter = done.shorter in
     let longer = ap length first in
     let turn = item_read p n l.reader r one.0 (omega (arith, l.invariant.1, longer)) going.0 (ap (λ ts. converted of_json (p ts)) first ∙ one.1) in (
@@ -105,8 +105,8 @@ check_items-returns-in_err-check-clause-not_json t c =
     let l = c.items in
     let n = l.invariant.0 in
     let going : (after_end_array l.reader ≡ None) × (c.take_end_array.new.self ≡ l.reader) = grind arith in
-    let first : l.reader ≡ token_of c.in_ok-token.token ∷ c.next.new.self = grind arith in
-    on_err c.from_residual-in_err-check.result (l.invariant.3 ∙ ap (parse_map l.invariant.2) (item_refused p n l.reader going.0 (ap (λ ts. converted of_json (p ts)) first ∙ c.in_err-check.ensures.not_json)))
+    let first : l.reader ≡ token_of c.in-Some.token ∷ c.next.new.self = grind arith in
+    on_err c.from_residual.result (l.invariant.3 ∙ ap (parse_map l.invariant.2) (item_refused p n l.reader going.0 (ap (λ ts. converted of_json (p ts)) first ∙ c.in_err-check.ensures.not_json)))
 
 pub check_items-returns-clause-ok : goal.check_items-returns-clause-ok
 check_items-returns-clause-ok t c =
@@ -124,15 +124,15 @@ check_members-returns-in_err-next_key-clause-not_json t c =
     let l = c.members in
     on_err c.from_residual.result (l.invariant.3 ∙ key_refused (value c.args.depth) l.invariant.2 l.invariant.0 l.reader c.in_err-next_key.ensures.value)
 
-pub check_members-returns-in_err-token-clause-not_json : goal.check_members-returns-in_err-token-clause-not_json
-check_members-returns-in_err-token-clause-not_json t c =
+pub check_members-returns-in_default-next-clause-not_json : goal.check_members-returns-in_default-next-clause-not_json
+check_members-returns-in_default-next-clause-not_json t c =
     let p = value c.args.depth in
     let l = c.members in
     let k = c.in-Some.field-0.now in
     let s = c.next_key.new.self in
     let named : read_key l.reader ≡ Some (Some k, s) = grind arith in
     let empty : s ≡ [] = grind arith in
-    on_err c.from_residual-in_err-token.result (l.invariant.3 ∙ member_refused p l.invariant.2 l.invariant.0 k l.reader s named (ap (converted of_json) (ap p empty ∙ value_is c.args.depth [])))
+    l.invariant.3 ∙ member_refused p l.invariant.2 l.invariant.0 k l.reader s named (ap (converted of_json) (ap p empty ∙ value_is c.args.depth []))
 
 pub check_members-members-preserved : goal.check_members-members-preserved
 check_members-members-preserved t c =
@@ -143,10 +143,10 @@ check_members-members-preserved t c =
     let k = c.in-Some.field-0.now in
     let s = c.next_key.new.self in
     let named : read_key l.reader ≡ Some (Some k, s) = grind arith in
-    let first : s ≡ token_of c.in_ok-token.token ∷ c.next.new.self = grind arith in
+    let first : s ≡ token_of c.in-Some-next.token ∷ c.next.new.self = grind arith in
     let done = c.in_ok-check.ensures in
     let r = c.check.new.reader in
-    let one = left_some (converted of_json (p (token_of c.in_ok-token.token ∷ c.next.new.self))) r done.ok in
+    let one = left_some (converted of_json (p (token_of c.in-Some-next.token ∷ c.next.new.self))) r done.ok in
     let less = read_key-shorter l.reader (Some k) s named in
     let shorter = done.shorter in
     let longer = ap length first in (
@@ -164,7 +164,7 @@ check_members-returns-in_err-check-clause-not_json t c =
     let k = c.in-Some.field-0.now in
     let s = c.next_key.new.self in
     let named : read_key l.reader ≡ Some (Some k, s) = grind arith in
-    let first : s ≡ token_of c.in_ok-token.token ∷ c.next.new.self = grind arith in
+    let first : s ≡ token_of c.in-Some-next.token ∷ c.next.new.self = grind arith in
     on_err c.from_residual-in_err-check.result (l.invariant.3 ∙ member_refused p l.invariant.2 l.invariant.0 k l.reader s named (ap (λ ts. converted of_json (p ts)) first ∙ c.in_err-check.ensures.not_json))
 
 pub check_members-returns-clause-ok : goal.check_members-returns-clause-ok

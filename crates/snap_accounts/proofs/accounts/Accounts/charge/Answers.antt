@@ -5,4 +5,4 @@ use Rattle.snap_call.proofs.Counts.{open_count-recharged}
 use Rattle.snap_accounts.proofs.accounts.Accounts.charge.Goals as goal
 
 pub returns-in-Some-clause-open : goal.returns-in-Some-clause-open
-returns-in-Some-clause-open g c = ap (λ (s : State). open_count s.records) c.recharge.ensures.state ∙ (open_count-recharged c.meet-held.new.share.slot c.in-Some.to c.meet-held.new.self.records ∙ ap (λ (s : State). open_count s.records) c.meet-held.ensures.same)
+returns-in-Some-clause-open g c = ap (λ (s : State). open_count s.records) c.recharge.ensures.state ∙ open_count-recharged c.args.share.now.slot c.in-Some.to c.args.self.now.records

@@ -2,7 +2,7 @@ use Rattle.std.proofs.Common.{◌≡◌, ◌+◌, ◌-◌, set, Some, IsSome, is
 use Rattle.snap_usage.specs.declared.usage.Usage.{Usage}
 use Rattle.snap_usage.specs.Counted.{Covers, count_of}
 use Rattle.snap_layer.specs.Tree.{Tree}
-use Rattle.snap_ledger.specs.States.{ShareState, minus, plus, free_charge}
+use Rattle.snap_ledger.specs.States.{minus, plus}
 use Rattle.snap_record.specs.Labels.{Bytes}
 use Rattle.snap_record.specs.Records.{usage_of}
 use Rattle.snap_record.specs.declared.record.Record.{Record}
@@ -25,20 +25,20 @@ commit-requires-clause-good g c = c.self.invariant.good
 
 pub commit-requires-clause-new : goal.commit-requires-clause-new
 commit-requires-clause-new g c =
-    let same = c.self.view_is ∙ c.meet-held.ensures.same in
+    let same = c.self.view_is in
     place-free c.slot-slot.result c.args.share.slot c.args.name.now c.self.inside.state _ c.slot-slot.ensures same c.requires.possible.free
 
 pub commit-requires-clause-named : goal.commit-requires-clause-named
 commit-requires-clause-named g c =
-    let same = c.self.view_is ∙ c.meet-held.ensures.same in
+    let same = c.self.view_is in
     place-named c.slot-slot.result c.args.share.slot c.args.lease.now c.self.inside.state _ c.slot-slot.ensures same c.requires.possible.named
 
 pub overflow_sub-self : goal.overflow_sub-self
 overflow_sub-self g c =
     let s = c.self.inside.state in
     let slot = c.args.share.slot in
-    let same = c.self.view_is ∙ c.meet-held.ensures.same in
-    let found = charge_at-issued slot s.records (ap (λ (u : State). (charge_at slot u.records).issued) same ∙ c.meet-held.ensures.met.0) in
+    let same = c.self.view_is in
+    let found = charge_at-issued slot s.records (ap (λ (u : State). (charge_at slot u.records).issued) same ∙ c.requires.met.0) in
     let least = open_count-some slot s.records found.0 found.1 in
     omega (arith, least, c.self.invariant.open_are)
 
@@ -46,8 +46,8 @@ pub returns-clause-open : goal.returns-clause-open
 returns-clause-open g c =
     let s = c.self.inside.state in
     let slot = c.args.share.slot in
-    let same = c.self.view_is ∙ c.meet-held.ensures.same in
-    let found = charge_at-issued slot s.records (ap (λ (u : State). (charge_at slot u.records).issued) same ∙ c.meet-held.ensures.met.0) in
+    let same = c.self.view_is in
+    let found = charge_at-issued slot s.records (ap (λ (u : State). (charge_at slot u.records).issued) same ∙ c.requires.met.0) in
     let done = committed_from c.slot-slot.result slot c.args.name.now c.args.lease.now c.args.layer.now s c.commit.new.self found.0 c.slot-slot.ensures found.1 c.in_default.ensures.ok in
     ap (λ (u : State). open_count u.records + 1) done ∙ (open_count-committed slot c.args.name.now c.args.layer.now (s.entries + 1) s.records found.0 found.1 ∙ ap (λ (u : State). open_count u.records) same)
 
@@ -58,12 +58,12 @@ invariant_of-self-2 g c =
     let name : Bytes = c.args.name.now in
     let lease : Option Bytes = c.args.lease.now in
     let layer : Tree = c.args.layer.now in
-    let same = c.self.view_is ∙ c.meet-held.ensures.same in
-    let found = charge_at-issued slot s.records (ap (λ (u : State). (charge_at slot u.records).issued) same ∙ c.meet-held.ensures.met.0) in
+    let same = c.self.view_is in
+    let found = charge_at-issued slot s.records (ap (λ (u : State). (charge_at slot u.records).issued) same ∙ c.requires.met.0) in
     let r : Record = found.0 in
     let e : active_at slot s.records ≡ Some r = found.1 in
-    let own : usage_of r.content ≡ c.args.share.usage = found.3 ∙ (ap (λ (u : State). (charge_at slot u.records).usage) same ∙ c.meet-held.ensures.met.2) in
-    let held : usage_of r.content ≡ c.meet-held.result = own ∙ sym c.meet-held.ensures.held in
+    let own : usage_of r.content ≡ c.args.share.usage = found.3 ∙ (ap (λ (u : State). (charge_at slot u.records).usage) same ∙ c.requires.met.2) in
+    let held : usage_of r.content ≡ c.held-held.result = own ∙ sym c.held-held.ensures.held in
     let place : c.place-place.result ≡ r.namespace = c.place-place.ensures.place ∙ ((λ i. place_if (active_at (c.slot-slot.ensures i) (sym c.self.view_is i).records)) ∙ ap place_if e) in
     let count : c.count-usage.result ≡ count_of layer = c.count-usage.ensures.count ∙ ap count_of c.layer.ensures.value in
     let after : c.total_with-after.result ≡ charge_with r (count_of layer) s.records = c.total_with-after.ensures ∙ (λ i. plus (minus (charge_of (place i) (sym c.self.view_is i).records) (sym held i)) (count i)) in
@@ -78,15 +78,15 @@ invariant_of-self-2 g c =
     e c.requires.slot refl refl
     (omega (arith, less, c.self.invariant.open_are))
     (c.set.ensures ∙ (λ i. set c.self.inside.totals (place i) (after i)))
-    (c.spend.ensures.charges ∙ ap (λ (x : ShareState). set c.self.inside.slots x.slot (free_charge x.slot)) c.meet-held.ensures.share))
+    c.spend.ensures.charges)
 
 pub commit-requires-clause-open : goal.commit-requires-clause-open
 commit-requires-clause-open g c =
     let s = c.self.inside.state in
     let slot = c.args.share.slot in
-    let same = c.self.view_is ∙ c.meet-held.ensures.same in
-    let found = charge_at-issued slot s.records (ap (λ (u : State). (charge_at slot u.records).issued) same ∙ c.meet-held.ensures.met.0) in
+    let same = c.self.view_is in
+    let found = charge_at-issued slot s.records (ap (λ (u : State). (charge_at slot u.records).issued) same ∙ c.requires.met.0) in
     subst (λ k. IsSome (active_at k s.records)) (sym c.slot-slot.ensures) (ap is_some found.1)
 
 pub commit-requires-clause-few : goal.commit-requires-clause-few
-commit-requires-clause-few g c = omega (arith, c.self.invariant.good.fewer, c.next_id.ensures, ap (λ (u : State). u.next_id) c.self.view_is, ap (λ (u : State). u.next_id) c.meet-held.ensures.same)
+commit-requires-clause-few g c = omega (arith, c.self.invariant.good.fewer, c.next_id.ensures, ap (λ (u : State). u.next_id) c.self.view_is)

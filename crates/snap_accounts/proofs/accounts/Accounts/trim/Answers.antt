@@ -5,4 +5,4 @@ use Rattle.snap_call.proofs.Counts.{open_count-recharged}
 use Rattle.snap_accounts.proofs.accounts.Accounts.trim.Goals as goal
 
 pub returns-clause-open : goal.returns-clause-open
-returns-clause-open g c = ap (λ (s : State). open_count s.records) c.recharge.ensures.state ∙ (open_count-recharged c.meet-held.new.share.slot c.args.count c.meet-held.new.self.records ∙ ap (λ (s : State). open_count s.records) c.meet-held.ensures.same)
+returns-clause-open g c = ap (λ (s : State). open_count s.records) c.recharge.ensures.state ∙ open_count-recharged c.args.share.now.slot c.args.count c.args.self.now.records

@@ -1,6 +1,7 @@
 use Rattle.std.proofs.Common.{◌≡◌, false, List, Option, Some, IsSome, sym, ap, subst, ◌∙◌}
 use Rattle.std.specs.Prelude.{Result, Ok, is_some, not}
-use Rattle.std.specs.Option.{option_map}
+use Rattle.std.specs.Option.{option_and_then, option_map}
+use Rattle.std.specs.Result.{result_ok}
 use Rattle.snap_layer.specs.Tree.{Tree}
 use Rattle.snap_record.specs.Labels.{Bytes}
 use Rattle.snap_record.specs.declared.record.Record.{Record}
@@ -8,7 +9,7 @@ use Rattle.snap_call.specs.declared.refusal.Refusal.{Refusal}
 use Rattle.snap_call.specs.State.{ancestors, chain_from, is_too_deep, layers_of}
 use Rattle.snap_book.specs.Slot.{found_of}
 use Rattle.snap_world.specs.World.{Fits, WorldValue}
-use Rattle.snap_world.specs.Stacks.{own_in, own_layer}
+use Rattle.snap_world.specs.Stacks.{own_stack_by, own_layer}
 use Rattle.snap_world.proofs.Standing.{chained}
 use Rattle.snap_world.proofs.world.World.own.Goals as goal
 
@@ -16,8 +17,8 @@ not_deep : (o : Option (List Record)) → IsSome o → not (is_some o) ≡ false
 not_deep o all = ap not all
 
 -- the record that was found has this layer, if it has one
-owned : (w : WorldValue) (r : Record) (o : Result Record Refusal) (layer : Option Tree) → o ≡ Ok r → own_layer w.hands r.content ≡ layer → own_in w o ≡ option_map (λ t. (t, layers_of (ancestors r.namespace r.parent w.state.records))) layer
-owned w r o layer found is = ap (own_in w) found ∙ ap (option_map (λ t. (t, layers_of (ancestors r.namespace r.parent w.state.records)))) is
+owned : (w : WorldValue) (r : Record) (o : Result Record Refusal) (layer : Option Tree) → o ≡ Ok r → own_layer w.hands r.content ≡ layer → option_and_then (own_stack_by w) (result_ok o) ≡ option_map (λ t. (t, layers_of (ancestors r.namespace r.parent w.state.records))) layer
+owned w r o layer found is = ap (λ (p : Result Record Refusal). option_and_then (own_stack_by w) (result_ok p)) found ∙ ap (option_map (λ t. (t, layers_of (ancestors r.namespace r.parent w.state.records)))) is
 
 -- each record has a chain of ancestors
 pub chain-requires : goal.chain-requires

@@ -1,15 +1,18 @@
 use Rattle.std.proofs.Common.{◌≡◌, false, List, ◌∷◌, Option, Some, IsSome, sym, ap, subst, ◌∙◌}
 use Rattle.std.specs.Prelude.{Result, Ok, is_some, not}
+use Rattle.std.specs.Option.{option_and_then, option_map}
+use Rattle.std.specs.Result.{result_ok}
 use Rattle.snap_layer.specs.Tree.{Tree}
 use Rattle.snap_usage.specs.declared.usage.Usage.{Usage}
 use Rattle.snap_record.specs.Labels.{Bytes}
+use Rattle.snap_record.specs.declared.record.Content.{Content}
 use Rattle.snap_record.specs.declared.record.Content.TheVariants.{Committed}
 use Rattle.snap_record.specs.declared.record.Record.{Record}
 use Rattle.snap_call.specs.declared.refusal.Refusal.{Refusal}
-use Rattle.snap_call.specs.State.{ancestors, chain_from, is_too_deep, layers_of}
+use Rattle.snap_call.specs.State.{ancestors, chain_from, is_too_deep, layer_of, layers_of}
 use Rattle.snap_book.specs.Slot.{found_of}
 use Rattle.snap_world.specs.World.{Fits, WorldValue}
-use Rattle.snap_world.specs.Stacks.{peeked_by, peeked_in}
+use Rattle.snap_world.specs.Stacks.{peeked_by}
 use Rattle.snap_world.proofs.Standing.{chained}
 use Rattle.snap_world.proofs.world.World.peek.Goals as goal
 
@@ -17,8 +20,10 @@ not_deep : (o : Option (List Record)) → IsSome o → not (is_some o) ≡ false
 not_deep o all = ap not all
 
 -- the record that was found is a committed one
-committed : (rs : List Record) (r : Record) (o : Result Record Refusal) (layer : Tree) (usage : Usage) → o ≡ Ok r → r.content ≡ Committed layer usage → peeked_in rs o ≡ Some (layer ∷ layers_of (ancestors r.namespace r.parent rs))
-committed rs r o layer usage found is = ap (peeked_in rs) found ∙ ap (peeked_by rs r) is
+committed : (rs : List Record) (r : Record) (o : Result Record Refusal) (layer : Tree) (usage : Usage) → o ≡ Ok r → r.content ≡ Committed layer usage → option_and_then (peeked_by rs) (result_ok o) ≡ Some (layer ∷ layers_of (ancestors r.namespace r.parent rs))
+committed rs r o layer usage found is =
+    ap (λ (p : Result Record Refusal). option_and_then (peeked_by rs) (result_ok p)) found
+    ∙ ap (λ (c : Content). option_map (λ (t : Tree). t ∷ layers_of (ancestors r.namespace r.parent rs)) (layer_of c)) is
 
 -- each record has a chain of ancestors
 pub chain-requires : goal.chain-requires
