@@ -23,22 +23,26 @@ pub record ReadValue : Type 0 where
   pub names : List Bytes
   pub jobs : List Job
 
+-- a script has at most so many jobs
+abbrev pub max_jobs : ℕ
+max_jobs = 65536
+
 -- a store of the configuration, and no job
-abbrev pub opened : Config → ReadValue
-opened config = record { round = record { opening = opening config; limit = config.journal }; names = map (λ n. n.name) config.namespaces; jobs = [] }
+abbrev pub opened_read : Config → ReadValue
+opened_read config = record { round = record { opening = opening config; limit = config.journal }; names = map (λ n. n.name) config.namespaces; jobs = [] }
 
 -- the same, unless a part of the configuration is malformed: the first such is a fault
 abbrev pub opened_as : Config → Result ReadValue Fault
-opened_as config = option_map_or (λ field. Err (BadOpen (Some field))) (bad_field config) (Ok (opened config))
+opened_as config = option_map_or (λ field. Err (BadOpen (Some field))) (bad_field config) (Ok (opened_read config))
 
 -- one job more
 abbrev pub with_job : ReadValue → Job → ReadValue
 with_job read job = record { round = read.round; names = read.names; jobs = read.jobs ++ job ∷ [] }
 
--- what is read with the bytes of the next line that isn't empty, by the fields that it may have: the store, then jobs, of which there are at most 65,536
+-- what is read with the bytes of the next line that isn't empty, by the fields that it may have: the store, then jobs
 unfoldable pub read_with : FieldRule → Option ReadValue → List ℕ → Result ReadValue Fault
 read_with rule None bytes = do opened_as (← opening_of rule (← object_in bytes))
-read_with rule (Some read) bytes = if nat_lt (length read.jobs) 65536 then (do Ok (with_job read (← job_of rule (← object_in bytes)))) else Err TooLong
+read_with rule (Some read) bytes = if nat_lt (length read.jobs) max_jobs then (do Ok (with_job read (← job_of rule (← object_in bytes)))) else Err TooLong
 
 -- what was read is there
 abbrev pub there : Result ReadValue Fault → Result (Option ReadValue) Fault

@@ -148,9 +148,10 @@ impl<N: RoundName> Read<N> {
 /// Takes the lines of a script of jobs. None has an answer: the jobs are run once all lines are read.
 ///
 /// The first line that isn't empty has the faults of `open`, and last `BadOpen` where the configuration is
-/// malformed. The line of a job has `TooLong` where 65,536 jobs were read; then `NotJson`, `NotAnObject`, `UnknownField`
-/// where not any field may stand, and `BadField` with the first of its fields, or `Operation` with the first of its
-/// operations that has a fault. Where any field may stand, each fault is brief. `OutOfMemory` where memory was refused.
+/// malformed. The line of a job has `TooLong` where 65,536 jobs were read; then `NotJson`, `NotAnObject`,
+/// `UnknownField` where not any field may stand, and `BadField` with the first of its fields, or `Operation` with the
+/// first of its operations that has a fault. Where any field may stand, each fault is brief. `OutOfMemory` where memory
+/// was refused.
 ///
 /// The memory and the cost grow with the line, and a `fill` takes as many bytes as it asks for.
 impl<N: RoundName> TakeLine for JobLines<N> {

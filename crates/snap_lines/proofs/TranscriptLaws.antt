@@ -14,7 +14,8 @@ use Rattle.snap_lines.proofs.KnownLaws.{Appends-trans, Appends-kept, Appends-nil
 use Rattle.snap_lines.proofs.LineLaws.{line_split, line_last, line_begins, Begins, begins_both, feed_ended, feed_open, feed_after, feed_long, open_more}
 use Rattle.snap_lines.specs.Effects.{Effect, Effects}
 use Rattle.snap_lines.specs.Lines.{lines_of, is_open, without_feed, feeds}
-use Rattle.snap_lines.specs.Transcripts.{Place, Transcript, Tells, TellsPart, prepended, transcript_from, effect_at, effect_within, goes_on, next_number, passes, left_after, place_after, max_line, cut}
+use Rattle.snap_script.specs.Lines.{max_line}
+use Rattle.snap_lines.specs.Transcripts.{Place, Transcript, Tells, TellsPart, prepended, transcript_from, effect_at, effect_within, goes_on, next_number, passes, left_after, place_after, cut}
 use Rattle.snap_lines.specs.Runs.{Behind, Run, within, kept_length, some_of, and_more, transcript_on, Goes, EndsAtFault, TakesLine, line_in, Refuses, Breaks, LeavesLine, StopsIn, StopsAtEnd}
 use Rattle.snap_lines.specs.declared.stop.LineFault.{LineFault}
 use Rattle.snap_lines.specs.declared.stop.Stop.{Stop}

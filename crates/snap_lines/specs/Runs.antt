@@ -5,7 +5,8 @@ use Rattle.std.specs.Io.KnownBytes.{Appends}
 use Rattle.snap_script.specs.declared.fault.Fault.{Fault}
 use Rattle.snap_lines.specs.Effects.{Effect, Effects}
 use Rattle.snap_lines.specs.Lines.{lines_of, feeds}
-use Rattle.snap_lines.specs.Transcripts.{max_line, cut, next_number, Place, Transcript, prepended, effect_at, place_after, transcript_from, Tells, TellsPart}
+use Rattle.snap_script.specs.Lines.{max_line}
+use Rattle.snap_lines.specs.Transcripts.{cut, next_number, Place, Transcript, prepended, effect_at, place_after, transcript_from, Tells, TellsPart}
 use Rattle.snap_lines.specs.declared.stop.LineFault.{LineFault}
 use Rattle.snap_lines.specs.declared.stop.Stop.{Stop}
 use Rattle.snap_lines.specs.declared.stop.Stop.TheVariants.{Line, InputFailed, OutputFailed, OutOfMemory}
@@ -20,7 +21,7 @@ pub record Behind : Type 0 where
 abbrev pub nothing : Option ℕ → Behind
 nothing most = record { lines = 0; left = most; pending = [] }
 
--- a line that is cut is known by its length
+-- so many bytes are kept of a line at most: where the input has no limit, one more than a line has, by which a longer one is known
 abbrev pub kept_length : Option ℕ → ℕ
 kept_length None = cut
 kept_length (Some left) = max_line

@@ -6,7 +6,7 @@ use Rattle.std.specs.Option.{ok_or, option_map_or, option_zip}
 use Rattle.std.specs.Str.{bytes_eq}
 use Rattle.serde_json.specs.Data.{Data, null, boolean, number, string, array, object, Items, no_items, item, Members, no_members, member}
 use Rattle.serde_json.specs.Find.{get, as_number, as_u64, as_str, as_array, as_object}
-use Rattle.snap_path.specs.Limits.{most_file_bytes}
+use Rattle.snap_path.specs.Limits.{most_file_bytes, most_number}
 use Rattle.snap_usage.specs.declared.usage.Usage.{Usage}
 use Rattle.snap_record.specs.Labels.{Bytes, Label, with_label}
 use Rattle.snap_record.specs.declared.filter.LabelFilter.{LabelFilter}
@@ -61,7 +61,7 @@ as_natural d = option_and_then as_u64 (as_number d)
 
 -- a mode: a number, and a greater one than 32 bits hold counts as the greatest of these
 abbrev pub as_mode : Data → Option ℕ
-as_mode d = option_map (λ n. min n 4294967295) (as_natural d)
+as_mode d = option_map (λ n. min n most_number) (as_natural d)
 
 -- two numbers
 abbrev pub pair_in : Items → Option (ℕ × ℕ)

@@ -38,7 +38,7 @@ operation_fields (file_verbs.At path_verbs.Whiteout) = fields.Path ∷ []
 operation_fields file_verbs.Link = fields.From ∷ fields.To ∷ []
 operation_fields file_verbs.Rename = fields.From ∷ fields.To ∷ []
 
--- the fields that each command has: a file command those of its operation, and before them what a job has for all its operations
+-- the fields that each command has, with and without a default: a file command those of its operation, and before them what a job has for all its operations
 abbrev pub fields_of : Verb → List Field
 fields_of verbs.Open = fields.Root ∷ fields.Namespaces ∷ fields.Journal ∷ fields.Slots ∷ fields.LayerInodes ∷ []
 fields_of verbs.Reopen = fields.Journal ∷ []

@@ -83,6 +83,10 @@ opening_of rule line = do
   session ← session_known rule line
   config_of line
 
--- a line, without its line feed, by the fields that it may have: at most 16 MiB
+-- a line has at most 16 MiB, without its line feed
+abbrev pub max_line : ℕ
+max_line = 16777216
+
+-- a line, without its line feed, by the fields that it may have
 unfoldable pub line_of : FieldRule → Bool → List ℕ → Result Line Fault
-line_of rule opened bytes = if nat_lt 16777216 (length bytes) then Err TooLong else (if is_empty bytes then Ok lines.Empty else command_line rule opened bytes)
+line_of rule opened bytes = if nat_lt max_line (length bytes) then Err TooLong else (if is_empty bytes then Ok lines.Empty else command_line rule opened bytes)

@@ -8,7 +8,7 @@ use Rattle.serde_json.specs.Find.{get, as_str}
 use Rattle.snap_script.specs.declared.request.Id.{Id}
 use Rattle.snap_script.specs.declared.request.Id.TheVariants.{Text, Number}
 use Rattle.snap_script.specs.Fields.{as_natural}
-use Rattle.snap_script.specs.Lines.{is_empty, object_in}
+use Rattle.snap_script.specs.Lines.{is_empty, max_line, object_in}
 
 -- a text or a number
 abbrev pub as_id : Data → Option Id
@@ -20,4 +20,4 @@ id_in_request line = option_and_then as_id (get (codes "id") line)
 
 -- the id of a line, without its line feed: one above 16 MiB and an empty one have none
 unfoldable pub id_of : List ℕ → Option Id
-id_of bytes = if nat_lt 16777216 (length bytes) then None else (if is_empty bytes then None else option_and_then id_in_request (result_ok (object_in bytes)))
+id_of bytes = if nat_lt max_line (length bytes) then None else (if is_empty bytes then None else option_and_then id_in_request (result_ok (object_in bytes)))

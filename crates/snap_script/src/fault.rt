@@ -114,7 +114,8 @@ pub enum Fault {
     BadField(Field, Option<Found>),
     /// The operation of a job that has this number, counted from 1, has the fault.
     Operation(u64, OperationFault),
-    /// The store of a script of jobs is refused for its configuration; and its first malformed part, where that is told.
+    /// The configuration that opens the store of a script of jobs is malformed; and its first such part, where that is
+    /// told.
     BadOpen(Option<ConfigField>),
     /// The command was refused, where a run ends at that.
     Refused(Refused),
@@ -293,7 +294,7 @@ impl OperationFault {
 
 impl Fault {
     /// The fault without what is wanted and what is there, and without what is near; that of an operation without its
-    /// place. Takes no memory.
+    /// place, and that of a configuration without its part. Takes no memory.
     pub fn brief(self) -> Fault
         ensures { result ≡ brief self }
     {

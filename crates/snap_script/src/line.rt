@@ -106,7 +106,7 @@ pub(crate) fn command_in(
     Ok(Line::Command { session, command })
 }
 
-/// That a line which opens a store where no session is named may have what stands for one.
+/// Tests the `s` of a line that opens a store where no session is named, but not where any field may stand.
 #[tactic(auto, unfolding(crate::specs::Lines::session_known))]
 fn session_known(rule: FieldRule, line: &Value<'_>) -> Result<(), Fault>
     ensures { result ≡ session_known rule (view line.now) }

@@ -10,7 +10,7 @@ use Rattle.snap_script.specs.declared.answer.Answer.TheVariants as answers
 abbrev pub refusal_answer : Refusal → Answer
 refusal_answer why = answers.Reply (replies.Refused why)
 
--- what follows what was found, or else why nothing was
+-- the first function of what was found, or else the other one of why nothing was
 abbrev pub found_or_else : {A B E : Type 0} → (A → B) → (E → B) → Result A E → B
 found_or_else answer other (Ok found) = answer found
 found_or_else answer other (Err why) = other why

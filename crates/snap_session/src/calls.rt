@@ -10,7 +10,7 @@ ghost use Rattle.snap_session.specs.Commands.{stepped, on_key};
 ghost use Rattle.snap_session.specs.Found.{found_or_else, refusal_answer};
 
 use crate::step::called;
-use snap_call::{Call, Refusal, Reply};
+use snap_call::{Call, Reply};
 use snap_ledger::StoreName;
 use snap_record::Text;
 use snap_script::Answer;

@@ -2,8 +2,8 @@
 //! of each answer is written to an output.
 //!
 //! What is written is one definition, `script` in `specs/Script.antt`: the transcript of `snap_lines`, where
-//! each line does what its command does. That is `command_done` in `specs/Commands.antt`, over the steps of a world. What a
-//! server writes, which answers each line, is `service` in `specs/Service.antt`.
+//! each line does what its command does. That is `command_done` in `specs/Commands.antt`, over the steps of a world.
+//! What a server writes, which answers each line, is `service` in `specs/Service.antt`.
 #![tactic(auto)]
 
 mod calls;

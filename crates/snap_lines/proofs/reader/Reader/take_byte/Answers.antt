@@ -6,7 +6,8 @@ use Rattle.snap_path.specs.Memory.{no_memory}
 use Rattle.snap_script.specs.declared.fault.Fault.TheVariants.{TooLong}
 use Rattle.snap_script.specs.declared.fault.Shortage.TheVariants.{Allocator}
 use Rattle.snap_lines.specs.Lines.{is_open}
-use Rattle.snap_lines.specs.Transcripts.{max_line, next_number}
+use Rattle.snap_script.specs.Lines.{max_line}
+use Rattle.snap_lines.specs.Transcripts.{next_number}
 use Rattle.snap_lines.specs.Runs.{Behind, within, kept_length, Goes, StopsIn}
 use Rattle.snap_lines.specs.declared.stop.Stop.{Stop}
 use Rattle.snap_lines.specs.declared.stop.Stop.TheVariants.{OutOfMemory}
