@@ -136,8 +136,8 @@ impl<N: StoreName> Accounts<N> {
 
     /// Charges the slot of the share for the wanted usage where the limit of its namespace covers that,
     /// else for the needed one; never for less than it is charged already. `Err` has what is free, which
-    /// covers neither. Both count an entry. Takes no memory. The cost grows with the logarithm of the
-    /// number of records.
+    /// covers neither. Both count an entry. The share has met its charge before ([`Accounts::meet`]). Takes
+    /// no memory. The cost grows with the logarithm of the number of records.
     pub fn charge(&mut self, share: &mut Share<N>, need: Usage, want: Usage) -> Result<Usage, Usage>
         requires slot { share.old.slot < max_slots }
         requires met { Meets (charge_at share.old.slot self.old.records) share.old }
@@ -176,8 +176,9 @@ impl<N: StoreName> Accounts<N> {
         let _ = self.total(place);
     }
 
-    /// Lowers the charge of the share's slot to a count that it covers, and counts an entry. Takes no
-    /// memory. The cost grows with the logarithm of the number of records.
+    /// Lowers the charge of the share's slot to a count that it covers, and counts an entry. The share has
+    /// met its charge before ([`Accounts::meet`]). Takes no memory. The cost grows with the logarithm of the
+    /// number of records.
     pub fn trim(&mut self, share: &mut Share<N>, count: Usage)
         requires slot { share.old.slot < max_slots }
         requires met { Meets (charge_at share.old.slot self.old.records) share.old }

@@ -76,7 +76,8 @@ impl<N: StoreName> Accounts<N> {
     /// Makes the snapshot of the share's slot a committed one of this name and layer, names it in the
     /// lease, where one is given, frees the slot and counts an entry. Its namespace is charged for the
     /// count of the layer, which is the answer, and no longer for the rest of the share.
-    /// [`Accounts::check_commit`] tests the name and the lease.
+    /// [`Accounts::check_commit`] tests the name and the lease, and the share has met its charge before
+    /// ([`Accounts::meet`]).
     ///
     /// Takes memory for the committed record, with copies of its name, its parent and its labels, and for a
     /// name that is new to the lease; where that is refused, nothing changes, and the share comes back. The

@@ -24,7 +24,7 @@ use std::alloc::{AllocError, Global};
 pub struct Vacancy {
     /// The place of its namespace among those of the configuration, from 0.
     pub place: usize,
-    /// A free slot, one of 0 to 63.
+    /// The lowest free slot of the store.
     pub slot: u64,
 }
 

@@ -10,7 +10,8 @@ use Rattle.snap_record.specs.declared.record.Record.{Record}
 use Rattle.snap_call.specs.declared.refusal.Refusal.{Refusal}
 use Rattle.snap_call.specs.declared.state.State.{State}
 use Rattle.snap_call.specs.State.{ancestors}
-use Rattle.snap_book.specs.Slot.{found_of, result_and_then}
+use Rattle.snap_call.specs.Results.{◌>>=◌}
+use Rattle.snap_book.specs.Slot.{found_of}
 
 -- what these snapshots are charged together
 abbrev pub usage_of_all : List Record → Usage
@@ -19,4 +20,4 @@ usage_of_all (r ∷ rs) = plus (usage_of r.content) (usage_of_all rs)
 
 -- what the snapshot of this key in the namespace is charged together with its committed ancestors, or why there is none
 abbrev pub chain_usage : State → Bytes → Bytes → Result Usage Refusal
-chain_usage s namespace key = result_and_then (λ r. Ok (usage_of_all (r ∷ ancestors r.namespace r.parent s.records))) (found_of s namespace key)
+chain_usage s namespace key = found_of s namespace key >>= λ r. Ok (usage_of_all (r ∷ ancestors r.namespace r.parent s.records))

@@ -10,12 +10,8 @@ use Rattle.snap_call.specs.declared.refusal.Refusal.{Refusal}
 use Rattle.snap_call.specs.declared.refusal.Refusal.TheVariants.{NoNamespace, NotFound, NotActive}
 use Rattle.snap_call.specs.declared.state.State.{State}
 use Rattle.snap_call.specs.Records.{record_at}
+use Rattle.snap_call.specs.Results.{◌>>=◌}
 use Rattle.snap_call.specs.State.{place_of}
-
--- what follows a value; an error stays
-abbrev pub result_and_then : {A B E : Type 0} → (A → Result B E) → Result A E → Result B E
-result_and_then f (Ok x) = f x
-result_and_then f (Err e) = Err e
 
 -- the record of this key in the namespace, or why there is none
 abbrev pub found_of : State → Bytes → Bytes → Result Record Refusal
@@ -28,4 +24,4 @@ slot_and_id_in id content = Err NotActive
 
 -- the slot and the id of the active snapshot of this key in the namespace, or why there is none
 abbrev pub slot_and_id_of : State → Bytes → Bytes → Result (ℕ × ℕ) Refusal
-slot_and_id_of s namespace key = result_and_then (λ r. slot_and_id_in r.id r.content) (found_of s namespace key)
+slot_and_id_of s namespace key = found_of s namespace key >>= λ r. slot_and_id_in r.id r.content

@@ -5,7 +5,6 @@ ghost use Rattle.snap_call.specs.Forms.{is_layer_limit};
 ghost use Rattle.snap_call.specs.Records.{open_count};
 ghost use Rattle.snap_call.specs.State.{place_of, ancestors, ids_of, is_too_deep, layers_of};
 ghost use Rattle.snap_call.specs.Step.{one, prepared};
-ghost use Rattle.snap_call.specs.Journal.{call_entry};
 ghost use Rattle.snap_call.specs.declared.call.Call.TheVariants as calls;
 ghost use Rattle.snap_call.specs.declared.call.Given.TheVariants.{Nothing};
 ghost use Rattle.snap_call.specs.declared.reply.Reply.TheVariants.{Prepared};

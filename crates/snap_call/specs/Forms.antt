@@ -54,7 +54,7 @@ is_slots n = nat_le 1 n && nat_le n max_slots
 abbrev pub is_layer_limit : ℕ → Bool
 is_layer_limit inodes = nat_le 1 inodes && nat_le inodes most_inodes
 
--- the part of a configuration has its form; of namespaces there are at most 64
+-- the part of a configuration has its form; there are at most 64 namespaces, with distinct names
 abbrev pub has_form : Config → ConfigField → Bool
 has_form c fields.Root = is_root_text c.root
 has_form c fields.Namespaces = list_all is_namespace c.namespaces && nat_le (length c.namespaces) 64 && have_distinct_names c.namespaces

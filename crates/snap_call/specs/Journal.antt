@@ -8,6 +8,7 @@ use Rattle.snap_call.specs.declared.reply.Reply.{Reply}
 use Rattle.snap_call.specs.declared.state.State.{State}
 use Rattle.snap_call.specs.Step.{step, IsAllowed}
 
+-- the entry of a call of session n, with what it was given and its reply
 abbrev pub call_entry : ℕ → Call → Given → Reply → Entry
 call_entry n call given reply = record { session = n; call = call; given = given; reply = reply }
 

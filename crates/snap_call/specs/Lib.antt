@@ -1,4 +1,5 @@
 pub mod Forms
+pub mod Results
 pub mod Records
 pub mod Spaces
 pub mod State

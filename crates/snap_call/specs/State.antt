@@ -72,15 +72,16 @@ is_too_deep place parent rs = not (is_some (chain_from 64 rs place parent))
 abbrev pub ancestors : ℕ → Bytes → List Record → List Record
 ancestors place parent rs = unwrap_or (chain_from 64 rs place parent) []
 
+-- the ids of these snapshots, in their order
+abbrev pub ids_of : List Record → List ℕ
+ids_of rs = map (λ r. r.id) rs
+
 -- the stored layer of a committed snapshot
 abbrev pub layer_of : Content → Option Tree
 layer_of (Committed layer usage) = Some layer
 layer_of content = None
 
--- their ids and their layers, in the same order
-abbrev pub ids_of : List Record → List ℕ
-ids_of rs = map (λ r. r.id) rs
-
+-- the stored layers of these snapshots, in their order
 abbrev pub layers_of : List Record → List Tree
 layers_of rs = filter_map (λ r. layer_of r.content) rs
 

@@ -18,7 +18,7 @@ use Rattle.snap_history.specs.History.{namespace_in, slot_in}
 use Rattle.snap_history.specs.declared.info.EntryInfo.{EntryInfo}
 use Rattle.snap_history.specs.declared.change.Change.{Change}
 
--- what the open snapshots of the namespace are charged, each in the place of its slot
+-- what the open snapshot in a slot is charged, where the list has each in the place of its slot
 abbrev pub share_of_slot : ℕ → List (Option Usage) → Option Usage
 share_of_slot slot shares = slice_index_or shares slot None
 

@@ -2,9 +2,9 @@
 use Rattle.std.specs.Prelude.{if◌then◌else◌, IfErr, IfSome, OnOk, take}
 use Rattle.std.specs.Io.KnownBytes.{Appends, Keeps}
 use Rattle.std.proofs.Common.{◌≡◌, inl, inr, ℕ, Bool, true, false, List, [], ◌∷◌, ◌++◌, Option, None, Some, Result, Ok, Err, refl, sym, ap, ◌∙◌, subst, append-nil, length, arith, take_all}
+use Rattle.snap_call.specs.Results.{◌>>=◌}
 use Rattle.snap_script.specs.declared.fault.Fault.{Fault}
 use Rattle.snap_script.specs.declared.fault.Fault.TheVariants.{TooLong}
-use Rattle.snap_script.specs.Results.{◌>>=◌}
 use Rattle.snap_lines.specs.Effects.{Effect}
 use Rattle.snap_lines.specs.Lines.{feeds, lines_of, without_feed}
 use Rattle.snap_lines.specs.Runs.{Breaks}

@@ -5,6 +5,7 @@ use Rattle.std.specs.Prelude.{ℕ, if◌then◌else◌, List, Some, Result, Ok, 
 use Rattle.std.specs.Str.{bytes_eq}
 use Rattle.serde_json.specs.Data.{Data}
 use Rattle.serde_json.specs.Find.{as_str}
+use Rattle.snap_call.specs.Results.{◌>>=◌}
 use Rattle.snap_script.specs.declared.fault.Field.TheVariants as fields
 use Rattle.snap_script.specs.declared.fault.Found.TheVariants.{Text}
 use Rattle.snap_script.specs.declared.fault.Fault.{Fault}
@@ -14,7 +15,6 @@ use Rattle.snap_script.specs.Fields.{text, optional, given, as_usage}
 use Rattle.snap_script.specs.Known.{known_job}
 use Rattle.snap_script.specs.Commands.{named}
 use Rattle.snap_script.specs.Operations.{operations}
-use Rattle.snap_script.specs.Results.{◌>>=◌}
 use Rattle.snap_writers.specs.declared.job.End.{End}
 use Rattle.snap_writers.specs.declared.job.End.TheVariants as ends
 use Rattle.snap_writers.specs.declared.job.Job.{Job}

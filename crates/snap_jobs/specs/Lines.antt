@@ -6,12 +6,12 @@ use Rattle.snap_record.specs.Labels.{Bytes}
 use Rattle.snap_call.specs.Forms.{bad_field}
 use Rattle.snap_call.specs.State.{opening}
 use Rattle.snap_call.specs.declared.config.Config.{Config}
+use Rattle.snap_call.specs.Results.{◌>>=◌}
 use Rattle.snap_round.specs.declared.rule.Round.{Round}
 use Rattle.snap_script.specs.declared.fault.Fault.{Fault}
 use Rattle.snap_script.specs.declared.fault.Fault.TheVariants.{TooLong, BadOpen}
 use Rattle.snap_script.specs.declared.unknown.FieldRule.{FieldRule}
 use Rattle.snap_script.specs.Lines.{is_empty, object_in, opening_of, told_by_rule}
-use Rattle.snap_script.specs.Results.{◌>>=◌}
 use Rattle.snap_writers.specs.declared.job.Job.{Job}
 use Rattle.snap_lines.specs.Effects.{Effects}
 use Rattle.snap_lines.specs.Transcripts.{Transcript, max_bytes, transcript}

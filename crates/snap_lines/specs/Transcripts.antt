@@ -13,7 +13,7 @@ use Rattle.snap_lines.specs.declared.stop.Stop.TheVariants.{Line, InputFailed, O
 
 -- a longer line that is handed on is cut after so many bytes
 abbrev pub cut : ℕ
-cut = 16777217
+cut = max_line + 1
 
 -- all lines of a script have at most 1 GiB, with their line feeds
 abbrev pub max_bytes : ℕ

@@ -7,11 +7,11 @@ use Rattle.std.specs.Option.{ok_or}
 use Rattle.serde_json.specs.Data.{Data, Members}
 use Rattle.serde_json.specs.Find.{as_object}
 use Rattle.serde_json.specs.Read.{read}
+use Rattle.snap_call.specs.Results.{◌>>=◌}
 use Rattle.snap_json.specs.Objects.{object_alone}
 use Rattle.snap_script.specs.declared.fault.Fault.{Fault}
 use Rattle.snap_script.specs.declared.fault.Fault.TheVariants.{NotJson, NotAnObject}
 use Rattle.snap_script.specs.Lines.{json_of, object_of, object_in}
-use Rattle.snap_script.specs.Results.{◌>>=◌}
 
 utf8_value : (line : List ℕ) (b : Bool) → is_utf8 line ≡ b → json_of line ≡ cond b (ok_or (read line) NotJson) (Err NotJson)
 unfolding json_of

@@ -11,6 +11,7 @@ use Rattle.snap_record.specs.declared.filter.Filter.{Filter}
 use Rattle.snap_call.specs.declared.call.Call.TheVariants as calls
 use Rattle.snap_call.specs.declared.config.Config.{Config}
 use Rattle.snap_call.specs.Records.{default_slots, max_journal}
+use Rattle.snap_call.specs.Results.{◌>>=◌}
 use Rattle.snap_history.specs.declared.kind.CallKind.{CallKind}
 use Rattle.snap_history.specs.declared.kind.CallKind.TheVariants as kinds
 use Rattle.snap_script.specs.declared.fault.Field.TheVariants as fields
@@ -25,7 +26,6 @@ use Rattle.snap_script.specs.declared.verb.LookupVerb.{LookupVerb}
 use Rattle.snap_script.specs.declared.verb.LookupVerb.TheVariants as lookup_verbs
 use Rattle.snap_script.specs.Fields.{text, required, optional, given, as_natural, as_usage, as_texts, as_kind, as_labels, as_label_filters, as_namespaces}
 use Rattle.snap_script.specs.Operations.{path_in, file_operation}
-use Rattle.snap_script.specs.Results.{◌>>=◌}
 
 -- the snapshot that a command names: its namespace and its key
 unfoldable pub named : Data → Result (Bytes × Bytes) Fault

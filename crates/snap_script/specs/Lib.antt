@@ -1,5 +1,4 @@
 pub mod Faults
-pub mod Results
 pub mod Fields
 pub mod Near
 pub mod Words

@@ -8,6 +8,7 @@ use Rattle.serde_json.specs.Data.{Data}
 use Rattle.serde_json.specs.Read.{read}
 use Rattle.serde_json.specs.Find.{as_object}
 use Rattle.snap_call.specs.declared.config.Config.{Config}
+use Rattle.snap_call.specs.Results.{◌>>=◌}
 use Rattle.snap_script.specs.declared.fault.Field.TheVariants as fields
 use Rattle.snap_script.specs.declared.fault.Fault.{Fault}
 use Rattle.snap_script.specs.declared.fault.Fault.TheVariants.{TooLong, NotJson, NotAnObject, FirstLineMustBeOpen, OpenTwice, NoSuchCommand}
@@ -22,7 +23,6 @@ use Rattle.snap_script.specs.Fields.{text, optional, as_natural}
 use Rattle.snap_script.specs.Words.{near_command, verb_of}
 use Rattle.snap_script.specs.Commands.{config_of, command_of}
 use Rattle.snap_script.specs.Known.{known_fields}
-use Rattle.snap_script.specs.Results.{◌>>=◌}
 
 -- nothing but spaces, tabs and carriage returns
 abbrev pub is_empty : List ℕ → Bool

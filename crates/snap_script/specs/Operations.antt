@@ -8,6 +8,7 @@ use Rattle.serde_json.specs.Find.{as_array, as_object, as_str}
 use Rattle.snap_path.specs.Text.{Names, is_path, path_names}
 use Rattle.snap_upper.specs.declared.op.Op.{Op}
 use Rattle.snap_upper.specs.declared.op.Op.TheVariants as ops
+use Rattle.snap_call.specs.Results.{◌>>=◌}
 use Rattle.snap_script.specs.declared.fault.Field.{Field}
 use Rattle.snap_script.specs.declared.fault.Field.TheVariants as fields
 use Rattle.snap_script.specs.declared.fault.Found.TheVariants.{Text}
@@ -24,7 +25,6 @@ use Rattle.snap_script.specs.Faults.{of_operation}
 use Rattle.snap_script.specs.Fields.{text, required, optional, given, as_natural, as_mode, content_bytes_of}
 use Rattle.snap_script.specs.Known.{known_operation}
 use Rattle.snap_script.specs.Words.{near_file_command, verb_of}
-use Rattle.snap_script.specs.Results.{◌>>=◌}
 
 -- the path that a text is
 abbrev pub path_of : List ℕ → Option Names

@@ -2,12 +2,12 @@
 -- Cited by `Runner::new`, `Runner as TakeLine`, `replay_within` and others.
 use Rattle.std.specs.Prelude.{List, [], ℕ, if◌then◌else◌, Option, None, Some, is_some, Result, Ok, Err}
 use Rattle.std.specs.Option.{option_map_or}
+use Rattle.snap_call.specs.Results.{◌>>=◌}
 use Rattle.snap_script.specs.declared.answer.Answer.{Answer}
 use Rattle.snap_script.specs.declared.fault.Fault.{Fault}
 use Rattle.snap_script.specs.declared.fault.Fault.TheVariants as faults
 use Rattle.snap_script.specs.declared.line.Line.{Line}
 use Rattle.snap_script.specs.declared.line.Line.TheVariants.{Empty, Command}
-use Rattle.snap_script.specs.Results.{◌>>=◌}
 use Rattle.snap_script.specs.Refusals.{refusal_in_answer}
 use Rattle.snap_script.specs.Answers.{answer_line, answer_told}
 use Rattle.snap_script.specs.Lines.{line_of}

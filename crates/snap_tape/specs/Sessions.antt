@@ -10,6 +10,7 @@ use Rattle.snap_tape.specs.declared.check.SessionsFault.TheVariants as faults
 
 -- ---- the sessions
 
+-- the session has the number n
 abbrev pub has_session_number : ℕ → SessionValue → Bool
 has_session_number n s = s.number == n
 

@@ -10,7 +10,8 @@ use Rattle.snap_record.specs.declared.record.Record.{Record}
 use Rattle.snap_call.specs.declared.refusal.Refusal.{Refusal}
 use Rattle.snap_call.specs.declared.refusal.Refusal.TheVariants.{NotActive}
 use Rattle.snap_call.specs.State.{ancestors, layer_of, layers_of, shown_layers}
-use Rattle.snap_book.specs.Slot.{found_of, result_and_then}
+use Rattle.snap_call.specs.Results.{◌>>=◌}
+use Rattle.snap_book.specs.Slot.{found_of}
 use Rattle.snap_world.specs.World.{HandValue, WorldValue, hand_at}
 
 -- the layers of the hand: its own, and those below it, nearest first (overlayfs.rst, "Upper and Lower", "Multiple lower layers")
@@ -25,7 +26,7 @@ stack_by hands (Committed layer usage) = Err NotActive
 
 -- the layers that the snapshot of this key in the namespace shows, or why there are none
 abbrev pub stack_of : WorldValue → Bytes → Bytes → Result (List Tree) Refusal
-stack_of w namespace key = result_and_then (λ r. stack_by w.hands r.content) (found_of w.state namespace key)
+stack_of w namespace key = found_of w.state namespace key >>= λ r. stack_by w.hands r.content
 
 -- what a committed snapshot would show: its own layer over those of its ancestors, nearest first (overlayfs.rst, "Multiple lower layers"); nothing for any other
 abbrev pub peeked_by : List Record → Record → Option (List Tree)

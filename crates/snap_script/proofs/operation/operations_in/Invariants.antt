@@ -1,7 +1,7 @@
 use Rattle.std.proofs.Common.{◌≡◌, ◌+◌, ◌++◌, drop, Ok}
+use Rattle.snap_call.specs.Results.{◌>>=◌}
 use Rattle.snap_json.specs.View.{items_view}
 use Rattle.snap_script.specs.Operations.{operations_in}
-use Rattle.snap_script.specs.Results.{◌>>=◌}
 use Rattle.snap_script.proofs.operation.operations_in.Given as goal
 
 abbrev pub invariant-loop-place : goal.invariant-loop-place

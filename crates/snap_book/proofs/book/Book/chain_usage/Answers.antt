@@ -6,9 +6,9 @@ use Rattle.snap_record.specs.Labels.{Bytes}
 use Rattle.snap_record.specs.Records.{usage_of}
 use Rattle.snap_record.specs.declared.record.Record.{Record}
 use Rattle.snap_call.specs.declared.refusal.Refusal.{Refusal}
+use Rattle.snap_call.specs.Results.{◌>>=◌}
 use Rattle.snap_call.specs.State.{ancestors, chain_from}
 use Rattle.snap_book.specs.Questions.{usage_of_all}
-use Rattle.snap_book.specs.Slot.{result_and_then}
 use Rattle.snap_book.specs.Small.{AreSmall}
 use Rattle.snap_book.proofs.Asking.{chained, found-small, small}
 use Rattle.snap_book.proofs.book.Book.chain_usage.Goals as goal
@@ -51,4 +51,4 @@ returns g c =
     ∙ ap (λ (rs : List Record). usage_of_all (unwrap_or (chain_from 64 rs f.namespace c.as_str.result.now) [])) c.records-records.ensures.records
     ∙ ap (λ (p : Bytes). usage_of_all (ancestors f.namespace p s.records)) c.as_str.ensures in
     ap ok (c.plus.ensures ∙ ap (λ (u : Usage). plus u c.usage_above-above.result) c.usage.ensures ∙ ap (plus (usage_of f.content)) above)
-    ∙ sym (ap (result_and_then (λ (r : Record). ok (usage_of_all (r ∷ ancestors r.namespace r.parent s.records)))) c.in_ok-found.ensures.found)
+    ∙ sym (ap (λ (f : Result Record Refusal). f >>= λ (r : Record). ok (usage_of_all (r ∷ ancestors r.namespace r.parent s.records))) c.in_ok-found.ensures.found)
