@@ -1,7 +1,7 @@
 -- What a run of jobs is answered.
 -- Cited by `write_jobs_within`, `write_jobs`.
 use Rattle.std.specs.Prelude.{◌≡◌, ◌⊎◌, ◌<◌, ℕ, Bool, true, false, ◌&&◌, not, List, [], ◌++◌, length, map, take, Option, Some, None, unwrap_or}
-use Rattle.std.specs.Io.KnownBytes.{Appends}
+use Rattle.std.specs.Io.KnownBytes.{Appends, Consumes}
 use Rattle.std.specs.List.{count_by}
 use Rattle.std.specs.Option.{option_map}
 use Rattle.snap_usage.specs.declared.usage.Usage.{Usage}
@@ -11,20 +11,27 @@ use Rattle.snap_call.specs.Records.{charge_of}
 use Rattle.snap_call.specs.State.{place_of}
 use Rattle.snap_book.specs.Book.{BookValue}
 use Rattle.snap_round.specs.declared.rule.Round.{Round}
+use Rattle.snap_tape.specs.Tapes.{SessionValue}
+use Rattle.snap_store.specs.Closing.{HasCause}
+use Rattle.snap_store.specs.declared.cause.Cause.{Cause}
+use Rattle.snap_store.specs.declared.cause.Cause.TheVariants as causes
 use Rattle.snap_script.specs.Answers.{answer_line}
 use Rattle.snap_script.specs.declared.answer.Answer.{Answer}
 use Rattle.snap_script.specs.declared.answer.Answer.TheVariants.{Jobs}
-use Rattle.snap_script.specs.declared.unknown.FieldRule.{FieldRule}
+use Rattle.snap_script.specs.declared.fault.Shortage.TheVariants.{Allocator}
 use Rattle.snap_writers.specs.declared.job.Ended.{Ended}
 use Rattle.snap_writers.specs.declared.job.Ended.TheVariants.{Committed, Discarded}
 use Rattle.snap_writers.specs.declared.job.Job.{Job}
 use Rattle.snap_writers.specs.Jobs.{IsReport}
-use Rattle.snap_lines.specs.declared.stop.Stop.TheVariants.{Line, OutputFailed}
+use Rattle.snap_writers.specs.Starting.{AreBack}
+use Rattle.snap_lines.specs.Lines.{feeds}
+use Rattle.snap_lines.specs.Transcripts.{first_lines, max_bytes}
+use Rattle.snap_lines.specs.declared.stop.Stop.TheVariants.{Line, InputFailed, OutputFailed, OutOfMemory}
+use Rattle.snap_jobs.specs.declared.run.JobOptions.{JobOptions}
 use Rattle.snap_jobs.specs.declared.stop.JobsStop.{JobsStop}
-use Rattle.snap_jobs.specs.declared.stop.JobsStop.TheVariants.{Lines, WantOfMemory}
+use Rattle.snap_jobs.specs.declared.stop.JobsStop.TheVariants.{Lines, NotClosed, WantOfMemory}
 use Rattle.snap_jobs.specs.Ends.{end_lines, wants_memory}
-use Rattle.snap_jobs.specs.Lines.{ReadValue, jobs_transcript}
-use Rattle.snap_jobs.specs.Words.{is_of_jobs}
+use Rattle.snap_jobs.specs.Lines.{ReadValue, jobs_effect, jobs_transcript, unread}
 
 -- a job that was committed
 abbrev pub is_job_committed : Ended → Bool
@@ -87,15 +94,39 @@ job_count (Some read) = length read.jobs
 abbrev pub HasLacked : Bool → Option ReadValue → ℕ → ℕ → Option (List ℕ) → Option (List ℕ) → Type 0
 HasLacked told read lacking all before after = (0 < lacking) × (all ≡ job_count read) × HasWritten told read lacking before after
 
--- where that ends otherwise: jobs lacked memory; or nothing is written, or a write failed and a first part of the text is
-abbrev pub HasBroken : Bool → Option ReadValue → JobsStop → Option (List ℕ) → Option (List ℕ) → Type 0
-HasBroken told read (WantOfMemory jobs all) before after = HasLacked told read jobs all before after
-HasBroken told read (Lines OutputFailed) before after = HasWrittenPart told read before after
-HasBroken told read stop before after = (is_of_jobs stop ≡ true) × (after ≡ before)
+-- how a run of jobs ends whose store can't be closed for the cause
+abbrev pub unclosed_stop : Cause → JobsStop
+unclosed_stop (causes.OutOfMemory want) = Lines (OutOfMemory (Allocator want))
+unclosed_stop (causes.StillOut snapshots) = NotClosed
+unclosed_stop causes.SessionsMissing = NotClosed
+unclosed_stop (causes.TapeMismatch mismatch) = NotClosed
 
--- where it ends otherwise over these bytes, by the fields that a line may have: a line's fault is the one that the lines have; where jobs lacked memory, no line has a fault, and the text is written; else nothing is, but where a write failed a first part of the text may be
-abbrev pub JobsHaveStopped : Bool → FieldRule → List ℕ → JobsStop → Option (List ℕ) → Option (List ℕ) → Type 0
-JobsHaveStopped told rule bytes (WantOfMemory jobs all) before after = ((jobs_transcript rule bytes).fault ≡ None) × HasLacked told (jobs_transcript rule bytes).value.read jobs all before after
-JobsHaveStopped told rule bytes (Lines (Line f)) before after = ((jobs_transcript rule bytes).fault ≡ Some f) × Appends before after []
-JobsHaveStopped told rule bytes (Lines OutputFailed) before after = Appends before after [] ⊎ HasWrittenPart told (jobs_transcript rule bytes).value.read before after
-JobsHaveStopped told rule bytes stop before after = Appends before after []
+-- so many workers have run the jobs on a store of this round and given their sessions back, and the store can't be closed for a cause that ends the run so
+abbrev pub IsUnclosed : ℕ → Round → List Job → JobsStop → Type 0
+IsUnclosed workers r jobs stop = (sessions : List SessionValue) × (cause : Cause) × AreBack r.opening.layer_inodes jobs workers sessions × HasCause r sessions cause × (stop ≡ unclosed_stop cause)
+
+-- a run of the jobs has no report: memory was refused, of which nothing more is said, or the store can't be closed
+abbrev pub HasNoReport : ℕ → Round → List Job → JobsStop → Type 0
+HasNoReport workers r jobs (Lines (OutOfMemory want)) = Unit {0}
+HasNoReport workers r jobs NotClosed = IsUnclosed workers r jobs NotClosed
+HasNoReport workers r jobs stop = ⊥
+
+-- jobs were read, and their run has no report
+abbrev pub HasNoText : ℕ → Option ReadValue → JobsStop → Type 0
+HasNoText workers None stop = ⊥
+HasNoText workers (Some read) stop = HasNoReport workers read.round read.jobs stop
+
+-- where that ends otherwise: jobs lacked memory; or there is no text, and nothing is written; or a write failed, and a first part of the text is
+abbrev pub HasBroken : JobOptions → Option ReadValue → JobsStop → Option (List ℕ) → Option (List ℕ) → Type 0
+HasBroken options read (WantOfMemory jobs all) before after = HasLacked options.ends read jobs all before after
+HasBroken options read (Lines OutputFailed) before after = HasWrittenPart options.ends read before after
+HasBroken options read stop before after = HasNoText options.workers read stop × (after ≡ before)
+
+-- where it ends otherwise over these bytes, of which the input has some left. A line's fault is the one that the lines have. Where jobs lacked memory, no line has a fault, and the text is written. Where the store can't be closed, no line has a fault, and nothing is written. Where a read failed, no line whose line feed was read has a fault, and nothing is written; nor is it where memory was refused. Where a write failed, nothing is, or no line has a fault, and a first part of the text is
+abbrev pub JobsHaveStopped : JobOptions → List ℕ → Option (List ℕ) → JobsStop → Option (List ℕ) → Option (List ℕ) → Type 0
+JobsHaveStopped options bytes left (WantOfMemory jobs all) before after = ((jobs_transcript options.fields bytes).fault ≡ None) × HasLacked options.ends (jobs_transcript options.fields bytes).value.read jobs all before after
+JobsHaveStopped options bytes left NotClosed before after = ((jobs_transcript options.fields bytes).fault ≡ None) × HasNoText options.workers (jobs_transcript options.fields bytes).value.read NotClosed × Appends before after []
+JobsHaveStopped options bytes left (Lines (Line f)) before after = ((jobs_transcript options.fields bytes).fault ≡ Some f) × Appends before after []
+JobsHaveStopped options bytes left (Lines InputFailed) before after = (read : List ℕ) × Consumes (Some bytes) left read × ((first_lines (Some max_bytes) jobs_effect (unread options.fields) bytes (feeds read)).fault ≡ None) × Appends before after []
+JobsHaveStopped options bytes left (Lines OutputFailed) before after = Appends before after [] ⊎ (((jobs_transcript options.fields bytes).fault ≡ None) × HasWrittenPart options.ends (jobs_transcript options.fields bytes).value.read before after)
+JobsHaveStopped options bytes left (Lines (OutOfMemory want)) before after = Appends before after []

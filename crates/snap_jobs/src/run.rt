@@ -2,9 +2,8 @@ ghost use Rattle.std.specs.Prelude.{◌≡◌, ◌≤◌, ◌<◌, length, None,
 ghost use Rattle.std.specs.Io.KnownBytes.{Appends};
 ghost use Rattle.snap_lines.specs.Runs.{Breaks};
 ghost use Rattle.snap_writers.specs.Jobs.{IsReport};
-ghost use Rattle.snap_jobs.specs.Answer.{HasBroken, JobsHaveStopped, HasWritten, IsTextOf};
+ghost use Rattle.snap_jobs.specs.Answer.{HasBroken, HasNoReport, JobsHaveStopped, HasWritten, IsTextOf, unclosed_stop};
 ghost use Rattle.snap_jobs.specs.Lines.{jobs_transcript};
-ghost use Rattle.snap_jobs.specs.Words.{is_of_jobs};
 ghost use Rattle.snap_jobs.specs.declared.stop.JobsStop.TheVariants.{WantOfMemory};
 
 use crate::answer::text_of;
@@ -46,7 +45,7 @@ impl Gate for OpenGate {
 
 // Why the store that comes back was not closed.
 fn stop_of<N: RoundName>(back: &NotClosed<N>) -> JobsStop
-    ensures { is_of_jobs result ≡ true }
+    ensures { result ≡ unclosed_stop back.now.cause }
 {
     match back.cause {
         Cause::OutOfMemory(no_memory) => {
@@ -68,7 +67,7 @@ fn report_of<N: RoundName + Send + Sync, T: Threads + Wait + Sync>(
 ) -> Result<Report<N>, JobsStop>
     requires { (1 ≤ workers) × (workers ≤ 16) }
     ensures report { IfOk result (λ report. IsReport store jobs.now report.ends report.closed) }
-    ensures stop { IfErr result (λ stop. is_of_jobs stop ≡ true) }
+    ensures stop { IfErr result (λ stop. HasNoReport workers store jobs.now stop) }
 {
     match run_jobs(rt, alloc, store, jobs, workers, &OpenGate) {
         Ok(report) => Ok(report),
@@ -116,7 +115,7 @@ fn told_of<N: RoundName + Send + Sync, T: Threads + Wait + Sync>(
     requires { (1 ≤ workers) × (workers ≤ 16) }
     ensures text { IfOk result (λ told. IsTextOf ends read.round read.jobs read.names told.lacking (string_bytes told.text)) }
     ensures all { IfOk result (λ told. told.all ≡ length read.jobs) }
-    ensures stop { IfErr result (λ stop. is_of_jobs stop ≡ true) }
+    ensures stop { IfErr result (λ stop. HasNoReport workers read.round read.jobs stop) }
 {
     let Read { store, names, jobs } = read;
     let report = report_of(rt, alloc, store, jobs.as_slice(), workers)?;
@@ -146,17 +145,16 @@ fn run_read<N: RoundName + Send + Sync, T: Threads + Wait + Sync, W: Write>(
     alloc: Global,
     read: Option<Read<N>>,
     output: &mut W,
-    workers: u32,
-    ends: bool,
+    options: JobOptions,
 ) -> Result<(), JobsStop>
-    requires { (1 ≤ workers) × (workers ≤ 16) }
-    ensures written { OnOk result (HasWritten ends read 0 (W.contents output.old) (W.contents output.new)) }
-    ensures stopped { IfErr result (λ stop. HasBroken ends read stop (W.contents output.old) (W.contents output.new)) }
+    requires { (1 ≤ options.workers) × (options.workers ≤ 16) }
+    ensures written { OnOk result (HasWritten options.ends read 0 (W.contents output.old) (W.contents output.new)) }
+    ensures stopped { IfErr result (λ stop. HasBroken options read stop (W.contents output.old) (W.contents output.new)) }
 {
     let Some(read) = read else {
         return Ok(());
     };
-    match told_of(rt, alloc, read, workers, ends) {
+    match told_of(rt, alloc, read, options.workers, options.ends) {
         Ok(told) => match write_text(output, told.text.as_str()) {
             Ok(()) => told.ended(),
             Err(stop) => Err(JobsStop::Lines(stop)),
@@ -179,15 +177,10 @@ fn run<N: RoundName + Send + Sync, T: Threads + Wait + Sync, R: Input, W: Write>
     ensures done { OnOk result (IfSome (R.remaining input.old) (λ bytes. (jobs_transcript options.fields bytes).fault ≡ None)) }
     ensures written { OnOk result (IfSome (R.remaining input.old) (λ bytes. HasWritten options.ends (jobs_transcript options.fields bytes).value.read 0
         (W.contents output.old) (W.contents output.new))) }
-    ensures stopped { IfErr result (λ stop. IfSome (R.remaining input.old) (λ bytes. JobsHaveStopped options.ends options.fields bytes stop
+    ensures stopped { IfErr result (λ stop. IfSome (R.remaining input.old) (λ bytes. JobsHaveStopped options bytes (R.remaining input.new) stop
         (W.contents output.old) (W.contents output.new))) }
 {
-    let JobOptions {
-        workers,
-        ends,
-        fields,
-    } = options;
-    let mut lines: JobLines<N> = JobLines::new(new, fields);
+    let mut lines: JobLines<N> = JobLines::new(new, options.fields);
     match read_lines(
         alloc,
         &mut lines,
@@ -196,7 +189,7 @@ fn run<N: RoundName + Send + Sync, T: Threads + Wait + Sync, R: Input, W: Write>
         Some(MAX_BYTES),
         u64::from(reads),
     ) {
-        Ok(()) => run_read(rt, alloc, lines.into_read(), output, workers, ends),
+        Ok(()) => run_read(rt, alloc, lines.into_read(), output, options),
         Err(stop) => Err(JobsStop::Lines(stop)),
     }
 }
@@ -232,7 +225,7 @@ pub fn write_jobs_within<T: Threads + Wait + Sync, R: Input, W: Write>(
     ensures done { OnOk result (IfSome (R.remaining input.old) (λ bytes. (jobs_transcript options.fields bytes).fault ≡ None)) }
     ensures written { OnOk result (IfSome (R.remaining input.old) (λ bytes. HasWritten options.ends (jobs_transcript options.fields bytes).value.read 0
         (W.contents output.old) (W.contents output.new))) }
-    ensures stopped { IfErr result (λ stop. IfSome (R.remaining input.old) (λ bytes. JobsHaveStopped options.ends options.fields bytes stop
+    ensures stopped { IfErr result (λ stop. IfSome (R.remaining input.old) (λ bytes. JobsHaveStopped options bytes (R.remaining input.new) stop
         (W.contents output.old) (W.contents output.new))) }
 {
     let new = NewStore::new(alloc)?;
@@ -251,7 +244,7 @@ pub fn write_jobs<T: Threads + Wait + Sync, R: Input, W: Write>(
     ensures done { OnOk result (IfSome (R.remaining input.old) (λ bytes. (jobs_transcript options.fields bytes).fault ≡ None)) }
     ensures written { OnOk result (IfSome (R.remaining input.old) (λ bytes. HasWritten options.ends (jobs_transcript options.fields bytes).value.read 0
         (W.contents output.old) (W.contents output.new))) }
-    ensures stopped { IfErr result (λ stop. IfSome (R.remaining input.old) (λ bytes. JobsHaveStopped options.ends options.fields bytes stop
+    ensures stopped { IfErr result (λ stop. IfSome (R.remaining input.old) (λ bytes. JobsHaveStopped options bytes (R.remaining input.new) stop
         (W.contents output.old) (W.contents output.new))) }
 {
     write_jobs_within(rt, alloc, input, output, options, READS)

@@ -1,5 +1,5 @@
 -- What workers start with, and what they give back once all have ended.
--- Cited by `run_jobs`.
+-- Cited by `run_jobs`, `write_jobs_within`, `write_jobs`.
 use Rattle.std.specs.Prelude.{◌≡◌, ◌⊎◌, ℕ, zero, suc, ◌+◌, ◌<◌, ◌≤◌, List, [], ◌∷◌, length, filter_map}
 use Rattle.snap_tape.specs.Tapes.{SessionValue}
 use Rattle.snap_writers.specs.declared.assignment.Assignment.{Assignment}
