@@ -15,7 +15,7 @@ use Rattle.snap_merge.specs.Objects.{Object, dir, file, symlink, seen}
 use Rattle.snap_merge.specs.Listing.{name_cmp}
 use Rattle.snap_diff.specs.declared.change.ChangeKind.{ChangeKind}
 use Rattle.snap_diff.specs.declared.change.Change.{Change}
-use Rattle.snap_diff.specs.Changes.{both_names, change_at, changes_below, inside, is_past, put_rows, row}
+use Rattle.snap_diff.specs.Changes.{both_names, layer_change, changes_below, inside, is_past, put_rows, row}
 use Rattle.snap_diff.proofs.Walks.{put_rows-append}
 
 -- a path after another, which is none of its fronts, comes after all below that one
@@ -58,11 +58,11 @@ unfolding changes_below
 skip_below zero t ts most a rows p above apart r = refl
 skip_below (suc k) t ts most a rows p above apart r =
     let q : Names = p ++ r in
-    let here : List Change = row q (change_at (seen ts q) (seen (t ∷ ts) q)) in
+    let here : List Change = row q (layer_change t ts q) in
     let within : List Change = flat_map (λ name. changes_below k t ts (q ++ name ∷ [])) (both_names ts (t ∷ ts) q) in
     let each : (n : List ℕ) → put_rows most (Some a) rows (changes_below k t ts (q ++ n ∷ [])) ≡ rows = λ n. ap (λ (x : Names). put_rows most (Some a) rows (changes_below k t ts x)) (append_assoc p r (n ∷ [])) ∙ skip_below k t ts most a rows p above apart (r ++ n ∷ []) in
     put_rows-append most (Some a) rows here (inside (seen (t ∷ ts) q) within)
-    ∙ ap (λ (rs : List Change). put_rows most (Some a) rs (inside (seen (t ∷ ts) q) within)) (skip_row most a rows q (change_at (seen ts q) (seen (t ∷ ts) q)) (past_all a p r above apart))
+    ∙ ap (λ (rs : List Change). put_rows most (Some a) rs (inside (seen (t ∷ ts) q) within)) (skip_row most a rows q (layer_change t ts q) (past_all a p r above apart))
     ∙ skip_inside most a rows (seen (t ∷ ts) q) within (skip_names most a rows (λ name. changes_below k t ts (q ++ name ∷ [])) each (both_names ts (t ∷ ts) q))
 
 -- nothing at a path and below it is of the page, where the page begins past all of it

@@ -3,23 +3,19 @@ use Rattle.std.proofs.Common.{◌≡◌, ◌<◌, ◌+◌, ◌-◌, ◌++◌, �
 use Rattle.std.proofs.lemmas.Bool.{le-ltb, lt-ltb}
 use Rattle.std.specs.Prelude.{◌&&◌, ◌||◌, not, is_some, filter, nat_lt}
 use Rattle.std.specs.List.{flat_map}
-use Rattle.std.specs.Cmp.{unsigned_Decides}
-use Rattle.std.proofs.lemmas.Slice.Eq.{bytes_eq-Decides}
 use Rattle.snap_path.specs.Limits.{most_path_bytes}
 use Rattle.snap_path.specs.Text.{Names, IsPath, text_below}
 use Rattle.snap_layer.specs.declared.node.Node.{Node}
 use Rattle.snap_layer.specs.Tree.{Tree, at, hides, node_hides, IsDirAt}
-use Rattle.snap_layer.specs.Equal.{content_eq-Decides}
 use Rattle.snap_merge.specs.declared.error.FsError.{FsError}
 use Rattle.snap_merge.specs.Objects.{Object, dir, file, symlink, seen, seen_over, is_shown_dir, AreLayers}
 use Rattle.snap_merge.specs.Walk.{walk, unless}
 use Rattle.snap_merge.specs.Listing.{names, names_of, gathered, listing}
 use Rattle.snap_merge.proofs.Hiding.{hides_snoc}
-use Rattle.snap_merge.proofs.Views.{seen_through}
 use Rattle.snap_merge.proofs.Above.{nothing_seen, walk_to_seen}
 use Rattle.snap_diff.specs.declared.change.ChangeKind.{ChangeKind}
 use Rattle.snap_diff.specs.declared.change.Change.{Change}
-use Rattle.snap_diff.specs.Changes.{same, change_at, row, both_names, inside, changes_below, is_after, page, is_untouched, put_row, put_rows}
+use Rattle.snap_diff.specs.Changes.{change_at, layer_change, row, both_names, inside, changes_below, is_after, page, is_untouched, put_row, put_rows}
 
 -- ---- the page
 
@@ -70,18 +66,13 @@ no_listing s ok p e is = by (seen s p) refl
 
 -- ---- where nothing changes
 
-so : (b : Bool) → b ≡ true → {A : Type 0} (x y : A) → cond b x y ≡ x
-so true e x y = refl
-so false e x y = absurd (cc)
+-- a path that the layer leaves untouched has no change, whatever is seen
+no_change : (t : Tree) (ts : List Tree) (p : Names) → is_untouched t p ≡ true → row p (layer_change t ts p) ≡ []
+no_change t ts p e = ap (λ b. row p (cond b None (change_at (seen ts p) (seen (t ∷ ts) p)))) e
 
-pub same_refl : (o : Object) → same o o ≡ true
-same_refl (dir mode) = (unsigned_Decides mode mode).1 refl
-same_refl (file mode content) = λ i. (unsigned_Decides mode mode).1 refl i && (content_eq-Decides content content).1 refl i
-same_refl (symlink target) = (bytes_eq-Decides target target).1 refl
-
-no_change : (p : Names) (o : Option Object) → row p (change_at o o) ≡ []
-no_change p None = refl
-no_change p (Some o) = ap (row p) (so (same o o) (same_refl o) None (Some _))
+-- at another one what is seen tells it
+touched : (t : Tree) (ts : List Tree) (p : Names) → is_untouched t p ≡ false → layer_change t ts p ≡ change_at (seen ts p) (seen (t ∷ ts) p)
+touched t ts p e = ap (λ b. cond b None (change_at (seen ts p) (seen (t ∷ ts) p))) e
 
 empty_inside : (o : Option Object) (cs : List Change) → cs ≡ [] → inside o cs ≡ []
 empty_inside None cs e = refl
@@ -93,7 +84,7 @@ all_empty : (f : List ℕ → List Change) (ns : Names) → ((n : List ℕ) → 
 all_empty f [] none = refl
 all_empty f (n ∷ ns) none = λ i. none n i ++ all_empty f ns none i
 
--- what is below a path that the layer neither has nor hides is the same
+-- the layer has nothing below a path that it doesn't have
 below_untouched : (t : Tree) → ((p : Names) (n : List ℕ) → IsSome (at t (p ++ n ∷ [])) → IsDirAt (at t p)) → (p : Names) (n : List ℕ) → at t p ≡ None → at t (p ++ n ∷ []) ≡ None
 below_untouched t parents p n none = by (at t (p ++ n ∷ [])) refl
   where
@@ -105,15 +96,16 @@ below_untouched t parents p n none = by (at t (p ++ n ∷ [])) refl
     by None e = refl
     by (Some x) e = absurd (nothing (at t p) none (parents p n (subst IsSome (sym e) refl)))
 
--- so nothing is changed there
+-- so it leaves all below untouched, and nothing is changed there
 pub untouched_below : (k : ℕ) (t : Tree) (ts : List Tree) → ((p : Names) (n : List ℕ) → IsSome (at t (p ++ n ∷ [])) → IsDirAt (at t p)) → (p : Names) → at t p ≡ None → hides t p ≡ false → changes_below k t ts p ≡ []
 unfolding changes_below
 untouched_below zero t ts parents p none shown = refl
 untouched_below (suc k) t ts parents p none shown =
-    let as_below : seen (t ∷ ts) p ≡ seen ts p = seen_through t ts p false none shown in
+    let within : List Change = flat_map (λ name. changes_below k t ts (p ++ name ∷ [])) (both_names ts (t ∷ ts) p) in
     let next : (n : List ℕ) → changes_below k t ts (p ++ n ∷ []) ≡ [] = λ n. untouched_below k t ts parents (p ++ n ∷ []) (below_untouched t parents p n none) (hides_snoc t n p [] ∙ (λ i. shown i || node_hides (none i))) in
-    (λ i. row p (change_at (seen ts p) (as_below i)) ++ inside (seen (t ∷ ts) p) (flat_map (λ name. changes_below k t ts (p ++ name ∷ [])) (both_names ts (t ∷ ts) p)))
-    ∙ (λ i. no_change p (seen ts p) i ++ empty_inside (seen (t ∷ ts) p) (flat_map (λ name. changes_below k t ts (p ++ name ∷ [])) (both_names ts (t ∷ ts) p)) (all_empty (λ name. changes_below k t ts (p ++ name ∷ [])) (both_names ts (t ∷ ts) p) next) i)
+    let here : row p (layer_change t ts p) ≡ [] = no_change t ts p (λ i. not (is_some (none i)) && not (shown i)) in
+    let there : inside (seen (t ∷ ts) p) within ≡ [] = empty_inside (seen (t ∷ ts) p) within (all_empty (λ name. changes_below k t ts (p ++ name ∷ [])) (both_names ts (t ∷ ts) p) next) in
+    λ i. here i ++ there i
 
 pub untouched : (k : ℕ) (t : Tree) (ts : List Tree) → AreLayers (t ∷ ts) → (p : Names) → is_untouched t p ≡ true → changes_below k t ts p ≡ []
 untouched k t ts ok p is = by (at t p) refl (hides t p) refl is
@@ -129,7 +121,7 @@ some_is : (o : Option Node) (x : Node) → o ≡ Some x → IsSome o
 some_is None x e = absurd (cc)
 some_is (Some y) x e = refl
 
-nothing_else : (b : Bool) → cond {A = Option Object} b None None ≡ None
+nothing_else : {A : Type 0} (b : Bool) → cond {A = Option A} b None None ≡ None
 nothing_else true = refl
 nothing_else false = refl
 
@@ -145,7 +137,9 @@ no_object (t ∷ ts) ok p bad = by (at t p) refl (no_object ts ok.1 p bad)
 pub nothing_below : (k : ℕ) (t : Tree) (ts : List Tree) (p : Names) → seen ts p ≡ None → seen (t ∷ ts) p ≡ None → changes_below k t ts p ≡ []
 unfolding changes_below
 nothing_below zero t ts p was is = refl
-nothing_below (suc k) t ts p was is = (λ i. row p (change_at (was i) (is i)) ++ inside (is i) (flat_map (λ name. changes_below k t ts (p ++ name ∷ [])) (both_names ts (t ∷ ts) p)))
+nothing_below (suc k) t ts p was is =
+    (λ i. row p (cond (is_untouched t p) None (change_at (was i) (is i))) ++ inside (is i) (flat_map (λ name. changes_below k t ts (p ++ name ∷ [])) (both_names ts (t ∷ ts) p)))
+    ∙ ap (λ o. row p o ++ []) (nothing_else (is_untouched t p))
 
 pub no_changes : (k : ℕ) (t : Tree) (ts : List Tree) → AreLayers (t ∷ ts) → (p : Names) → (IsPath p → ⊥) → changes_below k t ts p ≡ []
 no_changes k t ts ok p bad = nothing_below k t ts p (no_object ts ok.1 p bad) (no_object (t ∷ ts) ok p bad)
@@ -156,12 +150,12 @@ too_long p long is = let short = is.1 in omega arith
 -- ---- one path
 
 -- the changes at a path, and those in the directory that is seen there
-pub at_path : (k : ℕ) (t : Tree) (ts : List Tree) (p : Names) → (k ≡ 0 → ⊥) → changes_below k t ts p ≡ row p (change_at (seen ts p) (seen (t ∷ ts) p)) ++ inside (seen (t ∷ ts) p) (flat_map (λ name. changes_below (k - 1) t ts (p ++ name ∷ [])) (both_names ts (t ∷ ts) p))
+pub at_path : (k : ℕ) (t : Tree) (ts : List Tree) (p : Names) → (k ≡ 0 → ⊥) → changes_below k t ts p ≡ row p (layer_change t ts p) ++ inside (seen (t ∷ ts) p) (flat_map (λ name. changes_below (k - 1) t ts (p ++ name ∷ [])) (both_names ts (t ∷ ts) p))
 unfolding changes_below
 at_path zero t ts p more = absurd (more refl)
 at_path (suc k) t ts p more =
     let less : k ≡ suc k - 1 = omega arith in
-    ap (λ (m : ℕ). row p (change_at (seen ts p) (seen (t ∷ ts) p)) ++ inside (seen (t ∷ ts) p) (flat_map (λ name. changes_below m t ts (p ++ name ∷ [])) (both_names ts (t ∷ ts) p))) less
+    ap (λ (m : ℕ). row p (layer_change t ts p) ++ inside (seen (t ∷ ts) p) (flat_map (λ name. changes_below m t ts (p ++ name ∷ [])) (both_names ts (t ∷ ts) p))) less
 
 pub inside_dir : (o : Option Object) (cs : List Change) → is_shown_dir o ≡ true → inside o cs ≡ cs
 inside_dir None cs e = absurd (cc)
@@ -183,13 +177,13 @@ none_deep (suc k) t ts p e = absurd (omega arith)
 
 -- the change at a path, and then those in the directory
 pub put_dir : (most : ℕ) (after : Option Names) (rows first all : List Change) (k : ℕ) (t : Tree) (ts : List Tree) (p : Names) (old new : Option Object) (kind : Option ChangeKind)
-    → old ≡ seen ts p → new ≡ seen (t ∷ ts) p → kind ≡ change_at old new → is_shown_dir new ≡ true → (k ≡ 0 → ⊥)
+    → old ≡ seen ts p → new ≡ seen (t ∷ ts) p → kind ≡ change_at old new → is_shown_dir new ≡ true → (k ≡ 0 → ⊥) → is_untouched t p ≡ false
     → first ≡ put_rows most after rows (row p kind)
     → all ≡ put_rows most after first (flat_map (λ name. changes_below (k - 1) t ts (p ++ name ∷ [])) (both_names ts (t ∷ ts) p))
     → all ≡ put_rows most after rows (changes_below k t ts p)
-put_dir most after rows first all k t ts p old new kind was is told directory more one rest =
+put_dir most after rows first all k t ts p old new kind was is told directory more touches one rest =
     let within : List Change = flat_map (λ name. changes_below (k - 1) t ts (p ++ name ∷ [])) (both_names ts (t ∷ ts) p) in
-    let same_row : row p kind ≡ row p (change_at (seen ts p) (seen (t ∷ ts) p)) = ap (row p) told ∙ (λ i. row p (change_at (was i) (is i))) in
+    let same_row : row p kind ≡ row p (layer_change t ts p) = ap (row p) (told ∙ (λ i. change_at (was i) (is i)) ∙ sym (touched t ts p touches)) in
     let same_inside : within ≡ inside (seen (t ∷ ts) p) within = sym (inside_dir (seen (t ∷ ts) p) within (ap is_shown_dir (sym is) ∙ directory)) in
     rest
     ∙ ap (λ (rs : List Change). put_rows most after rs within) one
@@ -199,12 +193,12 @@ put_dir most after rows first all k t ts p old new kind was is told directory mo
 
 -- the change at a path that shows no directory
 pub put_other : (most : ℕ) (after : Option Names) (rows first : List Change) (k : ℕ) (t : Tree) (ts : List Tree) (p : Names) (old new : Option Object) (kind : Option ChangeKind)
-    → old ≡ seen ts p → new ≡ seen (t ∷ ts) p → kind ≡ change_at old new → is_shown_dir new ≡ false → (k ≡ 0 → ⊥)
+    → old ≡ seen ts p → new ≡ seen (t ∷ ts) p → kind ≡ change_at old new → is_shown_dir new ≡ false → (k ≡ 0 → ⊥) → is_untouched t p ≡ false
     → first ≡ put_rows most after rows (row p kind)
     → first ≡ put_rows most after rows (changes_below k t ts p)
-put_other most after rows first k t ts p old new kind was is told other more one =
+put_other most after rows first k t ts p old new kind was is told other more touches one =
     let within : List Change = flat_map (λ name. changes_below (k - 1) t ts (p ++ name ∷ [])) (both_names ts (t ∷ ts) p) in
-    let same_row : row p kind ≡ row p (change_at (seen ts p) (seen (t ∷ ts) p)) = ap (row p) told ∙ (λ i. row p (change_at (was i) (is i))) in
+    let same_row : row p kind ≡ row p (layer_change t ts p) = ap (row p) (told ∙ (λ i. change_at (was i) (is i)) ∙ sym (touched t ts p touches)) in
     let nothing : [] ≡ inside (seen (t ∷ ts) p) within = sym (inside_none (seen (t ∷ ts) p) within (ap is_shown_dir (sym is) ∙ other)) in
     one
     ∙ ap (put_rows most after rows) (sym (append-nil (row p kind)))

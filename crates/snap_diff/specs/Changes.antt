@@ -5,18 +5,25 @@ use Rattle.std.specs.List.{flat_map}
 use Rattle.std.specs.Ordering.{is_gt, is_lt}
 use Rattle.std.specs.Str.{bytes_eq}
 use Rattle.snap_path.specs.Text.{Names, begins}
+use Rattle.snap_layer.specs.declared.content.Content.{Content}
+use Rattle.snap_layer.specs.declared.content.Content.TheVariants.{Bytes, Sized}
 use Rattle.snap_layer.specs.Tree.{Tree, at, hides, node_hides, path_cmp}
-use Rattle.snap_layer.specs.Equal.{content_eq}
 use Rattle.snap_merge.specs.Objects.{Object, dir, file, symlink, seen}
 use Rattle.snap_merge.specs.Listing.{names, put_names}
 use Rattle.snap_diff.specs.declared.change.ChangeKind.{ChangeKind}
 use Rattle.snap_diff.specs.declared.change.ChangeKind.TheVariants.{Added, Changed, Removed}
 use Rattle.snap_diff.specs.declared.change.Change.{Change}
 
+-- two known contents that are equal: the same bytes, or the same size and digest; nobody knows one without a digest
+abbrev pub same_content : Content → Content → Bool
+same_content (Bytes bytes) (Bytes others) = bytes_eq bytes others
+same_content (Sized size (Some digest)) (Sized other (Some others)) = size == other && bytes_eq digest others
+same_content content other = false
+
 -- two directories of one mode, two files of one mode and content, or two symlinks with one target
 abbrev pub same : Object → Object → Bool
 same (dir mode) (dir other) = mode == other
-same (file mode content) (file other others) = mode == other && content_eq content others
+same (file mode content) (file other others) = mode == other && same_content content others
 same (symlink target) (symlink other) = bytes_eq target other
 same object other = false
 
@@ -26,6 +33,14 @@ change_at None None = None
 change_at None (Some new) = Some Added
 change_at (Some old) None = Some Removed
 change_at (Some old) (Some new) = if same old new then None else Some Changed
+
+-- the layer has nothing at the path, and nothing that hides it
+abbrev pub is_untouched : Tree → Names → Bool
+is_untouched t p = not (is_some (at t p)) && not (hides t p)
+
+-- what the layer changes at the path: nothing where it leaves it untouched, so that a lower layer's own object is seen
+abbrev pub layer_change : Tree → List Tree → Names → Option ChangeKind
+layer_change t ts p = if is_untouched t p then None else change_at (seen ts p) (seen (t ∷ ts) p)
 
 -- the word of each kind
 abbrev pub change_word : ChangeKind → List ℕ
@@ -51,7 +66,7 @@ inside other changes = []
 unfoldable pub changes_below : ℕ → Tree → List Tree → Names → List Change
 changes_below zero t ts p = []
 changes_below (suc n) t ts p =
-    row p (change_at (seen ts p) (seen (t ∷ ts) p))
+    row p (layer_change t ts p)
     ++ inside (seen (t ∷ ts) p) (flat_map (λ name. changes_below n t ts (p ++ name ∷ [])) (both_names ts (t ∷ ts) p))
 
 -- what the layer changes of what those below it show; a path has at most 2,047 names (PATH_MAX)
@@ -69,11 +84,7 @@ page after most changes = take most (filter (λ change. is_after after change.pa
 
 -- ---- what private clauses cite
 
--- the layer has nothing at the path, and nothing that hides it
-abbrev pub is_untouched : Tree → Names → Bool
-is_untouched t p = not (is_some (at t p)) && not (hides t p)
-
--- and there hides nothing of a directory, which the layers below share
+-- the layer hides nothing of a directory at the path, which the layers below share
 abbrev pub is_merged : Tree → Names → Bool
 is_merged t p = not (node_hides (at t p)) && not (hides t p)
 

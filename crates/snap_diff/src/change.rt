@@ -1,8 +1,9 @@
 ghost use Rattle.std.specs.Prelude.{◌≡◌};
 ghost use Rattle.std.specs.Option.{option_map};
 ghost use Rattle.snap_merge.specs.Objects.{object};
-ghost use Rattle.snap_diff.specs.Changes.{change_at, change_word, same};
+ghost use Rattle.snap_diff.specs.Changes.{change_at, change_word, same, same_content};
 
+use snap_layer::Content;
 use snap_merge::Seen;
 use snap_path::Path;
 
@@ -11,7 +12,8 @@ use snap_path::Path;
 pub enum ChangeKind {
     /// Without the layer nothing is seen.
     Added,
-    /// Another object is seen: of another kind, or with another mode, content or target.
+    /// Another object is seen: of another kind, or with another mode, content or target. A content of a size without a
+    /// digest is another than each.
     Changed,
     /// With the layer nothing is seen.
     Removed,
@@ -37,6 +39,26 @@ pub struct Change {
     pub path: Path,
 }
 
+/// Whether the two are known and equal.
+fn same_content(content: &Content, others: &Content) -> bool
+    ensures { result ≡ same_content content.now others.now }
+{
+    match (content, others) {
+        (Content::Bytes(bytes), Content::Bytes(others)) => bytes == others,
+        (
+            Content::Sized {
+                size,
+                digest: Some(digest),
+            },
+            Content::Sized {
+                size: other,
+                digest: Some(others),
+            },
+        ) => *size == *other && digest == others,
+        _ => false,
+    }
+}
+
 /// Whether the two are one object.
 fn same(old: Seen<'_>, new: Seen<'_>) -> bool
     ensures { result ≡ same (object old.entry) (object new.entry) }
@@ -49,7 +71,7 @@ fn same(old: Seen<'_>, new: Seen<'_>) -> bool
                 mode: other,
                 content: others,
             },
-        ) => mode == other && content == others,
+        ) => mode == other && same_content(content, others),
         (Seen::Symlink { target }, Seen::Symlink { target: other }) => target == other,
         _ => false,
     }

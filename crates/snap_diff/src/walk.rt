@@ -242,8 +242,10 @@ impl<'a> Walk<'a> {
 /// changes after a path, or of all, the first so many.
 ///
 /// A path is added where something is seen with the layer alone, removed where something is seen without it alone, and
-/// changed where the two objects differ in kind, mode, content or target. Of a directory that is gone what was in it
-/// isn't told. A directory comes before what is in it, and names are in byte order.
+/// changed where the two objects differ in kind, mode, content or target. A content of a size without a digest, which
+/// nobody knows, differs from each; but where the layer has nothing at a path, and nothing that hides it, nothing is
+/// changed (our choice). Of a directory that is gone what was in it isn't told. A directory comes before what is in it,
+/// and names are in byte order.
 ///
 /// It fails only where memory is refused: for names, for a path that is looked at or for the changes. Cost: a look at
 /// each path of the layer, and a list of each directory of which it hides something, and a look at each name there; the

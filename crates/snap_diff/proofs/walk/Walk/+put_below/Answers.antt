@@ -1,4 +1,4 @@
-use Rattle.std.proofs.Common.{rules, arith, ◌≡◌, ◌-◌, ◌++◌, ◌∷◌, [], ℕ, List, Option, Err, length, sym, ap, ◌∙◌}
+use Rattle.std.proofs.Common.{rules, arith, ◌≡◌, ◌++◌, ◌∷◌, [], ℕ, List, Option, Err, length, sym, ap, ◌∙◌}
 use Rattle.std.specs.List.{flat_map}
 use Rattle.std.specs.Option.{option_copied, option_map}
 use Rattle.std.proofs.lemmas.Bool.{le-ltb}
@@ -34,7 +34,7 @@ put_below-returns-in_ok-put_inside t c =
     (option_map object c.look-old.result) (option_map object c.look-new.result) c.change_at-kind.result
     (c.look-old.ensures ∙ ap (λ (s : List Tree). seen s c.args.path.now) c.old.ensures)
     (c.look-new.ensures ∙ ap (λ (s : List Tree). seen s c.args.path.now) c.new.ensures)
-    c.change_at-kind.ensures (sym c.is_dir.ensures ∙ c.if-is_dir.true) c.if-depth-eq0.false c.in_ok-put_change.ensures c.in_ok-put_inside.ensures
+    c.change_at-kind.ensures (sym c.is_dir.ensures ∙ c.if-is_dir.true) c.if-depth-eq0.false (sym c.is_untouched.ensures ∙ c.if-is_untouched.false) c.in_ok-put_change.ensures c.in_ok-put_inside.ensures
 
 pub put_below-returns-else-is_dir : goal.put_below-returns-else-is_dir
 put_below-returns-else-is_dir t c =
@@ -42,7 +42,7 @@ put_below-returns-else-is_dir t c =
     (option_map object c.look-old.result) (option_map object c.look-new.result) c.change_at-kind.result
     (c.look-old.ensures ∙ ap (λ (s : List Tree). seen s c.args.path.now) c.old.ensures)
     (c.look-new.ensures ∙ ap (λ (s : List Tree). seen s c.args.path.now) c.new.ensures)
-    c.change_at-kind.ensures (sym c.is_dir.ensures ∙ c.if-is_dir.false) c.if-depth-eq0.false c.in_ok-put_change.ensures
+    c.change_at-kind.ensures (sym c.is_dir.ensures ∙ c.if-is_dir.false) c.if-depth-eq0.false (sym c.is_untouched.ensures ∙ c.if-is_untouched.false) c.in_ok-put_change.ensures
 
 -- at what is no path nothing is changed
 pub put_entry-returns-in-Err-BadPath : goal.put_entry-returns-in-Err-BadPath
