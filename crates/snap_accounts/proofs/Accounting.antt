@@ -1,6 +1,6 @@
 -- What is kept beside the state, after a change of one slot and one namespace.
 use Rattle.std.proofs.Common.{◌≡◌, ◌≢◌, ℕ, zero, suc, ◌<◌, ◌≤◌, List, [], ◌∷◌, length, set, true, false, Some, None, eqb, sym, refl, ap, ◌∙◌, subst, ⊎_elim, arith}
-use Rattle.std.specs.Prelude.{slice_get}
+use Rattle.std.specs.Prelude.{Option, slice_get}
 use Rattle.std.proofs.lemmas.Bool.Decides.{eqb_tells}
 use Rattle.std.proofs.lemmas.List.{length-set}
 use Rattle.snap_usage.specs.declared.usage.Usage.{Usage}
@@ -21,7 +21,7 @@ use Rattle.snap_call.proofs.Slots.{is_slot-other, charge_at-Some, charge_at-rech
 use Rattle.snap_layer.specs.Tree.{Tree}
 use Rattle.snap_usage.specs.Counted.{count_of}
 use Rattle.snap_ledger.specs.States.{plus, minus}
-use Rattle.snap_record.specs.Labels.{Bytes}
+use Rattle.snap_record.specs.Labels.{Bytes, Label}
 use Rattle.snap_record.specs.Records.{usage_of}
 use Rattle.snap_record.specs.declared.record.Record.{Record}
 use Rattle.snap_accounts.specs.Slots.{charge_in}
@@ -156,16 +156,16 @@ accounts_freed s t us vs cs ds n m slot r accounts good e low spaces is count is
     count is_vs is_ds
 
 -- a slot is free again, and its snapshot committed
-pub accounts_committed : (s t : State) (us vs : List Usage) (cs ds : List ChargeState) (n m slot number : ℕ) (name : Bytes) (layer : Tree) (r : Record)
-    → AreAccounts s us cs n → Good t → active_at slot s.records ≡ Some r → slot < max_slots → t.namespaces ≡ s.namespaces → t.records ≡ with_record (committed_as name layer number r) (without_slot slot s.records) → m ≡ open_count t.records
+pub accounts_committed : (s t : State) (us vs : List Usage) (cs ds : List ChargeState) (n m slot number : ℕ) (name : Bytes) (labels : Option (List Label)) (layer : Tree) (r : Record)
+    → AreAccounts s us cs n → Good t → active_at slot s.records ≡ Some r → slot < max_slots → t.namespaces ≡ s.namespaces → t.records ≡ with_record (committed_as name labels layer number r) (without_slot slot s.records) → m ≡ open_count t.records
     → vs ≡ set us r.namespace (charge_with r (count_of layer) s.records) → ds ≡ set cs slot (free_charge slot) → AreAccounts t vs ds m
-accounts_committed s t us vs cs ds n m slot number name layer r accounts good e low spaces is count is_vs is_ds =
+accounts_committed s t us vs cs ds n m slot number name labels layer r accounts good e low spaces is count is_vs is_ds =
     accounts_changed s t us vs cs ds n m r.namespace slot (charge_with r (count_of layer) s.records) (free_charge slot) accounts good spaces
     (place-of s slot r accounts.good e) low
-    (ap (charge_of r.namespace) is ∙ charge_of-committed_own slot name layer number s.records r e)
-    (λ k ne. ap (charge_of k) is ∙ charge_of-committed_other k slot name layer number s.records r e ne)
-    (ap (charge_at slot) is ∙ charge_at-committed_own slot name layer number s.records r accounts.good.slots)
-    (λ k ne. ap (charge_at k) is ∙ charge_at-committed_other slot k name layer number s.records r ne)
+    (ap (charge_of r.namespace) is ∙ charge_of-committed_own slot name labels layer number s.records r e)
+    (λ k ne. ap (charge_of k) is ∙ charge_of-committed_other k slot name labels layer number s.records r e ne)
+    (ap (charge_at slot) is ∙ charge_at-committed_own slot name labels layer number s.records r accounts.good.slots)
+    (λ k ne. ap (charge_at k) is ∙ charge_at-committed_other slot k name labels layer number s.records r ne)
     count is_vs is_ds
 
 -- a free slot is taken by a new snapshot

@@ -4,6 +4,7 @@ ghost use Rattle.snap_record.specs.Records.{info_of, usage_of};
 ghost use Rattle.snap_record.specs.declared.record.Record.{Record};
 ghost use Rattle.snap_record.specs.declared.kind.Kind.TheVariants.{Committed};
 ghost use Rattle.snap_mount.specs.Mounts.{mounts_of};
+ghost use Rattle.snap_call.specs.Questions.{reply_to};
 ghost use Rattle.snap_call.specs.State.{ancestors, ids_of, is_too_deep};
 ghost use Rattle.snap_call.specs.Step.{ask, counted, mounts, refused, walk_infos};
 ghost use Rattle.snap_call.specs.declared.reply.Reply.{Reply};
@@ -11,7 +12,7 @@ ghost use Rattle.snap_call.specs.declared.reply.Reply.TheVariants as replies;
 ghost use Rattle.snap_accounts.specs.Entries.{IsInEntry, IsRecorded};
 
 use crate::accounts::Accounts;
-use snap_call::{Refusal, Reply, is_key, is_page, is_start};
+use snap_call::{Question, Refusal, Reply, is_key, is_page, is_start};
 use snap_ledger::StoreName;
 use snap_mount::{Mount, mounts_of};
 use snap_record::{Content, Filter, Kind, Record, Sequence};
@@ -134,5 +135,28 @@ impl<N: StoreName> Accounts<N> {
         };
         let infos = state.page(alloc, place, after, most as usize, asked)?;
         Ok(Reply::Page(infos))
+    }
+
+    /// What the call that asks the same would reply; the state stays as it is.
+    ///
+    /// The refusals are those of the call, in its order. Takes memory for the reply, with mounts and infos also for the
+    /// ids of the ancestors and the keys that are passed over. The cost is that of [`plan`](Accounts::plan) for the
+    /// call.
+    pub fn answer(&self, alloc: Global, question: &Question) -> Result<Reply, AllocError>
+        ensures { IfOk result (λ reply. reply ≡ reply_to self.now question.now) }
+    {
+        match question {
+            Question::Stat { namespace, key } => self.stat(namespace.as_str(), key.as_str()),
+            Question::Usage { namespace, key } => Ok(self.usage(namespace.as_str(), key.as_str())),
+            Question::Mounts { namespace, key } => {
+                self.mounts(alloc, namespace.as_str(), key.as_str())
+            }
+            Question::Walk {
+                namespace,
+                after,
+                most,
+                asked,
+            } => self.walk(alloc, namespace.as_str(), after.as_str(), *most, asked),
+        }
     }
 }

@@ -93,7 +93,7 @@ pub plain_allowed : (s : State) (call : Call) → IsPlain call → IsAllowed s c
 plain_allowed s calls.Session plain = absurd plain
 plain_allowed s (calls.Charge slot id need want) plain = absurd plain
 plain_allowed s (calls.Trim slot id) plain = absurd plain
-plain_allowed s (calls.Commit slot id name lease) plain = absurd plain
+plain_allowed s (calls.Commit slot id name lease labels) plain = absurd plain
 plain_allowed s (calls.Discard slot id) plain = absurd plain
 plain_allowed s call plain = tt
 

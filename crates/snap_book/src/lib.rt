@@ -34,5 +34,7 @@ mod viewed;
 pub use active::{Active, Held, Released, Sealed};
 pub use book::Book;
 pub use charge::{needed_by, wanted};
-pub use snap_call::{Call, Config, Entry, Given, Namespace, Refusal, Removed, Reply, SharedEntry};
+pub use snap_call::{
+    Call, Config, Entry, Given, Namespace, Question, Refusal, Removed, Reply, SharedEntry,
+};
 pub use viewed::Viewed;

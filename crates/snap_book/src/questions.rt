@@ -1,5 +1,7 @@
-// What is asked of a book without an entry: a snapshot with its ancestors, and a sweep that takes nothing.
+// What is asked of a book without an entry: a snapshot with its ancestors, a sweep that takes nothing, and the calls
+// that change nothing.
 ghost use Rattle.std.specs.Prelude.{◌≡◌, ◌≤◌, ◌*◌, ◌^◌, [], IfOk, IsSome, Some, unwrap_or};
+ghost use Rattle.snap_call.specs.Questions.{reply_to};
 ghost use Rattle.snap_call.specs.Records.{committed_at};
 ghost use Rattle.snap_call.specs.State.{chain_from};
 ghost use Rattle.snap_call.specs.Step.{sweep};
@@ -8,7 +10,7 @@ ghost use Rattle.snap_book.specs.Small.{AreSmall};
 
 use crate::book::Book;
 use snap_call::limits::MAX_ANCESTORS;
-use snap_call::{Records, Refusal, Reply, Sweep};
+use snap_call::{Question, Records, Refusal, Reply, Sweep};
 use snap_ledger::StoreName;
 use snap_usage::Usage;
 use std::alloc::AllocError;
@@ -69,5 +71,15 @@ impl<N: StoreName> Book<N> {
             leases,
             freed,
         })
+    }
+
+    /// What the call that asks the same would reply: the infos, the charge, the mounts or the refusal. It leaves no
+    /// entry, and neither a session nor room in the journal is asked for. Takes memory for the answer, and as
+    /// [`Accounts::answer`](snap_accounts::Accounts::answer) does, whose cost it has; where memory is refused there is
+    /// no answer.
+    pub fn answer(&self, question: &Question) -> Result<Reply, AllocError>
+        ensures { IfOk result (λ reply. reply ≡ reply_to self.now.state question.now) }
+    {
+        self.accounts.answer(self.alloc, question)
     }
 }

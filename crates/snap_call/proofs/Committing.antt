@@ -3,7 +3,7 @@ use Rattle.std.proofs.Common.{◌≡◌, ℕ, ◌+◌, true, false, List, Some, 
 use Rattle.std.specs.List.Sorted.{IsStrictlySortedBy}
 use Rattle.std.specs.Prelude.{Option}
 use Rattle.snap_layer.specs.Tree.{Tree}
-use Rattle.snap_record.specs.Labels.{Bytes}
+use Rattle.snap_record.specs.Labels.{Bytes, Label}
 use Rattle.snap_record.specs.declared.record.Record.{Record}
 use Rattle.snap_call.specs.Records.{record_cmp, is_named, is_slot, has_key, with_record, without_key, without_slot, committed_as}
 use Rattle.snap_call.specs.Step.{has_named, leases_after}
@@ -20,13 +20,13 @@ leases_after-records : (s : State) (rs : List Record) (place : ℕ) (name : Byte
 leases_after-records s rs place name None = refl
 leases_after-records s rs place name (Some lease) = refl
 
-module _ (s : State) (name : Bytes) (layer : Tree) (a c : Record) (us : List Record) (is : c ≡ committed_as name layer (s.entries + 1) a) (came : us ≡ with_record c s.records) where
+module _ (s : State) (name : Bytes) (labels : Option (List Label)) (layer : Tree) (a c : Record) (us : List Record) (is : c ≡ committed_as name labels layer (s.entries + 1) a) (came : us ≡ with_record c s.records) where
   -- where the lease refuses the name, the committed record goes again
   pub taken_back : (t : State) (k : Bytes) (ts : List Record) → t ≡ record s { records = us } → k ≡ name → ts ≡ without_key a.namespace k t.records → has_key a.namespace name s.records ≡ false → record t { records = ts } ≡ s
   taken_back t k ts same named left free = λ i. record (same i) { records = back i }
     where
       own : is_named a.namespace name c ≡ true
-      own = ap (is_named a.namespace name) is ∙ own_named (committed_as name layer (s.entries + 1) a)
+      own = ap (is_named a.namespace name) is ∙ own_named (committed_as name labels layer (s.entries + 1) a)
 
       back : ts ≡ s.records
       back =
@@ -36,16 +36,16 @@ module _ (s : State) (name : Bytes) (layer : Tree) (a c : Record) (us : List Rec
   -- where it takes it, the active one goes
   pub state_committed : (t : State) (slot : ℕ) (lease : Option Bytes) (k : Bytes) (ts : List Record) (r : Record) → IsStrictlySortedBy record_cmp s.records → a ≡ r → k ≡ name
       → t ≡ record s { records = us; leases = leases_after (record s { records = us }) a.namespace k lease } → ts ≡ without_slot slot t.records
-      → record t { records = ts } ≡ record s { records = with_record (committed_as name layer (s.entries + 1) r) (without_slot slot s.records); leases = leases_after s r.namespace name lease }
+      → record t { records = ts } ≡ record s { records = with_record (committed_as name labels layer (s.entries + 1) r) (without_slot slot s.records); leases = leases_after s r.namespace name lease }
   state_committed t slot lease k ts r sorted same named leased left = (λ i. record (leased i) { records = ts }) ∙ (λ i. record s { records = rest i; leases = leases i })
     where
       idle : is_slot slot c ≡ false
       idle = ap (is_slot slot) is
 
-      rest : ts ≡ with_record (committed_as name layer (s.entries + 1) r) (without_slot slot s.records)
+      rest : ts ≡ with_record (committed_as name labels layer (s.entries + 1) r) (without_slot slot s.records)
       rest =
           left ∙ ap (λ (u : State). without_slot slot u.records) leased ∙ ap (without_slot slot) came ∙ without-with_record (is_slot slot) c s.records idle sorted
-          ∙ ap (λ x. with_record x (without_slot slot s.records)) (is ∙ ap (committed_as name layer (s.entries + 1)) same)
+          ∙ ap (λ x. with_record x (without_slot slot s.records)) (is ∙ ap (committed_as name labels layer (s.entries + 1)) same)
 
       leases : leases_after (record s { records = us }) a.namespace k lease ≡ leases_after s r.namespace name lease
       leases = leases_after-records s us a.namespace k lease ∙ (λ i. leases_after s (same i).namespace (named i) lease)

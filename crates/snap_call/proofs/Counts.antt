@@ -6,7 +6,7 @@ use Rattle.std.specs.Ordering.{is_lt}
 use Rattle.std.proofs.lemmas.Bool.Decides.{eqb_tells}
 use Rattle.snap_layer.specs.Tree.{Tree}
 use Rattle.snap_usage.specs.declared.usage.Usage.{Usage}
-use Rattle.snap_record.specs.Labels.{Bytes}
+use Rattle.snap_record.specs.Labels.{Bytes, Label}
 use Rattle.snap_record.specs.declared.record.Content.{Content}
 use Rattle.snap_record.specs.declared.record.Content.TheVariants.{View, Active, Committed}
 use Rattle.snap_record.specs.declared.record.Record.{Record}
@@ -36,8 +36,8 @@ open_count-with_record r (t ∷ ts) = at (is_lt (record_cmp r t)) refl (open_cou
 pub open_count-with_active : (slot : ℕ) (r : Record) (rs : List Record) → is_slot slot r ≡ true → open_count (with_record r rs) ≡ open_count rs + 1
 open_count-with_active slot r rs is = let one = is_slot-active_one slot r is in let all = open_count-with_record r rs in omega arith
 
-pub open_count-with_committed : (name : Bytes) (layer : Tree) (number : ℕ) (r : Record) (rs : List Record) → open_count (with_record (committed_as name layer number r) rs) ≡ open_count rs
-open_count-with_committed name layer number r rs = let all = open_count-with_record (committed_as name layer number r) rs in omega arith
+pub open_count-with_committed : (name : Bytes) (labels : Option (List Label)) (layer : Tree) (number : ℕ) (r : Record) (rs : List Record) → open_count (with_record (committed_as name labels layer number r) rs) ≡ open_count rs
+open_count-with_committed name labels layer number r rs = let all = open_count-with_record (committed_as name labels layer number r) rs in omega arith
 
 -- the record of a slot charged anew
 pub open_count-recharged : (slot : ℕ) (to : Usage) (rs : List Record) → open_count (recharged slot to rs) ≡ open_count rs
@@ -86,11 +86,11 @@ open_count-without_slot slot rs r e =
     omega arith
 
 -- a commit: one active less
-pub open_count-committed : (slot : ℕ) (name : Bytes) (layer : Tree) (number : ℕ) (rs : List Record) (r : Record) → active_at slot rs ≡ Some r
-    → open_count (with_record (committed_as name layer number r) (without_slot slot rs)) + 1 ≡ open_count rs
-open_count-committed slot name layer number rs r e =
+pub open_count-committed : (slot : ℕ) (name : Bytes) (labels : Option (List Label)) (layer : Tree) (number : ℕ) (rs : List Record) (r : Record) → active_at slot rs ≡ Some r
+    → open_count (with_record (committed_as name labels layer number r) (without_slot slot rs)) + 1 ≡ open_count rs
+open_count-committed slot name labels layer number rs r e =
     let less = open_count-without_slot slot rs r e in
-    let same = open_count-with_committed name layer number r (without_slot slot rs) in
+    let same = open_count-with_committed name labels layer number r (without_slot slot rs) in
     omega arith
 
 -- where a slot is open, one is active

@@ -135,6 +135,7 @@ good_counters s m n good = record {
   counted = good.counted;
   within = good.within;
   limits = good.limits;
+  short = good.short;
   distinct = good.distinct;
   placed = good.placed;
   sorted = good.sorted;
@@ -167,6 +168,7 @@ good_added s r good low free base deep next count few shown apart beside room = 
   counted = all-with_record r (λ t. IsUsageCounted t.content) rs count good.counted;
   within = within_after ns rs ts r.namespace good.within (subst (λ (u : Usage). Covers (limit_at r.namespace ns) u) (sym (charge_of-with_record_own r rs)) room) (λ p apart. charge_of-with_record_other p r rs apart);
   limits = good.limits;
+  short = good.short;
   distinct = good.distinct;
   placed = all-with_record r (λ t. t.namespace < length ns) rs low good.placed;
   sorted = sorted-with_record r rs free good.sorted;
@@ -249,6 +251,7 @@ module _ (slot : ℕ) (to : Usage) where
     counted = all-recharged slot to (λ t. IsUsageCounted t.content) rs (λ t is h. tt) good.counted;
     within = within_after ns rs ts r.namespace good.within (subst (λ (u : Usage). Covers (limit_at r.namespace ns) u) (sym (charge_of-recharged_own slot to rs r e)) room) (λ p apart. charge_of-recharged_other p slot to rs r e apart);
     limits = good.limits;
+    short = good.short;
     distinct = good.distinct;
     placed = all-recharged slot to (λ t. t.namespace < length ns) rs (λ t is h. h) good.placed;
     sorted = sorted-recharged slot to rs good.sorted;
@@ -301,6 +304,7 @@ good_discarded s slot r good e = record {
       (subst (λ (u : Usage). Covers (limit_at r.namespace ns) u) (sym (charge_of-without_own (is_slot slot) rs r e)) (covers_gone (limit_at r.namespace ns) (charge_of r.namespace rs) (usage_of r.content) (good.within r.namespace low)))
       (λ p apart. charge_of-without_other p (is_slot slot) rs r e apart);
   limits = good.limits;
+  short = good.short;
   distinct = good.distinct;
   placed = all-without (is_slot slot) (λ t. t.namespace < length ns) rs good.placed;
   sorted = sorted-without (is_slot slot) rs good.sorted;
@@ -393,6 +397,7 @@ module _ (s : State) (place : ℕ) (key : Bytes) (r : Record) (good : Good s) (e
         (subst (λ (u : Usage). Covers (limit_at place ns) u) (sym removed_total) (covers_gone (limit_at place ns) (charge_of place rs) (usage_of r.content) (good.within place low)))
         removed_others;
     limits = good.limits;
+    short = good.short;
     distinct = good.distinct;
     placed = all-without p (λ t. t.namespace < length ns) rs good.placed;
     sorted = sorted-without p rs good.sorted;
@@ -436,18 +441,19 @@ module _ (s : State) (place : ℕ) (key : Bytes) (r : Record) (good : Good s) (e
 
 -- ---- a snapshot committed
 
-pub good_committed : (s : State) (slot : ℕ) (name : Bytes) (lease : Option Bytes) (layer : Tree) (r : Record) → Good s → active_at slot s.records ≡ Some r → has_key r.namespace name s.records ≡ false → Covers (usage_of r.content) (count_of layer)
-    → Good (committed s slot name lease layer r).0
-good_committed s slot name lease layer r good e free less = record {
+pub good_committed : (s : State) (slot : ℕ) (name : Bytes) (lease : Option Bytes) (labels : Option (List Label)) (layer : Tree) (r : Record) → Good s → active_at slot s.records ≡ Some r → has_key r.namespace name s.records ≡ false → Covers (usage_of r.content) (count_of layer)
+    → Good (committed s slot name lease labels layer r).0
+good_committed s slot name lease labels layer r good e free less = record {
   root = good.root;
   parents = stand_parents ns rs ts keeps ts (all-with_record c (HasParent rs) us (active_at-all (HasParent rs) slot rs r e good.parents) (all-without (is_slot slot) (HasParent rs) rs good.parents));
   leased = guarding lease;
   named_once = once lease;
   counted = all-with_record c (λ t. IsUsageCounted t.content) us refl (all-without (is_slot slot) (λ t. IsUsageCounted t.content) rs good.counted);
   within = within_after ns rs ts r.namespace good.within
-      (subst (λ (u : Usage). Covers (limit_at r.namespace ns) u) (sym (charge_of-committed_own slot name layer (s.entries + 1) rs r e)) (covered s slot r (count_of layer) good e less))
-      (λ p apart. charge_of-committed_other p slot name layer (s.entries + 1) rs r e apart);
+      (subst (λ (u : Usage). Covers (limit_at r.namespace ns) u) (sym (charge_of-committed_own slot name labels layer (s.entries + 1) rs r e)) (covered s slot r (count_of layer) good e less))
+      (λ p apart. charge_of-committed_other p slot name labels layer (s.entries + 1) rs r e apart);
   limits = good.limits;
+  short = good.short;
   distinct = good.distinct;
   placed = all-with_record c (λ t. t.namespace < length ns) us low (all-without (is_slot slot) (λ t. t.namespace < length ns) rs good.placed);
   sorted = sorted-with_record c us left (sorted-without (is_slot slot) rs good.sorted);
@@ -478,7 +484,7 @@ good_committed s slot name lease layer r good e free less = record {
     us = without_slot slot rs
 
     c : Record
-    c = committed_as name layer (s.entries + 1) r
+    c = committed_as name labels layer (s.entries + 1) r
 
     ts : List Record
     ts = with_record c us
@@ -527,6 +533,7 @@ good_relabelled s place key labels good = record {
   counted = all-relabelled place key labels n (λ t. IsUsageCounted t.content) rs (λ t h. h) good.counted;
   within = λ p low. subst (λ (u : Usage). Covers (limit_at p ns) u) (sym (alike-charge_of rs ts alike p)) (good.within p low);
   limits = good.limits;
+  short = good.short;
   distinct = good.distinct;
   placed = all-relabelled place key labels n (λ t. t.namespace < length ns) rs (λ t h. h) good.placed;
   sorted = sorted-relabelled place key labels n rs good.sorted;

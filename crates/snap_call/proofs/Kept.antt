@@ -1,9 +1,9 @@
 -- Each step keeps what is true of the state, and so does the replay of a journal.
 use Rattle.std.proofs.Common.{◌≡◌, ℕ, zero, suc, ◌+◌, ◌<◌, ◌≤◌, Bool, true, false, List, [], ◌∷◌, length, Option, Some, None, refl, sym, ap, subst, arith}
-use Rattle.std.specs.List.{list_all}
+use Rattle.std.specs.List.{AllByRecursion, list_all, list_any}
 use Rattle.std.specs.List.Sorted.{IsStrictlySortedBy}
 use Rattle.std.specs.Option.{option_map_or, is_some}
-use Rattle.std.specs.Prelude.{if◌then◌else◌, ◌&&◌, not, nat_lt, nat_le, Result, Ok, Err}
+use Rattle.std.specs.Prelude.{if◌then◌else◌, ◌&&◌, ◌==◌, not, nat_lt, nat_le, Result, Ok, Err}
 use Rattle.std.proofs.lemmas.Bool.{and_parts, not-false}
 use Rattle.std.proofs.lemmas.Bool.Decides.{nat_tests}
 use Rattle.snap_path.specs.Limits.{most_number}
@@ -32,7 +32,7 @@ use Rattle.snap_call.specs.Forms.{is_limit, is_layer_limit, is_namespace, is_slo
 use Rattle.snap_call.specs.Records.{charge_of, has_key, has_children, is_active, is_committed, record_at, active_at, max_slots, max_journal, max_sessions}
 use Rattle.snap_call.specs.State.{opening, place_of, limit_at}
 use Rattle.snap_call.specs.Good.{Good}
-use Rattle.snap_call.specs.Step.{refused, session, prepared, prepare_at, prepare, greater, fits_limit, charge_to, charge, trim, commit_as, commit, discard, ask, step, IsCovered, IsAllowed, place_for, slot_for, unless_refused, view_at, prepare_view, remove_record, remove, update_record, update, walk_infos, in_namespace, has_named, set_limit_at, set_limit, lease_create, lease_add_record, lease_add, lease_drop, lease_drop_at, lease_release, at_record}
+use Rattle.snap_call.specs.Step.{are_formed, refused, session, prepared, prepare_at, prepare, greater, fits_limit, charge_to, charge, trim, commit_as, commit, discard, ask, step, IsCovered, IsAllowed, place_for, slot_for, unless_refused, view_at, prepare_view, remove_record, remove, update_record, update, walk_infos, in_namespace, has_named, set_limit_at, set_limit, lease_create, lease_add_record, lease_add, lease_drop, lease_drop_at, lease_release, at_record}
 use Rattle.snap_call.specs.Journal.{Replays}
 use Rattle.snap_call.proofs.Leasing.{good_limited, good_created, good_dropped, good_named, good_released}
 use Rattle.snap_call.proofs.Lists.{committed-from}
@@ -98,18 +98,18 @@ good_trim s slot id good (Count now) h = good_trim_to s slot id now good (active
 good_trim s slot id good Nothing h = good_counted s good
 good_trim s slot id good (Layer layer) h = good_counted s good
 
-good_commit_as : (s : State) (slot id : ℕ) (name : Bytes) (lease : Option Bytes) (layer : Tree) → Good s → (o : Option Record) → active_at slot s.records ≡ o → IsCovered id (count_of layer) o → Good (commit_as s slot name lease layer o).0
-good_commit_as s slot id name lease layer good None e h = good_counted s good
-good_commit_as s slot id name lease layer good (Some r) e h =
-    either (is_key name && option_map_or is_key lease true) _ _
+good_commit_as : (s : State) (slot id : ℕ) (name : Bytes) (lease : Option Bytes) (labels : Option (List Label)) (layer : Tree) → Good s → (o : Option Record) → active_at slot s.records ≡ o → IsCovered id (count_of layer) o → Good (commit_as s slot name lease labels layer o).0
+good_commit_as s slot id name lease labels layer good None e h = good_counted s good
+good_commit_as s slot id name lease labels layer good (Some r) e h =
+    either (are_formed name lease labels) _ _
     (λ formed. either (has_key r.namespace name s.records) _ _ (λ taken. good_counted s good)
-    (λ free. either (has_named s r.namespace lease) _ _ (λ named. good_committed s slot name lease layer r good e free h.1) (λ unnamed. good_counted s good)))
+    (λ free. either (has_named s r.namespace lease) _ _ (λ named. good_committed s slot name lease labels layer r good e free h.1) (λ unnamed. good_counted s good)))
     (λ bad. good_counted s good)
 
-pub good_commit : (s : State) (slot id : ℕ) (name : Bytes) (lease : Option Bytes) → Good s → (given : Given) → IsAllowed s (calls.Commit slot id name lease) given → Good (commit s slot name lease given).0
-good_commit s slot id name lease good (Layer layer) h = good_commit_as s slot id name lease layer good (active_at slot s.records) refl h
-good_commit s slot id name lease good Nothing h = good_counted s good
-good_commit s slot id name lease good (Count now) h = good_counted s good
+pub good_commit : (s : State) (slot id : ℕ) (name : Bytes) (lease : Option Bytes) (labels : Option (List Label)) → Good s → (given : Given) → IsAllowed s (calls.Commit slot id name lease labels) given → Good (commit s slot name lease labels given).0
+good_commit s slot id name lease labels good (Layer layer) h = good_commit_as s slot id name lease labels layer good (active_at slot s.records) refl h
+good_commit s slot id name lease labels good Nothing h = good_counted s good
+good_commit s slot id name lease labels good (Count now) h = good_counted s good
 
 pub good_discard : (s : State) (slot : ℕ) → Good s → (o : Option Record) → active_at slot s.records ≡ o → Good (discard s slot o).0
 good_discard s slot good None e = good_counted s good
@@ -204,7 +204,7 @@ good_step s calls.Session given good h = good_session s good
 good_step s (calls.Prepare namespace key parent labels) given good h = good_prepare s namespace key parent labels good
 good_step s (calls.Charge slot id need want) given good h = good_charge s slot need want good (active_at slot s.records) refl
 good_step s (calls.Trim slot id) given good h = good_trim s slot id good given h
-good_step s (calls.Commit slot id name lease) given good h = good_commit s slot id name lease good given h
+good_step s (calls.Commit slot id name lease labels) given good h = good_commit s slot id name lease labels good given h
 good_step s (calls.Discard slot id) given good h = good_discard s slot good (active_at slot s.records) refl
 good_step s (calls.Stat namespace key) given good h = good_ask s _ namespace key good
 good_step s (calls.Usage namespace key) given good h = good_ask s _ namespace key good
@@ -226,6 +226,16 @@ limits_from : (ns : List Namespace) (place : ℕ) → list_all is_namespace ns �
 limits_from [] place all low = absurd (omega arith)
 limits_from (n ∷ ns) zero all low = let h = and_parts (is_namespace n) (list_all is_namespace ns) all in (and_parts (is_text 255 n.name) (is_limit n.limit) h.0).1
 limits_from (n ∷ ns) (suc place) all low = let h = and_parts (is_namespace n) (list_all is_namespace ns) all in limits_from ns place h.1 (omega arith)
+
+short_from : (ns : List Namespace) → list_all is_namespace ns ≡ true → AllByRecursion (λ n. length n.name ≤ 255) ns
+short_from [] all = tt
+short_from (n ∷ ns) all =
+    let h = and_parts (is_namespace n) (list_all is_namespace ns) all in
+    let named = (and_parts (is_text 255 n.name) (is_limit n.limit) h.0).0 in
+    let parts = and_parts (nat_le 1 (length n.name) && nat_le (length n.name) 255) (not (list_any (λ b. b == 0) n.name)) named in
+    let low : nat_le (length n.name) 255 ≡ true = (and_parts (nat_le 1 (length n.name)) (nat_le (length n.name) 255) parts.0).1 in
+    let bound : length n.name ≤ 255 = grind (arith, nat_tests) in
+    (bound, short_from ns h.1)
 
 -- each part of a configuration has its form
 six : (a b d f g h : Bool) → (a && (b && (d && (f && (g && (h && true)))))) ≡ true → (a ≡ true) × (b ≡ true) × (d ≡ true) × (g ≡ true) × (h ≡ true)
@@ -275,6 +285,7 @@ good_opening c e = record {
   counted = tt;
   within = λ place low. record { blocks = omega arith; inodes = omega arith };
   limits = λ place low. limits_from c.namespaces place (namespaces_formed c e).0 low;
+  short = short_from c.namespaces (namespaces_formed c e).0;
   distinct = (namespaces_formed c e).1;
   placed = tt;
   sorted = tt;

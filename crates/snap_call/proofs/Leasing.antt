@@ -1,5 +1,5 @@
 -- What is true of the state after a limit is set, and after leases are made, added to, taken from and released.
-use Rattle.std.proofs.Common.{◌≡◌, ◌≢◌, ℕ, zero, suc, ◌<◌, Bool, true, false, true≢false, List, [], ◌∷◌, ◌++◌, length, Option, Some, None, IsSome, refl, sym, ap, ◌∙◌, subst, inl, inr, arith}
+use Rattle.std.proofs.Common.{◌≡◌, ◌≢◌, ℕ, zero, suc, ◌<◌, ◌≤◌, Bool, true, false, true≢false, List, [], ◌∷◌, ◌++◌, length, Option, Some, None, IsSome, refl, sym, ap, ◌∙◌, subst, inl, inr, arith}
 use Rattle.std.specs.List.{AllByRecursion, list_any, position_or_len}
 use Rattle.std.specs.Option.{option_map}
 use Rattle.std.specs.Prelude.{if◌then◌else◌, ◌&&◌, bytes_eq, filter, not, nat_lt, position, cond, slice_set, ◌||◌}
@@ -116,6 +116,11 @@ module _ (limit : Usage) where
   distinct-limited zero (n ∷ ns) = refl
   distinct-limited (suc place) (n ∷ ns) = λ i. not (any-limited (has_name n.name) (λ m. refl) place ns i) && distinct-limited place ns i
 
+  short-limited : (place : ℕ) (ns : List Namespace) → AllByRecursion (λ n. length n.name ≤ 255) ns → AllByRecursion (λ n. length n.name ≤ 255) (with_limit place limit ns)
+  short-limited place [] all = tt
+  short-limited zero (n ∷ ns) all = all
+  short-limited (suc place) (n ∷ ns) all = (all.0, short-limited place ns all.1)
+
   pub limit_at-limited_own : (place : ℕ) (ns : List Namespace) → place < length ns → limit_at place (with_limit place limit ns) ≡ limit
   limit_at-limited_own place [] low = absurd (omega arith)
   limit_at-limited_own zero (n ∷ ns) low = refl
@@ -145,6 +150,7 @@ module _ (limit : Usage) where
     counted = good.counted;
     within = limits_anew (λ p u. Covers u (charge_of p s.records)) place s.namespaces low covered good.within;
     limits = limits_anew (λ p u. is_limit u ≡ true) place s.namespaces low is good.limits;
+    short = short-limited place s.namespaces good.short;
     distinct = distinct-limited place s.namespaces ∙ good.distinct;
     placed = subst (λ (m : ℕ). AllByRecursion (λ (r : Record). r.namespace < m) s.records) (sym (length-limited place s.namespaces)) good.placed;
     sorted = good.sorted;
@@ -170,6 +176,7 @@ good_leasing s ls good leased once = record {
   counted = good.counted;
   within = good.within;
   limits = good.limits;
+  short = good.short;
   distinct = good.distinct;
   placed = good.placed;
   sorted = good.sorted;

@@ -8,7 +8,7 @@ use Rattle.std.specs.Ordering.{is_lt}
 use Rattle.snap_layer.specs.Tree.{Tree}
 use Rattle.snap_usage.specs.declared.usage.Usage.{Usage}
 use Rattle.snap_ledger.specs.States.{free_charge}
-use Rattle.snap_record.specs.Labels.{Bytes}
+use Rattle.snap_record.specs.Labels.{Bytes, Label}
 use Rattle.snap_record.specs.Records.{usage_of}
 use Rattle.snap_record.specs.declared.record.Content.{Content}
 use Rattle.snap_record.specs.declared.record.Content.TheVariants.{View, Active, Committed}
@@ -122,13 +122,13 @@ active_at-recharged_other slot k to (t ∷ ts) ne = at (is_slot slot t) refl (ac
     at false is next = rw is (other (is_slot k t) refl next)
 
 -- a commit: the committed record is in no slot
-pub active_at-committed_own : (slot : ℕ) (name : Bytes) (layer : Tree) (number : ℕ) (rs : List Record) (r : Record) → AllPairwise AreApart rs → active_at slot (with_record (committed_as name layer number r) (without_slot slot rs)) ≡ None
-active_at-committed_own slot name layer number rs r apart =
-    active_at-with_record_other slot (committed_as name layer number r) (without_slot slot rs) refl ∙ active_at-without_slot_own slot rs apart
+pub active_at-committed_own : (slot : ℕ) (name : Bytes) (labels : Option (List Label)) (layer : Tree) (number : ℕ) (rs : List Record) (r : Record) → AllPairwise AreApart rs → active_at slot (with_record (committed_as name labels layer number r) (without_slot slot rs)) ≡ None
+active_at-committed_own slot name labels layer number rs r apart =
+    active_at-with_record_other slot (committed_as name labels layer number r) (without_slot slot rs) refl ∙ active_at-without_slot_own slot rs apart
 
-pub active_at-committed_other : (slot k : ℕ) (name : Bytes) (layer : Tree) (number : ℕ) (rs : List Record) (r : Record) → k ≢ slot → active_at k (with_record (committed_as name layer number r) (without_slot slot rs)) ≡ active_at k rs
-active_at-committed_other slot k name layer number rs r ne =
-    active_at-with_record_other k (committed_as name layer number r) (without_slot slot rs) refl ∙ active_at-without_slot_other slot k rs ne
+pub active_at-committed_other : (slot k : ℕ) (name : Bytes) (labels : Option (List Label)) (layer : Tree) (number : ℕ) (rs : List Record) (r : Record) → k ≢ slot → active_at k (with_record (committed_as name labels layer number r) (without_slot slot rs)) ≡ active_at k rs
+active_at-committed_other slot k name labels layer number rs r ne =
+    active_at-with_record_other k (committed_as name labels layer number r) (without_slot slot rs) refl ∙ active_at-without_slot_other slot k rs ne
 
 -- the charge of a slot is that of the record that is found in it
 pub charge_at-Some : (slot : ℕ) (rs : List Record) (r : Record) → active_at slot rs ≡ Some r → charge_at slot rs ≡ record { slot = slot; id = r.id; usage = usage_of r.content; issued = true }
@@ -177,8 +177,8 @@ charge_at-recharged_own slot to rs r e = ap (charge_if slot) (active_at-recharge
 pub charge_at-recharged_other : (slot k : ℕ) (to : Usage) (rs : List Record) → k ≢ slot → charge_at k (recharged slot to rs) ≡ charge_at k rs
 charge_at-recharged_other slot k to rs ne = ap (charge_if k) (active_at-recharged_other slot k to rs ne)
 
-pub charge_at-committed_own : (slot : ℕ) (name : Bytes) (layer : Tree) (number : ℕ) (rs : List Record) (r : Record) → AllPairwise AreApart rs → charge_at slot (with_record (committed_as name layer number r) (without_slot slot rs)) ≡ free_charge slot
-charge_at-committed_own slot name layer number rs r apart = ap (charge_if slot) (active_at-committed_own slot name layer number rs r apart)
+pub charge_at-committed_own : (slot : ℕ) (name : Bytes) (labels : Option (List Label)) (layer : Tree) (number : ℕ) (rs : List Record) (r : Record) → AllPairwise AreApart rs → charge_at slot (with_record (committed_as name labels layer number r) (without_slot slot rs)) ≡ free_charge slot
+charge_at-committed_own slot name labels layer number rs r apart = ap (charge_if slot) (active_at-committed_own slot name labels layer number rs r apart)
 
-pub charge_at-committed_other : (slot k : ℕ) (name : Bytes) (layer : Tree) (number : ℕ) (rs : List Record) (r : Record) → k ≢ slot → charge_at k (with_record (committed_as name layer number r) (without_slot slot rs)) ≡ charge_at k rs
-charge_at-committed_other slot k name layer number rs r ne = ap (charge_if k) (active_at-committed_other slot k name layer number rs r ne)
+pub charge_at-committed_other : (slot k : ℕ) (name : Bytes) (labels : Option (List Label)) (layer : Tree) (number : ℕ) (rs : List Record) (r : Record) → k ≢ slot → charge_at k (with_record (committed_as name labels layer number r) (without_slot slot rs)) ≡ charge_at k rs
+charge_at-committed_other slot k name labels layer number rs r ne = ap (charge_if k) (active_at-committed_other slot k name labels layer number rs r ne)

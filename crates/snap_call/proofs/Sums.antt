@@ -8,7 +8,7 @@ use Rattle.snap_layer.specs.Tree.{Tree}
 use Rattle.snap_usage.specs.declared.usage.Usage.{Usage}
 use Rattle.snap_usage.specs.Counted.{count_of, Covers, no_usage}
 use Rattle.snap_ledger.specs.States.{plus, minus}
-use Rattle.snap_record.specs.Labels.{Bytes}
+use Rattle.snap_record.specs.Labels.{Bytes, Label}
 use Rattle.snap_record.specs.Records.{usage_of}
 use Rattle.snap_record.specs.declared.record.Content.TheVariants.{Active}
 use Rattle.snap_record.specs.declared.record.Record.{Record}
@@ -157,14 +157,14 @@ charge_of-recharged_other place slot to rs r e ne =
     ∙ charge_of-without_other place (is_slot slot) rs r e ne
 
 -- the record of a slot committed
-pub charge_of-committed_own : (slot : ℕ) (name : Bytes) (layer : Tree) (number : ℕ) (rs : List Record) (r : Record) → active_at slot rs ≡ Some r
-    → charge_of r.namespace (with_record (committed_as name layer number r) (without_slot slot rs)) ≡ charge_with r (count_of layer) rs
-charge_of-committed_own slot name layer number rs r e =
-    charge_of-with_record_own (committed_as name layer number r) (without_slot slot rs)
+pub charge_of-committed_own : (slot : ℕ) (name : Bytes) (labels : Option (List Label)) (layer : Tree) (number : ℕ) (rs : List Record) (r : Record) → active_at slot rs ≡ Some r
+    → charge_of r.namespace (with_record (committed_as name labels layer number r) (without_slot slot rs)) ≡ charge_with r (count_of layer) rs
+charge_of-committed_own slot name labels layer number rs r e =
+    charge_of-with_record_own (committed_as name labels layer number r) (without_slot slot rs)
     ∙ ap (λ (u : Usage). plus u (count_of layer)) (charge_of-without_own (is_slot slot) rs r e)
 
-pub charge_of-committed_other : (place slot : ℕ) (name : Bytes) (layer : Tree) (number : ℕ) (rs : List Record) (r : Record) → active_at slot rs ≡ Some r → place ≢ r.namespace
-    → charge_of place (with_record (committed_as name layer number r) (without_slot slot rs)) ≡ charge_of place rs
-charge_of-committed_other place slot name layer number rs r e ne =
-    charge_of-with_record_other place (committed_as name layer number r) (without_slot slot rs) ne
+pub charge_of-committed_other : (place slot : ℕ) (name : Bytes) (labels : Option (List Label)) (layer : Tree) (number : ℕ) (rs : List Record) (r : Record) → active_at slot rs ≡ Some r → place ≢ r.namespace
+    → charge_of place (with_record (committed_as name labels layer number r) (without_slot slot rs)) ≡ charge_of place rs
+charge_of-committed_other place slot name labels layer number rs r e ne =
+    charge_of-with_record_other place (committed_as name labels layer number r) (without_slot slot rs) ne
     ∙ charge_of-without_other place (is_slot slot) rs r e ne

@@ -249,6 +249,7 @@ module _ (s : State) (namespace : Bytes) (place moment : ℕ) where
             (covers_gone (limit_at place ns) (charge_of place rs) (charge_of place (swept s namespace place moment)) (good.within place (place_of-below namespace ns place spaced))))
             swept_others;
         limits = good.limits;
+        short = good.short;
         distinct = good.distinct;
         placed = all-filter (λ t. t.namespace < length ns) stays rs good.placed;
         sorted = sorted-filter stays rs good.sorted;

@@ -30,6 +30,10 @@ abbrev pub IsShown : List Record → ℕ → Bytes → Content → Type 0
 IsShown rs place parent (View layers) = layers ≡ shown_layers place parent rs
 IsShown rs place parent content = Unit {0}
 
+-- each namespace's name has at most 255 bytes
+abbrev pub HasShortNames : State → Type 0
+HasShortNames s = AllByRecursion (λ n. length n.name ≤ 255) s.namespaces
+
 -- what is true of the state whenever no call is under way
 pub record Good (s : State) : Type 0 where
   -- the root can be the directory that all snapshots lie in
@@ -45,6 +49,8 @@ pub record Good (s : State) : Type 0 where
   -- each namespace is charged within its limit, which is at most 2^40 of each quantity
   pub within : (place : ℕ) → place < length s.namespaces → Covers (limit_at place s.namespaces) (charge_of place s.records)
   pub limits : (place : ℕ) → place < length s.namespaces → is_limit (limit_at place s.namespaces) ≡ true
+  -- each namespace's name has at most 255 bytes
+  pub short : HasShortNames s
   -- no two namespaces have the same name
   pub distinct : have_distinct_names s.namespaces ≡ true
   pub placed : AllByRecursion (λ r. r.namespace < length s.namespaces) s.records

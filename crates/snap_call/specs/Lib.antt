@@ -8,6 +8,8 @@ pub mod Indexes
 pub mod Marked
 pub mod Good
 pub mod Step
+pub mod Questions
+pub mod Kept
 pub mod Journal
 pub mod Holder
 pub mod Totals

@@ -1,6 +1,6 @@
 -- Records as a list, in order of their namespaces' places and of the bytes of their keys.
 -- Cited by `Records::committed_at`, `Records::is_present`, `Records::is_base` and others.
-use Rattle.std.specs.Prelude.{◌≡◌, ℕ, ◌<◌, zero, suc, ◌==◌, Bool, true, false, ◌&&◌, List, [], ◌∷◌, map, filter, take, Option, None, Some, find, bytes_eq, option_and_then, count_by, length, if◌then◌else◌}
+use Rattle.std.specs.Prelude.{◌≡◌, ℕ, ◌<◌, zero, suc, ◌==◌, Bool, true, false, ◌&&◌, List, [], ◌∷◌, map, filter, take, Option, None, Some, find, bytes_eq, option_and_then, unwrap_or, count_by, length, if◌then◌else◌}
 use Rattle.std.specs.declared.cmp.Ordering.{Ordering}
 use Rattle.std.specs.Ordering.{nat_cmp, ordering_then, is_lt}
 use Rattle.std.specs.Cmp.Lexicographic.{slice_cmp}
@@ -142,9 +142,9 @@ is_walked place after asked r = (r.namespace == place) && is_lt (slice_cmp nat_c
 abbrev pub info_page : ℕ → Bytes → ℕ → Filter → List Record → List Info
 info_page place after most asked rs = map info_of (take most (filter (is_walked place after asked) rs))
 
--- a record as it is once it is committed under a name, by the entry of this number
-abbrev pub committed_as : Bytes → Tree → ℕ → Record → Record
-committed_as name layer number r = record r { key = name; content = Committed layer (count_of layer); created = number; updated = number }
+-- a record as it is once it is committed under a name, by the entry of this number: with the labels that are given, or with its own
+abbrev pub committed_as : Bytes → Option (List Label) → Tree → ℕ → Record → Record
+committed_as name labels layer number r = record r { key = name; labels = unwrap_or labels r.labels; content = Committed layer (count_of layer); created = number; updated = number }
 
 -- the slots of a store that isn't given a number of them
 abbrev pub default_slots : ℕ

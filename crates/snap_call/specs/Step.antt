@@ -142,29 +142,33 @@ trim s slot (Count now) (Some r) = (record s { records = recharged slot now s.re
 trim s slot (Count now) None = refused s NotActive
 trim s slot given r = refused s BadArgument
 
--- Commit: the active snapshot gives way to a committed one with the layer and its count; the lease, where one is named, gets the name (containerd's Snapshotter.Commit, under a lease)
+-- Commit: the active snapshot gives way to a committed one with the layer and its count; the lease, where one is named, gets the name, and labels that are given stand in place of its own (containerd's Snapshotter.Commit, under a lease and with labels)
 abbrev pub has_named : State → ℕ → Option Bytes → Bool
 has_named s place lease = option_map_or (has_lease s.leases (name_at place s.namespaces)) lease true
 
 abbrev pub leases_after : State → ℕ → Bytes → Option Bytes → List Lease
 leases_after s place name lease = option_map_or (λ l. with_name_added s.leases (name_at place s.namespaces) l name) lease s.leases
 
-abbrev pub committed : State → ℕ → Bytes → Option Bytes → Tree → Record → State × Reply
-committed s slot name lease layer r = (
-  record s { records = with_record (committed_as name layer (s.entries + 1) r) (without_slot slot s.records); leases = leases_after s r.namespace name lease; entries = s.entries + 1 },
+-- the name, the lease and the labels have their forms, where they are given
+abbrev pub are_formed : Bytes → Option Bytes → Option (List Label) → Bool
+are_formed name lease labels = is_key name && option_map_or is_key lease true && option_map_or are_labels labels true
+
+abbrev pub committed : State → ℕ → Bytes → Option Bytes → Option (List Label) → Tree → Record → State × Reply
+committed s slot name lease labels layer r = (
+  record s { records = with_record (committed_as name labels layer (s.entries + 1) r) (without_slot slot s.records); leases = leases_after s r.namespace name lease; entries = s.entries + 1 },
   Committed r.id (count_of layer),
 )
 
-abbrev pub commit_as : State → ℕ → Bytes → Option Bytes → Tree → Option Record → State × Reply
-commit_as s slot name lease layer (Some r) =
-    if is_key name && option_map_or is_key lease true
-    then if has_key r.namespace name s.records then refused s AlreadyExists else if has_named s r.namespace lease then committed s slot name lease layer r else refused s NoLease
+abbrev pub commit_as : State → ℕ → Bytes → Option Bytes → Option (List Label) → Tree → Option Record → State × Reply
+commit_as s slot name lease labels layer (Some r) =
+    if are_formed name lease labels
+    then if has_key r.namespace name s.records then refused s AlreadyExists else if has_named s r.namespace lease then committed s slot name lease labels layer r else refused s NoLease
     else refused s BadArgument
-commit_as s slot name lease layer None = refused s NotActive
+commit_as s slot name lease labels layer None = refused s NotActive
 
-abbrev pub commit : State → ℕ → Bytes → Option Bytes → Given → State × Reply
-commit s slot name lease (Layer layer) = commit_as s slot name lease layer (active_at slot s.records)
-commit s slot name lease given = refused s BadArgument
+abbrev pub commit : State → ℕ → Bytes → Option Bytes → Option (List Label) → Given → State × Reply
+commit s slot name lease labels (Layer layer) = commit_as s slot name lease labels layer (active_at slot s.records)
+commit s slot name lease labels given = refused s BadArgument
 
 -- Discard: the record goes, and what it was charged is answered
 abbrev pub discard : State → ℕ → Option Record → State × Reply
@@ -276,7 +280,7 @@ step s calls.Session given = session s
 step s (calls.Prepare namespace key parent labels) given = prepare s namespace key parent labels
 step s (calls.Charge slot id need want) given = charge s slot need want (active_at slot s.records)
 step s (calls.Trim slot id) given = trim s slot given (active_at slot s.records)
-step s (calls.Commit slot id name lease) given = commit s slot name lease given
+step s (calls.Commit slot id name lease labels) given = commit s slot name lease labels given
 step s (calls.Discard slot id) given = discard s slot (active_at slot s.records)
 step s (calls.Stat namespace key) given = ask s (λ r. Info (info_of r)) namespace key
 step s (calls.Usage namespace key) given = ask s (λ r. UsageReply (usage_of r.content)) namespace key
@@ -306,7 +310,7 @@ IsAllowed s calls.Session given = s.sessions < max_sessions
 IsAllowed s (calls.Charge slot id need want) given = IsOpenSlot id (active_at slot s.records)
 IsAllowed s (calls.Trim slot id) (Count now) = IsCovered id now (active_at slot s.records)
 IsAllowed s (calls.Trim slot id) given = ⊥
-IsAllowed s (calls.Commit slot id name lease) (Layer layer) = IsCovered id (count_of layer) (active_at slot s.records)
-IsAllowed s (calls.Commit slot id name lease) given = ⊥
+IsAllowed s (calls.Commit slot id name lease labels) (Layer layer) = IsCovered id (count_of layer) (active_at slot s.records)
+IsAllowed s (calls.Commit slot id name lease labels) given = ⊥
 IsAllowed s (calls.Discard slot id) given = IsOpenSlot id (active_at slot s.records)
 IsAllowed s call given = Unit {0}

@@ -26,12 +26,14 @@ pub enum Call {
         slot: u64,
         id: u32,
     },
-    /// Commits the active snapshot of a slot under a name (containerd's `Commit`).
+    /// Commits the active snapshot of a slot under a name, with these labels or with its own
+    /// (containerd's `Commit`).
     Commit {
         slot: u64,
         id: u32,
         name: Text,
         lease: Option<Text>,
+        labels: Option<Labels>,
     },
     /// Drops the active snapshot of a slot.
     Discard {
@@ -149,6 +151,7 @@ impl Drop for Call {
                 id: _,
                 name: _,
                 lease: _,
+                labels: _,
             } => {}
             Call::Discard { slot: _, id: _ } => {}
             Call::Stat {

@@ -30,6 +30,16 @@ pub(crate) fn is_same_lease(a: &Option<Text>, b: &Option<Text>) -> bool
     }
 }
 
+fn is_same_given_labels(a: &Option<Labels>, b: &Option<Labels>) -> bool
+    ensures { IsTrue result ↔ (a.now ≡ b.now) }
+{
+    match (a, b) {
+        (None, None) => true,
+        (Some(a), Some(b)) => is_same_labels(a, b),
+        _ => false,
+    }
+}
+
 fn is_same_moment(a: Option<u64>, b: Option<u64>) -> bool
     ensures { IsTrue result ↔ (a ≡ b) }
 {
@@ -110,7 +120,8 @@ pub(crate) fn is_same_call(a: &Call, b: &Call) -> bool
             id,
             name,
             lease,
-        } => is_commit(b, *slot, *id, name, lease),
+            labels,
+        } => is_commit(b, *slot, *id, name, lease, labels),
         Call::Discard { slot, id } => is_discard(b, *slot, *id),
         Call::Stat { namespace, key } => is_stat(b, namespace, key),
         Call::Usage { namespace, key } => is_usage(b, namespace, key),
@@ -201,8 +212,15 @@ fn is_trim(call: &Call, slot: u64, id: u32) -> bool
     }
 }
 
-fn is_commit(call: &Call, slot: u64, id: u32, name: &Text, lease: &Option<Text>) -> bool
-    ensures { IsTrue result ↔ (calls.Commit slot id name.now lease.now ≡ call.now) }
+fn is_commit(
+    call: &Call,
+    slot: u64,
+    id: u32,
+    name: &Text,
+    lease: &Option<Text>,
+    labels: &Option<Labels>,
+) -> bool
+    ensures { IsTrue result ↔ (calls.Commit slot id name.now lease.now labels.now ≡ call.now) }
 {
     match call {
         Call::Commit {
@@ -210,7 +228,14 @@ fn is_commit(call: &Call, slot: u64, id: u32, name: &Text, lease: &Option<Text>)
             id: i,
             name: n,
             lease: l,
-        } => slot == *s && id == *i && *name == *n && is_same_lease(lease, l),
+            labels: t,
+        } => {
+            slot == *s
+                && id == *i
+                && *name == *n
+                && is_same_lease(lease, l)
+                && is_same_given_labels(labels, t)
+        }
         _ => false,
     }
 }

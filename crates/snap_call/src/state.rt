@@ -13,7 +13,7 @@ use crate::config::{Config, Namespace};
 use crate::records::Records;
 use snap_layer::Shared;
 use snap_lease::{LeaseError, Leases};
-use snap_record::{Content, Filter, Info, Record, Sequence, Text};
+use snap_record::{Content, Filter, Info, Labels, Record, Sequence, Text};
 use snap_usage::{Usage, count};
 use std::alloc::{AllocError, Global};
 
@@ -38,22 +38,27 @@ pub struct State {
 }
 
 // The record of an active snapshot as it is once it is committed under the name with the layer, by the
-// entry of this number.
+// entry of this number: with the labels, or where none are given with its own.
 fn committed_as(
     active: &Record,
     name: &Text,
+    labels: &Option<Labels>,
     layer: &Shared,
     number: u64,
 ) -> Result<Record, AllocError>
-    ensures { IfOk result (λ r. r ≡ committed_as name.now layer.now number active.now) }
+    ensures { IfOk result (λ r. r ≡ committed_as name.now labels.now layer.now number active.now) }
 {
     let usage = count(layer.layer());
+    let labels = match labels {
+        Some(labels) => labels,
+        None => &active.labels,
+    };
     Ok(Record {
         namespace: active.namespace,
         key: name.clone()?,
         parent: active.parent.clone()?,
         id: active.id,
-        labels: active.labels.clone()?,
+        labels: labels.clone()?,
         created: number,
         updated: number,
         content: Content::Committed {
@@ -146,8 +151,8 @@ impl State {
     }
 
     /// Makes the active snapshot of a slot a committed one of this name and layer, as the next journal entry
-    /// leaves it, and names it in the lease of its namespace, where one is given. The slot is free then. The
-    /// entries are not counted.
+    /// leaves it, with the labels in place of its own, where they are given, and names it in the lease of its
+    /// namespace, where one is given. The slot is free then. The entries are not counted.
     ///
     /// Takes memory for a record, with copies of the name, the parent and the labels, for its place, and for a
     /// name that is new to the lease; where that is refused, nothing changes. The cost grows with the logarithms
@@ -157,6 +162,7 @@ impl State {
         slot: u64,
         name: &Text,
         lease: &Option<Text>,
+        labels: &Option<Labels>,
         layer: &Shared,
     ) -> Result<(), AllocError>
         requires good { Good self.old }
@@ -165,14 +171,14 @@ impl State {
         requires entries { self.old.entries < 2 ^ 63 }
         requires new { (r : Record) → active_at slot self.old.records ≡ Some r → has_key r.namespace name.now self.old.records ≡ false }
         requires named { (r : Record) → active_at slot self.old.records ≡ Some r → has_named self.old r.namespace lease.now ≡ true }
-        ensures ok { OnOk result ((r : Record) → active_at slot self.old.records ≡ Some r → self.new ≡ record self.old { records = with_record (committed_as name.now layer.now (self.old.entries + 1) r) (without_slot slot self.old.records); leases = leases_after self.old r.namespace name.now lease.now }) }
+        ensures ok { OnOk result ((r : Record) → active_at slot self.old.records ≡ Some r → self.new ≡ record self.old { records = with_record (committed_as name.now labels.now layer.now (self.old.entries + 1) r) (without_slot slot self.old.records); leases = leases_after self.old r.namespace name.now lease.now }) }
         ensures err { OnErr result (self.new ≡ self.old) }
     {
         let Some(active) = self.records.active_at(slot) else {
             unreachable!()
         };
         let place = active.namespace;
-        let committed = committed_as(active, name, layer, self.entries + 1)?;
+        let committed = committed_as(active, name, labels, layer, self.entries + 1)?;
         if let Err((no_memory, _)) = self.records.insert(committed) {
             return Err(no_memory.into());
         }

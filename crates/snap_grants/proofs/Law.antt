@@ -1,7 +1,5 @@
 -- The law, by induction on the journal.
-use Rattle.std.proofs.Common.{◌≡◌, ℕ, ◌+◌, true, List, [], ◌∷◌, Option, Some, None, refl, sym, ap, ◌∙◌, subst, arith}
-use Rattle.std.specs.Option.{option_map_or}
-use Rattle.std.specs.Prelude.{◌&&◌}
+use Rattle.std.proofs.Common.{◌≡◌, ℕ, ◌+◌, List, [], ◌∷◌, Option, Some, None, refl, sym, ap, ◌∙◌, subst, arith}
 use Rattle.snap_layer.specs.Tree.{Tree}
 use Rattle.snap_usage.specs.Counted.{count_of}
 use Rattle.snap_record.specs.Labels.{Bytes, Label}
@@ -15,10 +13,9 @@ use Rattle.snap_call.specs.declared.entry.Entry.{Entry}
 use Rattle.snap_call.specs.declared.refusal.Refusal.{Refusal}
 use Rattle.snap_call.specs.declared.reply.Reply.{Reply}
 use Rattle.snap_call.specs.declared.state.State.{State}
-use Rattle.snap_call.specs.Forms.{is_key}
 use Rattle.snap_call.specs.Records.{has_key, is_slot, active_at, open_count, without_slot, committed_as}
 use Rattle.snap_call.specs.State.{name_at}
-use Rattle.snap_call.specs.Step.{refused, place_for, slot_for, prepared, prepare_at, prepare, has_named, committed, commit_as, commit, step, IsCovered, IsAllowed, new_record, one}
+use Rattle.snap_call.specs.Step.{are_formed, refused, place_for, slot_for, prepared, prepare_at, prepare, has_named, committed, commit_as, commit, step, IsCovered, IsAllowed, new_record, one}
 use Rattle.snap_call.specs.Journal.{Replays}
 use Rattle.snap_call.proofs.Leasing.{name_at-place}
 use Rattle.snap_call.proofs.Lists.{all-with_record, all-without}
@@ -69,9 +66,9 @@ module _ (origin : ℕ → Origin) (s : State) (all : AllCome origin s) where
       made : Origin → ℕ → ℕ
       made o i = h (record { namespace = o.namespace; name = name; parent = o.parent; id = i; layer = layer })
 
-  moves_committed : (slot id : ℕ) (name : Bytes) (lease : Option Bytes) (layer : Tree) (r : Record) → active_at slot s.records ≡ Some r → r.id ≡ id → Moves origin s (calls.Commit slot id name lease) (Layer layer) (committed s slot name lease layer r)
-  moves_committed slot id name lease layer r found same =
-      let c : Record = committed_as name layer (s.entries + 1) r in record {
+  moves_committed : (slot id : ℕ) (name : Bytes) (lease : Option Bytes) (labels : Option (List Label)) (layer : Tree) (r : Record) → active_at slot s.records ≡ Some r → r.id ≡ id → Moves origin s (calls.Commit slot id name lease labels) (Layer layer) (committed s slot name lease labels layer r)
+  moves_committed slot id name lease labels layer r found same =
+      let c : Record = committed_as name labels layer (s.entries + 1) r in record {
         come = all-with_record c (Comes origin s.namespaces) (without_slot slot s.records) tt (all-without (is_slot slot) (Comes origin s.namespaces) s.records all);
         more = λ h.
             let more = weights-with_record h s.namespaces c (without_slot slot s.records) in
@@ -80,28 +77,28 @@ module _ (origin : ℕ → Origin) (s : State) (all : AllCome origin s) where
             omega (arith, more, less, is);
       }
 
-  moves_commit_as : (slot id : ℕ) (name : Bytes) (lease : Option Bytes) (layer : Tree) (o : Option Record) → active_at slot s.records ≡ o → IsCovered id (count_of layer) o → Moves origin s (calls.Commit slot id name lease) (Layer layer) (commit_as s slot name lease layer o)
-  moves_commit_as slot id name lease layer (Some r) found covered =
-      either P (is_key name && option_map_or is_key lease true) _ _
+  moves_commit_as : (slot id : ℕ) (name : Bytes) (lease : Option Bytes) (labels : Option (List Label)) (layer : Tree) (o : Option Record) → active_at slot s.records ≡ o → IsCovered id (count_of layer) o → Moves origin s (calls.Commit slot id name lease labels) (Layer layer) (commit_as s slot name lease labels layer o)
+  moves_commit_as slot id name lease labels layer (Some r) found covered =
+      either P (are_formed name lease labels) _ _
       (either P (has_key r.namespace name s.records) _ _ (none _)
-      (either P (has_named s r.namespace lease) _ _ (moves_committed slot id name lease layer r found covered.0) (none _)))
+      (either P (has_named s r.namespace lease) _ _ (moves_committed slot id name lease labels layer r found covered.0) (none _)))
       (none _)
     where
       P : State × Reply → Type 0
-      P next = Moves origin s (calls.Commit slot id name lease) (Layer layer) next
+      P next = Moves origin s (calls.Commit slot id name lease labels) (Layer layer) next
 
       none : (why : Refusal) → P (refused s why)
-      none why = plain (calls.Commit slot id name lease) (Layer layer) (refused s why) (counts s) (λ h. refl)
-  moves_commit_as slot id name lease layer None found covered = absurd covered
+      none why = plain (calls.Commit slot id name lease labels) (Layer layer) (refused s why) (counts s) (λ h. refl)
+  moves_commit_as slot id name lease labels layer None found covered = absurd covered
 
-  moves_commit : (slot id : ℕ) (name : Bytes) (lease : Option Bytes) (given : Given) → IsAllowed s (calls.Commit slot id name lease) given → Moves origin s (calls.Commit slot id name lease) given (commit s slot name lease given)
-  moves_commit slot id name lease (Layer layer) allowed = moves_commit_as slot id name lease layer (active_at slot s.records) refl allowed
-  moves_commit slot id name lease Nothing allowed = absurd allowed
-  moves_commit slot id name lease (Count now) allowed = absurd allowed
+  moves_commit : (slot id : ℕ) (name : Bytes) (lease : Option Bytes) (labels : Option (List Label)) (given : Given) → IsAllowed s (calls.Commit slot id name lease labels) given → Moves origin s (calls.Commit slot id name lease labels) given (commit s slot name lease labels given)
+  moves_commit slot id name lease labels (Layer layer) allowed = moves_commit_as slot id name lease labels layer (active_at slot s.records) refl allowed
+  moves_commit slot id name lease labels Nothing allowed = absurd allowed
+  moves_commit slot id name lease labels (Count now) allowed = absurd allowed
 
   moves : (call : Call) (given : Given) → IsKeeping call → IsAllowed s call given → IsOrigin origin call (step s call given).1 → Moves origin s call given (step s call given)
   moves (calls.Prepare namespace key parent labels) given keeps allowed is = moves_prepare namespace key parent labels given is
-  moves (calls.Commit slot id name lease) given keeps allowed is = moves_commit slot id name lease given allowed
+  moves (calls.Commit slot id name lease labels) given keeps allowed is = moves_commit slot id name lease labels given allowed
   moves (calls.Remove namespace key) given keeps allowed is = absurd keeps
   moves (calls.Sweep namespace moment) given keeps allowed is = absurd keeps
   moves call given keeps allowed is = plain call given (step s call given) (stays s call given tt) (λ h. refl)

@@ -1,7 +1,6 @@
 -- Ids are given once, so a journal says where each comes from.
-use Rattle.std.proofs.Common.{◌≡◌, ℕ, ◌≤◌, eqb, Bool, true, false, List, [], ◌∷◌, Option, Some, None, refl, sym, ap, ◌∙◌, subst, arith}
-use Rattle.std.specs.Option.{option_map_or}
-use Rattle.std.specs.Prelude.{if◌then◌else◌, ◌&&◌}
+use Rattle.std.proofs.Common.{◌≡◌, ℕ, ◌≤◌, eqb, Bool, false, List, [], ◌∷◌, Option, Some, None, refl, sym, ap, ◌∙◌, subst, arith}
+use Rattle.std.specs.Prelude.{if◌then◌else◌}
 use Rattle.std.proofs.lemmas.Bool.{false_from_ne_true, eqb-true, eq-eqb}
 use Rattle.snap_layer.specs.Tree.{Tree}
 use Rattle.snap_record.specs.Labels.{Bytes, Label}
@@ -14,9 +13,8 @@ use Rattle.snap_call.specs.declared.entry.Entry.{Entry}
 use Rattle.snap_call.specs.declared.refusal.Refusal.{Refusal}
 use Rattle.snap_call.specs.declared.reply.Reply.{Reply}
 use Rattle.snap_call.specs.declared.state.State.{State}
-use Rattle.snap_call.specs.Forms.{is_key}
 use Rattle.snap_call.specs.Records.{has_key, active_at}
-use Rattle.snap_call.specs.Step.{refused, place_for, slot_for, prepared, prepare_at, prepare, has_named, commit_as, commit, step}
+use Rattle.snap_call.specs.Step.{are_formed, refused, place_for, slot_for, prepared, prepare_at, prepare, has_named, commit_as, commit, step}
 use Rattle.snap_call.specs.Journal.{Replays}
 use Rattle.snap_grants.specs.Grants.{Origin, IsKeeping, AreKeeping, IsOrigin, AreOrigins, origin_of, origin_in}
 use Rattle.snap_grants.proofs.Staying.{either, unless, stays}
@@ -50,22 +48,22 @@ module _ (s : State) where
   abbrev Same : State × Reply → Type 0
   Same next = next.0.next_id ≡ s.next_id
 
-  same_commit_as : (slot : ℕ) (name : Bytes) (lease : Option Bytes) (layer : Tree) (o : Option Record) → Same (commit_as s slot name lease layer o)
-  same_commit_as slot name lease layer (Some r) =
-      either Same (is_key name && option_map_or is_key lease true) _ _
+  same_commit_as : (slot : ℕ) (name : Bytes) (lease : Option Bytes) (labels : Option (List Label)) (layer : Tree) (o : Option Record) → Same (commit_as s slot name lease labels layer o)
+  same_commit_as slot name lease labels layer (Some r) =
+      either Same (are_formed name lease labels) _ _
       (either Same (has_key r.namespace name s.records) _ _ refl
       (either Same (has_named s r.namespace lease) _ _ refl refl))
       refl
-  same_commit_as slot name lease layer None = refl
+  same_commit_as slot name lease labels layer None = refl
 
-  same_commit : (slot : ℕ) (name : Bytes) (lease : Option Bytes) (given : Given) → Same (commit s slot name lease given)
-  same_commit slot name lease (Layer layer) = same_commit_as slot name lease layer (active_at slot s.records)
-  same_commit slot name lease Nothing = refl
-  same_commit slot name lease (Count now) = refl
+  same_commit : (slot : ℕ) (name : Bytes) (lease : Option Bytes) (labels : Option (List Label)) (given : Given) → Same (commit s slot name lease labels given)
+  same_commit slot name lease labels (Layer layer) = same_commit_as slot name lease labels layer (active_at slot s.records)
+  same_commit slot name lease labels Nothing = refl
+  same_commit slot name lease labels (Count now) = refl
 
   numbers : (call : Call) (given : Given) → IsKeeping call → Numbers s.next_id call (step s call given)
   numbers (calls.Prepare namespace key parent labels) given keeps = numbers_prepare namespace key parent labels
-  numbers (calls.Commit slot id name lease) given keeps = record { grows = (let e = same_commit slot name lease given in omega (arith, e)); later = λ at rest low. refl; told = λ origin rest same. tt }
+  numbers (calls.Commit slot id name lease labels) given keeps = record { grows = (let e = same_commit slot name lease labels given in omega (arith, e)); later = λ at rest low. refl; told = λ origin rest same. tt }
   numbers (calls.Remove namespace key) given keeps = absurd keeps
   numbers (calls.Sweep namespace moment) given keeps = absurd keeps
   numbers call given keeps = record { grows = (stays s call given tt).grows; later = λ at rest low. refl; told = λ origin rest same. tt }

@@ -51,7 +51,7 @@ pub record Stays (s t : State) : Type 0 where
 -- a call that isn't Prepare or Commit, and keeps what is committed
 abbrev pub IsPlain : Call → Type 0
 IsPlain (calls.Prepare namespace key parent labels) = ⊥
-IsPlain (calls.Commit slot id name lease) = ⊥
+IsPlain (calls.Commit slot id name lease labels) = ⊥
 IsPlain (calls.Remove namespace key) = ⊥
 IsPlain (calls.Sweep namespace moment) = ⊥
 IsPlain call = Unit {0}

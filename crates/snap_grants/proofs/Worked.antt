@@ -29,7 +29,7 @@ abbrev made : Entry
 made = call_entry 0 (calls.Prepare (97 ∷ []) (107 ∷ []) [] []) Nothing (Prepared 1 0 [])
 
 abbrev stored : Entry
-stored = call_entry 0 (calls.Commit 0 1 (110 ∷ []) None) (Layer layer) (Committed 1 (count_of layer))
+stored = call_entry 0 (calls.Commit 0 1 (110 ∷ []) None None) (Layer layer) (Committed 1 (count_of layer))
 
 abbrev es : List Entry
 es = opened ∷ made ∷ stored ∷ []

@@ -69,7 +69,7 @@ grant_by h origin reply given id name = 0
 
 -- by the call: 0 of any other than Commit
 abbrev pub grant_of : (Stored → ℕ) → (ℕ → Origin) → Call → Given → Reply → ℕ
-grant_of h origin (calls.Commit slot id name lease) given reply = grant_by h origin reply given id name
+grant_of h origin (calls.Commit slot id name lease labels) given reply = grant_by h origin reply given id name
 grant_of h origin call given reply = 0
 
 -- the snapshots of the granted Commits, weighed and added up

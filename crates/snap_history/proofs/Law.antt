@@ -95,7 +95,7 @@ infos_are name place s shares (e ∷ es) t good held h =
     let rest : entry_infos_of name (s.entries + 1) (shares_after name shares e) (turned (charge_of place s.records) c.found c.left) es ≡ history place after es =
     (λ i. entry_infos_of name (number i) (shares_after name shares e) (charge i) es) ∙ later in
     let mine : is_own name shares e.call ≡ is_call_of place s e.call = sym (own name place s shares good held e.call e.given h.0) in
-    λ i. if mine i then entry_info (number i) e (charge i) ∷ rest i else rest i
+    λ i. if mine i then entry_info (number i) e (Some (charge i)) ∷ rest i else rest i
 
 -- ---- the shares that a round begins with
 

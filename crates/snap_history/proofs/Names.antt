@@ -26,7 +26,7 @@ use Rattle.snap_call.specs.declared.state.State.{State}
 use Rattle.snap_call.specs.Forms.{is_key, is_limit, is_page, is_start}
 use Rattle.snap_call.specs.Records.{record_at, has_key, has_children, is_active, is_committed, active_at, charge_of, max_sessions}
 use Rattle.snap_call.specs.State.{place_of}
-use Rattle.snap_call.specs.Step.{refused, session, prepared, prepare_at, prepare, granted, charge_to, charge, trim, commit_as, commit, discard, ask, step, IsAllowed, place_for, slot_for, unless_refused, mounts, view_at, prepare_view, remove_record, remove, update_record, update, walk_infos, in_namespace, has_named, set_limit_at, set_limit, lease_create, lease_add_record, lease_add, lease_drop, lease_drop_at, lease_release, sweep_at, at_record}
+use Rattle.snap_call.specs.Step.{are_formed, refused, session, prepared, prepare_at, prepare, granted, charge_to, charge, trim, commit_as, commit, discard, ask, step, IsAllowed, place_for, slot_for, unless_refused, mounts, view_at, prepare_view, remove_record, remove, update_record, update, walk_infos, in_namespace, has_named, set_limit_at, set_limit, lease_create, lease_add_record, lease_add, lease_drop, lease_drop_at, lease_release, sweep_at, at_record}
 use Rattle.snap_call.specs.Journal.{Replays}
 use Rattle.snap_call.proofs.Leasing.{place_of-limited}
 
@@ -68,18 +68,18 @@ trimming s slot (Count now) None = (λ name. refl)
 trimming s slot Nothing o = (λ name. refl)
 trimming s slot (Layer layer) o = (λ name. refl)
 
-committing_as : (s : State) (slot : ℕ) (name : Bytes) (lease : Option Bytes) (layer : Tree) (o : Option Record) → IsNext s (commit_as s slot name lease layer o).0
-committing_as s slot name lease layer (Some r) =
-    either s (is_key name && option_map_or is_key lease true) _ _
+committing_as : (s : State) (slot : ℕ) (name : Bytes) (lease : Option Bytes) (labels : Option (List Label)) (layer : Tree) (o : Option Record) → IsNext s (commit_as s slot name lease labels layer o).0
+committing_as s slot name lease labels layer (Some r) =
+    either s (are_formed name lease labels) _ _
     (either s (has_key r.namespace name s.records) _ _ (λ name. refl)
     (either s (has_named s r.namespace lease) _ _ (λ name. refl) (λ name. refl)))
     (λ name. refl)
-committing_as s slot name lease layer None = (λ name. refl)
+committing_as s slot name lease labels layer None = (λ name. refl)
 
-committing : (s : State) (slot : ℕ) (name : Bytes) (lease : Option Bytes) (given : Given) → IsNext s (commit s slot name lease given).0
-committing s slot name lease (Layer layer) = committing_as s slot name lease layer (active_at slot s.records)
-committing s slot name lease Nothing = (λ name. refl)
-committing s slot name lease (Count now) = (λ name. refl)
+committing : (s : State) (slot : ℕ) (name : Bytes) (lease : Option Bytes) (labels : Option (List Label)) (given : Given) → IsNext s (commit s slot name lease labels given).0
+committing s slot name lease labels (Layer layer) = committing_as s slot name lease labels layer (active_at slot s.records)
+committing s slot name lease labels Nothing = (λ name. refl)
+committing s slot name lease labels (Count now) = (λ name. refl)
 
 discarding : (s : State) (slot : ℕ) (o : Option Record) → IsNext s (discard s slot o).0
 discarding s slot (Some r) = (λ name. refl)
@@ -159,7 +159,7 @@ step-names s calls.Session given left = opening s left
 step-names s (calls.Prepare namespace key parent labels) given h = preparing s namespace key parent labels
 step-names s (calls.Charge slot id need want) given h = charging s slot need want (active_at slot s.records)
 step-names s (calls.Trim slot id) given h = trimming s slot given (active_at slot s.records)
-step-names s (calls.Commit slot id name lease) given h = committing s slot name lease given
+step-names s (calls.Commit slot id name lease labels) given h = committing s slot name lease labels given
 step-names s (calls.Discard slot id) given h = discarding s slot (active_at slot s.records)
 step-names s (calls.Stat namespace key) given h = asking s (λ r. Info (info_of r)) namespace key
 step-names s (calls.Usage namespace key) given h = asking s (λ r. UsageReply (usage_of r.content)) namespace key

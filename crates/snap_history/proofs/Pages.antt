@@ -1,5 +1,5 @@
 -- A page of the entries, entry by entry, and the changes from the last one on.
-use Rattle.std.proofs.Common.{◌≡◌, ℕ, zero, suc, ◌+◌, ◌-◌, ◌<◌, List, [], ◌∷◌, ◌++◌, length, take, Bool, true, false, refl, sym, ap, ◌∙◌, arith, get_or, Option}
+use Rattle.std.proofs.Common.{◌≡◌, ℕ, zero, suc, ◌+◌, ◌-◌, ◌<◌, List, [], ◌∷◌, ◌++◌, length, take, Bool, true, false, refl, sym, ap, ◌∙◌, arith, get_or, Option, None, Some}
 use Rattle.std.proofs.Common.{append_assoc}
 use Rattle.std.proofs.lemmas.Bool.Decides.{nat_tests}
 use Rattle.std.proofs.lemmas.List.{take_more}
@@ -9,6 +9,7 @@ use Rattle.snap_record.specs.Labels.{Bytes}
 use Rattle.snap_call.specs.declared.entry.Entry.{Entry}
 use Rattle.snap_history.specs.Changes.{change_of, charge_before, entry_infos_of, is_own, shares_after, turned}
 use Rattle.snap_history.specs.Entries.{entry_info}
+use Rattle.snap_history.specs.History.{entries_from}
 use Rattle.snap_history.specs.declared.change.Change.{Change}
 use Rattle.snap_history.specs.declared.info.EntryInfo.{EntryInfo}
 
@@ -67,17 +68,25 @@ page_if after most infos rest x false = refl
 pub next_page : (after most number : ℕ) (name : Bytes) (shares : List (Option Usage)) (charge : Usage) (infos : List EntryInfo) (e : Entry) (es : List Entry) (change : Change) (now : Usage) (later : List (Option Usage)) (own : Bool)
     → change ≡ change_of name shares e → now ≡ turned charge change.found change.left → later ≡ shares_after name shares e → own ≡ is_own name shares e.call
     → page_with after most infos (entry_infos_of name number shares charge (e ∷ es))
-    ≡ page_with after most (next_infos infos (entry_info (number + 1) e now) (own && nat_lt after (number + 1) && nat_lt (length infos) most)) (entry_infos_of name (number + 1) later now es)
+    ≡ page_with after most (next_infos infos (entry_info (number + 1) e (Some now)) (own && nat_lt after (number + 1) && nat_lt (length infos) most)) (entry_infos_of name (number + 1) later now es)
 next_page after most number name shares charge infos e es change now later own is_change is_now is_later_shares mine =
     let amount : Usage = turned charge (change_of name shares e).found (change_of name shares e).left in
     let charged : amount ≡ now = sym (is_now ∙ ap (λ (c : Change). turned charge c.found c.left) is_change) in
     let shared : shares_after name shares e ≡ later = sym is_later_shares in
     let belongs : is_own name shares e.call ≡ own = sym mine in
-    let x : EntryInfo = entry_info (number + 1) e amount in
+    let x : EntryInfo = entry_info (number + 1) e (Some amount) in
     let rest : List EntryInfo = entry_infos_of name (number + 1) (shares_after name shares e) amount es in
     page_step after most infos (is_own name shares e.call) x rest
     ∙ page_if after most infos rest x _
-    ∙ (λ j. page_with after most (next_infos infos (entry_info (number + 1) e (charged j)) (belongs j && nat_lt after (number + 1) && nat_lt (length infos) most)) (entry_infos_of name (number + 1) (shared j) (charged j) es))
+    ∙ (λ j. page_with after most (next_infos infos (entry_info (number + 1) e (Some (charged j))) (belongs j && nat_lt after (number + 1) && nat_lt (length infos) most)) (entry_infos_of name (number + 1) (shared j) (charged j) es))
+
+-- one step over the entries, whichever they are of
+pub next_entry : (after most number : ℕ) (infos : List EntryInfo) (e : Entry) (es : List Entry)
+    → page_with after most infos (entries_from number (e ∷ es))
+    ≡ page_with after most (next_infos infos (entry_info (number + 1) e None) (nat_lt after (number + 1) && nat_lt (length infos) most)) (entries_from (number + 1) es)
+next_entry after most number infos e es =
+    let x : EntryInfo = entry_info (number + 1) e None in
+    page_step after most infos true x (entries_from (number + 1) es) ∙ page_if after most infos (entries_from (number + 1) es) x _
 
 -- the changes from the last one on
 charge_before-append : (now : Usage) (cs : List Change) (c : Change) → charge_before now (cs ++ c ∷ []) ≡ charge_before (turned now c.left c.found) cs

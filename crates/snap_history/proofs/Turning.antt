@@ -33,7 +33,7 @@ use Rattle.snap_call.specs.Good.{Good}
 use Rattle.snap_call.specs.Reached.{swept, unswept}
 use Rattle.snap_call.specs.Records.{active_at, charge_of, committed_as, has_children, has_key, is_active, is_committed, is_named, is_slot, record_at, recharged, relabelled, with_record, without_key, without_slot, HasLowSlot, max_sessions}
 use Rattle.snap_call.specs.State.{place_of, shown_layers}
-use Rattle.snap_call.specs.Step.{IsAllowed, IsCovered, IsOpenSlot, ask, charge, charge_to, counted, commit_as, committed as committed_state, discard, has_named, in_namespace, lease_add, lease_add_record, lease_create, lease_drop, lease_drop_at, lease_release, mounts, one, place_for, prepare, prepare_at, prepared as prepared_state, refused, remove, remove_record, removed_at, session, set_limit, set_limit_at, slot_for, step, sweep, sweep_at, trim, unless_refused, update, update_record, prepare_view, view_at, walk_infos, at_record, new_record}
+use Rattle.snap_call.specs.Step.{are_formed, IsAllowed, IsCovered, IsOpenSlot, ask, charge, charge_to, counted, commit_as, committed as committed_state, discard, has_named, in_namespace, lease_add, lease_add_record, lease_create, lease_drop, lease_drop_at, lease_release, mounts, one, place_for, prepare, prepare_at, prepared as prepared_state, refused, remove, remove_record, removed_at, session, set_limit, set_limit_at, slot_for, step, sweep, sweep_at, trim, unless_refused, update, update_record, prepare_view, view_at, walk_infos, at_record, new_record}
 use Rattle.snap_call.proofs.Alike.{AreAlike, bare-relabelled, alike-active_at, alike-active_at_None, alike-charge_of}
 use Rattle.snap_call.proofs.Keeping.{same_name}
 use Rattle.snap_call.proofs.Leasing.{place_of-limited}
@@ -452,19 +452,19 @@ module _ (name : Bytes) (place : ℕ) (s : State) (shares : List (Option Usage))
     turns_trim : (now : Usage) → OnSlot (Count now) (trim s slot (Count now) (Some r))
     turns_trim now = recharges now _ refl refl refl
 
-    commits : (key : Bytes) (lease : Option Bytes) (layer : Tree) → OnSlot (Layer layer) (committed_state s slot key lease layer r)
-    commits key lease layer =
-        let c : Record = committed_as key layer (s.entries + 1) r in
+    commits : (key : Bytes) (lease : Option Bytes) (labels : Option (List Label)) (layer : Tree) → OnSlot (Layer layer) (committed_state s slot key lease labels layer r)
+    commits key lease labels layer =
+        let c : Record = committed_as key labels layer (s.entries + 1) r in
         turned_to (count_of layer) None _ refl refl
-        (sym (ap (share_by place) (active_at-committed_own slot key layer (s.entries + 1) s.records r good.slots)))
-        (λ k ne. active_at-committed_other slot k key layer (s.entries + 1) s.records r ne)
+        (sym (ap (share_by place) (active_at-committed_own slot key labels layer (s.entries + 1) s.records r good.slots)))
+        (λ k ne. active_at-committed_other slot k key labels layer (s.entries + 1) s.records r ne)
         (charge_of-with_record place c (without_slot slot s.records))
 
-    turns_commit : (key : Bytes) (lease : Option Bytes) (layer : Tree) → OnSlot (Layer layer) (commit_as s slot key lease layer (Some r))
-    turns_commit key lease layer =
-        cases_if (OnSlot (Layer layer)) (is_key key && option_map_or is_key lease true) _ _
+    turns_commit : (key : Bytes) (lease : Option Bytes) (labels : Option (List Label)) (layer : Tree) → OnSlot (Layer layer) (commit_as s slot key lease labels layer (Some r))
+    turns_commit key lease labels layer =
+        cases_if (OnSlot (Layer layer)) (are_formed key lease labels) _ _
         (λ formed. cases_if (OnSlot (Layer layer)) (has_key r.namespace key s.records) _ _ (λ taken. refuses)
-        (λ new. cases_if (OnSlot (Layer layer)) (has_named s r.namespace lease) _ _ (λ named. commits key lease layer) (λ unnamed. refuses)))
+        (λ new. cases_if (OnSlot (Layer layer)) (has_named s r.namespace lease) _ _ (λ named. commits key lease labels layer) (λ unnamed. refuses)))
         (λ bad. refuses)
 
     turns_discard : (given : Given) → OnSlot given (discard s slot (Some r))
@@ -506,11 +506,11 @@ module _ (name : Bytes) (place : ℕ) (s : State) (shares : List (Option Usage))
       subst (λ (o : Option Record). Told (calls.Trim slot id) (Count now) (trim s slot (Count now) o)) (sym r.1) (turns_trim slot r.0 r.1 now)
   turns (calls.Trim slot id) Nothing h = absurd h
   turns (calls.Trim slot id) (Layer layer) h = absurd h
-  turns (calls.Commit slot id key lease) (Layer layer) h =
+  turns (calls.Commit slot id key lease labels) (Layer layer) h =
       let r = covered_record id slot (count_of layer) h in
-      subst (λ (o : Option Record). Told (calls.Commit slot id key lease) (Layer layer) (commit_as s slot key lease layer o)) (sym r.1) (turns_commit slot r.0 r.1 key lease layer)
-  turns (calls.Commit slot id key lease) Nothing h = absurd h
-  turns (calls.Commit slot id key lease) (Count now) h = absurd h
+      subst (λ (o : Option Record). Told (calls.Commit slot id key lease labels) (Layer layer) (commit_as s slot key lease labels layer o)) (sym r.1) (turns_commit slot r.0 r.1 key lease labels layer)
+  turns (calls.Commit slot id key lease labels) Nothing h = absurd h
+  turns (calls.Commit slot id key lease labels) (Count now) h = absurd h
   turns (calls.Discard slot id) given h =
       let r = open_record id slot h in
       subst (λ (o : Option Record). Told (calls.Discard slot id) given (discard s slot o)) (sym r.1) (turns_discard slot r.0 r.1 given)
@@ -552,9 +552,9 @@ module _ (name : Bytes) (place : ℕ) (s : State) (shares : List (Option Usage))
   own (calls.Trim slot id) (Count now) h = let r = covered_record id slot now h in own_slot slot r.0 r.1
   own (calls.Trim slot id) Nothing h = absurd h
   own (calls.Trim slot id) (Layer layer) h = absurd h
-  own (calls.Commit slot id key lease) (Layer layer) h = let r = covered_record id slot (count_of layer) h in own_slot slot r.0 r.1
-  own (calls.Commit slot id key lease) Nothing h = absurd h
-  own (calls.Commit slot id key lease) (Count now) h = absurd h
+  own (calls.Commit slot id key lease labels) (Layer layer) h = let r = covered_record id slot (count_of layer) h in own_slot slot r.0 r.1
+  own (calls.Commit slot id key lease labels) Nothing h = absurd h
+  own (calls.Commit slot id key lease labels) (Count now) h = absurd h
   own (calls.Discard slot id) given h = let r = open_record id slot h in own_slot slot r.0 r.1
   own (calls.Stat namespace key) given h = own_named namespace
   own (calls.Usage namespace key) given h = own_named namespace

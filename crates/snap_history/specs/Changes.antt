@@ -118,4 +118,4 @@ entry_infos_of name number shares charge (e ∷ es) =
     let c = change_of name shares e in
     let after = turned charge c.found c.left in
     let rest = entry_infos_of name (number + 1) (shares_after name shares e) after es in
-    if is_own name shares e.call then entry_info (number + 1) e after ∷ rest else rest
+    if is_own name shares e.call then entry_info (number + 1) e (Some after) ∷ rest else rest

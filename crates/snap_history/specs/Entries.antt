@@ -20,7 +20,7 @@ call_kind calls.Session = kinds.Session
 call_kind (calls.Prepare namespace key parent labels) = kinds.Prepare
 call_kind (calls.Charge slot id need want) = kinds.Charge
 call_kind (calls.Trim slot id) = kinds.Trim
-call_kind (calls.Commit slot id name lease) = kinds.Commit
+call_kind (calls.Commit slot id name lease labels) = kinds.Commit
 call_kind (calls.Discard slot id) = kinds.Discard
 call_kind (calls.Stat namespace key) = kinds.Stat
 call_kind (calls.Usage namespace key) = kinds.Usage
@@ -61,7 +61,7 @@ call_word kinds.Sweep = codes "sweep"
 -- the key or the name of the snapshot that the call is on: of a commit the new name
 abbrev pub key_in : Call → Option Bytes
 key_in (calls.Prepare namespace key parent labels) = Some key
-key_in (calls.Commit slot id name lease) = Some name
+key_in (calls.Commit slot id name lease labels) = Some name
 key_in (calls.Stat namespace key) = Some key
 key_in (calls.Usage namespace key) = Some key
 key_in (calls.Mounts namespace key) = Some key
@@ -76,7 +76,7 @@ key_in call = None
 abbrev pub id_in : Call → Option ℕ
 id_in (calls.Charge slot id need want) = Some id
 id_in (calls.Trim slot id) = Some id
-id_in (calls.Commit slot id name lease) = Some id
+id_in (calls.Commit slot id name lease labels) = Some id
 id_in (calls.Discard slot id) = Some id
 id_in call = None
 
@@ -91,8 +91,8 @@ abbrev pub refusal_in : Reply → Option Refusal
 refusal_in (replies.Refused why) = Some why
 refusal_in reply = None
 
--- what is told of the entry of this number, after which the namespace is charged so much
-abbrev pub entry_info : ℕ → Entry → Usage → EntryInfo
+-- what is told of the entry of this number, after which the namespace is charged so much, if one is asked for
+abbrev pub entry_info : ℕ → Entry → Option Usage → EntryInfo
 entry_info number e charge = record {
   number = number;
   session = e.session;

@@ -1,6 +1,6 @@
 -- The entries of a namespace, each with what the namespace is charged after it.
--- Cited by `history`, `replay_within`, `replay` and others.
-use Rattle.std.specs.Prelude.{ℕ, ◌==◌, Bool, false, nat_lt, if◌then◌else◌, List, [], ◌∷◌, filter, take, Option, None, Some, option_and_then}
+-- Cited by `history`, `entries_after`, `namespace_in` and others.
+use Rattle.std.specs.Prelude.{ℕ, ◌+◌, ◌==◌, Bool, false, nat_lt, if◌then◌else◌, List, [], ◌∷◌, filter, take, Option, None, Some, option_and_then}
 use Rattle.std.specs.Option.{option_map, option_map_or, option_or}
 use Rattle.snap_record.specs.Labels.{Bytes}
 use Rattle.snap_call.specs.declared.call.Call.{Call}
@@ -35,7 +35,7 @@ namespace_in call = None
 abbrev pub slot_in : Call → Option ℕ
 slot_in (calls.Charge slot id need want) = Some slot
 slot_in (calls.Trim slot id) = Some slot
-slot_in (calls.Commit slot id name lease) = Some slot
+slot_in (calls.Commit slot id name lease labels) = Some slot
 slot_in (calls.Discard slot id) = Some slot
 slot_in call = None
 
@@ -53,7 +53,12 @@ history place s [] = []
 history place s (e ∷ es) =
     let after = (step s e.call e.given).0 in
     let rest = history place after es in
-    if is_call_of place s e.call then entry_info after.entries e (charge_of place after.records) ∷ rest else rest
+    if is_call_of place s e.call then entry_info after.entries e (Some (charge_of place after.records)) ∷ rest else rest
+
+-- all entries among these, in order, without a charge; the first one has the number after this one
+abbrev pub entries_from : ℕ → List Entry → List EntryInfo
+entries_from number [] = []
+entries_from number (e ∷ es) = entry_info (number + 1) e None ∷ entries_from (number + 1) es
 
 -- those of a greater number, at most so many
 abbrev pub history_page : ℕ → ℕ → List EntryInfo → List EntryInfo

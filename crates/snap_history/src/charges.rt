@@ -5,7 +5,7 @@ ghost use Rattle.snap_call.specs.Records.{charge_of};
 ghost use Rattle.snap_call.specs.State.{place_of};
 ghost use Rattle.snap_call.specs.declared.state.State.{State};
 ghost use Rattle.snap_history.specs.Changes.{changes_of, charge_before, entry_infos_of};
-ghost use Rattle.snap_history.specs.History.{history, history_page};
+ghost use Rattle.snap_history.specs.History.{entries_from, history, history_page};
 ghost use Rattle.snap_history.specs.Open.{shares_of};
 
 use crate::change::{Change, turned};
@@ -74,7 +74,7 @@ fn infos(
         let change = shares.change_of(name, entry);
         charge = turned(charge, change.found, change.left);
         if shares.is_own(name, &entry.call) && after < number && infos.len() < most {
-            infos.push(entry_info(number, entry, charge)?)?;
+            infos.push(entry_info(number, entry, Some(charge))?)?;
         }
         shares.follow(name, entry);
     }
@@ -106,4 +106,43 @@ pub fn history(
     let changes = changes(alloc, entries, name, held)?;
     let opening = charge_before(now, &changes);
     infos(alloc, entries, before, name, held, opening, after, most)
+}
+
+// The entries that have a greater number, at most so many; the first entry has the number after `before`.
+fn page_of(
+    alloc: Global,
+    entries: &[SharedEntry],
+    before: u64,
+    after: u64,
+    most: usize,
+) -> Result<Sequence<EntryInfo>, AllocError>
+    requires { before + length entries.now < 2 ^ 64 }
+    ensures { IfOk result (λ infos. infos ≡ history_page after most (entries_from before entries.now)) }
+{
+    let mut infos = Sequence::new(alloc);
+    let mut number = before;
+    for entry in entries {
+        number += 1;
+        if after < number && infos.len() < most {
+            infos.push(entry_info(number, entry.entry(), None)?)?;
+        }
+    }
+    Ok(infos)
+}
+
+/// The entries of a round that have a greater number than `after`, in order, at most so many, whichever namespace
+/// they are of, without a charge. `last` is the number of the last entry.
+///
+/// The cost grows with the entries, and the memory with what is answered.
+pub fn entries_after(
+    alloc: Global,
+    entries: &[SharedEntry],
+    last: u64,
+    after: u64,
+    most: usize,
+) -> Result<Sequence<EntryInfo>, AllocError>
+    requires { length entries.now ≤ last }
+    ensures { IfOk result (λ infos. infos ≡ history_page after most (entries_from (last - length entries.now) entries.now)) }
+{
+    page_of(alloc, entries, last - entries.len() as u64, after, most)
 }

@@ -8,7 +8,7 @@ use snap_record::Text;
 use snap_usage::Usage;
 use std::alloc::AllocError;
 
-/// What is told of an entry of the journal, for one namespace.
+/// What is told of an entry of the journal.
 #[derive(Debug, Drop)]
 pub struct EntryInfo {
     /// The entries of a store are numbered from 1, through all its rounds.
@@ -23,8 +23,8 @@ pub struct EntryInfo {
     pub id: Option<u32>,
     /// Why the call was refused, if it was.
     pub refused: Option<Refusal>,
-    /// What the namespace is charged after the entry.
-    pub charge: Usage,
+    /// What the namespace is charged after the entry, where the entries of one namespace are told.
+    pub charge: Option<Usage>,
 }
 
 fn key_in(call: &Call) -> Option<&Text>
@@ -95,7 +95,11 @@ fn own_key(call: &Call) -> Result<Option<Text>, AllocError>
     }
 }
 
-pub(crate) fn entry_info(number: u64, entry: &Entry, charge: Usage) -> Result<EntryInfo, AllocError>
+pub(crate) fn entry_info(
+    number: u64,
+    entry: &Entry,
+    charge: Option<Usage>,
+) -> Result<EntryInfo, AllocError>
     ensures { IfOk result (λ info. info ≡ entry_info number entry.now charge) }
 {
     Ok(EntryInfo {

@@ -12,8 +12,9 @@ mod open;
 mod shares;
 mod target;
 
-pub use charges::history;
+pub use charges::{entries_after, history};
 pub use info::EntryInfo;
 pub use kind::{CallKind, call_kind};
 pub use open::OpenShares;
 pub use shares::Shares;
+pub use target::namespace_in;

@@ -5,8 +5,8 @@ ghost use Rattle.snap_history.specs.History.{namespace_in, slot_in};
 use snap_call::Call;
 use snap_record::Text;
 
-// The namespace that the call names.
-pub(crate) fn namespace_in(call: &Call) -> Option<&Text>
+/// The namespace that the call names, if it names one. Takes no memory.
+pub fn namespace_in(call: &Call) -> Option<&Text>
     ensures { option_copied result ≡ namespace_in call.now }
 {
     match call {

@@ -1,3 +1,4 @@
 pub mod UpdateLemmas
 mod LabelLemmas
+pub mod CutLemmas
 mod Examples

@@ -3,3 +3,4 @@ pub mod Kinds
 pub mod Labels
 pub mod Updates
 pub mod Records
+pub mod Cut

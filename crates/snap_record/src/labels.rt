@@ -1,6 +1,7 @@
-ghost use Rattle.std.specs.Prelude.{◌≡◌, ◌<◌, ◌^◌, ◌↔◌, [], ℕ, List, length, position, option_copied, bytes_eq, IsTrue, OnOk, OnErr, IfOk};
+ghost use Rattle.std.specs.Prelude.{◌≡◌, ◌<◌, ◌^◌, ◌↔◌, [], ℕ, List, length, position, option_copied, find, not, bytes_eq, IsTrue, OnOk, OnErr, IfOk};
 ghost use Rattle.std.specs.List.{list_all};
 ghost use Rattle.snap_record.specs.Labels.{value_of, with_label, without_label, is_label, are_labels, HasDistinctKeys};
+ghost use Rattle.snap_record.specs.Cut.{cut_label, kept_labels};
 
 use crate::text::Text;
 use std::alloc::{AllocError, Global};
@@ -131,7 +132,24 @@ impl Labels {
     pub(crate) fn have_form(&self) -> bool
         ensures { result ≡ list_all is_label self.now }
     {
-        self.list.iter().all(|(key, value)| is_label(key, value))
+        self.list
+            .iter()
+            .all(|(key, value)| is_label(key.as_str(), value.as_str()))
+    }
+
+    /// Where a label hasn't its form, leaves the first such alone, with its key and its value cut as by
+    /// [`cut`](Text::cut) to the limit, so that it hasn't its form either. Takes memory only for this label; fails only
+    /// where it is wanting, and then the labels are as they were. The cost grows with the number of labels.
+    pub fn cut(&mut self) -> Result<(), AllocError>
+        ensures ok { OnOk result (self.new ≡ kept_labels self.old) }
+        ensures err { OnErr result (self.new ≡ self.old) }
+        ensures distinct { HasDistinctKeys self.new }
+    {
+        let alloc = self.allocator();
+        if let Some((key, value)) = first_malformed(self.list.as_slice()) {
+            *self = cut_label(alloc, key, value)?;
+        }
+        Ok(())
     }
 
     /// A copy with room for so many more labels.
@@ -149,13 +167,35 @@ impl Labels {
     }
 }
 
+/// The first label that has no label's form.
+fn first_malformed(labels: &[(Text, Text)]) -> Option<&(Text, Text)>
+    ensures { option_copied result ≡ find (λ l. not (is_label l)) labels.now }
+{
+    labels
+        .iter()
+        .find(|(key, value)| !is_label(key.as_str(), value.as_str()))
+}
+
+/// The label alone, cut.
+fn cut_label(alloc: Global, key: &Text, value: &Text) -> Result<Labels, AllocError>
+    ensures { IfOk result (λ labels. labels ≡ cut_label (key.now, value.now)) }
+{
+    let mut labels = Labels::new(alloc);
+    labels.insert(
+        key.cut_copy(MAX_LABEL_BYTES)?,
+        value.cut_copy(MAX_LABEL_BYTES)?,
+    )?;
+    Ok(labels)
+}
+
+/// Whether these can be a snapshot's label: a key of at least 1 byte, and at most 4096 bytes together. Takes no memory.
+/// The cost is constant.
 #[tactic(auto, using(std::proofs::lemmas::Bool::Decides::nat_tests))]
-fn is_label(key: &Text, value: &Text) -> bool
+pub fn is_label(key: &str, value: &str) -> bool
     ensures { result ≡ is_label (key.now, value.now) }
 {
-    let key = key.as_str().len();
-    let value = value.as_str().len();
-    key > 0 && key <= MAX_LABEL_BYTES && value <= MAX_LABEL_BYTES - key
+    let key = key.len();
+    key > 0 && key <= MAX_LABEL_BYTES && value.len() <= MAX_LABEL_BYTES - key
 }
 
 /// A copy of each key and each value, in their order. Its cost and its memory grow with their bytes.

@@ -1,5 +1,6 @@
-ghost use Rattle.std.specs.Prelude.{◌≡◌, [], List, ℕ, IfOk, IsTrue, ◌↔◌};
+ghost use Rattle.std.specs.Prelude.{◌≡◌, [], List, ℕ, IfOk, OnOk, OnErr, IsTrue, ◌↔◌};
 ghost use Rattle.std.specs.String.{string_bytes};
+ghost use Rattle.snap_record.specs.Cut.{cut};
 
 use std::alloc::{AllocError, Global};
 use std::cmp::Ordering;
@@ -45,6 +46,33 @@ impl Text {
         Ok(Text {
             text: String::from_str(alloc, text)?,
         })
+    }
+
+    /// Cuts a text of more than so many bytes: its first so many stay, one more, and the rest of that one's character, so
+    /// that it is too long still. Takes memory only for these bytes; fails only where it is wanting, and then the text is
+    /// as it was. The cost grows with them.
+    #[tactic(auto, using(crate::proofs::CutLemmas::cut_within))]
+    pub fn cut(&mut self, most: usize) -> Result<(), AllocError>
+        ensures ok { OnOk result (self.new ≡ cut most self.old) }
+        ensures err { OnErr result (self.new ≡ self.old) }
+    {
+        if self.as_str().len() > most {
+            *self = self.cut_copy(most)?;
+        }
+        Ok(())
+    }
+
+    /// A copy of the text, cut.
+    #[tactic(auto, using(crate::proofs::CutLemmas::cut_at, crate::proofs::CutLemmas::cut_within))]
+    pub(crate) fn cut_copy(&self, most: usize) -> Result<Text, AllocError>
+        ensures { IfOk result (λ text. text ≡ cut most self.now) }
+    {
+        let whole = self.as_str();
+        if whole.len() <= most {
+            return self.clone();
+        }
+        let (kept, _) = whole.split_at(whole.ceil_char_boundary(most + 1));
+        Text::copy_of(*self.text.allocator(), kept)
     }
 
     /// The text, without a copy. Takes no memory. The cost is constant.

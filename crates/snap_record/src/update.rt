@@ -68,7 +68,9 @@ fn is_whole(path: &Text) -> bool
     path.as_str() == "labels"
 }
 
-fn replaces_all(paths: &[Text]) -> bool
+/// Whether the labels that an update gives replace all: it has no path, or the path `labels` among them. Takes no memory.
+/// The cost grows with the number of paths.
+pub fn replaces_all(paths: &[Text]) -> bool
     ensures { result ≡ replaces_all paths.now }
 {
     paths.is_empty() || has_whole(paths)
@@ -80,7 +82,9 @@ fn has_whole(paths: &[Text]) -> bool
     paths.iter().any(|path| is_whole(path))
 }
 
-fn named_key(path: &str) -> Option<&str>
+/// The key x that a path `labels.x` names, which has at least one byte; none of any other path. Takes no memory. The cost
+/// is constant.
+pub fn named_key(path: &str) -> Option<&str>
     ensures { option_copied result ≡ named_key path.now }
 {
     match path.strip_prefix("labels.") {

@@ -180,17 +180,18 @@ lease_data lease = object
     (member (codes "names") (array (items_of (map string lease.names)))
     (maybe (codes "until") (option_map number_data lease.until) no_members)))
 
--- an entry of a namespace, with the word of its call: without an id, a key or a refusal where it has none, and with a line where that is told
+-- an entry, with the word of its call: without an id, a key or a refusal where it has none, and with a charge, a line or a namespace where that is told
 abbrev pub entry_data : JournalEntry → Data
 entry_data told = object
     (member (codes "call") (string (call_word told.entry.call))
-    (member (codes "charge") (usage_data told.entry.charge)
+    (maybe (codes "charge") (option_map usage_data told.entry.charge)
     (maybe (codes "id") (option_map number_data told.entry.id)
     (maybe (codes "key") (option_map string told.entry.key)
     (maybe (codes "line") (option_map string told.line)
+    (maybe (codes "ns") (option_map string told.namespace)
     (member (codes "number") (number_data told.entry.number)
     (maybe (codes "refused") (option_map (λ why. string (refusal_name why)) told.entry.refused)
-    (only (codes "session") (number_data told.entry.session)))))))))
+    (only (codes "session") (number_data told.entry.session))))))))))
 
 -- what the store replies to a call: a refusal over the limit has what is free, and of the others, Opened, Trimmed and Done, nothing is told but that it was done
 abbrev pub reply_data : Reply → Data

@@ -8,7 +8,7 @@ use Rattle.serde_json.specs.Data.{Data, null, string, array, object, Members, no
 use Rattle.serde_json.specs.View.{items_of}
 use Rattle.serde_json.specs.Written.{compact_text}
 use Rattle.snap_record.specs.Kinds.{kind_word}
-use Rattle.snap_record.specs.Labels.{Bytes}
+use Rattle.snap_record.specs.Labels.{Bytes, Label}
 use Rattle.snap_record.specs.declared.filter.LabelFilter.{LabelFilter}
 use Rattle.snap_call.specs.declared.call.Call.{Call}
 use Rattle.snap_call.specs.declared.call.Call.TheVariants as calls
@@ -25,12 +25,18 @@ abbrev pub wanted_members : List LabelFilter → Members
 wanted_members [] = no_members
 wanted_members (label ∷ labels) = member label.key (wanted_data label.value) (wanted_members labels)
 
+-- labels, in their order
+abbrev pub labels_data : List Label → Data
+labels_data labels = object (members_with_entries string labels no_members)
+
 -- what the line of a call has beside its word, its session and its namespace; a call on an open snapshot has the key that is given beside it
 abbrev pub parts : Option Bytes → Call → Members
 parts held (calls.Prepare namespace key parent labels) = member (codes "key") (string key) (member (codes "labels") (object (members_with_entries string labels no_members)) (only (codes "parent") (string parent)))
 parts held (calls.View namespace key parent labels) = member (codes "key") (string key) (member (codes "labels") (object (members_with_entries string labels no_members)) (only (codes "parent") (string parent)))
 parts held (calls.Charge slot id need want) = maybe (codes "key") (option_map string held) (member (codes "need") (usage_data need) (only (codes "want") (usage_data want)))
-parts held (calls.Commit slot id name lease) = maybe (codes "key") (option_map string held) (maybe (codes "lease") (option_map string lease) (only (codes "name") (string name)))
+parts held (calls.Commit slot id name lease labels) =
+    maybe (codes "key") (option_map string held) (maybe (codes "labels") (option_map labels_data labels)
+    (maybe (codes "lease") (option_map string lease) (only (codes "name") (string name))))
 parts held (calls.Update namespace key labels paths) = member (codes "key") (string key) (member (codes "labels") (object (members_with_entries string labels no_members)) (only (codes "paths") (array (items_of (map string paths)))))
 parts held (calls.Walk namespace after most asked) =
     member (codes "after") (string after) (maybe (codes "kind") (option_map (λ kind. string (kind_word kind)) asked.kind)

@@ -1,7 +1,7 @@
 -- The commands of a script; cited by the public clause of `read_line` through Lines.antt. The fields of a command are
 -- tested in the order in which they stand.
 -- Cited by `read_open`, `read_line`, `named` and others.
-use Rattle.std.specs.Prelude.{ℕ, [], false, if◌then◌else◌, Option, None, unwrap_or, Result, Ok}
+use Rattle.std.specs.Prelude.{ℕ, Bool, [], false, if◌then◌else◌, Option, None, unwrap_or, Result, Ok}
 use Rattle.serde_json.specs.Data.{Data}
 use Rattle.serde_json.specs.Find.{as_bool, as_str}
 use Rattle.snap_path.specs.Limits.{most_file_bytes}
@@ -10,6 +10,9 @@ use Rattle.snap_record.specs.Labels.{Bytes}
 use Rattle.snap_record.specs.declared.filter.Filter.{Filter}
 use Rattle.snap_call.specs.declared.call.Call.TheVariants as calls
 use Rattle.snap_call.specs.declared.config.Config.{Config}
+use Rattle.snap_call.specs.declared.question.Question.{Question}
+use Rattle.snap_call.specs.declared.question.Question.TheVariants as questions
+use Rattle.snap_call.specs.Questions.{asking}
 use Rattle.snap_call.specs.Records.{default_slots, max_journal}
 use Rattle.snap_call.specs.Results.{◌>>=◌}
 use Rattle.snap_history.specs.declared.kind.CallKind.{CallKind}
@@ -24,7 +27,7 @@ use Rattle.snap_script.specs.declared.verb.Verb.{Verb}
 use Rattle.snap_script.specs.declared.verb.Verb.TheVariants as verbs
 use Rattle.snap_script.specs.declared.verb.LookupVerb.{LookupVerb}
 use Rattle.snap_script.specs.declared.verb.LookupVerb.TheVariants as lookup_verbs
-use Rattle.snap_script.specs.Fields.{text, required, optional, given, as_natural, as_usage, as_texts, as_kind, as_labels, as_label_filters, as_namespaces}
+use Rattle.snap_script.specs.Fields.{text, required, optional, given, as_natural, as_usage, as_texts, as_kind, as_labels, as_label_filters, as_namespaces, labels_of_update}
 use Rattle.snap_script.specs.Operations.{path_in, file_operation}
 
 -- the snapshot that a command names: its namespace and its key
@@ -50,6 +53,14 @@ filter_of line = do
   labels ← optional as_label_filters fields.Labels (Ok []) line
   Ok (record { name = name; parent = parent; kind = kind; labels = labels })
 
+-- what is asked, by the call that asks it, or quietly: without an entry
+abbrev pub asked_as : Bool → Question → Command
+asked_as quiet question = if quiet then commands.Ask question else commands.Call (asking question)
+
+-- the same, as the line says; it isn't quiet where the line doesn't say
+unfoldable pub asked_by : Data → Question → Result Command Fault
+asked_by line question = do Ok (asked_as (← optional as_bool fields.Quiet (Ok false) line) question)
+
 -- the command of a line that is a call by its kind, mostly on a snapshot s; `prepare`, `view`, `commit`, `remove`, `update` and `walk` are containerd's calls of these names. A charge wants what it needs where it names no other; a usage is asked for alone or with the ancestors', and a sweep made or only tried
 unfoldable pub call_of : CallKind → Data → Result Command Fault
 call_of kinds.Session line = Ok commands.Session
@@ -57,14 +68,14 @@ call_of kinds.Prepare line = do s ← named line; Ok (commands.Call (calls.Prepa
 call_of kinds.View line = do s ← named line; Ok (commands.Call (calls.View s.0 s.1 (← text fields.Parent line) (← optional as_labels fields.Labels (Ok []) line)))
 call_of kinds.Charge line = do s ← named line; need ← required as_usage fields.Need line; Ok (commands.Charge s.0 s.1 need (← optional as_usage fields.Want (Ok need) line))
 call_of kinds.Trim line = do s ← named line; Ok (commands.Trim s.0 s.1)
-call_of kinds.Commit line = do s ← named line; Ok (commands.Commit s.0 s.1 (← text fields.Name line) (← given as_str fields.Lease line))
+call_of kinds.Commit line = do s ← named line; Ok (commands.Commit s.0 s.1 (← text fields.Name line) (← given as_str fields.Lease line) (← given as_labels fields.Labels line))
 call_of kinds.Discard line = do s ← named line; Ok (commands.Discard s.0 s.1)
 call_of kinds.Remove line = do s ← named line; Ok (commands.Call (calls.Remove s.0 s.1))
-call_of kinds.Stat line = do s ← named line; Ok (commands.Call (calls.Stat s.0 s.1))
-call_of kinds.Update line = do s ← named line; Ok (commands.Call (calls.Update s.0 s.1 (← required as_labels fields.Labels line) (← optional as_texts fields.Paths (Ok []) line)))
-call_of kinds.Usage line = do s ← named line; Ok (if (← optional as_bool fields.Chain (Ok false) line) then commands.ChainUsage s.0 s.1 else commands.Call (calls.Usage s.0 s.1))
-call_of kinds.Mounts line = do s ← named line; Ok (commands.Call (calls.Mounts s.0 s.1))
-call_of kinds.Walk line = do Ok (commands.Call (calls.Walk (← text fields.Namespace line) (← optional as_str fields.After (Ok []) line) (← optional as_natural fields.Most (Ok 64) line) (← filter_of line)))
+call_of kinds.Stat line = do s ← named line; asked_by line (questions.Stat s.0 s.1)
+call_of kinds.Update line = do s ← named line; found ← required as_labels fields.Labels line; paths ← optional as_texts fields.Paths (Ok []) line; Ok (commands.Call (calls.Update s.0 s.1 (labels_of_update line paths found) paths))
+call_of kinds.Usage line = do s ← named line; chain ← optional as_bool fields.Chain (Ok false) line; quiet ← optional as_bool fields.Quiet (Ok false) line; Ok (if chain then commands.ChainUsage s.0 s.1 else asked_as quiet (questions.Usage s.0 s.1))
+call_of kinds.Mounts line = do s ← named line; asked_by line (questions.Mounts s.0 s.1)
+call_of kinds.Walk line = do namespace ← text fields.Namespace line; after ← optional as_str fields.After (Ok []) line; most ← optional as_natural fields.Most (Ok 64) line; asked ← filter_of line; asked_by line (questions.Walk namespace after most asked)
 call_of kinds.Limit line = do Ok (commands.Call (calls.SetLimit (← text fields.Namespace line) (record { blocks = (← required as_natural fields.Blocks line); inodes = (← required as_natural fields.Inodes line) })))
 call_of kinds.LeaseCreate line = do Ok (commands.Call (calls.LeaseCreate (← text fields.Namespace line) (← text fields.Lease line) (← given as_natural fields.Until line)))
 call_of kinds.LeaseAdd line = do Ok (commands.Call (calls.LeaseAdd (← text fields.Namespace line) (← text fields.Lease line) (← text fields.Name line)))
@@ -97,5 +108,5 @@ command_of verbs.Quota line = do Ok (commands.Quota (← given as_str fields.Nam
 command_of verbs.Leases line = do Ok (commands.Leases (← text fields.Namespace line) (← given as_str fields.Lease line))
 command_of verbs.Tree line = do Ok (commands.Tree (← text fields.Namespace line))
 command_of verbs.Diff line = do s ← named line; Ok (commands.Diff s.0 s.1 (← optional as_str fields.After (Ok []) line) (← optional as_natural fields.Most (Ok 64) line))
-command_of verbs.Journal line = do Ok (commands.Journal (← text fields.Namespace line) (← optional as_natural fields.After (Ok 0) line) (← optional as_natural fields.Most (Ok 64) line) (← optional as_bool fields.Full (Ok false) line))
+command_of verbs.Journal line = do Ok (commands.Journal (← given as_str fields.Namespace line) (← optional as_natural fields.After (Ok 0) line) (← optional as_natural fields.Most (Ok 64) line) (← optional as_bool fields.Full (Ok false) line))
 command_of verbs.Report line = Ok commands.Report

@@ -1,14 +1,15 @@
 -- What a field of a line has to be; cited by the public clause of `read_line` through Lines.antt. The line's value is
 -- the one that serde_json reads.
 -- Cited by `read_open`, `read_line`, `operations` and others.
-use Rattle.std.specs.Prelude.{ℕ, min, ◌&&◌, nat_le, if◌then◌else◌, List, [], ◌∷◌, Option, Some, None, option_map, option_and_then, Result, Ok, Err, replicate, find}
+use Rattle.std.specs.Prelude.{ℕ, min, ◌&&◌, ◌||◌, nat_le, if◌then◌else◌, List, [], ◌∷◌, length, Option, Some, None, option_map, option_and_then, Result, Ok, Err, replicate, find}
 use Rattle.std.specs.Option.{ok_or, option_map_or, option_zip}
 use Rattle.std.specs.Str.{bytes_eq}
 use Rattle.serde_json.specs.Data.{Data, null, boolean, number, string, array, object, Items, no_items, item, Members, no_members, member}
-use Rattle.serde_json.specs.Find.{get, as_number, as_u64, as_str, as_array, as_object}
+use Rattle.serde_json.specs.Find.{get, get_member, as_number, as_u64, as_str, as_array, as_object}
 use Rattle.snap_path.specs.Limits.{most_file_bytes, most_number}
 use Rattle.snap_usage.specs.declared.usage.Usage.{Usage}
-use Rattle.snap_record.specs.Labels.{Bytes, Label, with_label}
+use Rattle.snap_record.specs.Labels.{Bytes, Label, is_label, with_label}
+use Rattle.snap_record.specs.Updates.{named_key, replaces_all}
 use Rattle.snap_record.specs.declared.filter.LabelFilter.{LabelFilter}
 use Rattle.snap_record.specs.declared.kind.Kind.{Kind}
 use Rattle.snap_record.specs.declared.kind.Kind.TheVariants as kinds
@@ -101,14 +102,40 @@ kind_named word = find (λ kind. bytes_eq word (kind_word kind)) (kinds.View ∷
 abbrev pub as_kind : Data → Option Kind
 as_kind d = option_and_then kind_named (as_str d)
 
+-- the labels with this one, where there are at most as many as a snapshot may have: one more is kept, since it is refused
+abbrev pub with_label_within : List Label → Bytes → Bytes → List Label
+with_label_within found key value = if nat_le (length found) 64 then with_label found key value else found
+
 -- the labels with those of the members, each a text
 abbrev pub labels_with : List Label → Members → Option (List Label)
 labels_with found no_members = Some found
-labels_with found (member key d ms) = option_and_then (λ value. labels_with (with_label found key value) ms) (as_str d)
+labels_with found (member key d ms) = option_and_then (λ value. labels_with (with_label_within found key value) ms) (as_str d)
 
--- labels: an object of texts, in the order of its members
+-- labels: an object of texts, in the order of its members, of which the first 65 are kept
 abbrev pub as_labels : Data → Option (List Label)
 as_labels d = option_and_then (labels_with []) (as_object d)
+
+-- the first member that is no label by its form, if there is one
+abbrev pub malformed_in : Members → Option Label
+malformed_in no_members = None
+malformed_in (member key d ms) = option_map_or (λ value. if is_label (key, value) then malformed_in ms else Some (key, value)) (as_str d) (malformed_in ms)
+
+-- the labels with the member of this key, if there is one
+abbrev pub with_member : Members → List Label → Bytes → List Label
+with_member ms found key = option_map_or (with_label_within found key) (option_and_then as_str (get_member key ms)) found
+
+-- the labels with those members that the paths name
+abbrev pub with_named_in : Members → List Label → List Bytes → List Label
+with_named_in ms found [] = found
+with_named_in ms found (path ∷ paths) = with_named_in ms (option_map_or (with_member ms found) (named_key path) found) paths
+
+-- what decides an update by paths that gives more than 64 labels: one that is malformed, or those that the paths name, of which the first 65 are kept
+abbrev pub deciding_in : Members → List Bytes → List Label
+deciding_in ms paths = option_map_or (λ label. label ∷ []) (malformed_in ms) (with_named_in ms [] paths)
+
+-- the labels of an update, of which the first 65 were found: all, where there are at most 64
+abbrev pub labels_of_update : Data → List Bytes → List Label → List Label
+labels_of_update line paths found = if nat_le (length found) 64 || replaces_all paths then found else option_map_or (λ ms. deciding_in ms paths) (option_and_then as_object (get (field_name fields.Labels) line)) found
 
 -- a label that is asked for: with the text as its value, or with any value where null stands for it
 abbrev pub label_filter : Bytes → Data → Option LabelFilter

@@ -12,7 +12,7 @@ use Rattle.snap_history.specs.Entries.{call_word}
 use Rattle.snap_history.specs.declared.kind.CallKind.{CallKind}
 use Rattle.snap_history.specs.declared.kind.CallKind.TheVariants as kinds
 use Rattle.snap_script.specs.Answers.{number_data, usage_data, only, maybe, members_with_entries}
-use Rattle.snap_script.specs.Calls.{wanted_members}
+use Rattle.snap_script.specs.Calls.{labels_data, wanted_members}
 
 -- the word of a call
 abbrev pub word_data : CallKind → Data
@@ -51,10 +51,11 @@ ordered_data own session held (calls.Charge slot id need want) = object
     (member (codes "ns") (string own)
     (member (codes "s") (number_data session) (only (codes "want") (usage_data want)))))))
 ordered_data own session held (calls.Trim slot id) = held_line kinds.Trim own session held
-ordered_data own session held (calls.Commit slot id name lease) = object
+ordered_data own session held (calls.Commit slot id name lease labels) = object
     (member (codes "do") (word_data kinds.Commit)
     (maybe (codes "key") (option_map string held)
-    (maybe (codes "lease") (option_map string lease) (member (codes "name") (string name) (ends own session)))))
+    (maybe (codes "labels") (option_map labels_data labels)
+    (maybe (codes "lease") (option_map string lease) (member (codes "name") (string name) (ends own session))))))
 ordered_data own session held (calls.Discard slot id) = held_line kinds.Discard own session held
 ordered_data own session held (calls.Remove namespace key) = named_line kinds.Remove namespace session key
 ordered_data own session held (calls.Stat namespace key) = named_line kinds.Stat namespace session key

@@ -127,10 +127,14 @@ impl ToJson for QuotaInfo {
     }
 }
 
-/// An entry of a namespace, and the line of a script that makes its call, where that is asked for.
+/// An entry of a round.
 #[derive(Drop)]
 pub struct JournalEntry {
     pub entry: EntryInfo,
+    /// The name of the namespace that its call names, or else of that of the snapshot that it is on, where the entries
+    /// of all namespaces are told.
+    pub namespace: Option<Text>,
+    /// The line of a script that makes its call, where that is asked for.
     pub line: Option<Text>,
 }
 
@@ -202,9 +206,10 @@ pub enum Answer {
     /// `{"changes":[{"change":"added","path":"/x"}]}`.
     Diff(Sequence<Change>),
     /// The round's entries of a namespace, each with what the namespace is charged after it:
-    /// `{"journal":[{"call":"prepare","charge":[1,1],"id":1,"key":"k","number":2,"session":0}]}`, where it was
-    /// refused with the refusal's name, `"refused":"NotFound"`, and where all is asked for with the line that
-    /// makes its call, `"line":"{\"do\":\"prepare\",\"key\":\"k\",\"labels\":{},\"ns\":\"a\",\"parent\":\"\",\"s\":0}"`.
+    /// `{"journal":[{"call":"prepare","charge":[1,1],"id":1,"key":"k","number":2,"session":0}]}`, or all, each with
+    /// its namespace in place of the charge, `"ns":"a"`, if it has one. Where it was refused it has the refusal's name,
+    /// `"refused":"NotFound"`, and where all is asked for the line that makes its call,
+    /// `"line":"{\"do\":\"prepare\",\"key\":\"k\",\"labels\":{},\"ns\":\"a\",\"parent\":\"\",\"s\":0}"`.
     Journal(Sequence<JournalEntry>),
     /// The journal's entries, the open snapshots, the records, and the total of each namespace:
     /// `{"entries":8,"open":0,"records":1,"totals":{"a":[4,3]}}`.

@@ -154,12 +154,14 @@ fn commit(
     key: &Option<Text>,
     name: &Text,
     lease: &Option<Text>,
+    labels: &Option<Labels>,
 ) -> Result<(), AllocError>
-    ensures { OnOk result (out.new ≡ with_value (ordered_data namespace.now session key.now (calls.Commit 0 0 name.now lease.now)) out.old) }
+    ensures { OnOk result (out.new ≡ with_value (ordered_data namespace.now session key.now (calls.Commit 0 0 name.now lease.now labels.now)) out.old) }
 {
     out.token(Token::BeginObject)?;
     member(alloc, out, "do", &CallKind::Commit.as_str())?;
     maybe(alloc, out, "key", key)?;
+    maybe(alloc, out, "labels", labels)?;
     maybe(alloc, out, "lease", lease)?;
     member(alloc, out, "name", name)?;
     end(alloc, out, namespace, session)
@@ -357,7 +359,12 @@ fn write_call(
         ),
         Call::Charge { need, want, .. } => charge(alloc, out, own, n, key, *need, *want),
         Call::Trim { .. } => held(alloc, out, CallKind::Trim, own, n, key),
-        Call::Commit { name, lease, .. } => commit(alloc, out, own, n, key, name, lease),
+        Call::Commit {
+            name,
+            lease,
+            labels,
+            ..
+        } => commit(alloc, out, own, n, key, name, lease, labels),
         Call::Discard { .. } => held(alloc, out, CallKind::Discard, own, n, key),
         Call::Remove { namespace, key } => named(alloc, out, CallKind::Remove, namespace, n, key),
         Call::Stat { namespace, key } => named(alloc, out, CallKind::Stat, namespace, n, key),

@@ -1,8 +1,8 @@
 ghost use Rattle.std.specs.Prelude.{◌≡◌, IfOk, map};
 
-use snap_call::{Call, Config, Namespace};
+use snap_call::{Call, Config, Namespace, Question};
 use snap_path::Path;
-use snap_record::{Sequence, Text};
+use snap_record::{Labels, Sequence, Text};
 use snap_upper::Op;
 use snap_usage::Usage;
 use std::alloc::{AllocError, Global};
@@ -28,6 +28,8 @@ pub enum Command {
     /// or `Walk`, as containerd's `Snapshotter` has them, `SetLimit`, `Sweep`, or one on a lease, as its
     /// `leases.Manager` has them.
     Call(Call),
+    /// `Stat`, `Usage`, `Mounts` or `Walk`, asked without an entry.
+    Ask(Question),
     /// Charges an active snapshot for the wanted amount, or for the needed one.
     Charge {
         namespace: Text,
@@ -40,12 +42,14 @@ pub enum Command {
         namespace: Text,
         key: Text,
     },
-    /// Commits an active snapshot under a name (containerd's `Commit`).
+    /// Commits an active snapshot under a name, with the labels in place of its own where they are given
+    /// (containerd's `Commit`).
     Commit {
         namespace: Text,
         key: Text,
         name: Text,
         lease: Option<Text>,
+        labels: Option<Labels>,
     },
     /// Drops an active snapshot.
     Discard {
@@ -101,10 +105,10 @@ pub enum Command {
         after: Text,
         most: u64,
     },
-    /// Asks for the round's entries of a namespace, after the entry of a number, at most so many, and in full also
-    /// for the lines that make their calls.
+    /// Asks for the round's entries, all or those of a namespace, after the entry of a number, at most so many, and in
+    /// full also for the lines that make their calls.
     Journal {
-        namespace: Text,
+        namespace: Option<Text>,
         after: u64,
         most: u64,
         full: bool,

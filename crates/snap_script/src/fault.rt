@@ -52,6 +52,8 @@ pub enum Field {
     Try,
     /// Whether a usage is that of a snapshot with its ancestors.
     Chain,
+    /// Whether a call that changes nothing is asked without an entry.
+    Quiet,
     /// Whether a journal tells the lines that make the calls.
     Full,
     /// Whether a lookup may be of a committed snapshot.
@@ -182,6 +184,7 @@ impl Field {
             Field::Moment => "now",
             Field::Try => "try",
             Field::Chain => "chain",
+            Field::Quiet => "quiet",
             Field::Full => "full",
             Field::Peek => "peek",
             Field::Blocks => "blocks",
@@ -219,7 +222,7 @@ impl Field {
             | Field::Mode
             | Field::Offset
             | Field::Size => (Found::Number, "a number"),
-            Field::Try | Field::Chain | Field::Full | Field::Peek => {
+            Field::Try | Field::Chain | Field::Quiet | Field::Full | Field::Peek => {
                 (Found::Truth, "true or false")
             }
             Field::Do => (

@@ -1,9 +1,9 @@
 // The fields of a line, each of its kind.
-ghost use Rattle.std.specs.Prelude.{◌≡◌, [], Some, None, Ok, IfOk, false};
+ghost use Rattle.std.specs.Prelude.{◌≡◌, [], Some, None, Ok, IfOk, OnOk, option_map, false};
 ghost use Rattle.serde_json.specs.Find.{as_bool, as_str};
 ghost use Rattle.snap_json.specs.View.{view, items_view, members_of};
 ghost use Rattle.snap_script.specs.declared.fault.Field.TheVariants as fields;
-ghost use Rattle.snap_script.specs.Fields.{found_in, misfit, missing, text, required, optional, given, as_natural, as_mode, pair_in, as_pair, as_usage, each_item, as_texts, kind_named, as_kind, labels_with, as_labels, label_filter, label_filters_in, as_label_filters, as_namespace, as_namespaces, as_fill, content_bytes_of};
+ghost use Rattle.snap_script.specs.Fields.{found_in, misfit, missing, text, required, optional, given, as_natural, as_mode, pair_in, as_pair, as_usage, each_item, as_texts, kind_named, as_kind, with_label_within, labels_with, as_labels, malformed_in, with_member, with_named_in, deciding_in, labels_of_update, label_filter, label_filters_in, as_label_filters, as_namespace, as_namespaces, as_fill, content_bytes_of};
 ghost use Rattle.snap_script.specs.Gives.{Gives, GivesAll};
 
 use crate::fault::{Fault, Field, Found, ReadError};
@@ -11,7 +11,9 @@ use snap_call::Namespace;
 use snap_json::{Value, by_name};
 use snap_layer::Bytes;
 use snap_path::limits::MAX_FILE_BYTES;
-use snap_record::{Kind, LabelFilter, Labels, Sequence, Text};
+use snap_record::{
+    Kind, LabelFilter, Labels, MAX_LABELS, Sequence, Text, is_label, named_key, replaces_all,
+};
 use snap_usage::Usage;
 use std::alloc::{AllocError, Global};
 use std::collections::BTreeMap;
@@ -281,7 +283,25 @@ pub fn usage_or(default: Usage, field: Field, line: &Value<'_>) -> Result<Usage,
     }
 }
 
-/// The labels of an object's members, where each is a text.
+/// Puts a label to those that there are, where these are at most as many as a snapshot may have: one more is kept,
+/// since it is refused.
+fn insert_within(
+    alloc: Global,
+    labels: &mut Labels,
+    key: &str,
+    value: &str,
+) -> Result<(), AllocError>
+    ensures { OnOk result (labels.new ≡ with_label_within labels.old key.now value.now) }
+{
+    if labels.len() > MAX_LABELS {
+        return Ok(());
+    }
+    let key = Text::copy_of(alloc, key)?;
+    let value = Text::copy_of(alloc, value)?;
+    labels.insert(key, value)
+}
+
+/// The labels of an object's members, where each is a text: the first 65.
 fn labels_in(
     alloc: Global,
     members: &BTreeMap<&str, &Value<'_>>,
@@ -293,11 +313,95 @@ fn labels_in(
         let Some(value) = member.as_str() else {
             return Ok(None);
         };
-        let key = Text::copy_of(alloc, key)?;
-        let value = Text::copy_of(alloc, value)?;
-        labels.insert(key, value)?;
+        insert_within(alloc, &mut labels, key, value)?;
     }
     Ok(Some(labels))
+}
+
+/// The first member that is no label by its form.
+fn malformed_in<'v, 'a>(members: &BTreeMap<&'a str, &'v Value<'a>>) -> Option<(&'a str, &'a str)>
+    ensures { option_map (λ label. (label.0.now, label.1.now)) result ≡ malformed_in (members_of members.now.entries) }
+{
+    for (key, member) in members.iter() {
+        if let Some(value) = member.as_str() {
+            if !is_label(key, value) {
+                return Some((*key, value));
+            }
+        }
+    }
+    None
+}
+
+/// Puts the member of this key to the labels, if there is one.
+fn insert_member(
+    alloc: Global,
+    members: &BTreeMap<&str, &Value<'_>>,
+    labels: &mut Labels,
+    key: &str,
+) -> Result<(), AllocError>
+    ensures { OnOk result (labels.new ≡ with_member (members_of members.now.entries) labels.old key.now) }
+{
+    let Some(member) = members.get(key) else {
+        return Ok(());
+    };
+    match member.as_str() {
+        Some(value) => insert_within(alloc, labels, key, value),
+        None => Ok(()),
+    }
+}
+
+/// The labels of those members that the paths name.
+fn named_in(
+    alloc: Global,
+    members: &BTreeMap<&str, &Value<'_>>,
+    paths: &[Text],
+) -> Result<Labels, AllocError>
+    ensures { IfOk result (λ labels. labels ≡ with_named_in (members_of members.now.entries) [] paths.now) }
+{
+    let mut labels = Labels::new(alloc);
+    for path in paths {
+        if let Some(key) = named_key(path.as_str()) {
+            insert_member(alloc, members, &mut labels, key)?;
+        }
+    }
+    Ok(labels)
+}
+
+/// What decides an update by paths that gives so many labels.
+fn deciding_in<'v, 'a>(
+    alloc: Global,
+    members: &BTreeMap<&'a str, &'v Value<'a>>,
+    paths: &[Text],
+) -> Result<Labels, AllocError>
+    ensures { IfOk result (λ labels. labels ≡ deciding_in (members_of members.now.entries) paths.now) }
+{
+    let Some((key, value)) = malformed_in(members) else {
+        return named_in(alloc, members, paths);
+    };
+    let mut labels = Labels::new(alloc);
+    insert_within(alloc, &mut labels, key, value)?;
+    Ok(labels)
+}
+
+/// The labels of an update with these paths, of which the first 65 were found.
+pub(crate) fn labels_of_update(
+    alloc: Global,
+    line: &Value<'_>,
+    paths: &[Text],
+    found: Labels,
+) -> Result<Labels, AllocError>
+    ensures { IfOk result (λ labels. labels ≡ labels_of_update (view line.now) paths.now found) }
+{
+    if found.len() <= MAX_LABELS || replaces_all(paths) {
+        return Ok(found);
+    }
+    let Some(value) = line.get(Field::Labels.name()) else {
+        return Ok(found);
+    };
+    match value.as_object() {
+        Some(members) => deciding_in(alloc, &by_name(alloc, members)?, paths),
+        None => Ok(found),
+    }
 }
 
 /// Labels that must be there.
@@ -322,6 +426,20 @@ pub(crate) fn labels(alloc: Global, line: &Value<'_>) -> Result<Labels, ReadErro
         Some(_) => required_labels(alloc, line),
         None => Ok(Labels::new(alloc)),
     }
+}
+
+/// The labels, or nothing where the line has no such field.
+pub(crate) fn optional_labels(alloc: Global, line: &Value<'_>) -> Result<Option<Labels>, ReadError>
+    ensures { Gives (λ labels. labels) result (given as_labels fields.Labels (view line.now)) }
+{
+    let Some(value) = line.get(Field::Labels.name()) else {
+        return Ok(None);
+    };
+    let Some(members) = value.as_object() else {
+        return Err(ReadError::Fault(misfit(Field::Labels, value)));
+    };
+    let labels = labels_in(alloc, &by_name(alloc, members)?)?;
+    Ok(Some(labels.ok_or(misfit(Field::Labels, value))?))
 }
 
 /// A label that is asked for: with the text as its value, or with any value where null stands for it.

@@ -2,21 +2,21 @@
 ghost use Rattle.std.specs.Prelude.{◌≡◌};
 ghost use Rattle.snap_json.specs.View.{view};
 ghost use Rattle.snap_history.specs.declared.kind.CallKind.TheVariants as kinds;
-ghost use Rattle.snap_script.specs.Commands.{named, config_of, filter_of, call_of, read_asked, lookup_of, command_of};
+ghost use Rattle.snap_script.specs.Commands.{named, config_of, filter_of, asked_as, asked_by, call_of, read_asked, lookup_of, command_of};
 ghost use Rattle.snap_script.specs.Gives.{Gives};
 ghost use Rattle.snap_script.specs.declared.verb.Verb.TheVariants as verbs;
 
 use crate::command::{Command, Lookup};
 use crate::fault::{Fault, Field, ReadError};
 use crate::fields::{
-    is_true, label_filters, labels, namespaces, number_or, optional_kind, optional_number,
-    optional_text, paths, required_labels, required_number, required_usage, text, text_or_empty,
-    usage_or,
+    is_true, label_filters, labels, labels_of_update, namespaces, number_or, optional_kind,
+    optional_labels, optional_number, optional_text, paths, required_labels, required_number,
+    required_usage, text, text_or_empty, usage_or,
 };
 use crate::operation::{file_operation, path_in};
 use crate::verb::{LookupVerb, Verb};
 use snap_call::limits::{DEFAULT_SLOTS, MAX_JOURNAL};
-use snap_call::{Call, Config};
+use snap_call::{Call, Config, Question};
 use snap_history::CallKind;
 use snap_json::Value;
 use snap_path::limits::{DEFAULT_LAYER_INODES, MAX_FILE_BYTES};
@@ -109,11 +109,14 @@ fn update(alloc: Global, line: &Value<'_>) -> Result<Command, ReadError>
     ensures { Gives (λ c. c) result (call_of kinds.Update (view line.now)) }
 {
     let (namespace, key) = named(alloc, line)?;
+    let found = required_labels(alloc, line)?;
+    let paths = paths(alloc, line)?;
+    let labels = labels_of_update(alloc, line, paths.as_slice(), found)?;
     Ok(Command::Call(Call::Update {
         namespace,
         key,
-        labels: required_labels(alloc, line)?,
-        paths: paths(alloc, line)?,
+        labels,
+        paths,
     }))
 }
 
@@ -130,16 +133,52 @@ fn filter(alloc: Global, line: &Value<'_>) -> Result<Filter, ReadError>
     })
 }
 
+/// The command that asks the question, without an entry where it is quiet.
+fn asked_as(quiet: bool, question: Question) -> Command
+    ensures { result ≡ asked_as quiet question }
+{
+    if quiet {
+        Command::Ask(question)
+    } else {
+        Command::Call(question.into_call())
+    }
+}
+
+/// The same, as the line says.
+#[tactic(auto, unfolding(crate::specs::Commands::asked_by))]
+fn asked_by(line: &Value<'_>, question: Question) -> Result<Command, ReadError>
+    ensures { Gives (λ c. c) result (asked_by (view line.now) question) }
+{
+    Ok(asked_as(is_true(Field::Quiet, line)?, question))
+}
+
+#[tactic(auto, unfolding(crate::specs::Commands::call_of))]
+fn stat(alloc: Global, line: &Value<'_>) -> Result<Command, ReadError>
+    ensures { Gives (λ c. c) result (call_of kinds.Stat (view line.now)) }
+{
+    let (namespace, key) = named(alloc, line)?;
+    asked_by(line, Question::Stat { namespace, key })
+}
+
+#[tactic(auto, unfolding(crate::specs::Commands::call_of))]
+fn mounts(alloc: Global, line: &Value<'_>) -> Result<Command, ReadError>
+    ensures { Gives (λ c. c) result (call_of kinds.Mounts (view line.now)) }
+{
+    let (namespace, key) = named(alloc, line)?;
+    asked_by(line, Question::Mounts { namespace, key })
+}
+
 #[tactic(auto, unfolding(crate::specs::Commands::call_of))]
 fn walk(alloc: Global, line: &Value<'_>) -> Result<Command, ReadError>
     ensures { Gives (λ c. c) result (call_of kinds.Walk (view line.now)) }
 {
-    Ok(Command::Call(Call::Walk {
+    let question = Question::Walk {
         namespace: text(alloc, Field::Namespace, line)?,
         after: text_or_empty(alloc, Field::After, line)?,
         most: number_or(PAGE, Field::Most, line)?,
         asked: filter(alloc, line)?,
-    }))
+    };
+    asked_by(line, question)
 }
 
 #[tactic(auto, unfolding(crate::specs::Commands::call_of))]
@@ -204,10 +243,12 @@ fn usage(alloc: Global, line: &Value<'_>) -> Result<Command, ReadError>
     ensures { Gives (λ c. c) result (call_of kinds.Usage (view line.now)) }
 {
     let (namespace, key) = named(alloc, line)?;
-    if is_true(Field::Chain, line)? {
+    let chain = is_true(Field::Chain, line)?;
+    let quiet = is_true(Field::Quiet, line)?;
+    if chain {
         Ok(Command::ChainUsage { namespace, key })
     } else {
-        Ok(Command::Call(Call::Usage { namespace, key }))
+        Ok(asked_as(quiet, Question::Usage { namespace, key }))
     }
 }
 
@@ -221,6 +262,7 @@ fn commit(alloc: Global, line: &Value<'_>) -> Result<Command, ReadError>
         key,
         name: text(alloc, Field::Name, line)?,
         lease: optional_text(alloc, Field::Lease, line)?,
+        labels: optional_labels(alloc, line)?,
     })
 }
 
@@ -261,16 +303,10 @@ fn call_of(alloc: Global, kind: CallKind, line: &Value<'_>) -> Result<Command, R
             let (namespace, key) = named(alloc, line)?;
             Ok(Command::Call(Call::Remove { namespace, key }))
         }
-        CallKind::Stat => {
-            let (namespace, key) = named(alloc, line)?;
-            Ok(Command::Call(Call::Stat { namespace, key }))
-        }
+        CallKind::Stat => stat(alloc, line),
         CallKind::Update => update(alloc, line),
         CallKind::Usage => usage(alloc, line),
-        CallKind::Mounts => {
-            let (namespace, key) = named(alloc, line)?;
-            Ok(Command::Call(Call::Mounts { namespace, key }))
-        }
+        CallKind::Mounts => mounts(alloc, line),
         CallKind::Walk => walk(alloc, line),
         CallKind::Limit => set_limit(alloc, line),
         CallKind::LeaseCreate => lease_create(alloc, line),
@@ -365,7 +401,7 @@ pub(crate) fn command_of(alloc: Global, verb: Verb, line: &Value<'_>) -> Result<
         }),
         Verb::Diff => diff(alloc, line),
         Verb::Journal => Ok(Command::Journal {
-            namespace: text(alloc, Field::Namespace, line)?,
+            namespace: optional_text(alloc, Field::Namespace, line)?,
             after: number_or(0, Field::After, line)?,
             most: number_or(PAGE, Field::Most, line)?,
             full: is_true(Field::Full, line)?,

@@ -50,11 +50,17 @@ fn call_fields(kind: CallKind) -> &'static [Field]
             &[Field::Namespace, Field::Key, Field::Parent, Field::Labels]
         }
         CallKind::Charge => &[Field::Namespace, Field::Key, Field::Need, Field::Want],
-        CallKind::Commit => &[Field::Namespace, Field::Key, Field::Name, Field::Lease],
+        CallKind::Commit => &[
+            Field::Namespace,
+            Field::Key,
+            Field::Name,
+            Field::Lease,
+            Field::Labels,
+        ],
         CallKind::Update => &[Field::Namespace, Field::Key, Field::Labels, Field::Paths],
-        CallKind::Trim | CallKind::Discard | CallKind::Remove | CallKind::Stat | CallKind::Mounts =>
-            &[Field::Namespace, Field::Key],
-        CallKind::Usage => &[Field::Namespace, Field::Key, Field::Chain],
+        CallKind::Trim | CallKind::Discard | CallKind::Remove => &[Field::Namespace, Field::Key],
+        CallKind::Stat | CallKind::Mounts => &[Field::Namespace, Field::Key, Field::Quiet],
+        CallKind::Usage => &[Field::Namespace, Field::Key, Field::Chain, Field::Quiet],
         CallKind::Walk => &[
             Field::Namespace,
             Field::After,
@@ -63,6 +69,7 @@ fn call_fields(kind: CallKind) -> &'static [Field]
             Field::Parent,
             Field::Kind,
             Field::Labels,
+            Field::Quiet,
         ],
         CallKind::Limit => &[Field::Namespace, Field::Blocks, Field::Inodes],
         CallKind::LeaseCreate => &[Field::Namespace, Field::Lease, Field::Until],

@@ -77,10 +77,11 @@ impl ToJson for JournalEntry {
         let entry = &self.entry;
         out.token(Token::BeginObject)?;
         member(alloc, out, "call", &entry.call.as_str())?;
-        member(alloc, out, "charge", &entry.charge)?;
+        maybe(alloc, out, "charge", &entry.charge)?;
         maybe(alloc, out, "id", &entry.id)?;
         maybe(alloc, out, "key", &entry.key)?;
         maybe(alloc, out, "line", &self.line)?;
+        maybe(alloc, out, "ns", &self.namespace)?;
         member(alloc, out, "number", &entry.number)?;
         maybe(alloc, out, "refused", &entry.refused)?;
         member(alloc, out, "session", &entry.session)?;

@@ -1,3 +1,4 @@
 pub mod Moving
+pub mod Opening
 pub mod Entries
 pub mod Serving

@@ -21,6 +21,8 @@ use Rattle.snap_call.specs.declared.refusal.Refusal.{Refusal}
 use Rattle.snap_call.specs.declared.refusal.Refusal.TheVariants.{BadArgument}
 use Rattle.snap_call.specs.declared.reply.Reply.TheVariants as replies
 use Rattle.snap_call.specs.Forms.{bad_field}
+use Rattle.snap_call.specs.Kept.{kept as kept_call}
+use Rattle.snap_call.specs.Questions.{reply_to}
 use Rattle.snap_call.specs.Records.{open_count}
 use Rattle.snap_call.specs.Step.{sweep}
 use Rattle.snap_book.specs.Questions.{chain_usage}
@@ -46,6 +48,7 @@ use Rattle.snap_script.specs.declared.command.Lookup.{Lookup}
 use Rattle.snap_script.specs.declared.command.Lookup.TheVariants as lookups
 use Rattle.snap_session.specs.Found.{found_or_else, refusal_answer}
 use Rattle.snap_session.specs.Opened.{OpenedValue, new_world, share_at, totals_of}
+use Rattle.snap_session.specs.Carried.{carried_of}
 use Rattle.snap_session.specs.Diff.{diff}
 use Rattle.snap_session.specs.Journal.{journal_of}
 use Rattle.snap_session.specs.Leases.{leases}
@@ -68,9 +71,14 @@ answer_of_step session slot w step_answers.NoHand = answers.NoHand
 abbrev pub telling : ℕ → ℕ → WorldValue × StepAnswer → WorldValue × Answer
 telling session slot after = (after.0, answer_of_step session slot after.0 after.1)
 
+-- the step as it is made: a call with its texts cut to what the journal keeps of them, which is answered alike
+abbrev pub step_kept : Step → Step
+step_kept (Locked session call) = Locked session (kept_call call)
+step_kept (Hand slot op) = Hand slot op
+
 -- one step, and its answer
 abbrev pub stepped : ℕ → ℕ → Step → WorldValue → WorldValue × Answer
-stepped session slot step w = telling session slot (move w step)
+stepped session slot step w = telling session slot (move w (step_kept step))
 
 -- what follows, or the refusal; no step is made where it is refused
 abbrev pub world_unless_refused : {A : Type 0} → WorldValue → (A → WorldValue × Answer) → Result A Refusal → WorldValue × Answer
@@ -173,9 +181,10 @@ on_store s n commands.Session = stepped s.world.state.sessions 0 (Locked s.world
 on_store s n (commands.Reopen journal) = reopen s.world journal
 on_store s n (commands.Roll journal) = roll s.world journal
 on_store s n (commands.Call call) = stepped n 0 (Locked n call) s.world
+on_store s n (commands.Ask question) = (s.world, answers.Reply (reply_to s.world.state question))
 on_store s n (commands.Charge namespace key need want) = on_key s.world namespace key (λ slot id. stepped n slot (Locked n (calls.Charge slot id need want)) s.world)
 on_store s n (commands.Trim namespace key) = on_key s.world namespace key (λ slot id. stepped n slot (Locked n (calls.Trim slot id)) s.world)
-on_store s n (commands.Commit namespace key name lease) = on_key s.world namespace key (λ slot id. stepped n slot (Locked n (calls.Commit slot id name lease)) s.world)
+on_store s n (commands.Commit namespace key name lease labels) = on_key s.world namespace key (λ slot id. stepped n slot (Locked n (calls.Commit slot id name lease labels)) s.world)
 on_store s n (commands.Discard namespace key) = on_key s.world namespace key (λ slot id. stepped n slot (Locked n (calls.Discard slot id)) s.world)
 on_store s n (commands.File namespace key operation extra) = on_key s.world namespace key (λ slot id. performed n slot id operation extra s.world)
 on_store s n (commands.Lookup namespace key asked path peek) = (s.world, lookup asked path (layers_at s.world namespace key peek))
@@ -185,7 +194,7 @@ on_store s n (commands.Quota namespace) = (s.world, quota_answer s namespace)
 on_store s n (commands.Leases namespace lease) = (s.world, leases s namespace lease)
 on_store s n (commands.Tree namespace) = (s.world, tree s namespace)
 on_store s n (commands.Diff namespace key after most) = (s.world, diff s.world namespace key after most)
-on_store s n (commands.Journal namespace after most full) = (s.world, journal_of s.world namespace after most full)
+on_store s n (commands.Journal namespace after most full) = (s.world, journal_of s.world (carried_of s.names s.world.opening.records) namespace after most full)
 on_store s n commands.Report = (s.world, report s)
 
 -- ---- opening

@@ -1,6 +1,6 @@
--- The round's entries of a namespace.
+-- The round's entries, all or those of a namespace; the snapshots that were active when it began are given beside the world.
 -- Cited by `Runner::new`, `Runner as TakeLine`, `replay_within` and others.
-use Rattle.std.specs.Prelude.{ℕ, ◌-◌, ◌==◌, Bool, if◌then◌else◌, List, [], ◌∷◌, length, map, slice_get, Option, None, Some, option_and_then}
+use Rattle.std.specs.Prelude.{ℕ, ◌-◌, ◌==◌, Bool, true, false, if◌then◌else◌, List, [], ◌∷◌, length, map, slice_get, Option, None, Some, is_some, option_and_then}
 use Rattle.std.specs.Option.{option_map, option_map_or, option_or}
 use Rattle.snap_record.specs.Labels.{Bytes}
 use Rattle.snap_call.specs.Forms.{is_page}
@@ -11,41 +11,77 @@ use Rattle.snap_call.specs.declared.entry.Entry.{Entry}
 use Rattle.snap_call.specs.declared.reply.Reply.{Reply}
 use Rattle.snap_call.specs.declared.reply.Reply.TheVariants as replies
 use Rattle.snap_call.specs.declared.refusal.Refusal.TheVariants.{BadArgument, NoNamespace}
-use Rattle.snap_history.specs.History.{history, history_page}
+use Rattle.snap_history.specs.History.{entries_from, history, history_page, namespace_in}
 use Rattle.snap_history.specs.declared.info.EntryInfo.{EntryInfo}
 use Rattle.snap_world.specs.World.{WorldValue}
 use Rattle.snap_script.specs.Calls.{call_line}
 use Rattle.snap_script.specs.declared.answer.JournalEntry.{JournalEntry}
 use Rattle.snap_script.specs.declared.answer.Answer.{Answer}
 use Rattle.snap_script.specs.declared.answer.Answer.TheVariants as answers
+use Rattle.snap_session.specs.declared.carried.Carried.{Carried}
+use Rattle.snap_session.specs.declared.carried.SnapshotName.{SnapshotName}
+use Rattle.snap_session.specs.Carried.{carried_name}
 use Rattle.snap_session.specs.Found.{refusal_answer}
 
--- the key of the snapshot of this id, where the call has prepared it
-abbrev pub key_by : ℕ → Call → Reply → Option Bytes
-key_by id (calls.Prepare namespace key parent labels) (replies.Prepared made slot chain) = if made == id then Some key else None
-key_by id call reply = None
+-- the name of the snapshot of this id, where the call has prepared it
+abbrev pub name_by : ℕ → Call → Reply → Option SnapshotName
+name_by id (calls.Prepare namespace key parent labels) (replies.Prepared made slot chain) = if made == id then Some (record { namespace = namespace; key = key }) else None
+name_by id call reply = None
 
--- the key under which one of the entries has prepared the snapshot of this id
-abbrev pub key_among : ℕ → List Entry → Option Bytes
-key_among id [] = None
-key_among id (e ∷ es) = option_or (key_by id e.call e.reply) (key_among id es)
+-- the name that it has where one of the entries has prepared it
+abbrev pub name_among : ℕ → List Entry → Option SnapshotName
+name_among id [] = None
+name_among id (e ∷ es) = option_or (name_by id e.call e.reply) (name_among id es)
+
+-- the name of the active snapshot of this id: that under which the round has prepared it, or that which it had when the round began
+abbrev pub name_of : List Carried → List Entry → ℕ → Option SnapshotName
+name_of carried entries id = option_or (name_among id entries) (carried_name id carried)
+
+-- the name of the snapshot of this id that the call is on, where it names no namespace
+abbrev pub held_name : List Carried → List Entry → Option ℕ → Call → Option SnapshotName
+held_name carried entries id call = if is_some (namespace_in call) then None else option_and_then (name_of carried entries) id
 
 -- the entry of this number, where it is one of the round
 abbrev pub entry_numbered : WorldValue → ℕ → Option Entry
 entry_numbered w number = slice_get w.journal (number - (w.state.entries - length w.journal) - 1)
 
--- the line of the entry of this number, whose call is on the snapshot of the id, if there is one: where the call names no key, it has the one under which the round has prepared the snapshot
-abbrev pub line_at : WorldValue → Bytes → ℕ → Option ℕ → Option Bytes
-line_at w namespace number id = option_map (λ e. call_line namespace e.session (option_and_then (λ k. key_among k w.journal) id) e.call) (entry_numbered w number)
+-- the name of the namespace that a call names, or else of that of the active snapshot that it is on
+abbrev pub namespace_of : Option SnapshotName → Call → Option Bytes
+namespace_of held call = option_or (namespace_in call) (option_map (λ h. h.namespace) held)
 
--- an entry that is told, with its line in full
-abbrev pub journal_entry : WorldValue → Bytes → Bool → EntryInfo → JournalEntry
-journal_entry w namespace full info = record { entry = info; line = if full then line_at w namespace info.number info.id else None }
+-- the call in this session opens session 0
+abbrev pub opens_first : Call → ℕ → Bool
+opens_first calls.Session session = session == 0
+opens_first call session = false
 
--- those of the namespace at the place, of a greater number, at most so many, or that there is no such namespace
-abbrev pub journal_at : WorldValue → Bytes → ℕ → ℕ → Bool → Option ℕ → Answer
-journal_at w namespace after most full place = option_map_or (λ p. answers.Journal (map (journal_entry w namespace full) (history_page after most (history p w.opening w.journal)))) place (refusal_answer NoNamespace)
+-- the entry is that of session 0, which is opened as the round begins
+abbrev pub is_first : Entry → Bool
+is_first e = opens_first e.call e.session
 
--- those of the namespace of this name; a page has 1 to 64 of them
-abbrev pub journal_of : WorldValue → Bytes → ℕ → ℕ → Bool → Answer
-journal_of w namespace after most full = if is_page most then journal_at w namespace after most full (place_of namespace w.state.namespaces) else refusal_answer BadArgument
+-- the line of the entry: where the call names its snapshot by the slot, with this name. That of session 0 has none, since no line opens it
+abbrev pub line_of : Option SnapshotName → Entry → Option Bytes
+line_of held e = if is_first e then None else Some (call_line (option_map_or (λ h. h.namespace) held []) e.session (option_map (λ h. h.key) held) e.call)
+
+-- the name of the namespace of the entry that is told
+abbrev pub namespace_at : WorldValue → List Carried → EntryInfo → Option Bytes
+namespace_at w carried info = option_and_then (λ e. namespace_of (held_name carried w.journal info.id e.call) e.call) (entry_numbered w info.number)
+
+-- its line
+abbrev pub line_at : WorldValue → List Carried → EntryInfo → Option Bytes
+line_at w carried info = option_and_then (λ e. line_of (held_name carried w.journal info.id e.call) e) (entry_numbered w info.number)
+
+-- an entry that is told: where all are, with its namespace, and in full with its line
+abbrev pub journal_entry : WorldValue → List Carried → Bool → Bool → EntryInfo → JournalEntry
+journal_entry w carried all full info = record { entry = info; namespace = if all then namespace_at w carried info else None; line = if full then line_at w carried info else None }
+
+-- those of the namespace of this name, of a greater number, at most so many, or that there is no such namespace
+abbrev pub journal_in : WorldValue → List Carried → ℕ → ℕ → Bool → Bytes → Answer
+journal_in w carried after most full namespace = option_map_or (λ p. answers.Journal (map (journal_entry w carried false full) (history_page after most (history p w.opening w.journal)))) (place_of namespace w.state.namespaces) (refusal_answer NoNamespace)
+
+-- those of the round
+abbrev pub journal_all : WorldValue → List Carried → ℕ → ℕ → Bool → Answer
+journal_all w carried after most full = answers.Journal (map (journal_entry w carried true full) (history_page after most (entries_from (w.state.entries - length w.journal) w.journal)))
+
+-- all, or those of a namespace; a page has 1 to 64 of them
+abbrev pub journal_of : WorldValue → List Carried → Option Bytes → ℕ → ℕ → Bool → Answer
+journal_of w carried namespace after most full = if is_page most then option_map_or (journal_in w carried after most full) namespace (journal_all w carried after most full) else refusal_answer BadArgument

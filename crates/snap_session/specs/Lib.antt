@@ -3,6 +3,7 @@ pub mod Leases
 pub mod Opened
 pub mod Tree
 pub mod Quota
+pub mod Carried
 pub mod Journal
 pub mod Diff
 pub mod Commands

@@ -1,7 +1,8 @@
-// The commands that are calls of the store, and two of its calls asked without an entry.
+// The commands that are calls of the store, and those of its calls that are asked without an entry.
 ghost use Rattle.std.specs.Prelude.{◌≡◌, IfOk};
 ghost use Rattle.snap_call.specs.declared.call.Call.TheVariants as calls;
 ghost use Rattle.snap_world.specs.declared.step.Step.TheVariants.{Locked};
+ghost use Rattle.snap_call.specs.Questions.{reply_to};
 ghost use Rattle.snap_call.specs.Step.{sweep};
 ghost use Rattle.snap_book.specs.Questions.{chain_usage};
 ghost use Rattle.snap_call.specs.declared.reply.Reply.TheVariants as replies;
@@ -10,15 +11,16 @@ ghost use Rattle.snap_session.specs.Commands.{stepped, on_key};
 ghost use Rattle.snap_session.specs.Found.{found_or_else, refusal_answer};
 
 use crate::step::called;
-use snap_call::{Call, Reply};
+use snap_call::{Call, Question, Reply};
 use snap_ledger::StoreName;
-use snap_record::Text;
+use snap_record::{Labels, Text};
 use snap_script::Answer;
 use snap_usage::Usage;
 use snap_world::{NoMemory, World};
 
 pub(crate) fn session<N: StoreName>(world: &mut World<N>) -> Result<Answer, NoMemory>
-    ensures { IfOk result (λ answer. stepped world.old.state.sessions 0 (Locked world.old.state.sessions calls.Session) world.old ≡ (world.new, answer)) }
+    ensures done { IfOk result (λ answer. stepped world.old.state.sessions 0 (Locked world.old.state.sessions calls.Session) world.old ≡ (world.new, answer)) }
+    ensures opening { world.new.opening ≡ world.old.opening }
 {
     let number = world.sessions();
     called(world, number, 0, Call::Session)
@@ -32,7 +34,8 @@ pub(crate) fn charge<N: StoreName>(
     need: Usage,
     want: Usage,
 ) -> Result<Answer, NoMemory>
-    ensures { IfOk result (λ answer. on_key world.old namespace key (λ slot id. stepped n slot (Locked n (calls.Charge slot id need want)) world.old) ≡ (world.new, answer)) }
+    ensures done { IfOk result (λ answer. on_key world.old namespace key (λ slot id. stepped n slot (Locked n (calls.Charge slot id need want)) world.old) ≡ (world.new, answer)) }
+    ensures opening { world.new.opening ≡ world.old.opening }
 {
     match world.hand(namespace.as_str(), key.as_str()) {
         Ok((slot, id)) => called(
@@ -56,7 +59,8 @@ pub(crate) fn trim<N: StoreName>(
     namespace: Text,
     key: Text,
 ) -> Result<Answer, NoMemory>
-    ensures { IfOk result (λ answer. on_key world.old namespace key (λ slot id. stepped n slot (Locked n (calls.Trim slot id)) world.old) ≡ (world.new, answer)) }
+    ensures done { IfOk result (λ answer. on_key world.old namespace key (λ slot id. stepped n slot (Locked n (calls.Trim slot id)) world.old) ≡ (world.new, answer)) }
+    ensures opening { world.new.opening ≡ world.old.opening }
 {
     match world.hand(namespace.as_str(), key.as_str()) {
         Ok((slot, id)) => called(world, n, slot, Call::Trim { slot, id }),
@@ -71,8 +75,10 @@ pub(crate) fn commit<N: StoreName>(
     key: Text,
     name: Text,
     lease: Option<Text>,
+    labels: Option<Labels>,
 ) -> Result<Answer, NoMemory>
-    ensures { IfOk result (λ answer. on_key world.old namespace key (λ slot id. stepped n slot (Locked n (calls.Commit slot id name lease)) world.old) ≡ (world.new, answer)) }
+    ensures done { IfOk result (λ answer. on_key world.old namespace key (λ slot id. stepped n slot (Locked n (calls.Commit slot id name lease labels)) world.old) ≡ (world.new, answer)) }
+    ensures opening { world.new.opening ≡ world.old.opening }
 {
     match world.hand(namespace.as_str(), key.as_str()) {
         Ok((slot, id)) => called(
@@ -84,6 +90,7 @@ pub(crate) fn commit<N: StoreName>(
                 id,
                 name,
                 lease,
+                labels,
             },
         ),
         Err(why) => Ok(Answer::refused(why)),
@@ -96,12 +103,20 @@ pub(crate) fn discard<N: StoreName>(
     namespace: Text,
     key: Text,
 ) -> Result<Answer, NoMemory>
-    ensures { IfOk result (λ answer. on_key world.old namespace key (λ slot id. stepped n slot (Locked n (calls.Discard slot id)) world.old) ≡ (world.new, answer)) }
+    ensures done { IfOk result (λ answer. on_key world.old namespace key (λ slot id. stepped n slot (Locked n (calls.Discard slot id)) world.old) ≡ (world.new, answer)) }
+    ensures opening { world.new.opening ≡ world.old.opening }
 {
     match world.hand(namespace.as_str(), key.as_str()) {
         Ok((slot, id)) => called(world, n, slot, Call::Discard { slot, id }),
         Err(why) => Ok(Answer::refused(why)),
     }
+}
+
+// What the call that asks the same would reply. No step is made.
+pub(crate) fn ask<N: StoreName>(world: &World<N>, question: Question) -> Result<Answer, NoMemory>
+    ensures { IfOk result (λ answer. answer ≡ answers.Reply (reply_to world.now.state question)) }
+{
+    Ok(Answer::Reply(world.answer(&question)?))
 }
 
 // What a sweep of the namespace would answer. Nothing goes.

@@ -43,7 +43,8 @@ fn tried<N: StoreName>(
     op: &Op,
     extra: Usage,
 ) -> Result<Answer, NoMemory>
-    ensures { IfOk result (λ answer. tried n slot id (Hand slot op.now) extra (move world.old (Hand slot op.now)) ≡ (world.new, answer)) }
+    ensures done { IfOk result (λ answer. tried n slot id (Hand slot op.now) extra (move world.old (Hand slot op.now)) ≡ (world.new, answer)) }
+    ensures opening { world.new.opening ≡ world.old.opening }
 {
     let mut answer = operate(world, slot, op)?;
     if let Some(need) = need_of(&answer) {
@@ -71,7 +72,8 @@ pub(crate) fn file<N: StoreName>(
     operation: Option<Op>,
     extra: Usage,
 ) -> Result<Answer, NoMemory>
-    ensures { IfOk result (λ answer. on_key world.old namespace key (λ slot id. performed n slot id operation extra world.old) ≡ (world.new, answer)) }
+    ensures done { IfOk result (λ answer. on_key world.old namespace key (λ slot id. performed n slot id operation extra world.old) ≡ (world.new, answer)) }
+    ensures opening { world.new.opening ≡ world.old.opening }
 {
     match world.hand(namespace.as_str(), key.as_str()) {
         Ok((slot, id)) => match operation {

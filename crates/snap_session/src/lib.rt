@@ -7,6 +7,7 @@
 #![tactic(auto)]
 
 mod calls;
+mod carried;
 mod diff;
 mod file_commands;
 mod journal;

@@ -1,9 +1,11 @@
 // The store that a script has opened.
-ghost use Rattle.std.specs.Prelude.{◌≡◌, IfOk};
+ghost use Rattle.std.specs.Prelude.{◌≡◌, [], Some, IfOk};
+ghost use Rattle.snap_session.specs.Carried.{carried_of};
 ghost use Rattle.snap_session.specs.Opened.{total_of, totals_of};
-ghost use Rattle.snap_session.specs.Commands.{on_store, report};
+ghost use Rattle.snap_session.specs.Commands.{kept, on_store, report};
 
-use crate::calls::{chain_usage, charge, commit, discard, session, trim, try_sweep};
+use crate::calls::{ask, chain_usage, charge, commit, discard, session, trim, try_sweep};
+use crate::carried::Carried;
 use crate::diff::diff;
 use crate::file_commands::file;
 use crate::journal::journal;
@@ -22,19 +24,24 @@ use snap_world::{NoMemory, World};
 use std::alloc::Global;
 use std::marker::Model;
 
-// A world, and the names of its namespaces.
+// A world, the names of its namespaces, and the snapshots that were active when the round began.
 #[derive(Drop)]
 pub(crate) struct Opened<N: StoreName> {
-    pub(crate) world: World<N>,
-    pub(crate) names: Sequence<Text>,
+    world: World<N>,
+    names: Sequence<Text>,
+    carried: Sequence<Carried>,
 }
 
 impl<N: StoreName> Model for Opened<N> {
+    ghost use Rattle.std.specs.Prelude.{◌≡◌};
+    ghost use Rattle.snap_session.specs.Carried.{carried_of};
     ghost use Rattle.snap_session.specs.Opened.{OpenedValue};
 
     ghost Value = { OpenedValue };
 
     ghost view = { λ s. record { world = s.world; names = s.names } };
+
+    ghost invariant = { λ s. s.carried ≡ carried_of s.names s.world.opening.records };
 }
 
 // What the namespace of this name is charged.
@@ -74,21 +81,25 @@ fn report<N: StoreName>(alloc: Global, world: &World<N>, names: &[Text]) -> Resu
 }
 
 // A command by a session of this number.
-pub(crate) fn on_store<N: StoreName>(
+fn on_store<N: StoreName>(
     alloc: Global,
     world: &mut World<N>,
     names: &[Text],
+    carried: &mut Sequence<Carried>,
     n: u64,
     command: Command,
 ) -> Result<Answer, NoMemory>
-    ensures { IfOk result (λ answer. on_store (record { world = world.old; names = names.now }) n command ≡ (world.new, answer)) }
+    requires { carried.old ≡ carried_of names.now world.old.opening.records }
+    ensures done { IfOk result (λ answer. on_store (record { world = world.old; names = names.now }) n command ≡ (world.new, answer)) }
+    ensures carried { carried.new ≡ carried_of names.now world.new.opening.records }
 {
     match command {
         Command::Open { config: _ } => Ok(Answer::refused(Refusal::BadArgument)),
         Command::Session => session(world),
-        Command::Reopen { journal } => reopen(world, journal),
-        Command::Roll { journal } => roll(world, journal),
+        Command::Reopen { journal } => reopen(alloc, world, names, carried, journal),
+        Command::Roll { journal } => roll(alloc, world, names, carried, journal),
         Command::Call(call) => called(world, n, 0, call),
+        Command::Ask(question) => ask(world, question),
         Command::Charge {
             namespace,
             key,
@@ -101,7 +112,8 @@ pub(crate) fn on_store<N: StoreName>(
             key,
             name,
             lease,
-        } => commit(world, n, namespace, key, name, lease),
+            labels,
+        } => commit(world, n, namespace, key, name, lease, labels),
         Command::Discard { namespace, key } => discard(world, n, namespace, key),
         Command::File {
             namespace,
@@ -132,7 +144,48 @@ pub(crate) fn on_store<N: StoreName>(
             after,
             most,
             full,
-        } => journal(alloc, world, namespace, after, most, full),
+        } => journal(
+            alloc,
+            world,
+            carried.as_slice(),
+            namespace,
+            after,
+            most,
+            full,
+        ),
         Command::Report => report(alloc, world, names),
+    }
+}
+
+impl<N: StoreName> Opened<N> {
+    // The world before the first round's entries, with the names of its namespaces: no snapshot is active.
+    pub(crate) fn new(alloc: Global, world: World<N>, names: Sequence<Text>) -> Opened<N>
+        requires { world.opening.records ≡ [] }
+        ensures { result ≡ record { world = world; names = names } }
+    {
+        Opened {
+            world,
+            names,
+            carried: Sequence::new(alloc),
+        }
+    }
+
+    // A command by a session of this number.
+    pub(crate) fn act(
+        &mut self,
+        alloc: Global,
+        n: u64,
+        command: Command,
+    ) -> Result<Answer, NoMemory>
+        ensures { IfOk result (λ answer. kept self.old (on_store self.old n command) ≡ (Some self.new, answer)) }
+    {
+        on_store(
+            alloc,
+            &mut self.world,
+            self.names.as_slice(),
+            &mut self.carried,
+            n,
+            command,
+        )
     }
 }

@@ -1,4 +1,4 @@
-ghost use Rattle.std.specs.Prelude.{◌≡◌, ◌≤◌, IfOk, OnOk, None, true, is_some};
+ghost use Rattle.std.specs.Prelude.{◌≡◌, ◌≤◌, [], IfOk, OnOk, None, true, is_some};
 ghost use Rattle.snap_call.specs.Forms.{is_config};
 ghost use Rattle.snap_call.specs.declared.call.Call.TheVariants as calls;
 ghost use Rattle.snap_world.specs.declared.step.Answer.{Answer as StepAnswer};
@@ -8,7 +8,7 @@ ghost use Rattle.snap_session.specs.Commands.{is_started, store_begun, store_ope
 ghost use Rattle.snap_session.specs.Opened.{new_world, unopened};
 ghost use Rattle.snap_session.specs.Script.{script_step};
 
-use crate::opened::{Opened, on_store};
+use crate::opened::Opened;
 use crate::round::is_started;
 use crate::step::call;
 use snap_call::{Call, Config, Refusal, Reply};
@@ -48,7 +48,8 @@ fn begun<N: StoreName>(alloc: Global, table: NewTable, config: Config) -> Result
     requires table { table ≡ N.table }
     requires valid { is_config config ≡ true }
     requires room { 1 ≤ config.journal }
-    ensures { IfOk result (λ world. (first : StepAnswer) × (is_started first ≡ true) × (move (new_world config) (Locked 0 calls.Session) ≡ (world, first))) }
+    ensures first { IfOk result (λ world. (first : StepAnswer) × (is_started first ≡ true) × (move (new_world config) (Locked 0 calls.Session) ≡ (world, first))) }
+    ensures opening { IfOk result (λ world. world.opening.records ≡ []) }
 {
     let mut world = match World::open(alloc, table, config) {
         Ok(world) => world,
@@ -100,7 +101,7 @@ impl<N: StoreName> Script<N> {
         };
         match begun(self.alloc, table, config) {
             Ok(world) => {
-                self.store = Some(Opened { world, names });
+                self.store = Some(Opened::new(self.alloc, world, names));
                 Ok(Answer::Reply(Reply::Done))
             }
             Err(no_memory) => {
@@ -138,9 +139,7 @@ impl<N: StoreName> Script<N> {
         ensures spent { OnOk result (self.new.spent ≡ self.old.spent) }
     {
         match &mut self.store {
-            Some(Opened { world, names }) => {
-                on_store(self.alloc, world, names.as_slice(), n, command)
-            }
+            Some(opened) => opened.act(self.alloc, n, command),
             None => match command {
                 Command::Open { config } => self.open(config),
                 _ => Ok(Answer::NoSession),

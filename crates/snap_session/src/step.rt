@@ -52,7 +52,8 @@ pub(crate) fn call<N: StoreName>(
     session: u64,
     call: Call,
 ) -> Result<StepAnswer, NoMemory>
-    ensures { IfOk result (λ answer. move world.old (Locked session call) ≡ (world.new, answer)) }
+    ensures done { IfOk result (λ answer. move world.old (Locked session call) ≡ (world.new, answer)) }
+    ensures opening { world.new.opening ≡ world.old.opening }
 {
     unless_want(world.call(session, call))
 }
@@ -63,7 +64,8 @@ pub(crate) fn operate<N: StoreName>(
     slot: u64,
     op: &Op,
 ) -> Result<StepAnswer, NoMemory>
-    ensures { IfOk result (λ answer. move world.old (Hand slot op.now) ≡ (world.new, answer)) }
+    ensures done { IfOk result (λ answer. move world.old (Hand slot op.now) ≡ (world.new, answer)) }
+    ensures opening { world.new.opening ≡ world.old.opening }
 {
     unless_want(world.operate(slot, op))
 }
@@ -91,15 +93,17 @@ pub(crate) fn told<N: StoreName>(
     }
 }
 
-// A call on the store, and what a script says of it.
+// A call on the store, with its texts cut, and what a script says of it.
 pub(crate) fn called<N: StoreName>(
     world: &mut World<N>,
     session: u64,
     slot: u64,
-    asked: Call,
+    mut asked: Call,
 ) -> Result<Answer, NoMemory>
-    ensures { IfOk result (λ answer. stepped session slot (Locked session asked) world.old ≡ (world.new, answer)) }
+    ensures done { IfOk result (λ answer. stepped session slot (Locked session asked) world.old ≡ (world.new, answer)) }
+    ensures opening { world.new.opening ≡ world.old.opening }
 {
+    asked.cut()?;
     let answer = call(world, session, asked)?;
     Ok(told(session, slot, world, answer))
 }

@@ -321,8 +321,9 @@ impl<N: RoundName> Store<N> {
         }
     }
 
-    /// Commits the snapshot under a name, and names it in a lease where one is given (containerd's
-    /// `Snapshotter.Commit`). The answer is what its layer takes, in blocks of 4096 bytes and inodes.
+    /// Commits the snapshot under a name, with the labels in place of its own where they are given, and names
+    /// it in a lease where one is given (containerd's `Snapshotter.Commit`, and its `WithLabels`). The answer is
+    /// what its layer takes, in blocks of 4096 bytes and inodes.
     ///
     /// Refusals, after `JournalFull` and `OutOfMemory`: `BadArgument`, `AlreadyExists`, `NoLease`. Each gives
     /// the snapshot back as it was.
@@ -332,11 +333,12 @@ impl<N: RoundName> Store<N> {
         session: &mut Session,
         name: &str,
         lease: &Option<Text>,
+        labels: &Option<Labels>,
         sealed: Sealed<N>,
     ) -> Result<Usage, (Refusal, Sealed<N>)>
-        ensures granted { IfOk result (λ usage. Taped session.old session.new (calls.Commit sealed.share.slot sealed.share.id name.now lease.now) (LayerGiven sealed.layer) (replies.Committed sealed.share.id usage)) }
+        ensures granted { IfOk result (λ usage. Taped session.old session.new (calls.Commit sealed.share.slot sealed.share.id name.now lease.now labels.now) (LayerGiven sealed.layer) (replies.Committed sealed.share.id usage)) }
         ensures count { IfOk result (λ usage. usage ≡ count_of sealed.layer) }
-        ensures refused { IfErr result (λ back. RefusedOn session.old session.new (calls.Commit sealed.share.slot sealed.share.id name.now lease.now) (LayerGiven sealed.layer) back.0) }
+        ensures refused { IfErr result (λ back. RefusedOn session.old session.new (calls.Commit sealed.share.slot sealed.share.id name.now lease.now labels.now) (LayerGiven sealed.layer) back.0) }
         ensures room { session.old.spare ≤ session.new.spare + 1 }
         ensures same { IfErr result (λ back. back.1 ≡ sealed) }
     {
@@ -345,7 +347,7 @@ impl<N: RoundName> Store<N> {
         }
         let mut locked = self.book.lock(rt);
         let book = &mut locked.book;
-        match book.commit(session.number(), name, lease, sealed) {
+        match book.commit(session.number(), name, lease, labels, sealed) {
             Ok(usage) => {
                 session.note(book.take_entry());
                 Ok(usage)

@@ -68,13 +68,13 @@ trim_does old new hands out after slot n id a b reply fits at under answered is 
     (subst (λ (k : ℕ). AnsweredBy old new n (calls.Trim k a.share.id) (Count (count_of a.layer)) reply) slot_is answered) in
     charges old new hands out after slot n id (calls.Trim slot id) (λ g. Count (count_of g.snapshot.layer)) a b reply at under here is full gone back
 
-pub commit_does : (old new : BookValue) (hands out after : List (Option HandValue)) (slot n id : ℕ) (name : Bytes) (lease : Option Bytes) (h : HandValue) (a : ActiveValue) (reply : Reply)
+pub commit_does : (old new : BookValue) (hands out after : List (Option HandValue)) (slot n id : ℕ) (name : Bytes) (lease : Option Bytes) (labels : Option (List Label)) (h : HandValue) (a : ActiveValue) (reply : Reply)
     → hand_at slot hands ≡ Some h → is_under id h ≡ true → a ≡ h.snapshot
-    → AnsweredBy old new n (calls.Commit slot id name lease) (Layer a.layer) reply → (reply ≡ Refused JournalFull) ↔ (old.limit ≤ length old.journal + open_count old.state.records)
+    → AnsweredBy old new n (calls.Commit slot id name lease labels) (Layer a.layer) reply → (reply ≡ Refused JournalFull) ↔ (old.limit ≤ length old.journal + open_count old.state.records)
     → out ≡ with_hand slot None hands → after ≡ with_hand slot (committed_hand a reply) out
-    → DoesCall (world_of old hands) n (calls.Commit slot id name lease) (answers.Reply reply) (world_of new after)
-commit_does old new hands out after slot n id name lease h a reply at under is answered full gone back =
-    let call : Call = calls.Commit slot id name lease in
+    → DoesCall (world_of old hands) n (calls.Commit slot id name lease labels) (answers.Reply reply) (world_of new after)
+commit_does old new hands out after slot n id name lease labels h a reply at under is answered full gone back =
+    let call : Call = calls.Commit slot id name lease labels in
     let f : Reply → List (Option HandValue) = λ r. with_hand slot (committed_hand h.snapshot r) hands in
     let left : after ≡ f reply = back ∙ (ap (λ (l : List (Option HandValue)). with_hand slot (committed_hand a reply) l) gone
     ∙ (with_hand-twice slot None (committed_hand a reply) hands ∙ ap (λ (v : ActiveValue). with_hand slot (committed_hand v reply) hands) is)) in

@@ -30,7 +30,7 @@ use Rattle.snap_call.specs.Records.{active_at, charge_of, has_children, has_key,
 use Rattle.snap_call.specs.Forms.{is_key, is_limit, is_page, is_start}
 use Rattle.snap_call.specs.Reached.{unswept}
 use Rattle.snap_call.specs.State.{ancestors, layers_of, place_of, shown_layers}
-use Rattle.snap_call.specs.Step.{IsAllowed, IsCovered, IsOpenSlot, has_named, in_namespace, lease_add, lease_add_record, lease_create, lease_drop, lease_drop_at, lease_release, set_limit, sweep, sweep_at, ask, charge, charge_to, commit_as, committed as committed_state, discard, greater, one, prepare_at, prepared as prepared_state, refused, session, step, trim, place_for, slot_for, unless_refused, mounts, view_at, prepare_view, remove_record, remove, update_record, update, walk_infos, new_record, at_record}
+use Rattle.snap_call.specs.Step.{are_formed, IsAllowed, IsCovered, IsOpenSlot, has_named, in_namespace, lease_add, lease_add_record, lease_create, lease_drop, lease_drop_at, lease_release, set_limit, sweep, sweep_at, ask, charge, charge_to, commit_as, committed as committed_state, discard, greater, one, prepare_at, prepared as prepared_state, refused, session, step, trim, place_for, slot_for, unless_refused, mounts, view_at, prepare_view, remove_record, remove, update_record, update, walk_infos, new_record, at_record}
 use Rattle.snap_call.proofs.Alike.{AreAlike, bare, bare-relabelled, alike-active_at, alike-active_at_None, alike-layers}
 use Rattle.snap_call.proofs.Chains.{chain, Every, OnParent, every, on_parent, IsOther, Keeps, Keeps-after, Keeps-recharged, Keeps-with_record, Keeps-without_slot, chain-found, keeps-ancestors, keeps-without_key, on_other}
 use Rattle.snap_call.proofs.Keeping.{covers-Covers}
@@ -214,23 +214,23 @@ left_trim s slot hands h r good agree low stands is =
     subst (λ (o : Option Record). Left (λ reply. with_hand slot (charged_hand h reply) hands) (trim s slot (Count (count_of h.snapshot.layer)) o)) (sym stands)
     (recharges slot (count_of h.snapshot.layer) hands s.records h r good.chains agree low stands is (record { blocks = omega arith; inodes = omega arith }))
 
-left_under : (s : State) (slot : ℕ) (name : Bytes) (lease : Option Bytes) (hands : List (Option HandValue)) (h : HandValue) (r : Record) → Good s → AgreeAll hands s.records → slot < length hands → active_at slot s.records ≡ Some r → IsHandOf slot s.records h r → has_key r.namespace name s.records ≡ false
-    → Left (λ reply. with_hand slot (committed_hand h.snapshot reply) hands) (committed_state s slot name lease h.snapshot.layer r)
-left_under s slot name lease hands h r good agree low stands is new =
-    let c : Record = committed_as name h.snapshot.layer (s.entries + 1) r in
+left_under : (s : State) (slot : ℕ) (name : Bytes) (lease : Option Bytes) (labels : Option (List Label)) (hands : List (Option HandValue)) (h : HandValue) (r : Record) → Good s → AgreeAll hands s.records → slot < length hands → active_at slot s.records ≡ Some r → IsHandOf slot s.records h r → has_key r.namespace name s.records ≡ false
+    → Left (λ reply. with_hand slot (committed_hand h.snapshot reply) hands) (committed_state s slot name lease labels h.snapshot.layer r)
+left_under s slot name lease labels hands h r good agree low stands is new =
+    let c : Record = committed_as name labels h.snapshot.layer (s.entries + 1) r in
     let us : List Record = without_slot slot s.records in
     goes s.records (with_record c us) (same_where s.records (with_record c us) good.chains (Keeps-after s.records us (with_record c us) (Keeps-without_slot slot s.records) (Keeps-with_record c us (has_key-without (is_slot slot) r.namespace name s.records new)))) slot hands agree low
-    (active_at-committed_own slot name h.snapshot.layer (s.entries + 1) s.records r good.slots) (λ k ne. active_at-committed_other slot k name h.snapshot.layer (s.entries + 1) s.records r ne)
+    (active_at-committed_own slot name labels h.snapshot.layer (s.entries + 1) s.records r good.slots) (λ k ne. active_at-committed_other slot k name labels h.snapshot.layer (s.entries + 1) s.records r ne)
 
-left_commit : (s : State) (slot : ℕ) (name : Bytes) (lease : Option Bytes) (hands : List (Option HandValue)) (h : HandValue) (r : Record) → Good s → AgreeAll hands s.records → slot < length hands → active_at slot s.records ≡ Some r → IsHandOf slot s.records h r
-    → Left (λ reply. with_hand slot (committed_hand h.snapshot reply) hands) (commit_as s slot name lease h.snapshot.layer (active_at slot s.records))
-left_commit s slot name lease hands h r good agree low stands is =
+left_commit : (s : State) (slot : ℕ) (name : Bytes) (lease : Option Bytes) (labels : Option (List Label)) (hands : List (Option HandValue)) (h : HandValue) (r : Record) → Good s → AgreeAll hands s.records → slot < length hands → active_at slot s.records ≡ Some r → IsHandOf slot s.records h r
+    → Left (λ reply. with_hand slot (committed_hand h.snapshot reply) hands) (commit_as s slot name lease labels h.snapshot.layer (active_at slot s.records))
+left_commit s slot name lease labels hands h r good agree low stands is =
     let f : Reply → List (Option HandValue) = λ reply. with_hand slot (committed_hand h.snapshot reply) hands in
     let refuses = seals slot hands s.records h r good.chains agree low stands is in
-    subst (λ (o : Option Record). Left f (commit_as s slot name lease h.snapshot.layer o)) (sym stands)
-    (cases_if (Left f) (is_key name && option_map_or is_key lease true) _ _
+    subst (λ (o : Option Record). Left f (commit_as s slot name lease labels h.snapshot.layer o)) (sym stands)
+    (cases_if (Left f) (are_formed name lease labels) _ _
     (λ formed. cases_if (Left f) (has_key r.namespace name s.records) _ _ (λ taken. refuses)
-    (λ new. cases_if (Left f) (has_named s r.namespace lease) _ _ (λ named. left_under s slot name lease hands h r good agree low stands is new) (λ unnamed. refuses)))
+    (λ new. cases_if (Left f) (has_named s r.namespace lease) _ _ (λ named. left_under s slot name lease labels hands h r good agree low stands is new) (λ unnamed. refuses)))
     (λ bad. refuses))
 
 left_discard : (s : State) (slot : ℕ) (hands : List (Option HandValue)) (r : Record) → Good s → AgreeAll hands s.records → slot < length hands → active_at slot s.records ≡ Some r
@@ -453,13 +453,13 @@ fits_called w n (calls.Trim slot id) fit =
     (λ h r low at stands is test. fits_admitted w 1 w.hands _ fit
     (fits_recorded w n (calls.Trim slot id) (Count (count_of h.snapshot.layer)) (λ reply. with_hand slot (charged_hand h reply) w.hands) fit (covered_under w slot id h r stands is (and_left _ _ test)) (λ reply. set_places w slot _ fit)
     (left_trim w.state slot w.hands h r fit.good fit.hands low stands is)))
-fits_called w n (calls.Commit slot id name lease) fit =
+fits_called w n (calls.Commit slot id name lease labels) fit =
     fits_on_hand w slot (is_under id) _ fit
     (λ h r inside at stands is test.
     fits_admitted w 1 (with_hand slot (Some (sealed_hand h.snapshot)) w.hands) _
     (record { good = fit.good; began = fit.began; replays = fit.replays; places = set_places w slot _ fit; hands = seals slot w.hands w.state.records h r fit.good.chains fit.hands inside stands is })
-    (fits_recorded w n (calls.Commit slot id name lease) (Layer h.snapshot.layer) (λ reply. with_hand slot (committed_hand h.snapshot reply) w.hands) fit (covered_under w slot id h r stands is test) (λ reply. set_places w slot _ fit)
-    (left_commit w.state slot name lease w.hands h r fit.good fit.hands inside stands is)))
+    (fits_recorded w n (calls.Commit slot id name lease labels) (Layer h.snapshot.layer) (λ reply. with_hand slot (committed_hand h.snapshot reply) w.hands) fit (covered_under w slot id h r stands is test) (λ reply. set_places w slot _ fit)
+    (left_commit w.state slot name lease labels w.hands h r fit.good fit.hands inside stands is)))
 fits_called w n (calls.Discard slot id) fit =
     fits_on_hand w slot (is_under id) _ fit
     (λ h r low at stands is test.
@@ -546,7 +546,7 @@ fits_sealed w slot fit = at (hand_at slot w.hands) refl
 fits_left : (w v : WorldValue) (call : Call) → Fits w → IsLeft w call v → Fits v
 fits_left w v (calls.Charge slot id need want) fit h = subst Fits (sym h.2) fit
 fits_left w v (calls.Trim slot id) fit h = subst Fits (sym h.2) fit
-fits_left w v (calls.Commit slot id name lease) fit h = ⊎_elim (λ e. subst Fits (sym e.1) fit) (λ e. subst Fits (sym e.2) (fits_sealed w slot fit)) h
+fits_left w v (calls.Commit slot id name lease labels) fit h = ⊎_elim (λ e. subst Fits (sym e.1) fit) (λ e. subst Fits (sym e.2) (fits_sealed w slot fit)) h
 fits_left w v (calls.Discard slot id) fit h = absurd h
 fits_left w v call fit h = subst Fits (sym h.1) fit
 

@@ -114,9 +114,9 @@ called w n (calls.Charge slot id need want) =
 called w n (calls.Trim slot id) =
     on_hand w slot (is_working id) (λ h. admitted w 1 w.hands
     (recorded w n (calls.Trim slot id) (Count (count_of h.snapshot.layer)) (λ reply. with_hand slot (charged_hand h reply) w.hands)))
-called w n (calls.Commit slot id name lease) =
+called w n (calls.Commit slot id name lease labels) =
     on_hand w slot (is_under id) (λ h. admitted w 1 (with_hand slot (Some (sealed_hand h.snapshot)) w.hands)
-    (recorded w n (calls.Commit slot id name lease) (Layer h.snapshot.layer) (λ reply. with_hand slot (committed_hand h.snapshot reply) w.hands)))
+    (recorded w n (calls.Commit slot id name lease labels) (Layer h.snapshot.layer) (λ reply. with_hand slot (committed_hand h.snapshot reply) w.hands)))
 called w n (calls.Discard slot id) =
     on_hand w slot (is_under id) (λ h. recorded w n (calls.Discard slot id) Nothing (λ reply. with_hand slot None w.hands))
 called w n call = admitted w 1 w.hands (recorded w n call Nothing (λ reply. w.hands))

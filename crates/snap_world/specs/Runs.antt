@@ -28,7 +28,7 @@ abbrev pub IsLeft : WorldValue → Call → WorldValue → Type 0
 IsLeft old (calls.Prepare namespace key parent labels) new = (is_full old 2 ≡ false) × (new ≡ old)
 IsLeft old (calls.Charge slot id need want) new = (meets (is_working id) (hand_at slot old.hands) ≡ true) × (is_full old 1 ≡ false) × (new ≡ old)
 IsLeft old (calls.Trim slot id) new = (meets (is_working id) (hand_at slot old.hands) ≡ true) × (is_full old 1 ≡ false) × (new ≡ old)
-IsLeft old (calls.Commit slot id name lease) new =
+IsLeft old (calls.Commit slot id name lease labels) new =
     ((meets (is_working id) (hand_at slot old.hands) ≡ true) × (new ≡ old)) ⊎ ((meets (is_under id) (hand_at slot old.hands) ≡ true) × (is_full old 1 ≡ false) × (new ≡ with_sealed old slot))
 IsLeft old (calls.Discard slot id) new = ⊥
 IsLeft old call new = (is_full old 1 ≡ false) × (new ≡ old)

@@ -1,5 +1,6 @@
 // What a namespace may take and what it takes.
 ghost use Rattle.std.specs.Prelude.{◌≡◌, ◌<◌, ◌^◌, IfOk, length};
+ghost use Rattle.snap_call.specs.Questions.{reply_to};
 ghost use Rattle.snap_call.specs.Step.{sweep};
 ghost use Rattle.snap_book.specs.Questions.{chain_usage};
 ghost use Rattle.snap_world.specs.Quota.{quota, quota_at};
@@ -8,7 +9,7 @@ ghost use Rattle.snap_world.specs.World.{hand_at};
 
 use crate::hands::Hands;
 use crate::world::World;
-use snap_call::{Refusal, Reply};
+use snap_call::{Question, Refusal, Reply};
 use snap_ledger::StoreName;
 use snap_usage::{Usage, difference};
 use std::alloc::AllocError;
@@ -124,5 +125,13 @@ impl<N: StoreName> World<N> {
         ensures { IfOk result (λ reply. reply ≡ (sweep self.now.state namespace.now moment).1) }
     {
         self.book.plan_sweep(namespace, moment)
+    }
+
+    /// What the call that asks the same would reply, as [`Book::answer`](snap_book::Book::answer) answers it, with its
+    /// cost and its memory. No step is made.
+    pub fn answer(&self, question: &Question) -> Result<Reply, AllocError>
+        ensures { IfOk result (λ reply. reply ≡ reply_to self.now.state question.now) }
+    {
+        self.book.answer(question)
     }
 }

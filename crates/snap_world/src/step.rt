@@ -202,17 +202,18 @@ impl<N: StoreName> Hands<N> {
         id: u32,
         name: &str,
         lease: &Option<Text>,
+        labels: &Option<Labels>,
         sealed: Sealed<N>,
     ) -> Reply
         requires low { slot < length self.old }
         requires free { hand_at slot self.old ≡ None }
         requires slot { sealed.share.slot ≡ slot }
         requires id { sealed.share.id ≡ id }
-        ensures answered { AnsweredBy book.old book.new session (calls.Commit slot id name.now lease.now) (LayerGiven sealed.layer) result }
+        ensures answered { AnsweredBy book.old book.new session (calls.Commit slot id name.now lease.now labels.now) (LayerGiven sealed.layer) result }
         ensures hands { self.new ≡ with_hand slot (committed_hand sealed result) self.old }
         ensures full { (result ≡ replies.Refused JournalFull) ↔ (book.old.limit ≤ length book.old.journal + open_count book.old.state.records) }
     {
-        match book.commit(session, name, lease, sealed) {
+        match book.commit(session, name, lease, labels, sealed) {
             Ok(usage) => Reply::Committed { id, usage },
             Err((why, sealed)) => {
                 self.put(slot, Hand::of_sealed(id, sealed));
@@ -229,15 +230,18 @@ impl<N: StoreName> Hands<N> {
         id: u32,
         name: &str,
         lease: &Option<Text>,
+        labels: &Option<Labels>,
     ) -> Answer
         requires { Fits (world_of book.old self.old) }
-        ensures { DoesCall (world_of book.old self.old) session (calls.Commit slot id name.now lease.now) result (world_of book.new self.new) }
+        ensures { DoesCall (world_of book.old self.old) session (calls.Commit slot id name.now lease.now labels.now) result (world_of book.new self.new) }
     {
         let Some(hand) = self.take_under(slot, id) else {
             return Answer::NoHand;
         };
         match hand.seal() {
-            Ok(sealed) => Answer::Reply(self.settle(book, session, slot, id, name, lease, sealed)),
+            Ok(sealed) => {
+                Answer::Reply(self.settle(book, session, slot, id, name, lease, labels, sealed))
+            }
             Err((no_memory, hand)) => {
                 self.put(slot, hand);
                 Answer::Reply(Reply::Refused(Refusal::OutOfMemory(no_memory)))
@@ -282,7 +286,8 @@ impl<N: StoreName> Hands<N> {
                 id,
                 name,
                 lease,
-            } => self.commit(book, session, *slot, *id, name.as_str(), lease),
+                labels,
+            } => self.commit(book, session, *slot, *id, name.as_str(), lease, labels),
             Call::Discard { slot, id } => self.discard(book, session, *slot, *id),
             _ => self.plain(book, session, call),
         }

@@ -72,7 +72,7 @@ all_map P Q f (x ∷ xs) all = (f x all.0, all_map P Q f xs all.1)
 -- ---- granted Commits
 
 commit_of_append : (call : Call) (given : Given) (reply : Reply) (a b : List Granted) → commit_of call given reply (a ++ b) ≡ commit_of call given reply a ++ b
-commit_of_append (calls.Commit slot id name lease) (Layer layer) (replies.Committed at usage) a b = refl
+commit_of_append (calls.Commit slot id name lease labels) (Layer layer) (replies.Committed at usage) a b = refl
 commit_of_append call given reply a b = refl
 
 pub commits_append : (xs ys : List Entry) → commits (xs ++ ys) ≡ commits xs ++ commits ys
@@ -80,7 +80,7 @@ commits_append [] ys = refl
 commits_append (x ∷ xs) ys = ap (commit_of x.call x.given x.reply) (commits_append xs ys) ∙ commit_of_append x.call x.given x.reply (commits xs) (commits ys)
 
 commit_of_refused : (call : Call) (given : Given) (why : Refusal) → commit_of call given (replies.Refused why) [] ≡ []
-commit_of_refused (calls.Commit slot id name lease) (Layer layer) why = refl
+commit_of_refused (calls.Commit slot id name lease labels) (Layer layer) why = refl
 commit_of_refused call given why = refl
 
 -- a granted Commit of a tape is one of the tape with more behind it
@@ -144,12 +144,12 @@ module _ (j : Job) where
   -- a commit
   pub commit_goes : (s t : SessionValue) (a sealed : ActiveValue) (name text : Bytes) (lease : Option Bytes) (usage : Usage)
       → j.end ≡ ends.Commit name lease → sealed ≡ a → text ≡ name → usage ≡ count_of sealed.layer
-      → Taped s t (calls.Commit sealed.share.slot sealed.share.id text lease) (Layer sealed.layer) (replies.Committed sealed.share.id usage) → GoesOn j s t (commit_granted a name lease ∷ [])
+      → Taped s t (calls.Commit sealed.share.slot sealed.share.id text lease None) (Layer sealed.layer) (replies.Committed sealed.share.id usage) → GoesOn j s t (commit_granted a name lease ∷ [])
   commit_goes s t a sealed name text lease usage end is named counted call =
       subst (λ (x : ActiveValue). GoesOn j s t (commit_granted x name lease ∷ [])) is
       (subst (λ (n : Bytes). GoesOn j s t (commit_granted sealed n lease ∷ [])) named
       (subst (λ (u : Usage). GoesOn j s t (record { id = sealed.share.id; name = text; lease = lease; layer = sealed.layer; usage = u } ∷ [])) counted
-      (taped s t (calls.Commit sealed.share.slot sealed.share.id text lease) (Layer sealed.layer) (replies.Committed sealed.share.id usage) call (commits_as name text lease end named))))
+      (taped s t (calls.Commit sealed.share.slot sealed.share.id text lease None) (Layer sealed.layer) (replies.Committed sealed.share.id usage) call (commits_as name text lease end named, refl))))
 
 -- ---- what is known of a snapshot, once the tape has gone on
 

@@ -21,8 +21,8 @@ abbrev pub stored_of : (ℕ → Origin) → Granted → Stored
 stored_of origin g = record { namespace = (origin g.id).namespace; name = g.name; parent = (origin g.id).parent; id = g.id; layer = g.layer }
 
 by_call : (h : Stored → ℕ) (origin : ℕ → Origin) (call : Call) (given : Given) (reply : Reply) (rest : List Granted) → grant_of h origin call given reply + total h (map (stored_of origin) rest) ≡ total h (map (stored_of origin) (commit_of call given reply rest))
-by_call h origin (calls.Commit slot id name lease) (Layer layer) (replies.Committed at usage) rest = refl
-by_call h origin (calls.Commit slot id name lease) given (replies.Committed at usage) rest = omega arith
+by_call h origin (calls.Commit slot id name lease labels) (Layer layer) (replies.Committed at usage) rest = refl
+by_call h origin (calls.Commit slot id name lease labels) given (replies.Committed at usage) rest = omega arith
 by_call h origin call given reply rest = omega arith
 
 pub granted_total : (h : Stored → ℕ) (origin : ℕ → Origin) (es : List Entry) → grants h origin es ≡ total h (map (stored_of origin) (commits es))
@@ -61,7 +61,7 @@ stored_all {inodes = inodes} origin jobs es s are worked = zip_map (IsCommitOf i
 work_keeps : (j : Job) (call : Call) → IsWorkFor j call → IsKeeping call
 work_keeps j (calls.Prepare namespace key parent labels) work = tt
 work_keeps j (calls.Charge slot id need want) work = tt
-work_keeps j (calls.Commit slot id name lease) work = tt
+work_keeps j (calls.Commit slot id name lease labels) work = tt
 work_keeps j (calls.Discard slot id) work = tt
 work_keeps j call work = absurd work
 

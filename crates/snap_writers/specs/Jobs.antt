@@ -76,7 +76,7 @@ pub record Granted : Type 0 where
 
 -- by the call, what was given and the reply: the granted Commit before the rest, or the rest alone
 abbrev pub commit_of : Call → Given → Reply → List Granted → List Granted
-commit_of (calls.Commit slot id name lease) (Layer layer) (replies.Committed at usage) rest =
+commit_of (calls.Commit slot id name lease labels) (Layer layer) (replies.Committed at usage) rest =
     record { id = id; name = name; lease = lease; layer = layer; usage = usage } ∷ rest
 commit_of call given reply rest = rest
 
@@ -85,11 +85,11 @@ abbrev pub commits : List Entry → List Granted
 commits [] = []
 commits (e ∷ es) = commit_of e.call e.given e.reply (commits es)
 
--- a call that a worker makes for the job: its Prepare, without labels; a Charge, which wants the job's extra beyond the need; its Commit; or a Discard
+-- a call that a worker makes for the job: its Prepare, without labels; a Charge, which wants the job's extra beyond the need; its Commit, with the snapshot's own labels; or a Discard
 abbrev pub IsWorkFor : Job → Call → Type 0
 IsWorkFor j (calls.Prepare namespace key parent labels) = (namespace ≡ j.namespace) × (key ≡ j.key) × (parent ≡ j.parent) × (labels ≡ [])
 IsWorkFor j (calls.Charge slot id need want) = want ≡ wanted_charge need j.extra
-IsWorkFor j (calls.Commit slot id name lease) = j.end ≡ ends.Commit name lease
+IsWorkFor j (calls.Commit slot id name lease labels) = (j.end ≡ ends.Commit name lease) × (labels ≡ None)
 IsWorkFor j (calls.Discard slot id) = Unit {0}
 IsWorkFor j call = ⊥
 

@@ -159,10 +159,14 @@ impl<'a, N: RoundName, R: Wait, G: Gate> Worker<'a, N, R, G> {
             self.discard(Held::Sealed(sealed));
             return Err(refused.into());
         }
-        match self
-            .store
-            .commit(self.rt, &mut self.session, name.as_str(), lease, sealed)
-        {
+        match self.store.commit(
+            self.rt,
+            &mut self.session,
+            name.as_str(),
+            lease,
+            &None,
+            sealed,
+        ) {
             Ok(usage) => Ok(usage),
             Err((why, sealed)) => {
                 self.discard(Held::Sealed(sealed));

@@ -36,11 +36,11 @@ Told es shares now page =
     (s t : State) (place : ℕ) → Good s → shares ≡ shares_of s.slots place s.records → Replays s es t → place_of (97 ∷ []) t.namespaces ≡ Some place → t.entries ≡ 3 → charge_of place t.records ≡ now → page ≡ history_page 1 1 (history place s es)
 
 -- that entry is the prepare, after which 1/1 is charged
-first_charge : (page : List EntryInfo) → Told small_round (no_shares default_slots) (usage 4 3) page → map (λ (info : EntryInfo). info.charge) page ≡ usage 1 1 ∷ []
+first_charge : (page : List EntryInfo) → Told small_round (no_shares default_slots) (usage 4 3) page → map (λ (info : EntryInfo). info.charge) page ≡ Some (usage 1 1) ∷ []
 unfolding lowest_free
 first_charge page is = ap (map (λ (info : EntryInfo). info.charge)) (is start end 0 (good_opening config refl) refl replays refl refl refl)
 
-pub page_told : {E : Type 0} (es : List Entry) (shares : List (Option Usage)) (now : Usage) (r : Result (List EntryInfo) E) → es ≡ small_round → shares ≡ no_shares default_slots → now ≡ usage 4 3 → IfOk r (Told es shares now) → IfOk r (λ page. map (λ (info : EntryInfo). info.charge) page ≡ usage 1 1 ∷ [])
+pub page_told : {E : Type 0} (es : List Entry) (shares : List (Option Usage)) (now : Usage) (r : Result (List EntryInfo) E) → es ≡ small_round → shares ≡ no_shares default_slots → now ≡ usage 4 3 → IfOk r (Told es shares now) → IfOk r (λ page. map (λ (info : EntryInfo). info.charge) page ≡ Some (usage 1 1) ∷ [])
 page_told es shares now (Ok page) same none charged is =
     first_charge page (subst (λ (n : Usage). Told small_round (no_shares default_slots) n page) charged (subst (λ (l : List (Option Usage)). Told small_round l now page) none (subst (λ (l : List Entry). Told l shares now page) same is)))
 page_told es shares now (Err e) same none charged is = tt

@@ -1,6 +1,6 @@
 // What a namespace is charged after each of its entries: a small round, whose figure follows from the contract
 // of `history` alone, and a round of two namespaces.
-ghost use Rattle.std.specs.Prelude.{◌≡◌, ◌∷◌, [], IfOk, map};
+ghost use Rattle.std.specs.Prelude.{◌≡◌, ◌∷◌, [], Some, IfOk, map};
 ghost use Rattle.snap_call.specs.declared.call.Call.TheVariants as calls;
 ghost use Rattle.snap_call.specs.declared.reply.Reply.TheVariants as replies;
 ghost use Rattle.test_parts.specs.Worked.{small_round, usage};
@@ -75,7 +75,7 @@ fn small_round(alloc: Global) -> Result<Vec<SharedEntry>, AllocError>
 
 // One entry after the first: 1/1 is charged after it, and not the 4/3 of the round's end.
 fn first_page(alloc: Global) -> Result<Sequence<EntryInfo>, AllocError>
-    ensures { IfOk result (λ page. map (λ info. info.charge) page ≡ usage 1 1 ∷ []) }
+    ensures { IfOk result (λ page. map (λ info. info.charge) page ≡ Some (usage 1 1) ∷ []) }
 {
     let entries = small_round(alloc)?;
     history(
@@ -138,7 +138,8 @@ fn are<R: Abort>(
 ) {
     let mut found = Vec::new(alloc);
     for info in infos.as_slice() {
-        let row = (info.number, info.call, info.charge);
+        let charge = info.charge.expect(rt, "a charge");
+        let row = (info.number, info.call, charge);
         found.push(row).expect(rt, "memory for rows");
     }
     equal(rt, found.as_slice(), wanted);

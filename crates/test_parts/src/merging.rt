@@ -1,11 +1,14 @@
-// What a stack shows, what is below an upper layer and what that changes, by layers of a root alone.
-ghost use Rattle.std.specs.Prelude.{◌≡◌};
-ghost use Rattle.snap_layer.specs.Edits.{root_only};
+// What a stack shows, what is below an upper layer and what that changes, by layers of a root, alone or with a file.
+ghost use Rattle.std.specs.Prelude.{◌≡◌, ◌∷◌, [], None};
+ghost use Rattle.snap_layer.specs.declared.content.Content.TheVariants as content_kinds;
+ghost use Rattle.snap_layer.specs.declared.node.Body.TheVariants as body_kinds;
+ghost use Rattle.snap_layer.specs.declared.node.Node.TheVariants as node_kinds;
+ghost use Rattle.snap_layer.specs.Edits.{root_only, with_new};
 
 use crate::setup::{layer, path};
 use snap_copyup::{below, is_pure};
 use snap_diff::changes;
-use snap_layer::Shared;
+use snap_layer::{Content, Layer, Shared};
 use snap_merge::{FsError, Seen, Stack, hides};
 use snap_path::Path;
 use snap_path::limits::DEFAULT_MODE;
@@ -17,6 +20,22 @@ fn lower<R: Abort>(rt: &R, alloc: Global) -> Shared
     ensures { result ≡ root_only 493 1 }
 {
     Shared::new(alloc, layer(rt, alloc, DEFAULT_MODE)).expect(rt, "memory for a lower layer")
+}
+
+/// A layer with a file of 10 bytes at `/f`, which nobody knows.
+fn unknown<R: Abort>(rt: &R, alloc: Global) -> Layer
+    ensures { result ≡ with_new (root_only 493 1) ((102 ∷ []) ∷ []) (node_kinds.File 1) (body_kinds.File 420 (content_kinds.Sized 10 None)) }
+{
+    let mut layer = layer(rt, alloc, DEFAULT_MODE);
+    let path = path(rt, alloc, "/f");
+    assert!(rt; layer.has_place(&path));
+    let content = Content::Sized {
+        size: 10,
+        digest: None,
+    };
+    let added = layer.add_file(&path, 420, content);
+    added.expect(rt, "memory for a file");
+    layer
 }
 
 #[test]
@@ -71,6 +90,27 @@ fn a_root_of_another_mode_is_changed(rt: HostRuntime) {
     let found = changes(rt.alloc(), &top, &lowers, None, 64);
     let found = found.expect(&rt, "memory for changes").len();
     prove!(found == 1);
+}
+
+#[test]
+#[tactic(auto, using(crate::proofs::Counted::unknown_changed))]
+fn a_file_that_nobody_knows_is_changed(rt: HostRuntime) {
+    let lower = Shared::new(rt.alloc(), unknown(&rt, rt.alloc()));
+    let lowers = [lower.expect(&rt, "memory for a lower layer")];
+    let found = changes(rt.alloc(), &unknown(&rt, rt.alloc()), &lowers, None, 64);
+    let found = found.expect(&rt, "memory for changes").len();
+    prove!(found == 1);
+}
+
+#[test]
+#[tactic(auto, using(crate::proofs::Counted::unknown_untouched))]
+fn an_untouched_file_is_not_changed(rt: HostRuntime) {
+    let lower = Shared::new(rt.alloc(), unknown(&rt, rt.alloc()));
+    let lowers = [lower.expect(&rt, "memory for a lower layer")];
+    let top = layer(&rt, rt.alloc(), DEFAULT_MODE);
+    let found = changes(rt.alloc(), &top, &lowers, None, 64);
+    let found = found.expect(&rt, "memory for changes").len();
+    prove!(found == 0);
 }
 
 #[test]

@@ -3,7 +3,7 @@ ghost use Rattle.std.specs.Prelude.{◌<◌};
 
 use snap_book::{Held, Refusal, Reply, Sealed};
 use snap_path::NoMemory;
-use snap_record::Text;
+use snap_record::{Labels, Text};
 use snap_store::{RoundName, Session, Store};
 use snap_usage::Usage;
 use std::sync::Wait;
@@ -54,6 +54,7 @@ impl<'a, N: RoundName, R: Wait> Hand<'a, N, R> {
         session: &mut Session,
         name: &str,
         lease: &Option<Text>,
+        labels: &Option<Labels>,
     ) -> Result<Reply, (Refusal, Hand<'a, N, R>)> {
         let Hand {
             rt,
@@ -65,7 +66,7 @@ impl<'a, N: RoundName, R: Wait> Hand<'a, N, R> {
             held,
         } = self;
         let (why, held) = match seal(held) {
-            Ok(sealed) => match store.commit(rt, session, name, lease, sealed) {
+            Ok(sealed) => match store.commit(rt, session, name, lease, labels, sealed) {
                 Ok(usage) => return Ok(Reply::Committed { id, usage }),
                 Err((why, sealed)) => (why, Held::Sealed(sealed)),
             },

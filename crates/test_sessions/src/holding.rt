@@ -3,7 +3,7 @@ use crate::refused::Refused;
 use crate::round::{Round, session_at};
 use snap_book::{Held, Reply};
 use snap_merge::FsError;
-use snap_record::Text;
+use snap_record::{Labels, Text};
 use snap_script::Answer;
 use snap_store::RoundName;
 use snap_upper::Op;
@@ -49,13 +49,18 @@ impl<'a, N: RoundName, R: Wait> Round<'a, N, R> {
         key: &str,
         name: &str,
         lease: &Option<Text>,
+        labels: &Option<Labels>,
     ) -> Result<Answer, Refused> {
         let place = self.found(namespace, key)?;
         let session = session_at(&mut self.sessions, n)?;
         if place >= self.hands.len() {
             return Err(Refused::NoHand);
         }
-        match self.hands.swap_remove(place).commit(session, name, lease) {
+        match self
+            .hands
+            .swap_remove(place)
+            .commit(session, name, lease, labels)
+        {
             Ok(reply) => Ok(Answer::Reply(reply)),
             Err((why, hand)) => {
                 self.hands.push(hand)?;

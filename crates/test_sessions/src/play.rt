@@ -34,7 +34,15 @@ impl<'a, N: RoundName, R: Wait> Round<'a, N, R> {
                 key,
                 name,
                 lease,
-            } => self.commit(n, namespace.as_str(), key.as_str(), name.as_str(), lease),
+                labels,
+            } => self.commit(
+                n,
+                namespace.as_str(),
+                key.as_str(),
+                name.as_str(),
+                lease,
+                labels,
+            ),
             Command::Discard { namespace, key } => {
                 self.discard(n, namespace.as_str(), key.as_str())
             }
@@ -71,6 +79,7 @@ impl<'a, N: RoundName, R: Wait> Round<'a, N, R> {
                 }
             }
             Command::Lookup { peek: true, .. }
+            | Command::Ask(_)
             | Command::TrySweep { .. }
             | Command::ChainUsage { .. }
             | Command::Quota { .. }

@@ -36,7 +36,7 @@ fn commit_or_discard<N: StoreName>(
     name: &str,
     sealed: Sealed<N>,
 ) -> Result<Usage, Refusal> {
-    match book.commit(session, name, &None, sealed) {
+    match book.commit(session, name, &None, &None, sealed) {
         Ok(usage) => Ok(usage),
         Err((why, sealed)) => {
             book.discard(session, Held::Sealed(sealed));

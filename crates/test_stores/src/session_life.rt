@@ -29,7 +29,7 @@ fn unpack<N: RoundName, R: Wait>(
         return Err(error.into());
     }
     match active.seal() {
-        Ok(sealed) => match store.commit(rt, session, "layer", &None, sealed) {
+        Ok(sealed) => match store.commit(rt, session, "layer", &None, &None, sealed) {
             Ok(usage) => Ok(usage),
             Err((why, sealed)) => {
                 store.discard(rt, session, Held::Sealed(sealed));

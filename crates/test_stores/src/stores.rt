@@ -87,7 +87,7 @@ pub fn commit<N: RoundName, R: Wait + Abort>(
         Ok(sealed) => sealed,
         Err(_) => panic!(rt; "no memory for a sealed snapshot"),
     };
-    match store.commit(rt, session, name, &None, sealed) {
+    match store.commit(rt, session, name, &None, &None, sealed) {
         Ok(usage) => usage,
         Err(_) => panic!(rt; "the snapshot is not committed"),
     }

@@ -1,4 +1,4 @@
-use Rattle.std.proofs.Common.{◌≡◌, ◌∷◌, ◌++◌, [], ℕ, ◌+◌, ◌<◌, ◌≤◌, List, length, drop, Bool, true, false, sym, ap, ◌∙◌, arith}
+use Rattle.std.proofs.Common.{◌≡◌, ◌∷◌, ◌++◌, [], ℕ, ◌+◌, ◌<◌, ◌≤◌, List, length, drop, Some, Bool, true, false, sym, ap, ◌∙◌, arith}
 use Rattle.std.proofs.lemmas.Bool.Decides.{nat_tests}
 use Rattle.std.proofs.lemmas.List.{drop_more}
 use Rattle.std.specs.Prelude.{◌&&◌, nat_lt}
@@ -31,7 +31,7 @@ loop-entry-preserved c =
     let es : List Entry = c.args.entries.now in
     let i : ℕ = c.loop-entry.entry-index in
     let infos : List EntryInfo = c.loop-entry.infos in
-    let x : EntryInfo = entry_info number e c.turned-charge.result in
+    let x : EntryInfo = entry_info number e (Some c.turned-charge.result) in
     let test : Bool = c.is_own.result && nat_lt c.args.after number && nat_lt (length infos) c.args.most in
     let found : c.if-is_own.infos ≡ next_infos infos x test =
     elim c.if-is_own.branch [

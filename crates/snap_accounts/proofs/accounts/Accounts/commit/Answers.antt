@@ -3,10 +3,10 @@ use Rattle.snap_usage.specs.declared.usage.Usage.{Usage}
 use Rattle.snap_usage.specs.Counted.{Covers, count_of}
 use Rattle.snap_layer.specs.Tree.{Tree}
 use Rattle.snap_ledger.specs.States.{minus, plus}
-use Rattle.snap_record.specs.Labels.{Bytes}
+use Rattle.snap_record.specs.Labels.{Bytes, Label}
 use Rattle.snap_record.specs.Records.{usage_of}
 use Rattle.snap_record.specs.declared.record.Record.{Record}
-use Rattle.std.specs.Prelude.{Option}
+use Rattle.std.specs.Prelude.{List, Option}
 use Rattle.snap_call.specs.declared.state.State.{State}
 use Rattle.snap_call.specs.Records.{charge_of, charge_at, active_at, has_key, with_record, without_slot, committed_as, open_count}
 use Rattle.snap_call.specs.Step.{leases_after}
@@ -48,8 +48,8 @@ returns-clause-open g c =
     let slot = c.args.share.slot in
     let same = c.self.view_is in
     let found = charge_at-issued slot s.records (ap (λ (u : State). (charge_at slot u.records).issued) same ∙ c.requires.met.0) in
-    let done = committed_from c.slot-slot.result slot c.args.name.now c.args.lease.now c.args.layer.now s c.commit.new.self found.0 c.slot-slot.ensures found.1 c.in_default.ensures.ok in
-    ap (λ (u : State). open_count u.records + 1) done ∙ (open_count-committed slot c.args.name.now c.args.layer.now (s.entries + 1) s.records found.0 found.1 ∙ ap (λ (u : State). open_count u.records) same)
+    let done = committed_from c.slot-slot.result slot c.args.name.now c.args.lease.now c.args.labels.now c.args.layer.now s c.commit.new.self found.0 c.slot-slot.ensures found.1 c.in_default.ensures.ok in
+    ap (λ (u : State). open_count u.records + 1) done ∙ (open_count-committed slot c.args.name.now c.args.labels.now c.args.layer.now (s.entries + 1) s.records found.0 found.1 ∙ ap (λ (u : State). open_count u.records) same)
 
 pub invariant_of-self-2 : goal.invariant_of-self-2
 invariant_of-self-2 g c =
@@ -57,6 +57,7 @@ invariant_of-self-2 g c =
     let slot = c.args.share.slot in
     let name : Bytes = c.args.name.now in
     let lease : Option Bytes = c.args.lease.now in
+    let labels : Option (List Label) = c.args.labels.now in
     let layer : Tree = c.args.layer.now in
     let same = c.self.view_is in
     let found = charge_at-issued slot s.records (ap (λ (u : State). (charge_at slot u.records).issued) same ∙ c.requires.met.0) in
@@ -69,11 +70,11 @@ invariant_of-self-2 g c =
     let after : c.total_with-after.result ≡ charge_with r (count_of layer) s.records = c.total_with-after.ensures ∙ (λ i. plus (minus (charge_of (place i) (sym c.self.view_is i).records) (sym held i)) (count i)) in
     let free : has_key r.namespace name s.records ≡ false =
     ap (λ (o : Option Record). has_key (place_if o) name s.records) (sym e) ∙ (ap (λ (u : State). has_key (place_if (active_at slot u.records)) name u.records) same ∙ c.requires.possible.free) in
-    let done = committed_from c.slot-slot.result slot name lease layer s c.commit.new.self r c.slot-slot.ensures e c.in_default.ensures.ok in
-    let less = open_count-committed slot name layer (s.entries + 1) s.records r e in
-    let good = good_committed s slot name lease layer r c.self.invariant.good e free (subst (λ (u : Usage). Covers u (count_of layer)) (sym own) c.requires.covers) in
+    let done = committed_from c.slot-slot.result slot name lease labels layer s c.commit.new.self r c.slot-slot.ensures e c.in_default.ensures.ok in
+    let less = open_count-committed slot name labels layer (s.entries + 1) s.records r e in
+    let good = good_committed s slot name lease labels layer r c.self.invariant.good e free (subst (λ (u : Usage). Covers u (count_of layer)) (sym own) c.requires.covers) in
     subst (λ (u : State). AreAccounts (record u { entries = s.entries + 1 }) c.set.new.self c.spend.new.self (c.self.inside.opened - 1)) (sym done)
-    (accounts_committed s (record s { records = with_record (committed_as name layer (s.entries + 1) r) (without_slot slot s.records); leases = leases_after s r.namespace name lease; entries = s.entries + 1 }) c.self.inside.totals _ c.self.inside.slots _ c.self.inside.opened (c.self.inside.opened - 1) slot (s.entries + 1) name layer r c.self.invariant
+    (accounts_committed s (record s { records = with_record (committed_as name labels layer (s.entries + 1) r) (without_slot slot s.records); leases = leases_after s r.namespace name lease; entries = s.entries + 1 }) c.self.inside.totals _ c.self.inside.slots _ c.self.inside.opened (c.self.inside.opened - 1) slot (s.entries + 1) name labels layer r c.self.invariant
     good
     e c.requires.slot refl refl
     (omega (arith, less, c.self.invariant.open_are))

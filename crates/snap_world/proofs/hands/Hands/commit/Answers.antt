@@ -9,7 +9,7 @@ use Rattle.snap_world.proofs.hands.Hands.commit.Goals as goal
 pub returns-in-Ok : goal.returns-in-Ok
 returns-in-Ok g c =
     let found = c.in-Some.ensures in
-    commit_does _ _ _ _ _ _ _ _ _ _ c.in-Some.hand _ _ found.0 found.1 c.in-Ok.ensures.ok c.settle.ensures.answered c.settle.ensures.full found.3 c.settle.ensures.hands
+    commit_does _ _ _ _ _ _ _ _ _ _ _ c.in-Some.hand _ _ found.0 found.1 c.in-Ok.ensures.ok c.settle.ensures.answered c.settle.ensures.full found.3 c.settle.ensures.hands
 
 pub returns-in-Err : goal.returns-in-Err
 returns-in-Err g c =

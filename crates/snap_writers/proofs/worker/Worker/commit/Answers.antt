@@ -1,4 +1,4 @@
-use Rattle.std.proofs.Common.{[], ◌∷◌}
+use Rattle.std.proofs.Common.{[], ◌∷◌, None, refl}
 use Rattle.snap_call.specs.declared.call.Call.TheVariants as calls
 use Rattle.snap_call.specs.declared.call.Given.TheVariants.{Layer}
 use Rattle.snap_writers.specs.Going.{commit_granted}
@@ -24,7 +24,7 @@ returns-in-Err-commit-clause-refused g c =
     let sealed = c.in-Ok.sealed in
     then_on j old mid end [] (untaped j old mid c.reserve.ensures.same)
     (then_on j mid new end []
-    (refused j mid new (calls.Commit sealed.share.slot sealed.share.id c.as_str.result.now c.args.lease.now) (Layer sealed.layer) c.in-Err-commit.why c.in-Err-commit.ensures.refused (commits_as j c.args.name.now c.as_str.result.now c.args.lease.now c.requires.end c.as_str.ensures)) (c.discard-in-Err-commit.ensures.goes j))
+    (refused j mid new (calls.Commit sealed.share.slot sealed.share.id c.as_str.result.now c.args.lease.now None) (Layer sealed.layer) c.in-Err-commit.why c.in-Err-commit.ensures.refused (commits_as j c.args.name.now c.as_str.result.now c.args.lease.now c.requires.end c.as_str.ensures, refl)) (c.discard-in-Err-commit.ensures.goes j))
 
 pub returns-in-Err-clause-refused : goal.returns-in-Err-clause-refused
 returns-in-Err-clause-refused g c = c.discard.ensures.goes c.args.job.now

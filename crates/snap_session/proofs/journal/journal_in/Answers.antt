@@ -1,7 +1,7 @@
 use Rattle.std.proofs.Common.{List, length, ap, arith}
 use Rattle.snap_call.specs.declared.entry.Entry.{Entry}
 use Rattle.snap_session.proofs.Entries.{few}
-use Rattle.snap_session.proofs.journal.journal.Goals as goal
+use Rattle.snap_session.proofs.journal.journal_in.Goals as goal
 
 pub history-requires : goal.history-requires
 history-requires g c =

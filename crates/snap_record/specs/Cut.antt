@@ -1,0 +1,28 @@
+-- What is kept of texts and labels that are beyond their limits: so much that they are beyond them still.
+-- Cited by `Labels::cut`, `Text::cut`, `Call::cut` and others.
+use Rattle.std.specs.Prelude.{ℕ, zero, suc, Bool, not, ◌&&◌, nat_le, nat_lt, if◌then◌else◌, [], ◌∷◌, List, find}
+use Rattle.std.specs.Option.{option_map_or}
+use Rattle.snap_record.specs.Labels.{Bytes, Label, is_label}
+
+-- a byte of a character in UTF-8 that isn't its first
+abbrev pub is_inner : ℕ → Bool
+is_inner b = nat_le 128 b && nat_lt b 192
+
+-- the rest of the character whose first bytes stand before these
+abbrev pub rest_of_character : Bytes → Bytes
+rest_of_character [] = []
+rest_of_character (b ∷ bs) = if is_inner b then b ∷ rest_of_character bs else []
+
+-- a text of at most so many bytes as it is; of a longer one so many bytes, one more, and the rest of that one's character
+unfoldable pub cut : ℕ → Bytes → Bytes
+cut most [] = []
+cut zero (b ∷ bs) = b ∷ rest_of_character bs
+cut (suc most) (b ∷ bs) = b ∷ cut most bs
+
+-- a label alone, with a key and a value that are cut
+abbrev pub cut_label : Label → List Label
+cut_label label = (cut 4096 label.0, cut 4096 label.1) ∷ []
+
+-- labels that have their form as they are; else the first that hasn't, alone and cut
+abbrev pub kept_labels : List Label → List Label
+kept_labels labels = option_map_or cut_label (find (λ l. not (is_label l)) labels) labels
