@@ -1,10 +1,10 @@
-module pibroulez/containerd
+module pibroulez.example/pibroulez/containerd
 
 go 1.19
 
 require (
 	github.com/containerd/containerd v1.6.20
-	pibroulez v0.0.0
+	pibroulez.example/pibroulez v0.0.0
 )
 
-replace pibroulez => ../
+replace pibroulez.example/pibroulez => ../

@@ -2,27 +2,23 @@
 //
 // The store keeps the snapshots with their labels and mounts; the directories that the mounts name are made and
 // removed here, and the kernel writes into them. The store sees none of that: see the README of clients.
+//
+// A call that changes something runs to its end once it has begun to, also where its context ends. Those of one key come
+// one after another, each with its directory.
 package containerd
 
 import (
 	"context"
 	"errors"
-	"fmt"
 	"io/fs"
 	"os"
 	"path/filepath"
-	"strconv"
-	"strings"
 	"sync"
-	"syscall"
+	"time"
 
-	"github.com/containerd/containerd/errdefs"
-	"github.com/containerd/containerd/filters"
-	"github.com/containerd/containerd/log"
-	"github.com/containerd/containerd/mount"
 	"github.com/containerd/containerd/snapshots"
 
-	"pibroulez"
+	"pibroulez.example/pibroulez"
 )
 
 // All snapshots are in one namespace of the store: containerd has the names of its own in their keys.
@@ -43,397 +39,161 @@ type Config struct {
 	Program string
 	// Root is a directory for this snapshotter alone.
 	Root string
+	// The most entries of each round of the journal, or the store's default where it is 0.
+	journal uint64
 }
 
-type snapshotter struct {
-	store *pibroulez.Store
-	times *times
-	// The directory of the snapshots' directories, each named by its id.
-	directory string
-	// Whoever makes a directory reads, and whoever removes those without a snapshot writes.
-	making sync.RWMutex
+// A Snapshotter is one of containerd. Any number of goroutines may call it.
+type Snapshotter struct {
+	store       *pibroulez.Store
+	directories *directories
+	times       *times
+	locks       locks
+	// What overlay mounts need beside the store's options.
+	options []string
+	// Calls that change something read, and Close writes.
+	running sync.RWMutex
 }
 
-var _ snapshots.Cleaner = (*snapshotter)(nil)
+var (
+	_ snapshots.Snapshotter = (*Snapshotter)(nil)
+	_ snapshots.Cleaner     = (*Snapshotter)(nil)
+)
 
 // New makes a snapshotter over a store of its own, or over the one that Root has. No two processes have one at once.
-func New(ctx context.Context, config Config) (snapshots.Snapshotter, error) {
+//
+// The error is ErrMismatch where the directories aren't those of the store's snapshots, and syscall.EWOULDBLOCK where
+// another process has the root; others are those of pibroulez.OpenOrNew.
+func New(ctx context.Context, config Config) (*Snapshotter, error) {
 	root, err := filepath.Abs(config.Root)
 	if err != nil {
 		return nil, err
 	}
-	directory := filepath.Join(root, "snapshots")
-	if err := os.MkdirAll(directory, 0o700); err != nil {
+	directories := newDirectories(filepath.Join(root, "snapshots"))
+	if err := os.MkdirAll(directories.path, 0o700); err != nil {
 		return nil, err
 	}
-	store, err := openStore(ctx, config.Program, root)
+	store, isOld, err := openStore(ctx, config, directories, root)
 	if err != nil {
-		return nil, classified(err)
+		return nil, subject{}.classified(err)
 	}
-	s := &snapshotter{store: store, directory: directory}
-	if err := s.begin(ctx, filepath.Join(root, "times")); err != nil {
-		store.Close()
-		return nil, classified(err)
+	s := &Snapshotter{
+		store:       store,
+		directories: directories,
+		locks:       locks{held: map[string]*lock{}},
+		options:     overlayOptions(root),
+	}
+	store.RollWhenFull(config.journal)
+	if err := s.begin(ctx, config, root, isOld); err != nil {
+		s.Close()
+		return nil, subject{}.classified(err)
 	}
 	return s, nil
 }
 
-func openStore(ctx context.Context, program, root string) (*pibroulez.Store, error) {
-	path := filepath.Join(root, "calls.jsonl")
-	store, err := pibroulez.Open(ctx, program, path)
-	if !errors.Is(err, fs.ErrNotExist) {
-		return store, err
+// The store of a root, and whether the root is of version 0.1.0.
+func openStore(ctx context.Context, config Config, directories *directories, root string) (*pibroulez.Store, bool, error) {
+	isOld, err := isOldRoot(root)
+	if err != nil {
+		return nil, false, err
 	}
-	return pibroulez.New(ctx, pibroulez.Config{
-		Program:    program,
+	path := filepath.Join(root, "calls.jsonl")
+	if _, err := os.Lstat(path); errors.Is(err, fs.ErrNotExist) {
+		// Without a log there is no snapshot, and a directory that has one's key lacks its log.
+		if _, err := directories.compare(nil, false); err != nil {
+			return nil, false, err
+		}
+		if err := writeFormat(root); err != nil {
+			return nil, false, err
+		}
+		isOld = false
+	}
+	store, err := pibroulez.OpenOrNew(ctx, pibroulez.Config{
+		Program:    config.Program,
 		Root:       root,
 		Namespaces: map[string]pibroulez.Usage{namespace: {Blocks: 1 << 40, Inodes: 1 << 40}},
 		Slots:      mostActive,
+		Journal:    config.journal,
 		Log:        path,
 	})
+	return store, isOld, err
 }
 
-// Begins a new round of the journal, where no snapshot is active, and has each snapshot's directory there.
-func (s *snapshotter) begin(ctx context.Context, path string) error {
-	if err := s.store.Reopen(ctx, 0); err != nil && !errors.Is(err, pibroulez.ErrStillOut) {
+// Compares the directories with the store, and then has each snapshot's there and no other, and begins a new round of the
+// journal. On a full disk it does of this what needs no room.
+func (s *Snapshotter) begin(ctx context.Context, config Config, root string, isOld bool) error {
+	// A program of version 0.1.0 takes no question without an entry: it is a fault, and nothing is changed.
+	if _, err := s.store.Walk(ctx, namespace, "", 1, pibroulez.Filter{}); err != nil {
 		return err
 	}
 	nodes, err := s.store.Tree(ctx, namespace)
 	if err != nil {
 		return err
 	}
-	ids := map[string]uint64{}
-	for _, node := range nodes {
-		ids[node.Key] = node.ID
+	states, err := s.directories.compare(nodes, isOld)
+	if err != nil {
+		return err
 	}
-	for _, node := range nodes {
-		if err := s.makeDirectory(node.ID, ids[node.Parent], node.Kind); err != nil {
+	isWhole, err := s.directories.mend(nodes, states)
+	if err != nil {
+		return err
+	}
+	if isOld && isWhole {
+		if err := writeFormat(root); err != nil && !isFull(err) {
 			return err
 		}
 	}
-	if err := s.Cleanup(ctx); err != nil {
+	if err := s.store.Roll(ctx, config.journal); err != nil {
 		return err
 	}
-	s.times, err = openTimes(path, ids)
-	return err
-}
-
-func (s *snapshotter) directoryOf(id uint64) string {
-	return filepath.Join(s.directory, strconv.FormatUint(id, 10))
-}
-
-// Makes the directory of a snapshot, where it isn't there. Its root has the owner and the mode of its parent's; 0 is
-// no parent.
-func (s *snapshotter) makeDirectory(id, parent uint64, kind pibroulez.Kind) error {
-	s.making.RLock()
-	defer s.making.RUnlock()
-	if _, err := os.Lstat(s.directoryOf(id)); err == nil {
-		return nil
-	}
-	made, err := os.MkdirTemp(s.directory, "new-")
-	if err != nil {
-		return err
-	}
-	err = s.fillDirectory(made, parent, kind)
-	if err == nil {
-		err = os.Rename(made, s.directoryOf(id))
-	}
-	if err != nil {
-		os.RemoveAll(made)
-	}
-	return err
-}
-
-func (s *snapshotter) fillDirectory(made string, parent uint64, kind pibroulez.Kind) error {
-	root := filepath.Join(made, "fs")
-	if err := os.Mkdir(root, 0o755); err != nil {
-		return err
-	}
-	mode := fs.FileMode(0o755)
-	if parent != 0 {
-		status, err := os.Stat(filepath.Join(s.directoryOf(parent), "fs"))
-		if err != nil {
-			return err
-		}
-		owner := status.Sys().(*syscall.Stat_t)
-		if err := os.Lchown(root, int(owner.Uid), int(owner.Gid)); err != nil {
-			return err
-		}
-		mode = status.Mode()
-	}
-	if err := os.Chmod(root, mode); err != nil {
-		return err
-	}
-	if kind != pibroulez.KindActive {
-		return nil
-	}
-	return os.Mkdir(filepath.Join(made, "work"), 0o711)
-}
-
-// Stat tells a snapshot of any kind.
-func (s *snapshotter) Stat(ctx context.Context, key string) (snapshots.Info, error) {
-	info, err := s.store.Stat(ctx, namespace, key)
-	if err != nil {
-		return snapshots.Info{}, classified(err)
-	}
-	return s.infoOf(info)
-}
-
-// Update changes labels. A label with an empty value is removed, as containerd's own snapshotters do.
-func (s *snapshotter) Update(ctx context.Context, info snapshots.Info, fieldpaths ...string) (snapshots.Info, error) {
-	updated, err := s.store.Update(ctx, namespace, info.Name, withoutEmpty(info.Labels), fieldpaths)
-	if err != nil {
-		return snapshots.Info{}, classified(err)
-	}
-	return s.infoOf(updated)
-}
-
-// Usage tells what the store charges for a snapshot alone.
-func (s *snapshotter) Usage(ctx context.Context, key string) (snapshots.Usage, error) {
-	usage, err := s.store.Usage(ctx, namespace, key)
-	if err != nil {
-		return snapshots.Usage{}, classified(err)
-	}
-	return snapshots.Usage{Inodes: int64(usage.Inodes), Size: int64(usage.Blocks) * blockSize}, nil
-}
-
-// Mounts tells how an active snapshot or a view is mounted.
-func (s *snapshotter) Mounts(ctx context.Context, key string) ([]mount.Mount, error) {
-	mounts, err := s.store.Mounts(ctx, namespace, key)
-	if err != nil {
-		return nil, classified(err)
-	}
-	made := make([]mount.Mount, 0, len(mounts))
-	for _, it := range mounts {
-		made = append(made, mount.Mount{Type: it.Type, Source: it.Source, Options: it.Options})
-	}
-	return made, nil
-}
-
-// Prepare makes an active snapshot and its directory.
-func (s *snapshotter) Prepare(ctx context.Context, key, parent string, opts ...snapshots.Opt) ([]mount.Mount, error) {
-	labels, err := labelsOf(opts)
-	if err != nil {
-		return nil, err
-	}
-	made, err := s.store.Prepare(ctx, namespace, key, parent, pibroulez.WithLabels(labels))
-	if err != nil {
-		return nil, classified(err)
-	}
-	return s.made(ctx, key, made.ID, made.Chain, pibroulez.KindActive)
-}
-
-// View makes a view and its directory.
-func (s *snapshotter) View(ctx context.Context, key, parent string, opts ...snapshots.Opt) ([]mount.Mount, error) {
-	labels, err := labelsOf(opts)
-	if err != nil {
-		return nil, err
-	}
-	made, err := s.store.View(ctx, namespace, key, parent, pibroulez.WithLabels(labels))
-	if err != nil {
-		return nil, classified(err)
-	}
-	return s.made(ctx, key, made.ID, made.Chain, pibroulez.KindView)
-}
-
-// Gives a new snapshot its directory and its time. Where that fails, it is dropped.
-func (s *snapshotter) made(ctx context.Context, key string, id uint64, chain []uint64, kind pibroulez.Kind) ([]mount.Mount, error) {
-	parent := uint64(0)
-	if len(chain) > 0 {
-		parent = chain[0]
-	}
-	err := s.makeDirectory(id, parent, kind)
-	if err == nil {
-		_, err = s.Stat(ctx, key)
-	}
-	var mounts []mount.Mount
-	if err == nil {
-		mounts, err = s.Mounts(ctx, key)
-	}
-	if err != nil {
-		if dropped := s.drop(context.Background(), key, id, kind); dropped != nil {
-			log.G(ctx).WithError(dropped).WithField("key", key).Warn("failed to drop snapshot")
-		}
-		return nil, err
-	}
-	return mounts, nil
-}
-
-// Commit gives an active snapshot its labels, and commits it. Where it isn't committed, it has its labels of before.
-func (s *snapshotter) Commit(ctx context.Context, name, key string, opts ...snapshots.Opt) error {
-	labels, err := labelsOf(opts)
-	if err != nil {
-		return err
-	}
-	before, err := s.store.Stat(ctx, namespace, key)
-	if err != nil {
-		return classified(err)
-	}
-	if before.Kind != pibroulez.KindActive {
-		return fmt.Errorf("snapshot %q is not active: %w", key, errdefs.ErrFailedPrecondition)
-	}
-	if _, err = s.store.Update(ctx, namespace, key, labels, nil); err != nil {
-		return classified(err)
-	}
-	if _, err = s.store.Commit(ctx, namespace, key, name); err != nil {
-		if _, err := s.store.Update(context.Background(), namespace, key, before.Labels, nil); err != nil {
-			log.G(ctx).WithError(err).WithField("key", key).Warn("failed to put labels back")
-		}
-		return classified(err)
-	}
-	_, err = s.Stat(ctx, name)
-	return err
-}
-
-// Remove drops a snapshot of any kind, with its directory.
-func (s *snapshotter) Remove(ctx context.Context, key string) error {
-	info, err := s.store.Stat(ctx, namespace, key)
-	if err == nil {
-		err = s.drop(ctx, key, info.ID, info.Kind)
-	}
-	if err != nil {
-		return fmt.Errorf("failed to remove: %w", classified(err))
-	}
-	return nil
-}
-
-// Drops a snapshot. A directory that stays is left to Cleanup.
-func (s *snapshotter) drop(ctx context.Context, key string, id uint64, kind pibroulez.Kind) error {
-	var err error
-	if kind == pibroulez.KindActive {
-		_, err = s.store.Discard(ctx, namespace, key)
-	} else {
-		_, err = s.store.Remove(ctx, namespace, key)
-	}
-	if err != nil {
-		return err
-	}
-	s.times.drop(id)
-	if err := os.RemoveAll(s.directoryOf(id)); err != nil {
-		log.G(ctx).WithError(err).WithField("path", s.directoryOf(id)).Warn("failed to remove directory")
-	}
-	return nil
-}
-
-// Walk calls the function with each snapshot that matches one of the filters, in byte order of the keys.
-func (s *snapshotter) Walk(ctx context.Context, fn snapshots.WalkFunc, texts ...string) error {
-	filter, err := filters.ParseAll(texts...)
-	if err != nil {
-		return err
-	}
-	after := ""
-	for {
-		page, err := s.store.Walk(ctx, namespace, after, pageSize, pibroulez.Filter{})
-		if err != nil {
-			return classified(err)
-		}
-		for _, it := range page {
-			info, err := s.infoOf(it)
-			if err != nil {
-				return err
-			}
-			if !filter.Match(fieldsOf(info)) {
-				continue
-			}
-			if err := fn(ctx, info); err != nil {
-				return err
-			}
-		}
-		if len(page) < pageSize {
-			return nil
-		}
-		after = page[len(page)-1].Name
-	}
-}
-
-// Cleanup removes the directories that no snapshot has.
-func (s *snapshotter) Cleanup(ctx context.Context) error {
-	s.making.Lock()
-	defer s.making.Unlock()
-	// What is removed after this has a directory in the list, and what is made after this has none.
-	entries, err := os.ReadDir(s.directory)
-	if err != nil {
-		return err
-	}
-	nodes, err := s.store.Tree(ctx, namespace)
-	if err != nil {
-		return classified(err)
-	}
-	kept := map[string]bool{}
+	ids := map[uint64]bool{}
 	for _, node := range nodes {
-		kept[filepath.Base(s.directoryOf(node.ID))] = true
+		ids[node.ID] = true
 	}
-	for _, entry := range entries {
-		if kept[entry.Name()] {
-			continue
-		}
-		path := filepath.Join(s.directory, entry.Name())
-		if err := os.RemoveAll(path); err != nil {
-			log.G(ctx).WithError(err).WithField("path", path).Warn("failed to remove directory")
-		}
-	}
-	return nil
+	s.times = openTimes(filepath.Join(root, "times"), ids)
+	return s.clean(ctx)
 }
 
-// Close ends the store's process. The snapshots stay.
-func (s *snapshotter) Close() error {
-	s.times.close()
-	return s.store.Close()
+// Cleanup removes the directories that no snapshot has, and waits until they and those of removed snapshots are gone.
+func (s *Snapshotter) Cleanup(ctx context.Context) error {
+	err := s.clean(ctx)
+	s.directories.removals.wait()
+	return err
 }
 
-func (s *snapshotter) infoOf(info pibroulez.Info) (snapshots.Info, error) {
-	created, updated, err := s.times.of(info)
-	if err != nil {
-		return snapshots.Info{}, err
-	}
-	return snapshots.Info{
-		Kind:    snapshots.ParseKind(string(info.Kind)),
-		Name:    info.Name,
-		Parent:  info.Parent,
-		Labels:  info.Labels,
-		Created: created,
-		Updated: updated,
-	}, nil
-}
-
-// What filters see of a snapshot.
-func fieldsOf(info snapshots.Info) filters.Adaptor {
-	return filters.AdapterFunc(func(path []string) (string, bool) {
-		if len(path) == 0 {
-			return "", false
-		}
-		switch path[0] {
-		case "kind":
-			return strings.ToLower(info.Kind.String()), true
-		case "name":
-			return info.Name, true
-		case "parent":
-			return info.Parent, true
-		case "labels":
-			value, found := info.Labels[strings.Join(path[1:], ".")]
-			return value, found
-		}
-		return "", false
+func (s *Snapshotter) clean(ctx context.Context) error {
+	return s.directories.clean(func() ([]pibroulez.Node, error) {
+		nodes, err := s.store.Tree(ctx, namespace)
+		return nodes, subject{}.classified(err)
 	})
 }
 
-// The labels that options give.
-func labelsOf(opts []snapshots.Opt) (map[string]string, error) {
-	var info snapshots.Info
-	for _, opt := range opts {
-		if err := opt(&info); err != nil {
-			return nil, err
-		}
-	}
-	return withoutEmpty(info.Labels), nil
-}
+// Ended is closed once the store's process has ended. Each later call is an error then, so that whoever has started this
+// process should end it; Err says what ended.
+func (s *Snapshotter) Ended() <-chan struct{} { return s.store.Ended() }
 
-func withoutEmpty(labels map[string]string) map[string]string {
-	kept := map[string]string{}
-	for name, value := range labels {
-		if value != "" {
-			kept[name] = value
-		}
+// Err says how the store's process has ended. It is nil while it runs, and pibroulez.ErrClosed after Close.
+func (s *Snapshotter) Err() error { return s.store.Err() }
+
+// How long Close waits for the calls that run, before it ends the process below them.
+const patience = 10 * time.Second
+
+// Close ends the store's process, once the calls that run have ended, and waits for the removals of directories. The
+// snapshots stay. A process that answers nothing is killed after a while, as pibroulez.Store.Close says.
+func (s *Snapshotter) Close() error {
+	alone := make(chan struct{})
+	go func() {
+		s.running.Lock()
+		close(alone)
+	}()
+	select {
+	case <-alone:
+	case <-time.After(patience):
 	}
-	return kept
+	err := s.store.Close()
+	<-alone
+	defer s.running.Unlock()
+	s.directories.removals.wait()
+	s.times.close()
+	return err
 }

@@ -7,6 +7,8 @@ import (
 	"fmt"
 	"os"
 	"path/filepath"
+	"strings"
+	"syscall"
 	"testing"
 
 	"github.com/containerd/containerd/errdefs"
@@ -16,7 +18,7 @@ import (
 	"github.com/containerd/containerd/snapshots/testsuite"
 	"github.com/containerd/continuity/fs/fstest"
 
-	"pibroulez"
+	"pibroulez.example/pibroulez"
 )
 
 var ctx = context.Background()
@@ -27,6 +29,9 @@ var ctx = context.Background()
 const allButOne = "./^[^1]"
 
 func TestMain(m *testing.M) {
+	if root := os.Getenv(killedRoot); root != "" {
+		callUntilKilled(root)
+	}
 	flag.Parse()
 	if run := flag.Lookup("test.run"); run.Value.String() == "" {
 		run.Value.Set(allButOne)
@@ -47,7 +52,7 @@ func requiresRoot(t *testing.T) {
 	}
 }
 
-func newSnapshotter(t *testing.T, root string) snapshots.Snapshotter {
+func newSnapshotter(t *testing.T, root string) *Snapshotter {
 	t.Helper()
 	s, err := New(ctx, Config{Program: program(), Root: root})
 	granted(t, err)
@@ -95,6 +100,7 @@ func TestSuite(t *testing.T) {
 // the last one's where all have the same. The 65th ancestor is refused.
 func TestSixtyFourAncestors(t *testing.T) {
 	requiresRoot(t)
+	t.Parallel()
 	s := newSnapshotter(t, t.TempDir())
 	flat := t.TempDir()
 	parent := ""
@@ -172,8 +178,21 @@ func TestMadeAgain(t *testing.T) {
 	if _, err := os.Stat(filepath.Join(root, "snapshots", "7")); !os.IsNotExist(err) {
 		t.Errorf("a directory without a snapshot: %v", err)
 	}
-	if _, err := New(ctx, Config{Program: program(), Root: root}); err == nil {
-		t.Error("two snapshotters of one root")
+	if _, err := New(ctx, Config{Program: program(), Root: root}); !errors.Is(err, syscall.EWOULDBLOCK) {
+		t.Errorf("%v: two snapshotters of one root", err)
+	}
+}
+
+// A program that takes no question without an entry is found out before anything is served.
+func TestProgramOfVersion010(t *testing.T) {
+	named, err := filepath.Abs(program())
+	granted(t, err)
+	path := filepath.Join(t.TempDir(), "old")
+	script := fmt.Sprintf("#!/bin/sh\nsed -u 's/\"quiet\"/\"quite\"/' | %s serve\n", named)
+	granted(t, os.WriteFile(path, []byte(script), 0o700))
+	_, err = New(ctx, Config{Program: path, Root: t.TempDir()})
+	if fault := new(pibroulez.Fault); !errors.As(err, &fault) || !strings.Contains(fault.Words, "quite") {
+		t.Errorf("%v of a program without quiet questions", err)
 	}
 }
 

@@ -1,58 +1,112 @@
-// A proxy plugin of containerd: the snapshotter behind a socket. It ends at SIGTERM or SIGINT.
-//
-//	proxy PROGRAM ROOT SOCKET
+// A proxy plugin of containerd: the snapshotter behind a socket. `--help` tells its options and statuses.
 package main
 
 import (
 	"context"
 	"errors"
+	"flag"
 	"fmt"
-	"io/fs"
-	"net"
+	"io"
 	"os"
 	"os/signal"
 	"syscall"
 
-	snapshotsapi "github.com/containerd/containerd/api/services/snapshots/v1"
-	"github.com/containerd/containerd/contrib/snapshotservice"
-	"google.golang.org/grpc"
+	"github.com/containerd/containerd/log"
+	"github.com/sirupsen/logrus"
 
-	"pibroulez/containerd"
+	"pibroulez.example/pibroulez/containerd"
 )
 
-func main() {
-	if len(os.Args) != 4 {
-		fmt.Fprintln(os.Stderr, "usage: proxy PROGRAM ROOT SOCKET")
-		os.Exit(2)
-	}
-	ctx, stop := signal.NotifyContext(context.Background(), syscall.SIGTERM, syscall.SIGINT)
-	defer stop()
-	if err := run(ctx, containerd.Config{Program: os.Args[1], Root: os.Args[2]}, os.Args[3]); err != nil {
-		fmt.Fprintln(os.Stderr, "proxy:", err)
-		os.Exit(1)
-	}
+// The version is that of snap_replay.
+const version = "0.1.0"
+
+const help = `usage: pibroulez-proxy [--program PATH] [--root FOLDER] [--socket PATH] [--log-level LEVEL]
+
+Serves a snapshotter to containerd, as a proxy plugin of type "snapshot" with the socket as its address. It ends at
+SIGTERM or SIGINT, once what has been asked for by then is answered.
+
+  --program PATH     snap_replay, which keeps the store; without a / it is looked up in PATH (snap_replay)
+  --root FOLDER      where the snapshots are kept, for one process at a time; it is made (/var/lib/pibroulez)
+  --socket PATH      where containerd asks, of mode 0660; its folder is made, of mode 0700 (/run/pibroulez/proxy.sock)
+  --log-level LEVEL  what is told on standard error: error, warn, info, debug with a line for each call (info)
+  --help, --version  tell, and end
+
+Statuses:
+  0  it was to end
+  1  it could not begin, or the socket failed; standard error says why
+  2  its words are wrong
+  3  the store's process has ended, so that whoever has started this one can start it anew
+`
+
+// Statuses.
+const (
+	failed     = 1
+	wrongWords = 2
+	storeEnded = 3
+)
+
+// What the words on the command line say.
+type words struct {
+	config containerd.Config
+	socket string
+	level  logrus.Level
+	// What is to be told instead of serving, or empty.
+	told string
 }
 
-// Serves the snapshotter until the context ends, and then what has been asked for by that time.
-func run(ctx context.Context, config containerd.Config, socket string) error {
-	snapshotter, err := containerd.New(ctx, config)
+func main() {
+	given, err := read(os.Args[1:])
 	if err != nil {
-		return err
+		fmt.Fprintf(os.Stderr, "pibroulez-proxy: %v; see --help\n", err)
+		os.Exit(wrongWords)
 	}
-	defer snapshotter.Close()
-	// A proxy that was killed leaves its socket.
-	if err := os.Remove(socket); err != nil && !errors.Is(err, fs.ErrNotExist) {
-		return err
+	if given.told != "" {
+		fmt.Print(given.told)
+		return
 	}
-	listener, err := net.Listen("unix", socket)
+	logrus.SetLevel(given.level)
+	logrus.SetFormatter(&logrus.TextFormatter{FullTimestamp: true, TimestampFormat: log.RFC3339NanoFixed})
+	ctx, stop := signal.NotifyContext(context.Background(), syscall.SIGTERM, syscall.SIGINT)
+	defer stop()
+	os.Exit(statusOf(serve(ctx, given.config, given.socket)))
+}
+
+// The status of what has ended the serving, after a line that says it.
+func statusOf(err error) int {
+	if err == nil {
+		return 0
+	}
+	log.L.Error(err)
+	if errors.Is(err, errStoreEnded) {
+		return storeEnded
+	}
+	return failed
+}
+
+func read(args []string) (words, error) {
+	var given words
+	var level string
+	var tellsVersion bool
+	flags := flag.NewFlagSet("pibroulez-proxy", flag.ContinueOnError)
+	flags.SetOutput(io.Discard)
+	flags.StringVar(&given.config.Program, "program", "snap_replay", "")
+	flags.StringVar(&given.config.Root, "root", "/var/lib/pibroulez", "")
+	flags.StringVar(&given.socket, "socket", "/run/pibroulez/proxy.sock", "")
+	flags.StringVar(&level, "log-level", "info", "")
+	flags.BoolVar(&tellsVersion, "version", false, "")
+	err := flags.Parse(args)
+	if errors.Is(err, flag.ErrHelp) {
+		return words{told: help}, nil
+	}
 	if err != nil {
-		return err
+		return words{}, err
 	}
-	server := grpc.NewServer()
-	snapshotsapi.RegisterSnapshotsServer(server, snapshotservice.FromSnapshotter(snapshotter))
-	go func() {
-		<-ctx.Done()
-		server.GracefulStop()
-	}()
-	return server.Serve(listener)
+	if flags.NArg() > 0 {
+		return words{}, fmt.Errorf("unknown word %q", flags.Arg(0))
+	}
+	if tellsVersion {
+		return words{told: "pibroulez-proxy " + version + "\n"}, nil
+	}
+	given.level, err = logrus.ParseLevel(level)
+	return given, err
 }

@@ -14,7 +14,7 @@ import (
 	"github.com/containerd/containerd/snapshots/proxy"
 	"google.golang.org/grpc"
 
-	"pibroulez/containerd"
+	"pibroulez.example/pibroulez/containerd"
 )
 
 func program() string {
@@ -32,12 +32,12 @@ func granted(t *testing.T, err error) {
 }
 
 // Serves the snapshotter of a root, and hands out a client of it and what ends both.
-func serve(t *testing.T, root string) (snapshots.Snapshotter, func()) {
+func serving(t *testing.T, root string) (snapshots.Snapshotter, func()) {
 	t.Helper()
 	socket := filepath.Join(root, "socket")
 	ctx, end := context.WithCancel(context.Background())
 	ended := make(chan error)
-	go func() { ended <- run(ctx, containerd.Config{Program: program(), Root: root}, socket) }()
+	go func() { ended <- serve(ctx, containerd.Config{Program: program(), Root: root}, socket) }()
 	dialled, cancel := context.WithTimeout(ctx, time.Minute)
 	defer cancel()
 	connection, err := grpc.DialContext(dialled, "unix://"+socket, grpc.WithInsecure(), grpc.WithBlock())
@@ -55,7 +55,7 @@ func serve(t *testing.T, root string) (snapshots.Snapshotter, func()) {
 func TestOverTheSocket(t *testing.T) {
 	root := t.TempDir()
 	ctx := namespaces.WithNamespace(context.Background(), "test")
-	s, end := serve(t, root)
+	s, end := serving(t, root)
 	_, err := s.Prepare(ctx, "k", "")
 	granted(t, err)
 	granted(t, s.Commit(ctx, "base", "k", snapshots.WithLabels(map[string]string{"x": "1"})))
@@ -67,11 +67,16 @@ func TestOverTheSocket(t *testing.T) {
 	if err := s.Remove(ctx, "base"); !errdefs.IsFailedPrecondition(err) {
 		t.Errorf("%v: a snapshot with a child", err)
 	}
+	none := func(context.Context, snapshots.Info) error { return nil }
+	granted(t, s.Walk(ctx, none, "name==base"))
+	if err := s.Walk(ctx, none, "name=="); !errdefs.IsInvalidArgument(err) {
+		t.Errorf("%v: a walk with a malformed filter", err)
+	}
 	before, err := s.Stat(ctx, "base")
 	granted(t, err)
 	end()
 
-	s, end = serve(t, root)
+	s, end = serving(t, root)
 	defer end()
 	after, err := s.Stat(ctx, "base")
 	granted(t, err)

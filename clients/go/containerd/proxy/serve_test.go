@@ -1,0 +1,146 @@
+package main
+
+import (
+	"bytes"
+	"context"
+	"errors"
+	"io/fs"
+	"net"
+	"os"
+	"os/exec"
+	"path/filepath"
+	"strconv"
+	"strings"
+	"syscall"
+	"testing"
+	"time"
+
+	"github.com/sirupsen/logrus"
+
+	"pibroulez.example/pibroulez/containerd"
+)
+
+// What the words on the command line say, and which are wrong.
+func TestWords(t *testing.T) {
+	given, err := read([]string{"--root", "/r", "--socket=/s", "--program", "p", "--log-level", "debug"})
+	granted(t, err)
+	if given.config.Root != "/r" || given.config.Program != "p" || given.socket != "/s" || given.level != logrus.DebugLevel {
+		t.Errorf("%+v", given)
+	}
+	given, err = read([]string{"--help"})
+	granted(t, err)
+	for _, option := range []string{"--program", "--root", "--socket", "--log-level", "--version", "Statuses"} {
+		if !strings.Contains(given.told, option) {
+			t.Errorf("help without %s", option)
+		}
+	}
+	given, err = read([]string{"--version"})
+	granted(t, err)
+	told, err := exec.Command(program(), "--version").Output()
+	granted(t, err)
+	if given.told != strings.Replace(string(told), "snap_replay", "pibroulez-proxy", 1) {
+		t.Errorf("%q, and the program is %q", given.told, told)
+	}
+	for _, wrong := range [][]string{{"word"}, {"--rot", "/r"}, {"--log-level", "loud"}, {"--root"}} {
+		if _, err := read(wrong); err == nil {
+			t.Errorf("%v is taken", wrong)
+		}
+	}
+}
+
+// The socket has its mode and its folder's, and takes the place of one that nobody listens at.
+func TestSocket(t *testing.T) {
+	folder := filepath.Join(t.TempDir(), "run", "pibroulez")
+	path := filepath.Join(folder, "socket")
+	listener, err := listen(path)
+	granted(t, err)
+	for path, mode := range map[string]fs.FileMode{path: fs.ModeSocket | 0o660, folder: fs.ModeDir | 0o700} {
+		status, err := os.Lstat(path)
+		granted(t, err)
+		if status.Mode() != mode {
+			t.Errorf("%s has mode %v, not %v", path, status.Mode(), mode)
+		}
+	}
+	if _, err := listen(path); err == nil || !strings.Contains(err.Error(), "another process") {
+		t.Errorf("%v: a socket that another one listens at", err)
+	}
+	listener.(*net.UnixListener).SetUnlinkOnClose(false)
+	granted(t, listener.Close())
+	listener, err = listen(path)
+	granted(t, err)
+	granted(t, listener.Close())
+}
+
+// A file in the place of the socket that is none stays as it is.
+func TestFileInPlaceOfSocket(t *testing.T) {
+	folder := t.TempDir()
+	file, link := filepath.Join(folder, "file"), filepath.Join(folder, "link")
+	granted(t, os.WriteFile(file, []byte("kept"), 0o600))
+	granted(t, os.Symlink(file, link))
+	for _, path := range []string{file, link, folder} {
+		if _, err := listen(path); err == nil || !strings.Contains(err.Error(), "is no socket") {
+			t.Errorf("%v: %s in place of a socket", err, path)
+		}
+	}
+	if text, err := os.ReadFile(file); err != nil || string(text) != "kept" {
+		t.Errorf("%q, %v: what was in the place of a socket", text, err)
+	}
+}
+
+// The proxy as a process: it tells systemd when it serves, and ends with a line and a status where its store is killed.
+func TestStoreIsKilled(t *testing.T) {
+	binary := filepath.Join(t.TempDir(), "proxy")
+	if built, err := exec.Command("go", "build", "-o", binary, ".").CombinedOutput(); err != nil {
+		t.Fatalf("%v: %s", err, built)
+	}
+	root := t.TempDir()
+	notified, err := net.ListenUnixgram("unixgram", &net.UnixAddr{Name: filepath.Join(root, "notify"), Net: "unixgram"})
+	granted(t, err)
+	defer notified.Close()
+	named, err := filepath.Abs(program())
+	granted(t, err)
+	process := exec.Command(binary, "--program", named, "--root", root, "--socket", filepath.Join(root, "socket"))
+	process.Env = append(os.Environ(), "NOTIFY_SOCKET="+filepath.Join(root, "notify"))
+	var said bytes.Buffer
+	process.Stderr = &said
+	granted(t, process.Start())
+	granted(t, notified.SetReadDeadline(time.Now().Add(time.Minute)))
+	message := make([]byte, 64)
+	size, err := notified.Read(message)
+	granted(t, err)
+	if string(message[:size]) != "READY=1" {
+		t.Errorf("%q", message[:size])
+	}
+	granted(t, syscall.Kill(childOf(t, process.Process.Pid), syscall.SIGKILL))
+	var exit *exec.ExitError
+	if err := process.Wait(); !errors.As(err, &exit) || exit.ExitCode() != storeEnded {
+		t.Errorf("%v, not status %d", err, storeEnded)
+	}
+	if lines := strings.Count(said.String(), "level=error"); lines != 1 || !strings.Contains(said.String(), "the store has ended") ||
+		!strings.Contains(said.String(), "killed") {
+		t.Errorf("it said %q", said.String())
+	}
+}
+
+// The one child of a process.
+func childOf(t *testing.T, pid int) int {
+	t.Helper()
+	text, err := exec.Command("pgrep", "-P", strconv.Itoa(pid)).Output()
+	granted(t, err)
+	child, err := strconv.Atoi(strings.TrimSpace(string(text)))
+	granted(t, err)
+	return child
+}
+
+// A proxy that is ended before it serves, and one that can't.
+func TestNoService(t *testing.T) {
+	ctx, cancel := context.WithCancel(context.Background())
+	cancel()
+	config := containerd.Config{Program: program(), Root: t.TempDir()}
+	granted(t, serve(ctx, config, filepath.Join(t.TempDir(), "socket")))
+	config.Root = filepath.Join(t.TempDir(), "a,b")
+	err := serve(context.Background(), config, filepath.Join(t.TempDir(), "socket"))
+	if err == nil || statusOf(err) != failed {
+		t.Errorf("%v: a malformed root", err)
+	}
+}
