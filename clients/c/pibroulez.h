@@ -4,7 +4,7 @@
  * docs/SCRIPT.md has the commands of a script and their answers. That these are the answers is proved of the library,
  * and not of what calls it: what is written here as a condition is the caller's to keep.
  *
- * Link with libsnap_c.a and with the toolchain's liblibc_c.a, in this order (clients/README.md).
+ * Link with libsnap_c.a and with the toolchain's liblibc_c.a, in this order, or as pkg-config says (clients/README.md).
  */
 #ifndef PIBROULEZ_H
 #define PIBROULEZ_H

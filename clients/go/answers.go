@@ -221,7 +221,8 @@ type Quota struct {
 	// Charged is what the committed snapshots are charged and the active ones.
 	Charged   Usage `json:"charged"`
 	Committed Usage `json:"committed"`
-	// Open is what the active snapshots are charged, and Spare what of that a trim gives back.
+	// Open is what the active snapshots are charged, and Spare what of that their layers don't take. A trim gives it back,
+	// but of a sealed one.
 	Open  Usage `json:"open"`
 	Spare Usage `json:"spare"`
 	// Free is what the limit leaves.
@@ -261,7 +262,10 @@ type Entry struct {
 	Number  uint64 `json:"number"`
 	Session uint64 `json:"session"`
 	Call    string `json:"call"`
-	// Charge is what the namespace is charged after it.
+	// Namespace is that of the call or of the active snapshot that it is on, where the journal is asked for without one.
+	// That of a session is empty.
+	Namespace string `json:"ns"`
+	// Charge is what the namespace is charged after it, where the journal is asked for with one.
 	Charge Usage `json:"charge"`
 	// Key is the key or name that the call has, or empty.
 	Key string `json:"key"`

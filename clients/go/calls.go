@@ -2,38 +2,66 @@ package pibroulez
 
 import "context"
 
-// An Option gives a call a field that may be left out. One that the call doesn't have is a Fault.
+// An Option gives a call a field that may be left out. One that the call doesn't have is ErrOption: nothing is sent.
 type Option struct {
 	field string
+	// A nil value takes the field away.
 	value any
+	// The commands that have it; nil is for each.
+	of []string
 }
 
-// WithSession has the call made in a session of this number, in place of 0.
-func WithSession(number uint64) Option { return Option{"s", number} }
+// WithSession has the call made in a session of this number, in place of 0. Where no entry is made, it is ignored.
+func WithSession(number uint64) Option { return Option{"s", number, nil} }
 
-// WithLabels gives a new snapshot labels.
-func WithLabels(labels map[string]string) Option { return Option{"labels", orEmpty(labels)} }
+// WithEntry has Stat, Usage, Mounts or Walk make an entry in the journal. A log then has the question, the session has to
+// be open, and where the journal is full it is ErrJournalFull.
+func WithEntry() Option { return Option{"quiet", nil, questions} }
+
+// WithLabels gives a new snapshot labels. A committed one has them in place of those of the active one.
+func WithLabels(labels map[string]string) Option {
+	return Option{"labels", orEmpty(labels), []string{"prepare", "view", "commit"}}
+}
 
 // WithWant gives a charge an amount that is charged where it fits.
-func WithWant(want Usage) Option { return Option{"want", want} }
+func WithWant(want Usage) Option { return Option{"want", want, []string{"charge"}} }
 
 // WithLease lets a lease name the snapshot that is committed.
-func WithLease(lease string) Option { return Option{"lease", lease} }
+func WithLease(lease string) Option { return Option{"lease", lease, []string{"commit"}} }
 
 // WithUntil gives a lease its last moment.
-func WithUntil(moment uint64) Option { return Option{"until", moment} }
+func WithUntil(moment uint64) Option { return Option{"until", moment, []string{"lease_create"}} }
 
 // WithMode gives a new file or directory its mode.
-func WithMode(mode uint32) Option { return Option{"mode", mode} }
+func WithMode(mode uint32) Option { return Option{"mode", mode, []string{"mkdir", "create", "put"}} }
 
 // WithDigest says by which digest the content of a file of a size is known.
-func WithDigest(digest string) Option { return Option{"digest", digest} }
+func WithDigest(digest string) Option { return Option{"digest", digest, []string{"put"}} }
 
 // WithExtra has a file command charge so much more, where it makes a charge and that fits.
-func WithExtra(extra Usage) Option { return Option{"extra", extra} }
+func WithExtra(extra Usage) Option { return Option{"extra", extra, fileCommands} }
 
 // WithPeek lets a lookup be of a committed snapshot too.
-func WithPeek() Option { return Option{"peek", true} }
+func WithPeek() Option { return Option{"peek", true, lookups} }
+
+func (o Option) isOf(do string) bool {
+	for _, it := range o.of {
+		if it == do {
+			return true
+		}
+	}
+	return o.of == nil
+}
+
+// The commands that ask for snapshots. They make an entry where they aren't quiet.
+var questions = []string{"stat", "usage", "mounts", "walk"}
+
+var fileCommands = []string{
+	"mkdir", "create", "put", "write", "truncate", "setmode", "symlink", "link", "rename", "unlink", "rmdir", "opaque",
+	"whiteout",
+}
+
+var lookups = []string{"look", "list", "read", "resolve", "du"}
 
 // A Filter has the parts that a snapshot must match. Nil parts match each.
 type Filter struct {
@@ -52,21 +80,11 @@ func (s *Store) Session(ctx context.Context) (uint64, error) {
 
 // Reopen begins the next round of the journal, of at most so many entries, or of the default where it is 0.
 func (s *Store) Reopen(ctx context.Context, journal uint64) error {
-	given := fields{}
-	if journal != 0 {
-		given["journal"] = journal
-	}
-	return s.call(ctx, "reopen", given, nil, nil)
+	return s.begin(ctx, "reopen", journal)
 }
 
 // Roll begins the next round as Reopen does, and snapshots may be active: they stay as they are.
-func (s *Store) Roll(ctx context.Context, journal uint64) error {
-	given := fields{}
-	if journal != 0 {
-		given["journal"] = journal
-	}
-	return s.call(ctx, "roll", given, nil, nil)
-}
+func (s *Store) Roll(ctx context.Context, journal uint64) error { return s.begin(ctx, "roll", journal) }
 
 // Prepare makes an active snapshot on a committed one, or on none where the parent is empty.
 func (s *Store) Prepare(ctx context.Context, namespace, key, parent string, options ...Option) (Prepared, error) {
@@ -96,7 +114,8 @@ func (s *Store) Trim(ctx context.Context, namespace, key string, options ...Opti
 	return answer.Share, err
 }
 
-// Commit commits an active snapshot under a name. A refusal seals the snapshot.
+// Commit commits an active snapshot under a name, with the labels that it has or those of WithLabels. A refusal seals
+// the snapshot.
 func (s *Store) Commit(ctx context.Context, namespace, key, name string, options ...Option) (Committed, error) {
 	var answer Committed
 	err := s.call(ctx, "commit", fields{"ns": namespace, "key": key, "name": name}, options, &answer)
@@ -117,10 +136,10 @@ func (s *Store) Remove(ctx context.Context, namespace, key string, options ...Op
 	return answer.Freed, err
 }
 
-// Stat tells a snapshot of any kind.
+// Stat tells a snapshot of any kind. It makes no entry but by WithEntry.
 func (s *Store) Stat(ctx context.Context, namespace, key string, options ...Option) (Info, error) {
 	var answer struct{ Info Info }
-	err := s.call(ctx, "stat", snapshot(namespace, key), options, &answer)
+	err := s.ask(ctx, "stat", snapshot(namespace, key), options, &answer)
 	return answer.Info, err
 }
 
@@ -135,10 +154,10 @@ func (s *Store) Update(ctx context.Context, namespace, key string, labels map[st
 	return answer.Info, err
 }
 
-// Usage tells what is charged for a snapshot alone.
+// Usage tells what is charged for a snapshot alone. It makes no entry but by WithEntry.
 func (s *Store) Usage(ctx context.Context, namespace, key string, options ...Option) (Usage, error) {
 	var answer struct{ Usage Usage }
-	err := s.call(ctx, "usage", snapshot(namespace, key), options, &answer)
+	err := s.ask(ctx, "usage", snapshot(namespace, key), options, &answer)
 	return answer.Usage, err
 }
 
@@ -151,15 +170,15 @@ func (s *Store) ChainUsage(ctx context.Context, namespace, key string) (Usage, e
 	return answer.Usage, err
 }
 
-// Mounts tells how an active snapshot or a view is mounted.
+// Mounts tells how an active snapshot or a view is mounted. It makes no entry but by WithEntry.
 func (s *Store) Mounts(ctx context.Context, namespace, key string, options ...Option) ([]Mount, error) {
 	var answer struct{ Mounts []Mount }
-	err := s.call(ctx, "mounts", snapshot(namespace, key), options, &answer)
+	err := s.ask(ctx, "mounts", snapshot(namespace, key), options, &answer)
 	return answer.Mounts, err
 }
 
 // Walk tells a page of the snapshots that match, in byte order of their keys: those after a key, and of these the
-// first max, 1 to 64, or 64 where it is 0.
+// first max, 1 to 64, or 64 where it is 0. It makes no entry but by WithEntry.
 func (s *Store) Walk(ctx context.Context, namespace, after string, max int, filter Filter, options ...Option) ([]Info, error) {
 	var answer struct{ Infos []Info }
 	given := fields{"ns": namespace, "after": after}
@@ -178,7 +197,7 @@ func (s *Store) Walk(ctx context.Context, namespace, after string, max int, filt
 	if filter.Labels != nil {
 		given["labels"] = filter.Labels
 	}
-	err := s.call(ctx, "walk", given, options, &answer)
+	err := s.ask(ctx, "walk", given, options, &answer)
 	return answer.Infos, err
 }
 
@@ -406,19 +425,22 @@ func (s *Store) Diff(ctx context.Context, namespace, key, after string, max int)
 	return answer.Changes, err
 }
 
-// Journal tells a page of the entries of a namespace, in order: those after a number, and of these the first max,
-// 1 to 64, or 64 where it is 0.
+// Journal tells a page of the entries of a namespace, or of all entries of the round where it is empty, in order: those
+// after a number, and of these the first max, 1 to 64, or 64 where it is 0.
 func (s *Store) Journal(ctx context.Context, namespace string, after uint64, max int) ([]Entry, error) {
-	return s.journal(ctx, fields{"ns": namespace, "after": after}, max)
+	return s.journal(ctx, namespace, fields{"after": after}, max)
 }
 
 // FullJournal tells the same with the lines that make the calls of the entries.
 func (s *Store) FullJournal(ctx context.Context, namespace string, after uint64, max int) ([]Entry, error) {
-	return s.journal(ctx, fields{"ns": namespace, "after": after, "full": true}, max)
+	return s.journal(ctx, namespace, fields{"after": after, "full": true}, max)
 }
 
-func (s *Store) journal(ctx context.Context, given fields, max int) ([]Entry, error) {
+func (s *Store) journal(ctx context.Context, namespace string, given fields, max int) ([]Entry, error) {
 	var answer struct{ Journal []Entry }
+	if namespace != "" {
+		given["ns"] = namespace
+	}
 	if max != 0 {
 		given["max"] = max
 	}
@@ -431,6 +453,12 @@ func (s *Store) Report(ctx context.Context) (Report, error) {
 	var answer Report
 	err := s.call(ctx, "report", fields{}, nil, &answer)
 	return answer, err
+}
+
+// Asks without an entry, where no option wants one.
+func (s *Store) ask(ctx context.Context, do string, given fields, options []Option, answer any) error {
+	given["quiet"] = true
+	return s.call(ctx, do, given, options, answer)
 }
 
 func (s *Store) change(ctx context.Context, do string, given fields, options []Option) (Changed, error) {

@@ -5,14 +5,22 @@ import (
 	"fmt"
 )
 
-// ErrDied is the error of each call once the process has ended. The error tells how, too.
+// ErrDied is the error of each call once the process has ended. The error tells how, too: errors.As gives the
+// *exec.ExitError of a process that has ended itself or was killed, and errors.Is tells why a log wasn't written, as
+// syscall.ENOSPC.
 var ErrDied = errors.New("the process has ended")
 
 // ErrClosed is the error of each call once the store is closed.
 var ErrClosed = errors.New("the store is closed")
 
-// ErrNotText is the error of a call with a text that is not UTF-8. The process isn't asked.
+// ErrNotText is the error of a call with a text that is not UTF-8, at any depth of its fields. Nothing is sent.
 var ErrNotText = errors.New("a text is not UTF-8")
+
+// ErrOption is the error of a call with an option that it doesn't have. Nothing is sent.
+var ErrOption = errors.New("the call doesn't have this option")
+
+// ErrReserved is the error of a Request with a field `do` or `id`, which the client gives. Nothing is sent.
+var ErrReserved = errors.New("the client gives this field")
 
 // A Reason is a refusal's name. errors.Is tells whether an error is a refusal of this name, and errors.As with
 // a *Refusal what else it tells.
@@ -55,7 +63,7 @@ const (
 	ErrBelowCharge Reason = "BelowCharge"
 	// ErrNumbersSpent: ids, or the numbers of entries or sessions, are used up.
 	ErrNumbersSpent Reason = "NumbersSpent"
-	// ErrJournalFull: what is left of the journal is kept for discards.
+	// ErrJournalFull: what is left of the journal is kept for discards. Roll begins the next round: see RollWhenFull.
 	ErrJournalFull Reason = "JournalFull"
 	// ErrNoSession: the session isn't open.
 	ErrNoSession Reason = "NoSession"
@@ -106,6 +114,15 @@ func (r *Refusal) Error() string { return fmt.Sprintf("%s (from %s)", r.Reason, 
 
 // Unwrap is the refusal's name.
 func (r *Refusal) Unwrap() error { return r.Reason }
+
+// What has ended the process, as an ErrDied.
+type died struct{ cause error }
+
+func (d *died) Error() string { return fmt.Sprintf("%v: %v", ErrDied, d.cause) }
+
+func (d *died) Is(target error) bool { return target == ErrDied }
+
+func (d *died) Unwrap() error { return d.cause }
 
 // A Fault is the answer to a line that is no command. Nothing has changed.
 type Fault struct {

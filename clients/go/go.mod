@@ -1,3 +1,3 @@
-module pibroulez
+module pibroulez.example/pibroulez
 
 go 1.19

@@ -8,13 +8,15 @@ import (
 	"io/fs"
 	"os"
 	"path/filepath"
+	"strings"
 	"syscall"
 )
 
-// A BadLog is a log with a line that isn't taken, so that its store can't be had back.
+// A BadLog is a file that is no log, or a log with a line that isn't taken, so that its store can't be had back. The
+// file is as it was.
 type BadLog struct {
 	Path string
-	// Line is the line's number, from 1.
+	// Line is the line's number, from 1, or 0 where the file isn't a regular one.
 	Line  uint64
 	Words string
 }
@@ -26,7 +28,9 @@ type log struct {
 	path  string
 	file  *os.File
 	lines uint64
-	size  int64
+	reserve
+	// Whether a last line without its line feed is behind the others, and whether the file wasn't there before.
+	isTorn, isNew bool
 }
 
 // Commands that change nothing and make no entry in the journal. A log does without them.
@@ -35,28 +39,51 @@ var isLookup = map[string]bool{
 	"diff": true, "journal": true, "report": true,
 }
 
-// Whether a command changes nothing and makes no entry: a lookup, a sweep that is tried, or the usage of a chain.
-func makesNoEntry(do string, given fields) bool {
-	return isLookup[do] || given["try"] == true || given["chain"] == true
+// Whether a command changes nothing and makes no entry: a lookup, a sweep that is tried, a quiet question, or the usage
+// of a chain.
+func makesNoEntry(do string, command fields) bool {
+	switch {
+	case do == "sweep":
+		return command["try"] == true
+	case isQuestion[do]:
+		return command["quiet"] == true || do == "usage" && command["chain"] == true
+	}
+	return isLookup[do]
 }
 
 // Commands that change nothing and make an entry. A log has them, since entries are numbered, but they need not have
 // reached the disk before they are answered.
 var isQuestion = map[string]bool{"stat": true, "usage": true, "mounts": true, "walk": true}
 
-// A log without a line.
+// A log without a line. It is made where it isn't there.
 func createLog(path string) (*log, error) {
-	l, err := takeLog(path, os.O_CREATE)
-	if err == nil && l.lines > 0 {
+	file, err := os.OpenFile(path, logFlags|os.O_CREATE|os.O_EXCL, 0o600)
+	isNew := err == nil
+	if errors.Is(err, fs.ErrExist) {
+		file, err = os.OpenFile(path, logFlags, 0)
+	}
+	if err != nil {
+		return nil, err
+	}
+	l, err := takeLog(path, file)
+	if err != nil {
+		return nil, err
+	}
+	if l.lines > 0 {
 		l.close()
 		return nil, &fs.PathError{Op: "create log", Path: path, Err: fs.ErrExist}
 	}
-	return l, err
+	l.isNew = isNew
+	return l, nil
 }
 
 // A log with lines.
 func openLog(path string) (*log, error) {
-	l, err := takeLog(path, 0)
+	file, err := os.OpenFile(path, logFlags, 0)
+	if err != nil {
+		return nil, err
+	}
+	l, err := takeLog(path, file)
 	if err == nil && l.lines == 0 {
 		l.close()
 		return nil, &fs.PathError{Op: "open log without a line", Path: path, Err: fs.ErrNotExist}
@@ -64,25 +91,37 @@ func openLog(path string) (*log, error) {
 	return l, err
 }
 
-func takeLog(path string, flag int) (*log, error) {
-	file, err := os.OpenFile(path, os.O_RDWR|os.O_APPEND|flag, 0o600)
-	if err != nil {
+const logFlags = os.O_RDWR | os.O_APPEND
+
+func takeLog(path string, file *os.File) (*log, error) {
+	l := &log{path: path, file: file}
+	err := l.take()
+	if err == nil {
+		return l, nil
+	}
+	file.Close()
+	if bad := new(BadLog); errors.As(err, &bad) {
 		return nil, err
 	}
-	l := &log{path: path, file: file}
-	if err := l.take(); err != nil {
-		file.Close()
-		return nil, &fs.PathError{Op: "open log", Path: path, Err: err}
-	}
-	return l, nil
+	return nil, &fs.PathError{Op: "open log", Path: path, Err: err}
 }
 
-// Keeps other processes away, and cuts a last line without a line feed, which no caller was answered.
+// How the first line of a log begins. A client that ended as it wrote this line has left no whole one.
+const opening = `{"do":"open",`
+
+// Keeps other processes away, and counts the lines. The file stays as it is.
 func (l *log) take() error {
+	if status, err := l.file.Stat(); err != nil {
+		return err
+	} else if !status.Mode().IsRegular() {
+		return &BadLog{l.path, 0, "not a regular file"}
+	}
 	if err := syscall.Flock(int(l.file.Fd()), syscall.LOCK_EX|syscall.LOCK_NB); err != nil {
 		return err
 	}
 	reader := bufio.NewReader(l.file)
+	begin, _ := reader.Peek(len(opening))
+	isOpening := strings.HasPrefix(opening, string(begin))
 	begun := int64(0)
 	for {
 		part, err := reader.ReadSlice('\n')
@@ -92,12 +131,29 @@ func (l *log) take() error {
 			l.size += begun
 			l.lines++
 			begun = 0
+		case err == io.EOF && l.lines == 0 && !isOpening:
+			return &BadLog{l.path, 1, "neither a whole line nor the beginning of an open"}
 		case err == io.EOF:
-			return l.file.Truncate(l.size)
+			l.isTorn = begun > 0
+			return nil
 		case !errors.Is(err, bufio.ErrBufferFull):
 			return err
 		}
 	}
+}
+
+// Cuts off a last line without a line feed, which no caller was answered.
+func (l *log) cut() error {
+	if !l.isTorn {
+		return nil
+	}
+	l.mutex.Lock()
+	defer l.mutex.Unlock()
+	if err := l.file.Truncate(l.size); err != nil {
+		return err
+	}
+	l.isTorn, l.end = false, 0
+	return nil
 }
 
 // The whole lines.
@@ -112,11 +168,17 @@ func (l *log) keep(answered []delivery) error {
 	var lines []byte
 	sync := false
 	for _, it := range answered {
-		if isFault(it.text) || it.call.isLookup {
+		if !it.isKept() {
 			continue
 		}
 		lines = append(lines, it.call.line...)
 		sync = sync || !isQuestion[it.call.do]
+	}
+	if len(lines) == 0 {
+		return nil
+	}
+	if err := l.cut(); err != nil {
+		return err
 	}
 	if _, err := l.file.Write(lines); err != nil {
 		return err
@@ -126,11 +188,13 @@ func (l *log) keep(answered []delivery) error {
 			return err
 		}
 	}
-	if l.size == 0 && len(lines) > 0 {
+	if l.size == 0 {
 		if err := l.syncFolder(); err != nil {
 			return err
 		}
 	}
+	l.mutex.Lock()
+	defer l.mutex.Unlock()
 	l.size += int64(len(lines))
 	return nil
 }
@@ -150,10 +214,13 @@ func (l *log) close() {
 	}
 }
 
-// Removes the file of a store that was not opened.
-func (l *log) remove() {
-	if l != nil {
-		os.Remove(l.path)
-		l.close()
+// Leaves the file of a store that was not opened as it was.
+func (l *log) abandon() {
+	if l == nil {
+		return
 	}
+	if l.isNew {
+		os.Remove(l.path)
+	}
+	l.close()
 }

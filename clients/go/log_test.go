@@ -43,6 +43,7 @@ func fill(t *testing.T, store *Store) {
 	must[Changed](t)(store.Create(ctx, "a", "k", "/f"))
 	must[Seen](t)(store.Look(ctx, "a", "k", "/f"))
 	must[Info](t)(store.Stat(ctx, "a", "k"))
+	must[Info](t)(store.Stat(ctx, "a", "k", WithEntry()))
 	_, err := store.Remove(ctx, "a", "none")
 	isError(t, err, ErrNotFound)
 	var fault *Fault
@@ -67,7 +68,6 @@ func TestReopened(t *testing.T) {
 	infos := must[[]Info](t)(store.Walk(ctx, "a", "", 0, Filter{}))
 	granted(t, store.Close())
 	store = reopen(t, path)
-	report.Entries++
 	equal(t, must[Report](t)(store.Report(ctx)), report)
 	equal(t, must[[]Node](t)(store.Tree(ctx, "a")), tree)
 	equal(t, must[[]Entry](t)(store.Journal(ctx, "a", 0, 0))[:len(journal)], journal)
@@ -109,9 +109,7 @@ func TestTornLastLine(t *testing.T) {
 		equal(t, must[Report](t)(store.Report(ctx)).Records, 2)
 		must[Prepared](t)(store.Prepare(ctx, "a", "last", "base"))
 		granted(t, store.Close())
-		again, err := os.ReadFile(path)
-		granted(t, err)
-		equal(t, string(again), string(whole))
+		isFile(t, path, string(whole))
 	}
 }
 
@@ -120,7 +118,7 @@ func TestBadLogs(t *testing.T) {
 	_, err := Open(ctx, program(), path)
 	isError(t, err, fs.ErrNotExist)
 	long := strings.Repeat("x", 10_000)
-	for _, lines := range []string{"", long} {
+	for _, lines := range []string{"", `{"do":`, `{"do":"open","root":"` + long} {
 		granted(t, os.WriteFile(path, []byte(lines), 0o600))
 		_, err := Open(ctx, program(), path)
 		isError(t, err, fs.ErrNotExist)
@@ -130,6 +128,9 @@ func TestBadLogs(t *testing.T) {
 		line  uint64
 	}{
 		{`{"do":"report"}` + "\n", 1},
+		{`{"do":"open","root":"r","namespaces":[]}` + "\n", 1},
+		{"a text", 1},
+		{long + "\na text\nwithout its line feed", 1},
 		{`{"do":"open","root":"/r","namespaces":[]}` + "\n\x00\x00\n" + `{"do":"report"}` + "\n", 2},
 		{`{"do":"open","root":"/r","namespaces":[]}` + "\n" + long + "\n", 2},
 	} {
@@ -138,7 +139,59 @@ func TestBadLogs(t *testing.T) {
 		if _, err := Open(ctx, program(), path); !errors.As(err, &bad) || bad.Line != it.line {
 			t.Errorf("%v, not a fault in line %d", err, it.line)
 		}
+		isFile(t, path, it.lines)
 	}
+}
+
+func isFile(t *testing.T, path, want string) {
+	t.Helper()
+	text, err := os.ReadFile(path)
+	granted(t, err)
+	if string(text) != want {
+		t.Errorf("%.100q, not %.100q", text, want)
+	}
+}
+
+// A new store takes a log of which only the beginning of its first line is there, and no file of another.
+func TestNewLogs(t *testing.T) {
+	path := logPath(t)
+	for _, lines := range []string{"a text", "a text\nin lines", `{"do":"report"}` + "\n"} {
+		granted(t, os.WriteFile(path, []byte(lines), 0o600))
+		_, err := New(ctx, loggedConfig(path))
+		if bad := new(BadLog); !errors.As(err, &bad) && !errors.Is(err, fs.ErrExist) {
+			t.Errorf("%v, not an error of the log", err)
+		}
+		isFile(t, path, lines)
+	}
+	for _, lines := range []string{"", `{"do":"op`} {
+		granted(t, os.WriteFile(path, []byte(lines), 0o600))
+		config := loggedConfig(path)
+		config.Root = "r"
+		_, err := New(ctx, config)
+		isError(t, err, ErrBadArgument)
+		isFile(t, path, lines)
+		granted(t, newStoreOf(t, loggedConfig(path)).Close())
+		granted(t, reopen(t, path).Close())
+	}
+	_, err := New(ctx, loggedConfig("/dev/null"))
+	if bad := new(BadLog); !errors.As(err, &bad) || bad.Line != 0 {
+		t.Errorf("%v, not a file that isn't regular", err)
+	}
+}
+
+// The store of a log that is there is had back, also where the program isn't; else there is a new one.
+func TestOpenOrNew(t *testing.T) {
+	config := loggedConfig(logPath(t))
+	for records := 0; records < 2; records++ {
+		store, err := OpenOrNew(ctx, config)
+		granted(t, err)
+		equal(t, must[Report](t)(store.Report(ctx)).Records, records)
+		must[Prepared](t)(store.Prepare(ctx, "a", fmt.Sprint(records), ""))
+		granted(t, store.Close())
+	}
+	config.Program = "/none"
+	_, err := OpenOrNew(ctx, config)
+	isError(t, err, fs.ErrNotExist)
 }
 
 func TestOneStoreAtATime(t *testing.T) {
@@ -161,20 +214,84 @@ func TestRefusedOpenLeavesNoLog(t *testing.T) {
 	isError(t, err, fs.ErrNotExist)
 }
 
-// A call whose line isn't kept isn't answered, and is the last.
+// What changes nothing is answered though the log takes no line. A call whose line isn't kept isn't answered, and is
+// the last.
 func TestLogThatTakesNoLine(t *testing.T) {
 	path := logPath(t)
 	store := newStoreOf(t, loggedConfig(path))
+	must[Prepared](t)(store.Prepare(ctx, "a", "first", ""))
 	full, err := os.OpenFile("/dev/full", os.O_WRONLY, 0)
 	if err != nil {
 		t.Skip(err)
 	}
 	granted(t, syscall.Dup2(int(full.Fd()), int(store.log.file.Fd())))
 	for i := 0; i < 2; i++ {
+		must[Info](t)(store.Stat(ctx, "a", "first"))
+		must[[]Mount](t)(store.Mounts(ctx, "a", "first"))
+		must[Seen](t)(store.Look(ctx, "a", "first", "/"))
+		if fault := new(Fault); !errors.As(store.Request(ctx, "zap", nil, nil), &fault) {
+			t.Error("no fault")
+		}
+	}
+	for i := 0; i < 2; i++ {
 		_, err = store.Prepare(ctx, "a", "k", "")
 		isError(t, err, ErrDied)
+		isError(t, err, syscall.ENOSPC)
 	}
-	equal(t, must[Report](t)(reopen(t, path).Report(ctx)).Records, 0)
+	equal(t, must[Report](t)(reopen(t, path).Report(ctx)).Records, 1)
+}
+
+// A folder on a disk of its own, and what fills and empties it.
+func smallDisk(t *testing.T) (folder string, fill, empty func()) {
+	t.Helper()
+	folder = t.TempDir()
+	if err := syscall.Mount("tmpfs", folder, "tmpfs", 0, "size=1m"); err != nil {
+		t.Skip("mount: ", err)
+	}
+	t.Cleanup(func() { syscall.Unmount(folder, 0) })
+	rest := filepath.Join(folder, "rest")
+	return folder, func() {
+			isError(t, os.WriteFile(rest, make([]byte, 1<<20), 0o600), syscall.ENOSPC)
+		}, func() {
+			granted(t, os.Remove(rest))
+		}
+}
+
+// On a full disk what asks and what frees is done, also when the store is had back there. Other calls are refused, and
+// nothing is made, until there is room again.
+func TestFullDisk(t *testing.T) {
+	folder, fill, empty := smallDisk(t)
+	config := loggedConfig(filepath.Join(folder, "log"))
+	store := newStoreOf(t, config)
+	for _, key := range []string{"k", "l", "m"} {
+		must[Prepared](t)(store.Prepare(ctx, "a", key, ""))
+	}
+	must[Changed](t)(store.Create(ctx, "a", "m", "/f"))
+	fill()
+	write := func() error {
+		_, err := store.WriteText(ctx, "a", "m", "/f", 0, strings.Repeat("x", 100_000))
+		return err
+	}
+	for err := write(); !errors.Is(err, syscall.ENOSPC); err = write() {
+		granted(t, err)
+	}
+	for opened := 0; ; opened++ {
+		must[Info](t)(store.Stat(ctx, "a", "m"))
+		must[Seen](t)(store.Look(ctx, "a", "m", "/"))
+		granted(t, store.Roll(ctx, 0))
+		must[Usage](t)(store.Discard(ctx, "a", []string{"k", "l"}[opened]))
+		isError(t, write(), syscall.ENOSPC)
+		granted(t, store.Err())
+		if opened == 1 {
+			break
+		}
+		granted(t, store.Close())
+		store = reopen(t, config.Log)
+	}
+	empty()
+	must[Prepared](t)(store.Prepare(ctx, "a", "n", ""))
+	granted(t, store.Close())
+	equal(t, must[Report](t)(reopen(t, config.Log).Report(ctx)).Open, 2)
 }
 
 func kills() int {
@@ -264,20 +381,26 @@ func makeSnapshot(store *Store, key, name string, answered func(gone, come strin
 
 const committerLog = "PIBROULEZ_COMMITTER_LOG"
 
-// The client that TestKilledClient kills: it commits snapshots, and prints each name once the commit was answered.
-func TestCommitter(t *testing.T) {
-	path, kill, found := strings.Cut(os.Getenv(committerLog), "\n")
-	if !found {
-		t.Skip("for TestKilledClient")
+// Where the environment names a log, this is the client that TestKilledClient kills.
+func TestMain(m *testing.M) {
+	if path, kill, found := strings.Cut(os.Getenv(committerLog), "\n"); found {
+		fmt.Fprintln(os.Stderr, commitOn(path, kill))
+		os.Exit(1)
 	}
-	store := reopen(t, path)
-	for n := 0; ; n++ {
-		granted(t, makeSnapshot(store, "key", fmt.Sprintf("%s-%d", kill, n), func(_, come string, kind Kind) {
+	os.Exit(m.Run())
+}
+
+// Commits snapshots, and prints each name once the commit was answered.
+func commitOn(path, kill string) error {
+	store, err := Open(ctx, program(), path)
+	for n := 0; err == nil; n++ {
+		err = makeSnapshot(store, "key", fmt.Sprintf("%s-%d", kill, n), func(_, come string, kind Kind) {
 			if kind == KindCommitted {
 				fmt.Println(come)
 			}
-		}))
+		})
 	}
+	return err
 }
 
 // A client is killed, and its program ends. The one call that wasn't answered may have been made.
@@ -286,7 +409,7 @@ func TestKilledClient(t *testing.T) {
 	granted(t, newStoreOf(t, loggedConfig(path)).Close())
 	random := rand.New(rand.NewSource(int64(kills())))
 	for kill := 0; kill < kills()/4; kill++ {
-		client := exec.Command(os.Args[0], "-test.run=^TestCommitter$")
+		client := exec.Command(os.Args[0])
 		client.Env = append(os.Environ(), fmt.Sprintf("%s=%s\n%d", committerLog, path, kill))
 		output, err := client.StdoutPipe()
 		granted(t, err)

@@ -5,7 +5,10 @@
 // place in the order, so no call waits for the answer of another. Where a call's context ends, the call returns the
 // context's error; the process may still carry it out, and its answer is dropped.
 //
-// The process keeps all in memory, so nothing outlives it but what a log keeps: see Config.Log and Open.
+// The process keeps all in memory, so nothing outlives it but what a log keeps: see Config.Log and Open. A call whose
+// line the disk of the log has no room for is syscall.ENOSPC, or syscall.EDQUOT, and isn't sent; the store goes on. A
+// log holds some of the disk for the calls that free something: discard, remove, sweep, trim, lease_drop, lease_release,
+// reopen and roll. Calls that change nothing and make no entry have no line in it.
 package pibroulez
 
 import (
@@ -16,11 +19,14 @@ import (
 	"errors"
 	"fmt"
 	"io"
+	"io/fs"
 	"os/exec"
 	"sort"
 	"strings"
 	"sync"
+	"sync/atomic"
 	"syscall"
+	"time"
 	"unicode/utf8"
 )
 
@@ -41,7 +47,7 @@ type Config struct {
 	Slots uint64
 	// LayerInodes is the most inodes of each layer that is made, or the default, 65,536, where it is 0.
 	LayerInodes uint64
-	// Log is the path of a file that keeps the calls, or empty for none. It must not have lines yet.
+	// Log is the path of a file that keeps the calls, or empty for none. For New it must not have lines yet.
 	Log string
 }
 
@@ -55,13 +61,24 @@ type Store struct {
 	calls chan *call
 	sent  chan *call
 
+	rounds rounds
+
 	closing chan struct{}
 	close   sync.Once
+	// How long Close waits for an answer, how many have come, and whether one is being kept.
+	patience time.Duration
+	answered atomic.Uint64
+	keeping  atomic.Bool
+	// Whether the process was killed since none came.
+	stuck atomic.Bool
 
 	// Is closed once no call is answered any more; then err says why.
 	ended chan struct{}
 	err   error
 }
+
+// How long Close waits for a process that answers nothing.
+const patience = 10 * time.Second
 
 type call struct {
 	do   string
@@ -78,8 +95,9 @@ type fields map[string]any
 
 // New starts the process and opens a store, and a log where the configuration names one.
 //
-// The error is a *Refusal where the store is refused, fs.ErrExist where the log has lines, and syscall.EWOULDBLOCK
-// where another process has the log.
+// The error is a *Refusal where the store is refused, fs.ErrExist where the log has lines, a *BadLog where the file is
+// another's, and syscall.EWOULDBLOCK where another process has the log. With an error a file that was there is as it
+// was, unless the process has ended after its first line.
 func New(ctx context.Context, config Config) (*Store, error) {
 	var lines *log
 	if config.Log != "" {
@@ -95,9 +113,10 @@ func New(ctx context.Context, config Config) (*Store, error) {
 		if err = store.call(ctx, "open", config.fields(), nil, nil); err == nil {
 			return store, nil
 		}
+		store.process.Process.Kill()
 		store.Close()
 	}
-	lines.remove()
+	lines.abandon()
 	return nil, err
 }
 
@@ -122,23 +141,46 @@ func (c Config) fields() fields {
 
 // Open starts the process and has the store back that a log tells. The store goes on with the log.
 //
-// A last line without its line feed is cut off: its call wasn't answered. The error is fs.ErrNotExist where there is no
-// log, or none with a whole line, a *BadLog where a line isn't taken, and syscall.EWOULDBLOCK where another process has
-// the log. The cost is that of all calls in the log.
+// A last line without its line feed is cut off once all others are taken: its call wasn't answered. The error is
+// fs.ErrNotExist where there is no log, or none with a whole line, a *BadLog where a line isn't taken or the file is
+// another's, and syscall.EWOULDBLOCK where another process has the log. With an error the file is as it was. The cost
+// is that of all calls in the log.
 func Open(ctx context.Context, program, path string) (*Store, error) {
 	lines, err := openLog(path)
 	if err != nil {
 		return nil, err
 	}
+	return openOn(ctx, program, lines)
+}
+
+// OpenOrNew has the store back that the configuration's log tells, as Open does. Where there is no log, or none with a
+// whole line, it opens a store as New does; all of the configuration but Program and Log is of such a store alone.
+func OpenOrNew(ctx context.Context, config Config) (*Store, error) {
+	lines, err := openLog(config.Log)
+	if errors.Is(err, fs.ErrNotExist) {
+		return New(ctx, config)
+	}
+	if err != nil {
+		return nil, err
+	}
+	return openOn(ctx, config.Program, lines)
+}
+
+func openOn(ctx context.Context, program string, lines *log) (*Store, error) {
 	store, input, output, err := start(program, lines)
 	if err != nil {
 		lines.close()
 		return nil, err
 	}
-	if err := store.replay(ctx, input, output); err != nil {
+	err = store.replay(ctx, input, output)
+	if err == nil {
+		err = lines.cut()
+	}
+	if err != nil {
 		store.end(err, true)
 		return nil, err
 	}
+	lines.hold()
 	go store.write(input)
 	go store.read(output)
 	return store, nil
@@ -169,39 +211,65 @@ func start(program string, lines *log) (*Store, io.WriteCloser, *bufio.Reader, e
 		sent:    make(chan *call, maxSent),
 		closing: make(chan struct{}),
 		ended:   make(chan struct{}),
+		rounds:  rounds{turn: make(chan struct{}, 1)},
+
+		patience: patience,
 	}
 	return store, input, bufio.NewReader(output), nil
 }
 
 // Close ends the process, once it has answered the calls that were sent. Later calls are ErrClosed.
+//
+// A process that answers nothing for 10 seconds, as a stopped one, is killed: ErrDied. So are the calls that it hasn't
+// answered.
 func (s *Store) Close() error {
 	s.close.Do(func() { close(s.closing) })
-	<-s.ended
-	if errors.Is(s.err, ErrClosed) {
+	for {
+		answered := s.answered.Load()
+		select {
+		case <-s.ended:
+			if errors.Is(s.err, ErrClosed) {
+				return nil
+			}
+			return s.err
+		case <-time.After(s.patience):
+		}
+		if s.answered.Load() == answered && !s.keeping.Load() {
+			s.stuck.Store(true)
+			s.process.Process.Kill()
+		}
+	}
+}
+
+// Ended is closed once the process has ended, by Close or by itself. Err says why then.
+func (s *Store) Ended() <-chan struct{} { return s.ended }
+
+// Err is nil as long as the process runs, then ErrClosed where Close has ended it, and else ErrDied.
+func (s *Store) Err() error {
+	select {
+	case <-s.ended:
+		return s.err
+	default:
 		return nil
 	}
-	return s.err
 }
 
 // PID is the process.
 func (s *Store) PID() int { return s.process.Process.Pid }
 
 // Request makes the call of any command, with the fields that docs/SCRIPT.md names, and takes the members of its
-// answer, where answer isn't nil, as json.Unmarshal does.
+// answer, where answer isn't nil, as json.Unmarshal does. It is ErrReserved where a field is `do` or `id`.
 func (s *Store) Request(ctx context.Context, do string, command map[string]any, answer any) error {
 	return s.call(ctx, do, command, nil, answer)
 }
 
 func (s *Store) call(ctx context.Context, do string, given fields, options []Option, answer any) error {
-	line, err := lineOf(do, given, options)
+	c, err := callOf(do, given, options)
 	if err != nil {
 		return fmt.Errorf("%s: %w", do, err)
 	}
-	text, err := s.exchange(ctx, &call{do: do, line: line, isLookup: makesNoEntry(do, given), answer: make(chan []byte, 1)})
+	text, err := s.answerTo(ctx, c)
 	if err != nil {
-		return fmt.Errorf("%s: %w", do, err)
-	}
-	if err := refused(text); err != nil {
 		return fmt.Errorf("%s: %w", do, err)
 	}
 	if answer == nil {
@@ -210,52 +278,52 @@ func (s *Store) call(ctx context.Context, do string, given fields, options []Opt
 	return json.Unmarshal(text, answer)
 }
 
-// The line of a command, with its line feed.
-func lineOf(do string, given fields, options []Option) ([]byte, error) {
+// The call of a command. Its line has its line feed.
+func callOf(do string, given fields, options []Option) (call, error) {
 	command := fields{"do": do}
 	for name, value := range given {
+		if name == "do" || name == "id" {
+			return call{}, fmt.Errorf("%w: %s", ErrReserved, name)
+		}
 		command[name] = value
 	}
 	for _, option := range options {
+		if !option.isOf(do) {
+			return call{}, fmt.Errorf("%w: %s", ErrOption, option.field)
+		}
 		command[option.field] = option.value
-	}
-	// json.Marshal would put other characters in place of what is not UTF-8.
-	for _, value := range command {
-		if !areTexts(value) {
-			return nil, ErrNotText
+		if option.value == nil {
+			delete(command, option.field)
 		}
 	}
 	line, err := json.Marshal(command)
-	return append(line, '\n'), err
+	if err != nil {
+		return call{}, err
+	}
+	if !isText(line) {
+		return call{}, ErrNotText
+	}
+	return call{do: do, line: append(line, '\n'), isLookup: makesNoEntry(do, command)}, nil
 }
 
-// Whether all texts of a field are UTF-8.
-func areTexts(value any) bool {
-	switch value := value.(type) {
-	case string:
-		return utf8.ValidString(value)
-	case []string:
-		return utf8.ValidString(strings.Join(value, "\n"))
-	case map[string]string:
-		for name, text := range value {
-			if !utf8.ValidString(name) || !utf8.ValidString(text) {
-				return false
-			}
-		}
-	case map[string]*string:
-		for name, text := range value {
-			if !utf8.ValidString(name) || text != nil && !utf8.ValidString(*text) {
-				return false
-			}
-		}
-	case [][3]any:
-		for _, namespace := range value {
-			if !areTexts(namespace[0]) {
-				return false
-			}
-		}
+// Whether what json.Marshal has written is of texts in UTF-8: in place of each other byte it puts the escape \ufffd,
+// and the character itself it leaves as it is. A json.RawMessage it takes over unseen.
+func isText(line []byte) bool {
+	if !utf8.Valid(line) {
+		return false
 	}
-	return true
+	escape := []byte(`\ufffd`)
+	for begin := 0; ; {
+		at := bytes.Index(line[begin:], escape)
+		if at < 0 {
+			return true
+		}
+		before := line[begin : begin+at]
+		if (len(before)-len(bytes.TrimRight(before, `\`)))%2 == 0 {
+			return false
+		}
+		begin += at + len(escape)
+	}
 }
 
 // What an answer refuses, if it does.
@@ -280,36 +348,54 @@ func refused(text []byte) error {
 // The members of an answer are in byte order, so this one is the first.
 func isFault(text []byte) bool { return bytes.HasPrefix(text, []byte(`{"fault":`)) }
 
-func (s *Store) exchange(ctx context.Context, c *call) ([]byte, error) {
-	if err := ctx.Err(); err != nil {
+// Sends a call, and waits for its answer.
+func (s *Store) exchange(ctx context.Context, given call) ([]byte, error) {
+	c := &given
+	c.answer = make(chan []byte, 1)
+	if err := s.Err(); err != nil {
+		return nil, err
+	}
+	if err := s.log.admit(c); err != nil {
+		return nil, err
+	}
+	if err := s.send(ctx, c); err != nil {
+		s.log.release(c)
 		return nil, err
 	}
 	select {
+	case text := <-c.answer:
+		return text, nil
+	case <-ctx.Done():
+		return nil, ctx.Err()
+	case <-s.ended:
+	}
+	select {
+	case text := <-c.answer:
+		return text, nil
+	default:
+		return nil, s.err
+	}
+}
+
+// Hands a call to the writer.
+func (s *Store) send(ctx context.Context, c *call) error {
+	if err := ctx.Err(); err != nil {
+		return err
+	}
+	select {
 	case <-s.closing:
-		return nil, ErrClosed
+		return ErrClosed
 	default:
 	}
 	select {
 	case s.calls <- c:
+		return nil
 	case <-ctx.Done():
-		return nil, ctx.Err()
+		return ctx.Err()
 	case <-s.closing:
-		return nil, ErrClosed
+		return ErrClosed
 	case <-s.ended:
-		return nil, s.err
-	}
-	select {
-	case text := <-c.answer:
-		return text, nil
-	case <-ctx.Done():
-		return nil, ctx.Err()
-	case <-s.ended:
-	}
-	select {
-	case text := <-c.answer:
-		return text, nil
-	default:
-		return nil, s.err
+		return s.err
 	}
 }
 
@@ -378,18 +464,37 @@ func (s *Store) read(output *bufio.Reader) {
 			return
 		}
 		ready = append(ready, delivery{c, text})
+		s.answered.Add(1)
 		if hasLine(output) {
 			continue
 		}
-		if err := s.log.keep(ready); err != nil {
+		if err := s.deliver(ready); err != nil {
 			s.end(err, true)
 			return
 		}
-		for _, it := range ready {
-			it.call.answer <- it.text
-		}
 		ready = ready[:0]
 	}
+}
+
+// Keeps the lines of calls, and hands out their answers. Where a line isn't kept, its call and those after it aren't
+// answered: what they tell may not outlive the process.
+func (s *Store) deliver(ready []delivery) error {
+	s.keeping.Store(true)
+	defer s.keeping.Store(false)
+	err := s.log.keep(ready)
+	for _, it := range ready {
+		s.log.release(it.call)
+		if err != nil && it.isKept() {
+			return err
+		}
+		it.call.answer <- it.text
+	}
+	return nil
+}
+
+// Whether a log has the call's line. That of a refused `open` is left out, since there is no store then.
+func (d delivery) isKept() bool {
+	return !d.call.isLookup && !isFault(d.text) && (d.call.do != "open" || refused(d.text) == nil)
 }
 
 // The answer of the call within a response. A line that is too long has no id, and is told as a fault without one.
@@ -415,29 +520,35 @@ func (s *Store) end(cause error, kill bool) {
 	if kill {
 		s.process.Process.Kill()
 	}
-	s.process.Wait()
+	waited := s.process.Wait()
 	s.log.close()
-	s.err = s.causeOf(cause)
+	if cause == nil {
+		cause = s.causeOf(waited)
+	}
+	s.err = cause
+	if !errors.Is(cause, ErrClosed) {
+		s.err = &died{cause}
+	}
 	close(s.ended)
 }
 
-func (s *Store) causeOf(cause error) error {
-	state := s.process.ProcessState
-	select {
-	case <-s.closing:
-		if cause == nil && state.Success() {
+// What has ended a process that isn't ended for its answers.
+func (s *Store) causeOf(waited error) error {
+	if s.stuck.Load() {
+		return fmt.Errorf("it answered nothing for %v", s.patience)
+	}
+	if waited == nil {
+		select {
+		case <-s.closing:
 			return ErrClosed
+		default:
+			waited = errors.New(s.process.ProcessState.String())
 		}
-	default:
 	}
-	words := strings.TrimSpace(s.words.String())
-	if cause != nil {
-		return fmt.Errorf("%w: %v", ErrDied, cause)
+	if words := strings.TrimSpace(s.words.String()); words != "" {
+		return fmt.Errorf("%w: %s", waited, words)
 	}
-	if words != "" {
-		return fmt.Errorf("%w: %v: %s", ErrDied, state, words)
-	}
-	return fmt.Errorf("%w: %v", ErrDied, state)
+	return waited
 }
 
 // Sends the lines of the log, and reads their answers beside that.
@@ -462,6 +573,8 @@ func (s *Store) replay(ctx context.Context, input io.Writer, output *bufio.Reade
 		}
 		if err := refused(text); isFault(text) {
 			return &BadLog{s.log.path, line, err.(*Fault).Words}
+		} else if err != nil && line == 1 {
+			return &BadLog{s.log.path, line, err.Error()}
 		}
 	}
 	return nil

@@ -2,10 +2,13 @@ package pibroulez
 
 import (
 	"context"
+	"encoding/json"
 	"errors"
 	"fmt"
 	"io/fs"
+	"net/netip"
 	"os"
+	"os/exec"
 	"path/filepath"
 	"reflect"
 	"strings"
@@ -91,8 +94,8 @@ func TestFirstScript(t *testing.T) {
 	equal(t, changed(store.Create(ctx, "a", "k", "/etc/x")), Changed{Usage{2, 3}, Usage{2, 3}})
 	equal(t, changed(store.WriteFill(ctx, "a", "k", "/etc/x", 0, 120, 5000)), Changed{Usage{4, 3}, Usage{4, 3}})
 	equal(t, must[Committed](t)(store.Commit(ctx, "a", "k", "base")), Committed{1, Usage{4, 3}})
-	equal(t, must[Usage](t)(store.Usage(ctx, "a", "base")), Usage{4, 3})
-	_, err := store.Stat(ctx, "a", "k")
+	equal(t, must[Usage](t)(store.Usage(ctx, "a", "base", WithEntry())), Usage{4, 3})
+	_, err := store.Stat(ctx, "a", "k", WithEntry())
 	isError(t, err, ErrNotFound)
 	equal(t, must[Report](t)(store.Report(ctx)), Report{8, 0, 1, map[string]Usage{"a": {4, 3}}})
 }
@@ -176,10 +179,11 @@ func TestWhatLayersBelowHave(t *testing.T) {
 // Each call that makes an entry is counted: the numbers of entries are in the comments.
 func TestSnapshots(t *testing.T) {
 	store := newStore(t, Usage{100, 100}) // 1
+	entry := WithEntry()
 	must[Prepared](t)(store.Prepare(ctx, "a", "k", "", WithLabels(map[string]string{"x": "1"})))
-	equal(t, must[[]Mount](t)(store.Mounts(ctx, "a", "k")), []Mount{{"bind", "/r/snapshots/1/fs", []string{"rw", "rbind"}}})
+	equal(t, must[[]Mount](t)(store.Mounts(ctx, "a", "k", entry)), []Mount{{"bind", "/r/snapshots/1/fs", []string{"rw", "rbind"}}})
 	active := Info{"k", "", KindActive, map[string]string{"x": "1"}, 1, 2, 2}
-	equal(t, must[Info](t)(store.Stat(ctx, "a", "k")), active) // 4
+	equal(t, must[Info](t)(store.Stat(ctx, "a", "k", entry)), active) // 4
 	active.Labels, active.Updated = map[string]string{"x": "1", "y": "2"}, 5
 	equal(t, must[Info](t)(store.Update(ctx, "a", "k", map[string]string{"y": "2"}, []string{"labels.y"})), active)
 	granted(t, store.LeaseCreate(ctx, "a", "lease", WithUntil(5))) // 6
@@ -190,13 +194,13 @@ func TestSnapshots(t *testing.T) {
 	base := Info{"base", "", KindCommitted, active.Labels, 1, 7, 7}
 	view := Info{"v", "base", KindView, map[string]string{}, 2, 8, 8}
 	walk := must[[]Info](t)
-	equal(t, walk(store.Walk(ctx, "a", "", 0, Filter{})), []Info{base, view}) // 11
-	equal(t, walk(store.Walk(ctx, "a", "", 1, Filter{})), []Info{base})
-	equal(t, walk(store.Walk(ctx, "a", "base", 0, Filter{})), []Info{view})
-	equal(t, walk(store.Walk(ctx, "a", "", 0, Filter{Name: text("v"), Parent: text("base")})), []Info{view})
-	equal(t, walk(store.Walk(ctx, "a", "", 0, Filter{Parent: text("")})), []Info{base})
-	equal(t, walk(store.Walk(ctx, "a", "", 0, Filter{Kind: KindView})), []Info{view})
-	equal(t, walk(store.Walk(ctx, "a", "", 0, Filter{Labels: map[string]*string{"x": nil, "y": text("2")}})), []Info{base})
+	equal(t, walk(store.Walk(ctx, "a", "", 0, Filter{}, entry)), []Info{base, view}) // 11
+	equal(t, walk(store.Walk(ctx, "a", "", 1, Filter{}, entry)), []Info{base})
+	equal(t, walk(store.Walk(ctx, "a", "base", 0, Filter{}, entry)), []Info{view})
+	equal(t, walk(store.Walk(ctx, "a", "", 0, Filter{Name: text("v"), Parent: text("base")}, entry)), []Info{view})
+	equal(t, walk(store.Walk(ctx, "a", "", 0, Filter{Parent: text("")}, entry)), []Info{base})
+	equal(t, walk(store.Walk(ctx, "a", "", 0, Filter{Kind: KindView}, entry)), []Info{view})
+	equal(t, walk(store.Walk(ctx, "a", "", 0, Filter{Labels: map[string]*string{"x": nil, "y": text("2")}}, entry)), []Info{base})
 	granted(t, store.LeaseAdd(ctx, "a", "lease", "base")) // 18
 	equal(t, must[Usage](t)(store.ChainUsage(ctx, "a", "v")), Usage{1, 1})
 	_, notActive := store.Look(ctx, "a", "base", "/")
@@ -218,12 +222,12 @@ func TestSnapshots(t *testing.T) {
 	equal(t, must[[]Change](t)(store.Diff(ctx, "a", "base", "", 1)), []Change{{"added", "/"}})
 	equal(t, must[[]Change](t)(store.Diff(ctx, "a", "v", "/", 0)), []Change{})
 	equal(t, must[[]Entry](t)(store.Journal(ctx, "a", 6, 3)), []Entry{
-		{7, 0, "commit", Usage{1, 1}, "base", 1, "", ""},
-		{8, 0, "view", Usage{1, 1}, "v", 2, "", ""},
-		{9, 0, "prepare", Usage{2, 2}, "k2", 3, "", ""},
+		{Number: 7, Call: "commit", Charge: Usage{1, 1}, Key: "base", ID: 1},
+		{Number: 8, Call: "view", Charge: Usage{1, 1}, Key: "v", ID: 2},
+		{Number: 9, Call: "prepare", Charge: Usage{2, 2}, Key: "k2", ID: 3},
 	})
 	equal(t, must[[]Entry](t)(store.FullJournal(ctx, "a", 9, 1)), []Entry{
-		{10, 0, "discard", Usage{1, 1}, "", 3, "", `{"do":"discard","key":"k2","ns":"a","s":0}`},
+		{Number: 10, Call: "discard", Charge: Usage{1, 1}, ID: 3, Line: `{"do":"discard","key":"k2","ns":"a","s":0}`},
 	})
 	equal(t, must[Usage](t)(store.Remove(ctx, "a", "v")), Usage{}) // 19
 	granted(t, store.LeaseRelease(ctx, "a", "lease"))
@@ -241,6 +245,42 @@ func TestSnapshots(t *testing.T) {
 	equal(t, must[Report](t)(store.Report(ctx)), Report{1, 1, 1, map[string]Usage{"a": {1, 1}}})
 	granted(t, store.Roll(ctx, 0))
 	equal(t, must[Info](t)(store.Stat(ctx, "a", "k")).Created, uint64(27))
+}
+
+// A commit with labels has these in place of those of the active snapshot, and one without has the latter.
+func TestLabelsOfCommits(t *testing.T) {
+	store := newStore(t, Usage{100, 100})
+	prepared := map[string]string{"x": "1", "y": "2"}
+	for name, it := range map[string]struct {
+		options []Option
+		labels  map[string]string
+	}{
+		"as they were": {nil, prepared},
+		"others":       {[]Option{WithLabels(map[string]string{"y": "3"})}, map[string]string{"y": "3"}},
+		"none":         {[]Option{WithLabels(nil)}, map[string]string{}},
+	} {
+		must[Prepared](t)(store.Prepare(ctx, "a", "k", "", WithLabels(prepared)))
+		must[Committed](t)(store.Commit(ctx, "a", "k", name, it.options...))
+		equal(t, must[Info](t)(store.Stat(ctx, "a", name)).Labels, it.labels)
+	}
+}
+
+// The journal of no namespace has all entries of the round, also those of calls without a namespace of the store.
+func TestJournalOfTheRound(t *testing.T) {
+	store := newStore(t, Usage{100, 100})
+	must[uint64](t)(store.Session(ctx))
+	_, err := store.Prepare(ctx, "b", "k", "")
+	isError(t, err, ErrNoNamespace)
+	must[Prepared](t)(store.Prepare(ctx, "a", "k", ""))
+	equal(t, must[[]Entry](t)(store.Journal(ctx, "", 1, 0)), []Entry{
+		{Number: 2, Session: 1, Call: "session"},
+		{Number: 3, Call: "prepare", Namespace: "b", Key: "k", Refused: ErrNoNamespace},
+		{Number: 4, Call: "prepare", Namespace: "a", Key: "k", ID: 1},
+	})
+	full := all(t, func(visit func(Entry) error) error { return store.FullJournalAll(ctx, "", 1, visit) })
+	if len(full) != 3 || !strings.HasPrefix(full[0].Line, `{"do":"session"`) {
+		t.Errorf("%+v", full)
+	}
 }
 
 func TestRefusals(t *testing.T) {
@@ -280,7 +320,7 @@ func TestRefusals(t *testing.T) {
 	equal(t, must[[]Lease](t)(store.Leases(ctx, "a")), []Lease{{"lease", []string{"child"}, nil}})
 	_, noLease := store.Lease(ctx, "a", "none")
 	_, notActive := store.Commit(ctx, "a", "base", "x")
-	_, noSession := store.Stat(ctx, "a", "k", WithSession(7))
+	_, noSession := store.Stat(ctx, "a", "k", WithSession(7), WithEntry())
 	_, notEmpty := store.Rmdir(ctx, "a", "k", "/d")
 	_, crossDevice := store.Rename(ctx, "a", "k", "/lower", "/upper")
 	_, notPermitted := store.Link(ctx, "a", "k", "/d", "/x")
@@ -371,7 +411,7 @@ func TestJournalFull(t *testing.T) {
 	limits := map[string]Usage{"a": {1, 1}}
 	store := newStoreOf(t, Config{Program: program(), Root: "/r", Namespaces: limits, Journal: 3})
 	must[Prepared](t)(store.Prepare(ctx, "a", "k", ""))
-	_, err := store.Stat(ctx, "a", "k")
+	_, err := store.Stat(ctx, "a", "k", WithEntry())
 	isError(t, err, ErrJournalFull)
 	must[Usage](t)(store.Discard(ctx, "a", "k"))
 }
@@ -407,14 +447,20 @@ func TestFaults(t *testing.T) {
 	equal(t, must[Report](t)(store.Report(ctx)), Report{1, 0, 0, map[string]Usage{"a": {}}})
 }
 
-// An option that the call doesn't have is a fault, and nothing is made without it.
-func TestUnknownField(t *testing.T) {
+// Nothing is sent where an option isn't the call's, or a field is the client's: the next fault is of line 2.
+func TestWhatIsNotSent(t *testing.T) {
 	store := newStore(t, Usage{100, 100})
-	var fault *Fault
-	if _, err := store.Prepare(ctx, "a", "k", "", WithLease("l")); !errors.As(err, &fault) {
-		t.Fatalf("%v, not a fault", err)
+	_, err := store.Prepare(ctx, "a", "k", "", WithLease("l"))
+	isError(t, err, ErrOption)
+	_, err = store.Look(ctx, "a", "k", "/", WithEntry())
+	isError(t, err, ErrOption)
+	for _, field := range []string{"do", "id"} {
+		isError(t, store.Request(ctx, "look", map[string]any{field: "session"}, nil), ErrReserved)
 	}
-	equal(t, *fault, Fault{"unknown field lease", 2})
+	var fault *Fault
+	if err := store.Request(ctx, "zap", nil, nil); !errors.As(err, &fault) || fault.Line != 2 {
+		t.Errorf("%v, not a fault of line 2", err)
+	}
 	equal(t, must[Report](t)(store.Report(ctx)), Report{1, 0, 0, map[string]Usage{"a": {}}})
 }
 
@@ -438,6 +484,15 @@ func TestTexts(t *testing.T) {
 	isError(t, err, ErrNotText)
 	_, err = New(ctx, Config{Program: program(), Root: "/r", Namespaces: map[string]Usage{bad: {}}})
 	isError(t, err, ErrNotText)
+	for _, value := range []any{
+		bad, &bad, []any{"x", bad}, map[string]any{"x": map[string]any{bad: 1}}, struct{ Text []string }{[]string{bad}},
+		[]Kind{Kind(bad)}, fs.PathError{Op: "\\" + bad}, json.RawMessage(`"` + bad + `"`),
+		netip.IPv6Unspecified().WithZone(bad),
+	} {
+		isError(t, store.Request(ctx, "look", map[string]any{"x": value}, nil), ErrNotText)
+	}
+	isError(t, store.Request(ctx, "look"+bad, nil, nil), ErrNotText)
+	equal(t, must[Report](t)(store.Report(ctx)).Entries, uint64(2))
 }
 
 // Thirty-two goroutines make 20 snapshots each, of a file of n blocks: 1 + n blocks, 2 inodes.
@@ -615,6 +670,47 @@ func TestKilled(t *testing.T) {
 		}
 	}
 	isError(t, store.Close(), ErrDied)
+}
+
+// Whoever waits for the end of a store learns of it, and why.
+func TestEnded(t *testing.T) {
+	killed, closed := newStore(t, Usage{1, 1}), newStore(t, Usage{1, 1})
+	granted(t, killed.Err())
+	syscall.Kill(killed.PID(), syscall.SIGKILL)
+	<-killed.Ended()
+	isError(t, killed.Err(), ErrDied)
+	if status := new(exec.ExitError); !errors.As(killed.Err(), &status) {
+		t.Errorf("%v: no status", killed.Err())
+	}
+	granted(t, closed.Close())
+	<-closed.Ended()
+	isError(t, closed.Err(), ErrClosed)
+}
+
+// A stopped process is ended by Close, with the calls that it hasn't answered; one that goes on in time isn't.
+func TestStopped(t *testing.T) {
+	for _, goesOn := range []bool{true, false} {
+		store := newStore(t, Usage{1, 1})
+		store.patience = 2 * time.Second
+		syscall.Kill(store.PID(), syscall.SIGSTOP)
+		asked := make(chan error)
+		go func() {
+			_, err := store.Report(ctx)
+			asked <- err
+		}()
+		for len(store.sent) == 0 {
+			time.Sleep(time.Millisecond)
+		}
+		if goesOn {
+			time.AfterFunc(100*time.Millisecond, func() { syscall.Kill(store.PID(), syscall.SIGCONT) })
+			granted(t, store.Close())
+			granted(t, <-asked)
+			continue
+		}
+		store.patience = 100 * time.Millisecond
+		isError(t, store.Close(), ErrDied)
+		isError(t, <-asked, ErrDied)
+	}
 }
 
 func TestClosed(t *testing.T) {

@@ -1,27 +1,20 @@
-"""Tests of the client over the built program, or over the one that PIBROULEZ_PROGRAM names.
+"""Tests of the client's calls and errors.
 
-Expected values are those of docs/SCRIPT.md: its examples, and sums by its rules. PIBROULEZ_KILLS is how often a
-process is killed, 20 where it isn't set.
+Expected values are those of docs/SCRIPT.md: its examples, and sums by its rules.
 """
 from __future__ import annotations
 
+import builtins
 import contextlib
+import copy
 import io
-import itertools
 import json
-import os
-import random
+import pickle
 import re
-import signal
 import subprocess
-import sys
-import tempfile
-import threading
-import time
 import unittest
-import unittest.mock
 from pathlib import Path
-from typing import Callable, Iterator, Type
+from typing import Callable, Type
 
 import example
 import pibroulez
@@ -31,7 +24,6 @@ from pibroulez import (
     Committed,
     Content,
     Directory,
-    Died,
     Entry,
     Fault,
     File,
@@ -53,26 +45,7 @@ from pibroulez import (
     Usage,
     Viewed,
 )
-
-PROGRAM = os.environ.get("PIBROULEZ_PROGRAM") or pibroulez.PROGRAM
-KILLS = int(os.environ.get("PIBROULEZ_KILLS", "20"))
-# A session's life that is killed: it commits snapshots, and prints each name once the commit has been answered.
-COMMITTER = """
-import itertools, sys
-from pibroulez import Store
-store = Store.open(sys.argv[1], program=sys.argv[2])
-for n in itertools.count():
-    name = f"{sys.argv[3]}-{n}"
-    store.prepare("a", "key", "")
-    store.create("a", "key", "/file")
-    store.commit("a", "key", name)
-    print(name, flush=True)
-"""
-
-
-def open_store(blocks: int = 100, inodes: int = 100, **given: object) -> Store:
-    """A store with a namespace `a` of this limit."""
-    return Store("/r", {"a": (blocks, inodes)}, program=PROGRAM, **given)  # type: ignore[arg-type]
+from stores import PROGRAM, open_store
 
 
 def commit_empty(store: Store, name: str, parent: str = "") -> None:
@@ -91,9 +64,9 @@ class Commands(unittest.TestCase):
                 store.write("a", "k", "/etc/x", fill=(120, 5000)), Changed(Usage(4, 3), Usage(4, 3))
             )
             self.assertEqual(store.commit("a", "k", "base"), Committed(1, Usage(4, 3)))
-            self.assertEqual(store.usage("a", "base"), Usage(4, 3))
+            self.assertEqual(store.usage("a", "base", entry=True), Usage(4, 3))
             with self.assertRaises(pibroulez.NotFound) as caught:
-                store.stat("a", "k")
+                store.stat("a", "k", entry=True)
             self.assertEqual(caught.exception.source, "book")
             self.assertEqual(store.report(), Report(8, 0, 1, {"a": Usage(4, 3)}))
 
@@ -125,7 +98,7 @@ class Commands(unittest.TestCase):
         self.assertEqual(store.look("a", "k", "/d/f"), File(0o600, 5000))
         self.assertEqual(store.look("a", "k", "/s"), Symlink("d/f"))
         self.assertIsNone(store.look("a", "k", "/e"))
-        self.assertEqual(store.list("a", "k", "/"), ("d", "s"))
+        self.assertEqual(store.listdir("a", "k", "/"), ("d", "s"))
         self.assertEqual(store.read("a", "k", "/d/f"), Content(b"hi" + bytes(14), 5000))
         self.assertEqual(store.read_part("a", "k", "/d/f"), Part(b"hi" + bytes(4998), 5000))
         self.assertEqual(store.read_part("a", "k", "/d/f", 1, max=2), Part(b"i\0", 5000))
@@ -162,7 +135,7 @@ class Commands(unittest.TestCase):
             store.commit("a", "k", "base", lease="lease")
             store.view("a", "v", "base")
             store.update("a", "v", {"y": "2"}, ["labels.y"])
-            store.walk("a", "a", 2, parent="base", kind=Kind.VIEW, labels={"y": None, "x": "1"})
+            store.walk("a", "a", 2, parent="base", kind=Kind.VIEW, labels={"y": None, "x": "1"}, entry=True)
             store.prepare("a", "k2", "base")
             store.trim("a", "k2")
             store.discard("a", "k2")
@@ -186,18 +159,19 @@ class Commands(unittest.TestCase):
             store.commit("a", "k", "base")
             store.prepare("a", "k", "base")
             self.assertEqual(store.opaque("a", "k", "/d"), Changed(Usage(2, 2), Usage(2, 2)))
-            self.assertEqual(store.list("a", "k", "/d"), ())
+            self.assertEqual(store.listdir("a", "k", "/d"), ())
             self.assertEqual(store.whiteout("a", "k", "/e"), Changed(Usage(2, 3), Usage(2, 3)))
-            self.assertEqual(store.list("a", "k", "/"), ("d",))
+            self.assertEqual(store.listdir("a", "k", "/"), ("d",))
 
     def snapshots(self, store: Store) -> None:
         """Leaves the journal with 30 entries, and the store empty."""
         self.assertEqual(store.trim("a", "k"), Usage(4, 4))
         self.assertEqual(store.charge("a", "k", (10, 10)), Usage(10, 10))
         self.assertEqual(store.charge("a", "k", (11, 11), (20, 20)), Usage(20, 20))
-        self.assertEqual(store.usage("a", "k"), Usage(20, 20))
-        self.assertEqual(store.mounts("a", "k"), (Mount("bind", "/r/snapshots/1/fs", ("rw", "rbind")),))
-        self.assertEqual(store.stat("a", "k"), Info("k", "", Kind.ACTIVE, {"x": "1"}, 1, 2, 2))
+        self.assertEqual(store.usage("a", "k", entry=True), Usage(20, 20))
+        mount = Mount("bind", "/r/snapshots/1/fs", ("rw", "rbind"))
+        self.assertEqual(store.mounts("a", "k", entry=True), (mount,))
+        self.assertEqual(store.stat("a", "k", entry=True), Info("k", "", Kind.ACTIVE, {"x": "1"}, 1, 2, 2))
         labels = {"x": "1", "y": "2"}
         self.assertEqual(
             store.update("a", "k", {"y": "2"}, ["labels.y"]), Info("k", "", Kind.ACTIVE, labels, 1, 2, 15)
@@ -209,12 +183,12 @@ class Commands(unittest.TestCase):
         self.assertEqual(store.discard("a", "k2"), Usage(1, 1))
         base = Info("base", "", Kind.COMMITTED, labels, 1, 17, 17)
         view = Info("v", "base", Kind.VIEW, {"z": ""}, 2, 18, 18)
-        self.assertEqual(store.walk("a"), (base, view))
+        self.assertEqual(store.walk("a", entry=True), (base, view))
         for found in (
-            store.walk("a", "base"),
-            store.walk("a", name="v"),
-            store.walk("a", parent="base", kind=Kind.VIEW),
-            store.walk("a", labels={"z": None}),
+            store.walk("a", "base", entry=True),
+            store.walk("a", name="v", entry=True),
+            store.walk("a", parent="base", kind=Kind.VIEW, entry=True),
+            store.walk("a", labels={"z": None}, entry=True),
         ):
             self.assertEqual(found, (view,))
         store.lease_add("a", "lease", "base")
@@ -244,9 +218,9 @@ class Commands(unittest.TestCase):
                 Entry(19, 0, "prepare", Usage(5, 5), "k2", 3),
             ),
         )
-        (view,) = store.journal("a", after=17, max=1, full=True)
+        (entry,) = store.journal("a", after=17, max=1, full=True)
         line = '{"do":"view","key":"v","labels":{"z":""},"ns":"a","parent":"base","s":0}'
-        self.assertEqual(view, Entry(18, 0, "view", Usage(4, 4), "v", 2, line=line))
+        self.assertEqual(entry, Entry(18, 0, "view", Usage(4, 4), "v", 2, line=line))
         self.assertEqual(store.remove("a", "v"), Usage(0, 0))
         store.lease_release("a", "lease")
         store.limit("a", 50, 50)
@@ -267,7 +241,7 @@ class Commands(unittest.TestCase):
         store.roll(journal=2)
         self.assertEqual(store.report(), Report(1, 1, 1, {"a": Usage(1, 1)}))
         with self.assertRaises(pibroulez.JournalFull):
-            store.stat("a", "k")
+            store.stat("a", "k", entry=True)
         store.roll()
         self.assertEqual(store.stat("a", "k").created, 35)
 
@@ -277,9 +251,72 @@ class Commands(unittest.TestCase):
         with open_store() as store:
             store.prepare("a", key, "")
             self.assertEqual(store.stat("a", key).name, key)
+            calls: list[Callable[[], object]] = [
+                lambda: store.stat("a", "\udcff"),
+                lambda: store.update("a", key, {"x": "\udcff"}),
+                lambda: store.update("a", key, {}, ["labels.x", "labels.\udcff"]),
+                lambda: store.request({"do": "report", "why": {"a": [[{"\udcff": None}]]}}),
+            ]
+            for call in calls:
+                with self.assertRaises(UnicodeEncodeError):
+                    call()
             with self.assertRaises(UnicodeEncodeError):
-                store.stat("a", "\udcff")
-            self.assertEqual(store.report().entries, 3)
+                Store("/r", {"\udcff": (1, 1)}, program="/none")
+            self.assertEqual(store.stat("a", key).updated, 2)
+            self.assertEqual(store.report().entries, 2)
+
+    def test_questions_without_an_entry(self) -> None:
+        """Of three entries the session and the prepare take one each, and the discard keeps the last."""
+        with open_store(journal=3) as store:
+            store.prepare("a", "k", "")
+            for _ in range(100):
+                self.assertEqual(store.stat("a", "k").name, "k")
+                self.assertEqual(store.usage("a", "k"), Usage(1, 1))
+                self.assertEqual(store.mounts("a", "k"), (Mount("bind", "/r/snapshots/1/fs", ("rw", "rbind")),))
+                self.assertEqual([it.name for it in store.walk("a")], ["k"])
+            self.assertEqual(store.report().entries, 2)
+            for ask in (store.stat, store.usage, store.mounts):
+                with self.assertRaises(TypeError):
+                    ask("a", "k", session=0)
+                with self.assertRaises(pibroulez.JournalFull):
+                    ask("a", "k", entry=True)
+
+    def test_labels_of_a_commit(self) -> None:
+        with open_store() as store:
+            store.prepare("a", "k", "", labels={"x": "1", "y": "2"})
+            store.commit("a", "k", "base", labels={"x": "3"})
+            self.assertEqual(store.stat("a", "base").labels, {"x": "3"})
+
+    def test_iterators(self) -> None:
+        """Each has what all pages together have, with pages of two of five or seven."""
+        with open_store() as store:
+            for name in "abcde":
+                commit_empty(store, name)
+                store.lease_create("a", name)
+            self.assertEqual([it.name for it in store.iter_walk("a", page=2)], list("abcde"))
+            self.assertEqual([it.name for it in store.iter_walk("a", "b", name="d")], ["d"])
+            self.assertEqual(tuple(store.iter_leases("a")), store.leases("a"))
+            store.prepare("a", "k", "")
+            for name in "abcde":
+                store.create("a", "k", f"/{name}")
+            self.assertEqual([it.path for it in store.iter_diff("a", "k", "/", page=2)], ["/a", "/b", "/c", "/d", "/e"])
+            # The session is entry 1, and makes no charge; then five times prepare, commit and lease_create.
+            numbers = [it.number for it in store.iter_journal("a", 9, page=2)]
+            self.assertEqual(numbers, list(range(10, store.report().entries + 1)))
+            self.assertEqual(tuple(store.iter_journal("a", page=64)), store.journal("a"))
+
+    def test_journal_of_all_namespaces(self) -> None:
+        """What docs/SCRIPT.md has of the entries of the round: the session, and the calls with their namespaces."""
+        with Store("/r", {"a": (9, 9), "b": (9, 9)}, program=PROGRAM) as store:
+            store.prepare("b", "k", "")
+            with self.assertRaises(pibroulez.NoNamespace):
+                store.prepare("c", "k", "")
+            session, prepare, refused = store.journal()
+            self.assertEqual(session, Entry(1, 0, "session"))
+            self.assertEqual(prepare, Entry(2, 0, "prepare", key="k", id=1, namespace="b"))
+            self.assertEqual(refused, Entry(3, 0, "prepare", key="k", refused="NoNamespace", namespace="c"))
+            self.assertEqual(list(store.iter_journal(page=1)), [session, prepare, refused])
+            self.assertEqual(store.journal("b"), (Entry(2, 0, "prepare", Usage(1, 1), "k", 1),))
 
     def test_slots(self) -> None:
         with open_store() as store:
@@ -306,7 +343,13 @@ class Documents(unittest.TestCase):
         rows = re.findall(r"^\| (`[a-z_]+`(?:, `[a-z_]+`)*) \|", self.text, re.MULTILINE)
         commands = {word for row in rows for word in re.findall(r"[a-z_]+", row)} - {"do"}
         self.assertIn("prepare", commands)
-        self.assertEqual([it for it in sorted(commands) if not hasattr(Store, it)], [])
+        methods = commands - {"open", "list"} | {"listdir"}
+        self.assertEqual([it for it in sorted(methods) if not hasattr(Store, it)], [])
+
+    def test_names(self) -> None:
+        """No method or name of the package hides a builtin."""
+        names = {it for it in (*dir(Store), *pibroulez.__all__) if not it.startswith("__")}
+        self.assertEqual(names & set(dir(builtins)), set())
 
     def test_refusals(self) -> None:
         """Each is an exception, and no other is."""
@@ -327,7 +370,7 @@ class Refusals(unittest.TestCase):
             commit_empty(store, "child", "base")
             self.assert_refused(pibroulez.NotActive, "book", lambda: store.look("a", "base", "/"))
             self.assertEqual(store.look("a", "base", "/", peek=True), Directory(0o755))
-            self.assertEqual(store.list("a", "child", "/", peek=True), ())
+            self.assertEqual(store.listdir("a", "child", "/", peek=True), ())
             self.assertEqual(store.du("a", "child", "/", peek=True), Usage(1, 1))
             store.prepare("a", "k", "")
             for error, call in (
@@ -367,7 +410,7 @@ class Refusals(unittest.TestCase):
         with open_store() as store:
             commit_empty(store, "base")
             store.prepare("a", "k", "")
-            self.assert_refused(pibroulez.NoSession, "world", lambda: store.stat("a", "k", session=7))
+            self.assert_refused(pibroulez.NoSession, "world", lambda: store.stat("a", "k", entry=True, session=7))
             self.assert_refused(pibroulez.StillOut, "world", store.reopen)
             self.assert_refused(pibroulez.AlreadyExists, "book", lambda: store.commit("a", "k", "base"))
             self.assert_refused(pibroulez.NoHand, "world", lambda: store.mkdir("a", "k", "/d"))
@@ -393,7 +436,7 @@ class Refusals(unittest.TestCase):
         """Of three entries the session and the prepare take one each, and the discard keeps the last."""
         with open_store(journal=3) as store:
             store.prepare("a", "k", "")
-            self.assert_refused(pibroulez.JournalFull, "book", lambda: store.stat("a", "k"))
+            self.assert_refused(pibroulez.JournalFull, "book", lambda: store.stat("a", "k", entry=True))
             store.discard("a", "k")
 
     def test_files(self) -> None:
@@ -423,7 +466,45 @@ class Refusals(unittest.TestCase):
                     self.assert_refused(error, "file", call)
 
 
+class Errors(unittest.TestCase):
+    def test_pickled(self) -> None:
+        """An error that was pickled or copied says what it said."""
+        path = "/log"
+        others = {
+            pibroulez.BadArgument: ("BadArgument", "book", "slots"),
+            pibroulez.OverLimit: ("OverLimit", "book", Usage(3, 1)),
+            Fault: ("too long", 2),
+            pibroulez.ReservedField: ("id",),
+            pibroulez.Died: (4, "want of memory"),
+            pibroulez.LogFailed: (path, OSError(28, "No space left on device")),
+            pibroulez.BadLog: (path, 1, "first line must be open"),
+            pibroulez.Forked: (7,),
+        }
+        for kind in {getattr(pibroulez, it) for it in pibroulez.__all__}:
+            if isinstance(kind, type) and issubclass(kind, pibroulez.Error):
+                error = kind(*others.get(kind, (kind.__name__, "book") if issubclass(kind, Refused) else ()))
+                for again in (pickle.loads(pickle.dumps(error)), copy.copy(error), copy.deepcopy(error)):
+                    self.assertIs(type(again), kind)
+                    self.assertEqual(str(again), str(error))
+                    self.assertEqual(repr(vars(again)), repr(vars(error)))
+
+
 class Lines(unittest.TestCase):
+    def test_reserved_fields(self) -> None:
+        """A command with an `id`, or with a `do` beside its own, isn't sent, and the next call has its own answer."""
+
+        class Name(str):
+            __hash__ = object.__hash__
+
+        with open_store() as store:
+            with self.assertRaises(pibroulez.ReservedField):
+                store.request({"do": "report", "id": 7})
+            with self.assertRaises(TypeError):
+                store.request({"do": "look", Name("do"): "prepare", "ns": "a", "key": "k", "parent": ""})
+            with self.assertRaises(TypeError):
+                store.request({"do": "report", 7: 8})  # type: ignore[dict-item]
+            self.assertEqual(store.report().records, 0)
+
     def test_faults(self) -> None:
         """Each is told with its line, and the store is as it was. The `open` is line 1."""
         prepare = {"do": "prepare", "ns": "a", "key": "k", "parent": ""}
@@ -463,16 +544,9 @@ class Lines(unittest.TestCase):
             b"\xff\n",
             b'{"do":"report"}\n',
         ]
-        process = pibroulez._Process(PROGRAM)
-        try:
-            for line in lines:
-                process.send(line)
-            answers = [json.loads(process.receive()) for _ in lines]
-            process.send(b'{"do":"prepare","ns":"a","key":"k","parent":""}\n')
-            self.assertEqual(json.loads(process.receive()), {"chain": [], "id": 1, "slot": 0})
-        finally:
-            process.kill()
-            process.end()
+        ran = subprocess.run([PROGRAM, "serve"], input=b"".join(lines), stdout=subprocess.PIPE, check=True)
+        answers = [json.loads(line) for line in ran.stdout.splitlines()]
+        self.assertEqual(len(answers), len(lines))
         self.assertEqual(answers[0], {"ok": True})
         for answer in answers[1:3]:
             self.assertFalse({"fault", "error", "ok"} & answer.keys())
@@ -480,331 +554,6 @@ class Lines(unittest.TestCase):
         self.assertEqual(answers[4], {"fault": "not an object", "line": 5})
         self.assertEqual(answers[5], {"fault": "not JSON", "line": 6})
         self.assertEqual(answers[6], {"entries": 1, "open": 0, "records": 0, "totals": {"a": [0, 0]}})
-
-
-class Threads(unittest.TestCase):
-    def test_each_thread_gets_its_own_answers(self) -> None:
-        """Eight threads make 20 snapshots each, of a file of n blocks: 1 + n blocks, 2 inodes."""
-        threads, snapshots = 8, 20
-        errors: list[BaseException] = []
-
-        def work(n: int) -> None:
-            try:
-                session = store.session()
-                for i in range(snapshots):
-                    key, name = f"key-{n}-{i}", f"name-{n}-{i}"
-                    made = store.prepare("a", key, "", session=session)
-                    store.create("a", key, "/file", session=session)
-                    store.write("a", key, "/file", fill=(0, 4096 * n), session=session)
-                    self.assertEqual(store.read("a", key, "/file").size, 4096 * n)
-                    committed = store.commit("a", key, name, session=session)
-                    self.assertEqual(committed, Committed(made.id, Usage(1 + n, 2)))
-                    self.assertEqual(store.stat("a", name, session=session).name, name)
-            except BaseException as error:
-                errors.append(error)
-
-        with open_store(10_000, 10_000) as store:
-            workers = [threading.Thread(target=work, args=(n,)) for n in range(threads)]
-            for worker in workers:
-                worker.start()
-            for worker in workers:
-                worker.join()
-            self.assertEqual(errors, [])
-            blocks = snapshots * sum(1 + n for n in range(threads))
-            self.assertEqual(store.report().totals, {"a": Usage(blocks, 2 * snapshots * threads)})
-            self.assertEqual(
-                sorted(node.id for node in store.tree("a")), list(range(1, snapshots * threads + 1))
-            )
-
-
-class Ends(unittest.TestCase):
-    def test_closed(self) -> None:
-        store = open_store()
-        store.close()
-        store.close()
-        for _ in range(2):
-            with self.assertRaises(Died) as caught:
-                store.report()
-            self.assertEqual(caught.exception.status, 0)
-
-    def test_killed(self) -> None:
-        with open_store() as store:
-            os.kill(store.pid, signal.SIGKILL)
-            for _ in range(2):
-                with self.assertRaises(Died) as caught:
-                    store.report()
-                self.assertEqual(caught.exception.status, -signal.SIGKILL)
-
-    def test_refused_memory(self) -> None:
-        """A process within 200 MB ends when it is to keep 400 files of a MiB each, with its status and its words."""
-        with tempfile.TemporaryDirectory() as folder:
-            limited = Path(folder) / "limited"
-            limited.write_text(f'#!/bin/sh\nulimit -v 200000\nexec "{PROGRAM}" "$@"\n')
-            limited.chmod(0o700)
-            with Store("/r", {"a": (1 << 40, 1 << 40)}, program=limited) as store:
-                store.prepare("a", "k", "")
-                with self.assertRaises(Died) as caught:
-                    for n in range(400):
-                        store.create("a", "k", f"/{n}")
-                        store.write("a", "k", f"/{n}", fill=(0, 1 << 20))
-                self.assertEqual((caught.exception.status, caught.exception.words), (4, "want of memory"))
-
-    def test_no_program(self) -> None:
-        with self.assertRaises(FileNotFoundError):
-            Store("/r", {}, program="/none")
-
-    def test_another_program(self) -> None:
-        with self.assertRaises(Died):
-            Store("/r", {}, program="/bin/false")
-
-    def test_answer_to_another_call(self) -> None:
-        """A program that answers with an id that no call had is ended."""
-        with open_store() as store:
-            wrong = unittest.mock.patch.object(
-                store._process, "receive", return_value=b'{"answer":{"ok":true},"id":1}\n'
-            )
-            with wrong, self.assertRaises(pibroulez.Error):
-                store.reopen()
-            with self.assertRaises(Died):
-                store.report()
-
-    def test_long_line(self) -> None:
-        """A line of more than 16,777,216 bytes is a fault, and the next call has its own answer."""
-        with open_store() as store:
-            with self.assertRaises(Fault) as caught:
-                store.prepare("a", "k" * (1 << 24), "")
-            self.assertEqual((caught.exception.fault, caught.exception.line), ("too long", 2))
-            self.assertEqual(store.report().records, 0)
-
-    def test_interrupted(self) -> None:
-        """A call that is interrupted before its answer ends the process, so no later call gets that answer."""
-        with open_store() as store:
-            interrupted = unittest.mock.patch.object(store._process, "receive", side_effect=KeyboardInterrupt)
-            with interrupted, self.assertRaises(KeyboardInterrupt):
-                store.report()
-            with self.assertRaises(Died):
-                store.report()
-
-
-class Logs(unittest.TestCase):
-    def setUp(self) -> None:
-        folder = tempfile.TemporaryDirectory()
-        self.addCleanup(folder.cleanup)
-        self.log = Path(folder.name) / "log"
-
-    def reopen(self) -> Store:
-        return Store.open(self.log, program=PROGRAM)
-
-    def fill(self, store: Store) -> None:
-        """A few snapshots, refusals and questions. The last line of the log is the last prepare."""
-        store.prepare("a", "k", "", labels={"x": "1"})
-        store.create("a", "k", "/f")
-        store.stat("a", "k")
-        with self.assertRaises(pibroulez.NotFound):
-            store.remove("a", "none")
-        store.commit("a", "k", "base")
-        store.view("a", "view", "base")
-        store.look("a", "view", "/f")
-        store.prepare("a", "sealed", "base")
-        with self.assertRaises(pibroulez.AlreadyExists):
-            store.commit("a", "sealed", "base")
-        store.update("a", "base", {"y": "2"})
-        store.prepare("a", "last", "base")
-
-    def test_state(self) -> None:
-        """All is as it was, and goes on from there: numbers of entries, ids, and that a snapshot is sealed."""
-        with open_store(log=self.log) as store:
-            self.fill(store)
-            before = store.report(), store.tree("a"), store.journal("a")
-            infos = store.walk("a")
-        with self.reopen() as store:
-            self.assertEqual(store.walk("a"), infos)
-        with self.reopen() as store:
-            self.assertEqual(store.tree("a"), before[1])
-            self.assertEqual(store.journal("a")[: len(before[2])], before[2])
-            # The walk of each store before is an entry.
-            self.assertEqual(store.report().entries, before[0].entries + 2)
-            self.assertEqual(store.report().totals, before[0].totals)
-            with self.assertRaises(pibroulez.NoHand):
-                store.create("a", "sealed", "/g")
-            self.assertEqual(store.prepare("a", "next", "base").id, 5)
-
-    def test_is_a_script(self) -> None:
-        """Its lines are commands of a script: of the calls, without lookups and what made no entry."""
-        with open_store(log=self.log) as store:
-            self.fill(store)
-            store.report()
-            with self.assertRaises(Fault):
-                store.request({"do": "zap"})
-        lines = [json.loads(line) for line in self.log.read_bytes().splitlines()]
-        self.assertEqual(
-            [line["do"] for line in lines],
-            "open prepare create stat remove commit view prepare commit update prepare".split(),
-        )
-        with self.log.open("rb") as script:
-            ran = subprocess.run([PROGRAM, "run"], stdin=script, stdout=subprocess.PIPE, check=True)
-        self.assertEqual(len(ran.stdout.splitlines()), len(lines))
-        self.assertEqual(json.loads(ran.stdout.splitlines()[-1]), {"chain": [1], "id": 4, "slot": 1})
-
-    def test_synced(self) -> None:
-        """What may change the state is on the disk when it is answered; a question need not be."""
-        with open_store(log=self.log) as store, unittest.mock.patch("os.fsync") as fsync:
-            store.prepare("a", "k", "")
-            self.assertEqual(fsync.call_count, 1)
-            store.stat("a", "k")
-            store.look("a", "k", "/")
-            self.assertEqual(fsync.call_count, 1)
-            with self.assertRaises(pibroulez.NotFound):
-                store.remove("a", "none")
-            self.assertEqual(fsync.call_count, 2)
-
-    def test_torn_last_line(self) -> None:
-        """Wherever the last line is cut off, the store is the one before its call, and the log goes on."""
-        with open_store(log=self.log) as store:
-            self.fill(store)
-        whole = self.log.read_bytes()
-        last = whole.splitlines(keepends=True)[-1]
-        for rest in (1, len(last) // 2, len(last) - 1, len(last)):
-            self.log.write_bytes(whole[: len(whole) - rest])
-            with self.subTest(rest), self.reopen() as store:
-                self.assertEqual([it.key for it in store.tree("a")], ["base", "sealed", "view"])
-                self.assertEqual(store.prepare("a", "last", "base").id, 4)
-            self.assertEqual(self.log.read_bytes(), whole)
-
-    def test_bad_logs(self) -> None:
-        with self.assertRaises(FileNotFoundError):
-            self.reopen()
-        for text in ("", '{"do":"open"'):
-            self.log.write_text(text)
-            with self.subTest(text), self.assertRaises(FileNotFoundError):
-                self.reopen()
-        for line, text in (
-            (1, '{"do":"report"}\n'),
-            (2, '{"do":"open","root":"/r","namespaces":[]}\n\x00\x00\n{"do":"report"}\n'),
-        ):
-            self.log.write_text(text)
-            with self.subTest(text), self.assertRaises(pibroulez.BadLog) as caught:
-                self.reopen()
-            self.assertEqual(caught.exception.line, line)
-
-    def test_one_store_at_a_time(self) -> None:
-        with open_store(log=self.log):
-            with self.assertRaises(BlockingIOError):
-                self.reopen()
-        with self.assertRaises(FileExistsError):
-            open_store(log=self.log)
-
-    def test_store_that_is_not_opened_leaves_no_log(self) -> None:
-        with self.assertRaises(pibroulez.BadArgument):
-            Store("r", {}, program=PROGRAM, log=self.log)
-        self.assertFalse(self.log.exists())
-        with self.assertRaises(FileNotFoundError):
-            Store("/r", {}, program="/none", log=self.log)
-        self.assertFalse(self.log.exists())
-
-    def test_died_store_gives_its_log_back(self) -> None:
-        with open_store(log=self.log) as store:
-            store.prepare("a", "k", "")
-            os.kill(store.pid, signal.SIGKILL)
-            with self.assertRaises(Died):
-                store.report()
-            with self.reopen() as again:
-                self.assertEqual(again.report().open, 1)
-
-    @unittest.skipUnless(os.path.exists("/dev/full"), "there is no full device")
-    def test_log_that_takes_no_line(self) -> None:
-        """A call whose line isn't kept isn't answered, and is the last."""
-        with open_store(log=self.log) as store:
-            full = os.open("/dev/full", os.O_RDWR)
-            assert store._log
-            os.dup2(full, store._log._file.fileno())
-            os.close(full)
-            with self.assertRaises(OSError):
-                store.prepare("a", "k", "")
-            with self.assertRaises(Died):
-                store.report()
-        with self.reopen() as store:
-            self.assertEqual(store.tree("a"), ())
-
-
-class Kills(unittest.TestCase):
-    """Processes are killed at random moments. What was answered is there in the store that its log tells."""
-
-    def setUp(self) -> None:
-        folder = tempfile.TemporaryDirectory()
-        self.addCleanup(folder.cleanup)
-        self.log = Path(folder.name) / "log"
-        open_store(1 << 40, 1 << 40, log=self.log).close()
-        self.random = random.Random(KILLS)
-
-    @contextlib.contextmanager
-    def store(self) -> Iterator[Store]:
-        """The store, of which all active snapshots are discarded in the end."""
-        with Store.open(self.log, program=PROGRAM) as store:
-            yield store
-            for node in store.tree("a"):
-                if node.kind is Kind.ACTIVE:
-                    store.discard("a", node.key)
-
-    def check(self, kill: int, answered: dict[str, Kind], *, more: int) -> None:
-        """The snapshots of this kill are those that were answered, and at most so many more."""
-        with self.store() as store:
-            found = {it.key: it for it in store.tree("a") if it.key.startswith(f"{kill}-")}
-            for key, kind in answered.items():
-                self.assertIs(found[key].kind, kind)
-                if kind is Kind.COMMITTED:
-                    self.assertEqual(found[key].usage, Usage(1, 2))
-            self.assertLessEqual(len(found), len(answered) + more)
-
-    def test_killed_process(self) -> None:
-        """Two threads make snapshots as the program is killed. Of a call that wasn't answered nothing stays."""
-        for kill in range(KILLS):
-            answered: dict[str, Kind] = {}
-            ends: list[Type[BaseException]] = []
-            with Store.open(self.log, program=PROGRAM) as store:
-
-                def work(thread: int) -> None:
-                    try:
-                        for n in itertools.count():
-                            key, name = f"{kill}-{thread}-{n}-key", f"{kill}-{thread}-{n}"
-                            store.prepare("a", key, "")
-                            answered[key] = Kind.ACTIVE
-                            store.create("a", key, "/file")
-                            store.commit("a", key, name)
-                            del answered[key]
-                            answered[name] = Kind.COMMITTED
-                    except BaseException as error:
-                        ends.append(type(error))
-
-                threads = [threading.Thread(target=work, args=(n,)) for n in range(2)]
-                for thread in threads:
-                    thread.start()
-                time.sleep(self.random.uniform(0, 0.1))
-                os.kill(store.pid, signal.SIGKILL)
-                for thread in threads:
-                    thread.join()
-            with self.subTest(kill=kill):
-                self.assertEqual(ends, [Died, Died])
-                self.check(kill, answered, more=0)
-
-    def test_killed_client(self) -> None:
-        """A client is killed, and its program ends. The one call that wasn't answered may have been made."""
-        for kill in range(max(KILLS // 4, 1)):
-            client = subprocess.Popen(
-                [sys.executable, "-c", COMMITTER, self.log, PROGRAM, str(kill)],
-                stdout=subprocess.PIPE,
-                text=True,
-                cwd=Path(__file__).parent,
-            )
-            assert client.stdout
-            answered = [client.stdout.readline().strip()]
-            time.sleep(self.random.uniform(0, 0.1))
-            client.kill()
-            answered += [line.strip() for line in client.stdout if line.endswith("\n")]
-            client.stdout.close()
-            client.wait()
-            with self.subTest(kill=kill):
-                self.check(kill, dict.fromkeys(answered, Kind.COMMITTED), more=1)
 
 
 class Example(unittest.TestCase):

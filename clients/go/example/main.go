@@ -12,7 +12,7 @@ import (
 	"log"
 	"os"
 
-	"pibroulez"
+	"pibroulez.example/pibroulez"
 )
 
 func main() {

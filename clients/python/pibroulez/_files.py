@@ -1,0 +1,226 @@
+"""The commands on files of an active snapshot, and the lookups."""
+from __future__ import annotations
+
+from ._calls import Calls
+from .answers import (
+    Changed,
+    Content,
+    Directory,
+    File,
+    Pair,
+    Part,
+    Seen,
+    SizedContent,
+    SizedFile,
+    Symlink,
+    Usage,
+)
+
+
+class Files(Calls):
+    """The calls of a store on files.
+
+    `extra` is charged beyond what is needed, where a charge is made and it fits. `session` is the session of that
+    charge. Lookups are in an active snapshot or a view, and with `peek` in a committed one.
+    """
+
+    def _change(self, do: str, session: int | None, extra: Pair | None, **fields: object) -> Changed:
+        answer = self._call(do, session, extra=extra, **fields)
+        return Changed(Usage(*answer["count"]), Usage(*answer["share"]))
+
+    def mkdir(
+        self,
+        namespace: str,
+        key: str,
+        path: str,
+        mode: int | None = None,
+        *,
+        extra: Pair | None = None,
+        session: int | None = None,
+    ) -> Changed:
+        """Makes a directory."""
+        return self._change("mkdir", session, extra, ns=namespace, key=key, path=path, mode=mode)
+
+    def create(
+        self,
+        namespace: str,
+        key: str,
+        path: str,
+        mode: int | None = None,
+        *,
+        extra: Pair | None = None,
+        session: int | None = None,
+    ) -> Changed:
+        """Makes an empty file."""
+        return self._change("create", session, extra, ns=namespace, key=key, path=path, mode=mode)
+
+    def put(
+        self,
+        namespace: str,
+        key: str,
+        path: str,
+        size: int,
+        digest: str | None = None,
+        mode: int | None = None,
+        *,
+        extra: Pair | None = None,
+        session: int | None = None,
+    ) -> Changed:
+        """Makes a file of a size, whose bytes aren't kept."""
+        return self._change(
+            "put", session, extra, ns=namespace, key=key, path=path, mode=mode, size=size, digest=digest
+        )
+
+    def write(
+        self,
+        namespace: str,
+        key: str,
+        path: str,
+        text: str | None = None,
+        *,
+        offset: int | None = None,
+        fill: tuple[int, int] | None = None,
+        extra: Pair | None = None,
+        session: int | None = None,
+    ) -> Changed:
+        """Writes a text, or where there is none `fill`: a byte, and how many times."""
+        return self._change(
+            "write", session, extra, ns=namespace, key=key, path=path, text=text, offset=offset, fill=fill
+        )
+
+    def truncate(
+        self,
+        namespace: str,
+        key: str,
+        path: str,
+        size: int,
+        *,
+        extra: Pair | None = None,
+        session: int | None = None,
+    ) -> Changed:
+        """Cuts a file, or fills it with zero bytes, to a size."""
+        return self._change("truncate", session, extra, ns=namespace, key=key, path=path, size=size)
+
+    def setmode(
+        self,
+        namespace: str,
+        key: str,
+        path: str,
+        mode: int,
+        *,
+        extra: Pair | None = None,
+        session: int | None = None,
+    ) -> Changed:
+        """Sets the mode of a file or directory."""
+        return self._change("setmode", session, extra, ns=namespace, key=key, path=path, mode=mode)
+
+    def symlink(
+        self,
+        namespace: str,
+        key: str,
+        path: str,
+        target: str,
+        *,
+        extra: Pair | None = None,
+        session: int | None = None,
+    ) -> Changed:
+        """Makes a symlink."""
+        return self._change("symlink", session, extra, ns=namespace, key=key, path=path, target=target)
+
+    def link(
+        self,
+        namespace: str,
+        key: str,
+        old_path: str,
+        new_path: str,
+        *,
+        extra: Pair | None = None,
+        session: int | None = None,
+    ) -> Changed:
+        """Gives a file or symlink one more name. The paths are the command's `from` and `to`."""
+        paths = {"from": old_path, "to": new_path}
+        return self._change("link", session, extra, ns=namespace, key=key, **paths)
+
+    def rename(
+        self,
+        namespace: str,
+        key: str,
+        old_path: str,
+        new_path: str,
+        *,
+        extra: Pair | None = None,
+        session: int | None = None,
+    ) -> Changed:
+        """Moves what is at a path. The paths are the command's `from` and `to`."""
+        paths = {"from": old_path, "to": new_path}
+        return self._change("rename", session, extra, ns=namespace, key=key, **paths)
+
+    def unlink(
+        self, namespace: str, key: str, path: str, *, extra: Pair | None = None, session: int | None = None
+    ) -> Changed:
+        """Removes a file or symlink."""
+        return self._change("unlink", session, extra, ns=namespace, key=key, path=path)
+
+    def rmdir(
+        self, namespace: str, key: str, path: str, *, extra: Pair | None = None, session: int | None = None
+    ) -> Changed:
+        """Removes an empty directory."""
+        return self._change("rmdir", session, extra, ns=namespace, key=key, path=path)
+
+    def whiteout(
+        self, namespace: str, key: str, path: str, *, extra: Pair | None = None, session: int | None = None
+    ) -> Changed:
+        """Removes what is at a path, a directory with all that is in it."""
+        return self._change("whiteout", session, extra, ns=namespace, key=key, path=path)
+
+    def opaque(
+        self, namespace: str, key: str, path: str, *, extra: Pair | None = None, session: int | None = None
+    ) -> Changed:
+        """Hides what the layers below have in a directory."""
+        return self._change("opaque", session, extra, ns=namespace, key=key, path=path)
+
+    # Lookups, which make no entry
+
+    def look(self, namespace: str, key: str, path: str, peek: bool = False) -> Seen | None:
+        """What is seen at a path, or None."""
+        seen = self._call("look", ns=namespace, key=key, path=path, peek=peek or None)["seen"]
+        if seen is None:
+            return None
+        if "dir" in seen:
+            return Directory(seen["dir"])
+        if "digest" in seen:
+            return SizedFile(seen["file"], seen["size"], seen["digest"])
+        if "file" in seen:
+            return File(seen["file"], seen["size"])
+        return Symlink(seen["symlink"])
+
+    def listdir(self, namespace: str, key: str, path: str, peek: bool = False) -> tuple[str, ...]:
+        """The names in a directory, in byte order. The command is `list`."""
+        return tuple(self._call("list", ns=namespace, key=key, path=path, peek=peek or None)["names"])
+
+    def read(self, namespace: str, key: str, path: str, peek: bool = False) -> Content | SizedContent:
+        """The first bytes of a file, and its size; of one whose bytes aren't kept its size and its digest."""
+        answer = self._call("read", ns=namespace, key=key, path=path, peek=peek or None)
+        if "digest" in answer:
+            return SizedContent(answer["size"], answer["digest"])
+        return Content(bytes.fromhex(answer["head"]), answer["size"])
+
+    def read_part(
+        self, namespace: str, key: str, path: str, offset: int = 0, max: int | None = None, peek: bool = False
+    ) -> Part | SizedContent:
+        """The bytes of a file from an offset on, at most so many, or all, and its size; of one whose bytes aren't kept
+        its size and its digest."""
+        answer = self._call("read", ns=namespace, key=key, path=path, offset=offset, max=max, peek=peek or None)
+        if "digest" in answer:
+            return SizedContent(answer["size"], answer["digest"])
+        return Part(bytes.fromhex(answer["bytes"]), answer["size"])
+
+    def resolve(self, namespace: str, key: str, path: str, peek: bool = False) -> str:
+        """Where a path leads, its symlinks followed."""
+        found: str = self._call("resolve", ns=namespace, key=key, path=path, peek=peek or None)["path"]
+        return found
+
+    def du(self, namespace: str, key: str, path: str, peek: bool = False) -> Usage:
+        """What is taken by what is seen at a path and below it, as du(1) counts it."""
+        answer = self._call("du", ns=namespace, key=key, path=path, peek=peek or None)
+        return Usage(answer["blocks"], answer["inodes"])

@@ -1,0 +1,257 @@
+"""The errors of a store. Each can be pickled and copied, with all that it says."""
+from __future__ import annotations
+
+import signal
+from typing import Any, Mapping, Type
+
+from .answers import Usage
+
+
+class Error(Exception):
+    """Any error of this package."""
+
+
+class Refused(Error):
+    """The store has refused a call. `source` is `book`, `world`, or `file` for an error of a file."""
+
+    def __init__(self, name: str, source: str) -> None:
+        super().__init__(name, source)
+        self.name = name
+        self.source = source
+
+    def __str__(self) -> str:
+        return f"{self.name} (from {self.source})"
+
+
+class BadArgument(Refused):
+    """A key, name, lease, label, limit or page is malformed, or a field of `open`.
+
+    `field` is the first malformed field of `open`, where a store is refused for it, and else None.
+    """
+
+    def __init__(self, name: str, source: str, field: str | None = None) -> None:
+        super().__init__(name, source)
+        self.args = (name, source, field)
+        self.field = field
+
+
+class NoNamespace(Refused):
+    """The store was opened without this namespace."""
+
+
+class NotFound(Refused):
+    """There is no such snapshot or parent, or no such name in a lease; of a file, nothing is seen (ENOENT)."""
+
+
+class AlreadyExists(Refused):
+    """The key or name is taken."""
+
+
+class NotCommitted(Refused):
+    """The parent, or what a lease is to name, is active or a view."""
+
+
+class NotActive(Refused):
+    """The snapshot is committed, or a view where an active one is asked for."""
+
+
+class HasChildren(Refused):
+    """Another snapshot stands on it."""
+
+
+class InUse(Refused):
+    """It is active: a commit or a discard ends it."""
+
+
+class Leased(Refused):
+    """A lease names it."""
+
+
+class NoLease(Refused):
+    """There is no such lease."""
+
+
+class LeaseExists(Refused):
+    """The lease's name is taken."""
+
+
+class TooDeep(Refused):
+    """The snapshot would have more than 64 ancestors."""
+
+
+class TooManyActives(Refused):
+    """As many snapshots are active as the store was opened for."""
+
+
+class OverLimit(Refused):
+    """The namespace hasn't so much free. `free` is what it has."""
+
+    def __init__(self, name: str, source: str, free: Usage) -> None:
+        super().__init__(name, source)
+        self.args = (name, source, free)
+        self.free = free
+
+
+class BelowCharge(Refused):
+    """The limit would be below what is charged."""
+
+
+class NumbersSpent(Refused):
+    """Ids, or the numbers of entries or sessions, are used up."""
+
+
+class JournalFull(Refused):
+    """What is left of the journal is kept for discards."""
+
+
+class NoSession(Refused):
+    """The session isn't open."""
+
+
+class NoHand(Refused):
+    """The snapshot is sealed by a refused commit."""
+
+
+class StillOut(Refused):
+    """A snapshot is active, so no new round begins."""
+
+
+class NotDir(Refused):
+    """A directory is asked for, and something else is there (ENOTDIR)."""
+
+
+class IsDir(Refused):
+    """A directory is there (EISDIR)."""
+
+
+class Exists(Refused):
+    """Something is at the path (EEXIST)."""
+
+
+class NotEmpty(Refused):
+    """The directory has entries (ENOTEMPTY)."""
+
+
+class CrossDevice(Refused):
+    """The directory is, whole or in part, of a lower layer (EXDEV)."""
+
+
+class Invalid(Refused):
+    """The operation isn't for this file or value (EINVAL)."""
+
+
+class NotPermitted(Refused):
+    """A directory has no hard links (EPERM)."""
+
+
+class TooBig(Refused):
+    """A file or a symlink's target would be too large (EFBIG)."""
+
+
+class TooManyLinks(Refused):
+    """More than 40 symlinks (ELOOP)."""
+
+
+class BadPath(Refused):
+    """The text is no path."""
+
+
+class LayerFull(Refused):
+    """The layer would have more inodes than the store was opened with (`layer_inodes`, 65,536)."""
+
+
+class Fault(Error):
+    """A line was no command. Nothing has changed. `line` is its number, from 1, of all lines of the process."""
+
+    def __init__(self, fault: str, line: int) -> None:
+        super().__init__(fault, line)
+        self.fault = fault
+        self.line = line
+
+    def __str__(self) -> str:
+        return f"line {self.line}: {self.fault}"
+
+
+class ReservedField(Error):
+    """A command has a field that the client sets itself. Nothing is sent. `field` is its name."""
+
+    def __init__(self, field: str) -> None:
+        super().__init__(field)
+        self.field = field
+
+    def __str__(self) -> str:
+        return f"the field {self.field} is set by the client"
+
+
+class Died(Error):
+    """The process has ended, and so has the store. Each call that waits, and each later one, is answered this.
+
+    `status` is the process's, negative for a signal, and `words` what it has said on standard error, or why it was
+    killed.
+    """
+
+    def __init__(self, status: int, words: str) -> None:
+        super().__init__(status, words)
+        self.status = status
+        self.words = words
+
+    def __str__(self) -> str:
+        return f"the process has ended with status {self.status}" + (f": {self.words}" if self.words else "")
+
+
+class LogFailed(Died):
+    """The log doesn't take a line, as on a full disk, or the line can't be brought to the disk.
+
+    The process is killed then. A call that waited has not been made in the store that the log tells, but where the log
+    took its line before the failure. `path` is the log, and `error` the system's error.
+    """
+
+    def __init__(self, path: str, error: OSError) -> None:
+        super().__init__(-signal.SIGKILL, f"{path}: {error.strerror}")
+        self.args = (path, error)
+        self.path = path
+        self.error = error
+
+
+class BadLog(Error):
+    """A file is no log, or a line of it isn't taken, so a store can't be had back. The file is as it was.
+
+    `line` is the line's number, from 1.
+    """
+
+    def __init__(self, path: str, line: int, fault: str) -> None:
+        super().__init__(path, line, fault)
+        self.path = path
+        self.line = line
+        self.fault = fault
+
+    def __str__(self) -> str:
+        return f"{self.path}: line {self.line}: {self.fault}"
+
+
+class Forked(Error):
+    """The process was forked from the one that has the store, and can't call it. `owner` is the latter's id."""
+
+    def __init__(self, owner: int) -> None:
+        super().__init__(owner)
+        self.owner = owner
+
+    def __str__(self) -> str:
+        return f"the store is that of process {self.owner}, from which this one was forked"
+
+
+_REFUSALS: Mapping[str, Type[Refused]] = {each.__name__: each for each in Refused.__subclasses__()}
+
+
+def error_in(answer: Mapping[str, Any]) -> Error | None:
+    """The error that an answer tells, if it tells one."""
+    if "fault" in answer:
+        return Fault(answer["fault"], answer["line"])
+    if "error" in answer:
+        name, source = answer["error"], answer["from"]
+        if "free" in answer:
+            return OverLimit(name, source, Usage(*answer["free"]))
+        if "field" in answer:
+            return BadArgument(name, source, answer["field"])
+        return _REFUSALS.get(name, Refused)(name, source)
+    return None
