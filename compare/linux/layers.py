@@ -81,6 +81,11 @@ class Layers:
         """How many layers a snapshot has, its own among them."""
         return len(self.snapshots[ns, key].layers)
 
+    def shown_at(self, ns: str, key: str) -> str:
+        """The directory in which an active snapshot or a view is shown."""
+        snapshot = self.snapshots[ns, key]
+        return snapshot.mounted_at or self._directory(snapshot.layers[0])
+
     @contextmanager
     def inside(self, ns: str, key: str) -> Iterator[None]:
         """What an active snapshot or a view shows is the root of this process for a while."""

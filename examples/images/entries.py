@@ -4,23 +4,20 @@ import hashlib
 import os
 import posixpath
 import stat
-import tarfile
 from collections import Counter
 from collections.abc import Iterator
-from dataclasses import dataclass, field
+from dataclasses import dataclass
+from tarfile import BLOCKSIZE
 from typing import BinaryIO, NamedTuple
 
-MODE_BITS = 0o7777
+from images.bounds import Bounds, Unreadable
+from images.headers import FILES, MODE_BITS, Header, read_header, text_in
+
 CHUNK_BYTES = 1 << 20
 
 WHITEOUT = ".wh."
 OPAQUE = ".wh..wh..opq"
-ERRORS = "surrogateescape"
 OPAQUE_ATTRIBUTES = ("trusted.overlay.opaque", "user.overlay.opaque")
-
-
-class Unreadable(Exception):
-    """Why a source gives no script."""
 
 
 class Entry(NamedTuple):
@@ -35,34 +32,39 @@ class Entry(NamedTuple):
 
 
 KINDS = {
-    tarfile.DIRTYPE: "directory",
-    tarfile.REGTYPE: "file",
-    tarfile.AREGTYPE: "file",
-    tarfile.CONTTYPE: "file",
-    tarfile.GNUTYPE_SPARSE: "file",
-    tarfile.SYMTYPE: "symlink",
-    tarfile.LNKTYPE: "hard link",
-    tarfile.CHRTYPE: "device file",
-    tarfile.BLKTYPE: "device file",
-    tarfile.FIFOTYPE: "pipe",
+    **{kind: "file" for kind in FILES},
+    b"1": "hard link",
+    b"2": "symlink",
+    b"3": "device file",
+    b"4": "device file",
+    b"5": "directory",
+    b"6": "pipe",
 }
 PLAIN_KINDS = {b"0": "file", b"1": "hard link", b"2": "symlink", b"5": "directory"}
 
 
 @dataclass
 class LayerArchive:
-    """A layer's archive. A header without anything unusual is read here, in half the time, and another by tarfile."""
+    """A layer's archive, read from its begin to its end. A header without anything unusual is read here, in half the
+    time, and another by `read_header`."""
 
     file: BinaryIO
     left_out: Counter[str]
-    # What a header says of all entries after it, which are left to tarfile then.
-    shared: dict[str, str] = field(default_factory=dict)
+    bounds: Bounds
 
     def entries(self) -> Iterator[Entry]:
-        while any(block := self.file.read(tarfile.BLOCKSIZE)):
-            if len(block) != tarfile.BLOCKSIZE:
-                raise Unreadable("a layer ends within a header")
-            yield self._plain(block) or self._unusual(block)
+        bounds = self.bounds
+        while any(block := self.file.read(BLOCKSIZE)):
+            if len(block) != BLOCKSIZE:
+                raise Unreadable("an archive ends within a header")
+            if entry := self._plain(block) or self._unusual(block):
+                bounds.entries -= 1
+                bounds.text_bytes -= len(entry.path) + len(entry.text)
+                if bounds.entries < 0 or bounds.text_bytes < 0:
+                    bounds.check()
+                yield entry
+        if any(self.file.read(BLOCKSIZE)):
+            raise Unreadable("an archive goes on after a block of zeros")
 
     def _plain(self, block: bytes) -> Entry | None:
         """An entry by a header of POSIX.1-1988 ("ustar"), where its numbers are octal and the path has one part."""
@@ -73,54 +75,48 @@ class LayerArchive:
             mode, size = int(block[100:107], 8), int(block[124:135], 8)
         except ValueError:
             return None
-        if kind is None or not is_right or block[345] or self.shared:
+        if kind is None or not is_right or block[345] or not block[124:135].isdigit():
             return None
         if has_owner:
             self.left_out["owners"] += 1
         if kind == "file":
-            text = digest_of(self.file, size)
-            self.file.read(-size % tarfile.BLOCKSIZE)
+            text = self._digest(size)
         else:
             text = text_in(block[157:257])
         return Entry(kind, clean(text_in(block[:100])), mode & MODE_BITS, size, text)
 
-    def _unusual(self, block: bytes) -> Entry:
-        again = Again(block, self.file)
-        archive = tarfile.TarFile(fileobj=again, encoding="utf-8", errors=ERRORS, pax_headers=self.shared)
-        found = archive.next()
-        if found is None:
-            raise Unreadable("a layer ends within a header")
-        kind, text = KINDS.get(found.type, "entry of another kind"), found.linkname
-        self.left_out["owners"] += bool(found.uid or found.gid)
-        self.left_out["extended attributes"] += sum(key.startswith("SCHILY.xattr.") for key in found.pax_headers)
-        if kind == "file":
-            text = digest_of(archive.extractfile(found), found.size)
-        again.seek(archive.offset)
-        return Entry(kind, clean(found.name), found.mode & MODE_BITS, found.size, text)
+    def _unusual(self, block: bytes) -> Entry | None:
+        header = read_header(block, self.file)
+        if header is None:
+            return None
+        self.left_out["owners"] += header.has_owner
+        self.left_out["extended attributes"] += header.xattrs
+        kind, size, text = KINDS.get(header.kind, "entry of another kind"), header.size, header.link
+        if header.sparse_size is not None:
+            size, text = header.sparse_size, self._sparse_digest(header)
+        elif kind == "file":
+            text = self._digest(size)
+        else:
+            self._digest(size)
+        return Entry(kind, clean(header.name), header.mode, size, text)
 
+    def _digest(self, size: int) -> str:
+        text = digest_of(self.file, size)
+        self.file.read(-size % BLOCKSIZE)
+        return text
 
-class Again:
-    """A file with the block that was read last before what follows it."""
-
-    def __init__(self, block: bytes, file: BinaryIO) -> None:
-        self._block, self._file = block, file
-
-    def tell(self) -> int:
-        return self._file.tell() - len(self._block)
-
-    def seek(self, position: int) -> int:
-        return self._file.seek(position)
-
-    def read(self, size: int) -> bytes:
-        if self._block:
-            block, self._block = self._block, b""
-            return block
-        return self._file.read(size)
-
-
-def text_in(field: bytes) -> str:
-    """A text of a header, up to its first NUL."""
-    return field.partition(b"\0")[0].decode("utf-8", ERRORS)
+    def _sparse_digest(self, header: Header) -> str:
+        """The digest of a sparse file with its holes."""
+        self.bounds.take("hole_bytes", header.sparse_size - header.size)
+        self.bounds.take("bytes", header.sparse_size - header.size)
+        found, at = hashlib.sha256(), 0
+        for offset, size in header.parts:
+            add_zeros(found, offset - at)
+            add_bytes(found, self.file, size)
+            at = offset + size
+        add_zeros(found, header.sparse_size - at)
+        self.file.read(-header.size % BLOCKSIZE)
+        return f"sha256:{found.hexdigest()}"
 
 
 def clean(path: str) -> str:
@@ -130,18 +126,32 @@ def clean(path: str) -> str:
 
 def digest_of(file: BinaryIO, size: int) -> str:
     """The digest of the next bytes."""
-    chunk = file.read(min(size, CHUNK_BYTES))
-    found, left = hashlib.sha256(chunk), size - len(chunk)
-    while left > 0 and chunk:
-        chunk = file.read(min(left, CHUNK_BYTES))
-        found.update(chunk)
-        left -= len(chunk)
-    if left > 0:
-        raise Unreadable("a layer ends within a file")
+    found = hashlib.sha256()
+    add_bytes(found, file, size)
     return f"sha256:{found.hexdigest()}"
 
 
-def entries_of_directory(top: str, left_out: Counter[str]) -> Iterator[Entry]:
+def add_bytes(found: "hashlib._Hash", file: BinaryIO, size: int) -> None:
+    """Takes the next bytes into a digest."""
+    left = size
+    while left > 0:
+        chunk = file.read(min(left, CHUNK_BYTES))
+        if not chunk:
+            raise Unreadable("an archive ends within a file")
+        found.update(chunk)
+        left -= len(chunk)
+
+
+def add_zeros(found: "hashlib._Hash", size: int) -> None:
+    for _ in range(size // CHUNK_BYTES):
+        found.update(ZEROS)
+    found.update(ZEROS[: size % CHUNK_BYTES])
+
+
+ZEROS = bytes(CHUNK_BYTES)
+
+
+def entries_of_directory(top: str, left_out: Counter[str], bounds: Bounds) -> Iterator[Entry]:
     """The entries of a directory that is a layer, each directory before what is in it. It may be an upper directory
     of overlayfs, whose whiteouts are character devices 0/0 and whose opaque marks are extended attributes
     (overlayfs.rst, "whiteouts and opaque directories")."""
@@ -153,14 +163,17 @@ def entries_of_directory(top: str, left_out: Counter[str]) -> Iterator[Entry]:
         status = os.lstat(place) if path else os.stat(place)
         if status.st_uid or status.st_gid:
             left_out["owners"] += 1
-        yield entry_of(place, path or "/", status, firsts)
+        bounds.take("entries", 1)
+        yield entry_of(place, path or "/", status, firsts, bounds)
         if stat.S_ISDIR(status.st_mode):
             if is_opaque(place):
                 yield Entry("file", f"{path}/{OPAQUE}", 0, 0, "")
             waiting += [f"{path}/{name}" for name in sorted(os.listdir(place), reverse=True)]
 
 
-def entry_of(place: str, path: str, status: os.stat_result, firsts: dict[tuple[int, int], str]) -> Entry:
+def entry_of(
+    place: str, path: str, status: os.stat_result, firsts: dict[tuple[int, int], str], bounds: Bounds
+) -> Entry:
     """What stands at a place, as the entry of a path. A file's first name is the file, all others are hard links."""
     mode, kind = stat.S_IMODE(status.st_mode), stat.S_IFMT(status.st_mode)
     if kind == stat.S_IFDIR:
@@ -174,9 +187,13 @@ def entry_of(place: str, path: str, status: os.stat_result, firsts: dict[tuple[i
     if kind == stat.S_IFLNK:
         return Entry("symlink", path, mode, 0, os.readlink(place))
     if kind == stat.S_IFREG:
+        bounds.take("bytes", status.st_size)
         with open(place, "rb", buffering=0) as file:
             return Entry("file", path, mode, status.st_size, digest_of(file, status.st_size))
-    return Entry("pipe" if kind == stat.S_IFIFO else "device file", path, mode, 0, "")
+    return Entry(OTHER_KINDS.get(kind, "device file"), path, mode, 0, "")
+
+
+OTHER_KINDS = {stat.S_IFIFO: "pipe", stat.S_IFSOCK: "socket"}
 
 
 def is_opaque(directory: str) -> bool:

@@ -5,18 +5,23 @@ import json
 import sys
 import tempfile
 from collections import Counter
-from collections.abc import Callable, Iterable
+from collections.abc import Callable, Iterable, Iterator
 from dataclasses import dataclass
-from typing import TextIO, TypeVar
+from itertools import islice
+from typing import NamedTuple, TextIO, TypeVar
 
-from images.entries import WHITEOUT, Entry
+from images.bounds import Bounds
+from images.entries import WHITEOUT, Entry, clean
 from images.sources import Layer
-from images.tree import LeftOut, Tree, reason, text_of
+from images.tree import LeftOut, Tree, name_reason, reason, text_of
+from images.ways import Ways
 
 # The most inodes of a layer that a store can be opened with.
 MOST_INODES = 1 << 24
 MOST_ANCESTORS = 64
 MOST_LINE_BYTES = 1 << 24
+# Of what is told of a source, in letters.
+MOST_TOLD = 1000
 
 T = TypeVar("T")
 
@@ -24,20 +29,60 @@ T = TypeVar("T")
 def unpack(tree: Tree, layer: Layer, left_out: Counter[str]) -> None:
     """Makes a layer over what the tree shows: its whiteouts and opaque marks first, then its other entries."""
     marks, entries = sorted_out(layer.entries(left_out), left_out)
-    make(tree.hide, marks, left_out)
+    if marks:
+        ways = Ways(tree.root, tree.bounds, marks, entries)
+        make(lambda mark: hide(tree, ways, mark), marks, left_out)
     make(tree.apply, entries, left_out)
+
+
+def hide(tree: Tree, ways: Ways, mark: str) -> None:
+    """Makes a mark, at the end of its way."""
+    above, _, name = mark.rpartition("/")
+    directory, is_there = ways.walk(above)
+    if not is_there:
+        raise LeftOut("whiteouts of nothing")
+    tree.hide(directory, name)
+
+
+@dataclass
+class Lost:
+    """A file or symlink whose name can't be kept. The first name of it that can be kept takes its place."""
+
+    entry: Entry
+    name: str | None = None
+
+    def named(self, other: Entry) -> Entry:
+        """The file under another of its names, which is a hard link of the archive."""
+        if self.name is not None:
+            return other._replace(text=self.name)
+        return self.entry._replace(path=other.path, mode=other.mode)
 
 
 def sorted_out(found: Iterable[Entry], left_out: Counter[str]) -> tuple[list[str], list[Entry]]:
     """The paths of the marks, and all other entries that can be kept. The root has no entry."""
     marks, entries = [], []
+    lost: dict[str, Lost] = {}
     for entry in found:
+        if f"/{WHITEOUT}" in entry.path:
+            above, _, name = entry.path.rpartition("/")
+            if why := name_reason(f"{above}/{name.removeprefix(WHITEOUT)}"):
+                left_out[why] += 1
+            else:
+                marks.append(entry.path)
+            continue
+        file = lost.get(clean(entry.text)) if lost and entry.kind == "hard link" else None
+        if file is not None:
+            entry = file.named(entry)
         if why := reason(entry):
             left_out[why] += 1
-        elif f"/{WHITEOUT}" in entry.path:
-            marks.append(entry.path)
+            if entry.kind in ("file", "symlink", "hard link"):
+                lost[entry.path] = file or Lost(entry)
+            else:
+                lost.pop(entry.path, None)
         elif entry.path != "/":
             entries.append(entry)
+            if file is not None and file.name is None:
+                file.name = entry.path
     return marks, entries
 
 
@@ -51,52 +96,72 @@ def make(step: Callable[[T], None], things: list[T], left_out: Counter[str]) -> 
             left_out[str(why)] += 1
 
 
+class Made(NamedTuple):
+    """A layer that is made: its name, what it counts, and its operations, by where they begin and their number."""
+
+    name: str
+    blocks: int
+    inodes: int
+    begin: int
+    steps: int
+
+
 @dataclass
 class Script:
     """What is printed, for each of the namespaces."""
 
     out: TextIO
     namespaces: list[str]
+    limit: list[int]
+    bounds: Bounds
     left_out: Counter[str]
 
     def say(self, command: dict) -> None:
         self.out.write(json.dumps(command, separators=(",", ":"), ensure_ascii=False) + "\n")
 
-    def open(self, limit: list[int]) -> None:
-        namespaces = [[ns, *limit] for ns in self.namespaces]
+    def open(self) -> None:
+        namespaces = [[ns, *self.limit] for ns in self.namespaces]
         self.say({"do": "open", "root": "/r", "namespaces": namespaces, "layer_inodes": MOST_INODES})
 
     def layers(self, layers: list[Layer]) -> None:
-        """A snapshot for each layer, and what the store then has."""
-        tree, parent = Tree(), ""
-        for number, layer in enumerate(layers, 1):
-            with tempfile.TemporaryFile("w+", encoding="utf-8", newline="\n") as operations:
-                tree.begin_layer(operations)
-                unpack(tree, layer, self.left_out)
-                name = chain(parent, layer.digest or digest_of_text(operations))
-                warn(f"layer {number}", tree)
+        """A snapshot for each layer, and what the store then has. Nothing is printed before all layers are read."""
+        with tempfile.TemporaryFile("w+", encoding="utf-8", newline="\n") as operations:
+            made = list(self._made(layers, operations))
+            self.open()
+            parent = ""
+            for number, layer in enumerate(made, 1):
                 for ns in self.namespaces:
-                    self._layer(ns, f"extract-{number}", parent, name, tree, operations)
-                parent = name
+                    self._layer(ns, f"extract-{number}", parent, layer, operations)
+                parent = layer.name
         if len(layers) > MOST_ANCESTORS + 1:
             told(f"{len(layers)} layers: those above {MOST_ANCESTORS + 1} will be answered TooDeep")
         for ns in self.namespaces:
             self.say({"do": "tree", "ns": ns})
         self.say({"do": "report"})
 
-    def _layer(self, ns: str, key: str, parent: str, name: str, tree: Tree, operations: TextIO) -> None:
+    def _made(self, layers: list[Layer], operations: TextIO) -> Iterator[Made]:
+        tree, name = Tree(self.bounds), ""
+        for number, layer in enumerate(layers, 1):
+            begin = operations.tell()
+            tree.begin_layer(operations)
+            unpack(tree, layer, self.left_out)
+            name = chain(name, layer.digest or digest_of_text(operations, begin))
+            warn(f"layer {number}", tree)
+            yield Made(name, tree.blocks, tree.inodes, begin, tree.steps)
+
+    def _layer(self, ns: str, key: str, parent: str, layer: Made, operations: TextIO) -> None:
         of = {"ns": ns, "key": key}
         self.say({"do": "prepare", **of, "parent": parent})
-        self.say({"do": "charge", **of, "need": [tree.blocks, tree.inodes]})
+        self.say({"do": "charge", **of, "need": [layer.blocks, layer.inodes]})
         fields = f',"ns":{text_of(ns)},"key":{text_of(key)},'
-        operations.seek(0)
-        for line in operations:
+        operations.seek(layer.begin)
+        for line in islice(operations, layer.steps):
             self.out.write(line.replace(",", fields, 1))
-        self.say({"do": "commit", **of, "name": name})
+        self.say({"do": "commit", **of, "name": layer.name})
 
     def jobs(self, layers: list[Layer]) -> None:
-        """A job for each namespace, that makes all layers in one."""
-        tree, name = Tree(is_single=True), ""
+        """A job for each namespace, that makes all layers in one. Nothing is printed before all layers are read."""
+        tree, name = Tree(self.bounds, is_single=True), ""
         with tempfile.TemporaryFile("w+", encoding="utf-8", newline="\n") as operations:
             tree.begin_layer(operations)
             for layer in layers:
@@ -106,6 +171,7 @@ class Script:
             warn("the image in one layer", tree)
             if operations.tell() >= MOST_LINE_BYTES:
                 told(f"a job of {operations.tell():,} bytes: the program answers `too long` above {MOST_LINE_BYTES:,}")
+            self.open()
             for ns in self.namespaces:
                 self._job(ns, name, tree, operations)
 
@@ -139,4 +205,11 @@ def warn(what: str, tree: Tree) -> None:
 
 
 def told(text: str) -> None:
-    print(f"image_to_script: {text}", file=sys.stderr)
+    """Tells the user, in one line."""
+    print(f"image_to_script: {one_line(text)}", file=sys.stderr)
+
+
+def one_line(text: str) -> str:
+    """A text that may have any characters of a source, as a line of those that are printed."""
+    line = "".join(letter if letter.isprintable() else repr(letter)[1:-1] for letter in text[:MOST_TOLD])
+    return line + "..." * (len(text) > MOST_TOLD)

@@ -6,14 +6,14 @@ import io
 import json
 from typing import TextIO
 
-from images.entries import OPAQUE, WHITEOUT, Entry, clean
+from images.bounds import MOST_LINKS, Bounds
+from images.entries import OPAQUE, WHITEOUT, Entry
 
 BLOCK_BYTES = 4096
 MOST_NAME_BYTES = 255
 MOST_PATH_BYTES = 4095
 MOST_LETTER_BYTES = 4
 MOST_FILE_BYTES = 1 << 40
-MOST_LINKS = 255  # containerd's `fs.RootPath`
 DIRECTORY_MODE = 0o755
 
 text_of = json.JSONEncoder(ensure_ascii=False).encode
@@ -51,11 +51,12 @@ NO_NAMES: set[str] = set()
 class File:
     """A file or symlink that is seen, with the names that it has in the last layer that has it."""
 
-    __slots__ = ("blocks", "target", "layer", "links")
+    __slots__ = ("blocks", "target", "mode", "layer", "links")
 
-    def __init__(self, blocks: int, target: str | None) -> None:
+    def __init__(self, blocks: int, target: str | None, mode: int) -> None:
         self.blocks = blocks
         self.target = target
+        self.mode = mode
         self.layer = 0
         self.links = 0
 
@@ -71,11 +72,12 @@ class Tree:
     """What the layers show, what the last one counts, and the operations that make it. In a single layer all that is
     hidden is its own."""
 
-    def __init__(self, is_single: bool = False) -> None:
+    def __init__(self, bounds: Bounds, is_single: bool = False) -> None:
+        self.bounds = bounds
         self.is_single = is_single
         self.root = Directory(None, "", DIRECTORY_MODE)
         self.layer = 0
-        self.blocks = self.inodes = 0
+        self.blocks = self.inodes = self.steps = 0
         self.operations: TextIO = io.StringIO()
         self._near: tuple[str, Directory, str] | None = None
 
@@ -83,6 +85,7 @@ class Tree:
         """The next layer: its root alone."""
         self.layer += 1
         self.blocks = self.inodes = 1
+        self.steps = 0
         self.operations = operations
         self._take(self.root)
 
@@ -110,7 +113,7 @@ class Tree:
         lower = directory.names[name]
         if lower.layer == self.layer:
             return lower
-        own = File(lower.blocks, lower.target)
+        own = File(lower.blocks, lower.target, lower.mode)
         directory.covering.add(name)
         self._put(directory, name, own)
         return own
@@ -165,6 +168,7 @@ class Tree:
         """Where a path leads, symlinks followed within the root: a directory, and what is missing below it."""
         here, missing, links = self.root, [], 0
         left = path.split("/")[::-1]
+        self.bounds.take("way_names", len(left))
         while left:
             name = left.pop()
             if name in ("", "."):
@@ -183,7 +187,9 @@ class Tree:
             else:
                 links += 1
                 here = self.root if node.target.startswith("/") else here
-                left += reversed(node.target.split("/"))
+                names = node.target.split("/")
+                self.bounds.take("way_names", len(names))
+                left += reversed(names)
         return here, missing
 
     def _place(self, path: str) -> tuple[Directory, str, str]:
@@ -193,8 +199,10 @@ class Tree:
             directory, missing = self._walk(above)
             at = directory.path()
             check_length("/".join((at, *missing, name)))
+            self.bounds.take("entries", len(missing))
             for each in missing:
                 at = f"{at}/{each}"
+                self.bounds.take("text_bytes", len(at))
                 directory = self._make_directory(directory, at, each, DIRECTORY_MODE)
             self._near = above, directory, at
         _, directory, at = self._near
@@ -205,7 +213,14 @@ class Tree:
     # -- operations
 
     def _say(self, do: str, path: str, more: str = "") -> None:
-        self.operations.write(f'{{"do":"{do}","path":{text_of(path)}{more}}}\n')
+        self._write(f'{{"do":"{do}","path":{text_of(path)}{more}}}\n')
+
+    def _write(self, line: str) -> None:
+        self.steps += 1
+        self.bounds.operation_bytes -= len(line)
+        if self.bounds.operation_bytes < 0:
+            self.bounds.check()
+        self.operations.write(line)
 
     def _make_directory(self, above: Directory, path: str, name: str, mode: int) -> Directory:
         made = Directory(above, name, mode)
@@ -219,16 +234,16 @@ class Tree:
             self._say("whiteout" if isinstance(directory.names[name], Directory) else "unlink", path)
             self._drop(directory, name)
 
-    def hide(self, mark: str) -> None:
-        """Makes a mark: the path of a whiteout or of an opaque mark."""
-        above, _, name = mark.rpartition("/")
-        directory, missing = self._walk(above)
-        if missing:
-            raise LeftOut("whiteouts of nothing")
+    def hide(self, directory: Directory | None, name: str) -> None:
+        """Makes a mark of this name: a whiteout or an opaque mark. It hides what lower layers show in the directory,
+        which is none where the layer alone has one there."""
         if name == OPAQUE:
-            self._opaque(directory)
+            if directory is not None:
+                self._opaque(directory)
         elif name.startswith(WHITEOUT + WHITEOUT) or name in (WHITEOUT, WHITEOUT + ".", WHITEOUT + ".."):
             raise LeftOut("whiteouts of no name")
+        elif directory is None or not name.startswith(WHITEOUT):
+            raise LeftOut("whiteouts of nothing")
         else:
             self._whiteout(directory, name.removeprefix(WHITEOUT))
 
@@ -266,10 +281,10 @@ class Tree:
             return
         self._remove(directory, path, name)
         if entry.kind == "file":
-            self._put(directory, name, File(-(-entry.size // BLOCK_BYTES), None))
+            self._put(directory, name, File(-(-entry.size // BLOCK_BYTES), None, entry.mode))
             self._say("put", path, f',"mode":{entry.mode},"size":{entry.size},"digest":"{entry.text}"')
         else:
-            self._put(directory, name, File(0, entry.text))
+            self._put(directory, name, File(0, entry.text, entry.mode))
             self._say("symlink", path, f',"target":{text_of(entry.text)}')
 
     def _directory(self, above: Directory, path: str, name: str, mode: int) -> None:
@@ -283,7 +298,8 @@ class Tree:
             self._say("setmode", path, f',"mode":{mode}')
 
     def _link(self, entry: Entry) -> None:
-        source_above, _, source_name = clean(entry.text).rpartition("/")
+        """A hard link, which has the mode of its entry (containerd's package `archive`)."""
+        source_above, _, source_name = entry.text.rstrip("/").rpartition("/")
         source_directory, missing = self._walk(source_above)
         if missing or not isinstance(source_directory.names.get(source_name), File):
             raise LeftOut("hard links to no file")
@@ -294,9 +310,13 @@ class Tree:
         if here is not None or (directory is source_directory and name == source_name):
             raise LeftOut("hard links to what they replace")
         self._remove(directory, path, name)
-        self._put(directory, name, self._copy_file_up(source_directory, source_name))
+        file = self._copy_file_up(source_directory, source_name)
+        self._put(directory, name, file)
         source = f"{source_directory.path()}/{source_name}"
-        self.operations.write(f'{{"do":"link","from":{text_of(source)},"to":{text_of(path)}}}\n')
+        self._write(f'{{"do":"link","from":{text_of(source)},"to":{text_of(path)}}}\n')
+        if file.target is None and file.mode != entry.mode:
+            file.mode = entry.mode
+            self._say("setmode", path, f',"mode":{entry.mode}')
 
 
 def check_length(path: str) -> None:
@@ -308,13 +328,22 @@ def reason(entry: Entry) -> str | None:
     """Why the store can't keep an entry, whatever stands elsewhere."""
     if entry.kind not in ("directory", "file", "symlink", "hard link"):
         return f"{entry.kind}s"
-    if not entry.path.isascii() and not is_utf_8(entry.path):
-        return "names that are no UTF-8"
-    if len(entry.path) * MOST_LETTER_BYTES > MOST_NAME_BYTES and is_long(entry.path):
-        return "names that are too long"
+    if why := name_reason(entry.path):
+        return why
     if entry.kind == "file" and entry.size > MOST_FILE_BYTES:
         return "files above 2^40 bytes"
     return target_reason(entry.text) if entry.kind == "symlink" else None
+
+
+def name_reason(path: str) -> str | None:
+    if not path.isascii() and not is_utf_8(path):
+        return "names that are no UTF-8"
+    if len(path) * MOST_LETTER_BYTES > MOST_NAME_BYTES:
+        if len(path.encode()) > MOST_PATH_BYTES:
+            return "paths that are too long"
+        if is_long(path):
+            return "names that are too long"
+    return None
 
 
 def is_long(path: str) -> bool:
