@@ -1,5 +1,5 @@
 -- What a map of texts says by the bytes of its keys, before and after one key changes.
-use Rattle.std.proofs.Common.{◌≡◌, ◌≢◌, ℕ, ◌+◌, Bool, true, false, cond, List, [], ◌∷◌, ◌&&◌, length, Option, None, Some, String, BTreeMap, string_bytes, refl, sym, ap, ◌∙◌, arith, unwrap_or, bytes_eq}
+use Rattle.std.proofs.Common.{◌≡◌, ◌≢◌, ℕ, ◌+◌, Bool, true, false, cond, List, [], ◌∷◌, ◌&&◌, length, Option, None, Some, String, BTreeMap, string_bytes, refl, sym, ap, ◌∙◌, arith, unwrap_or, bytes_eq, subst, Result, Ok, Err, IfSome, OnOk, OnErr}
 use Rattle.std.specs.BTreeMap.{get_by_text, btree_map_len, is_at}
 use Rattle.std.specs.Cmp.Lexicographic.{slice_cmp, nat_list_eq_equiv}
 use Rattle.std.specs.Map.{lookup, update}
@@ -10,7 +10,7 @@ use Rattle.std.specs.Ordering.{nat_cmp}
 use Rattle.std.proofs.lemmas.Map.{update-update}
 use Rattle.std.proofs.lemmas.Map.Text.{btree_map_updates_text, is_eq-slice_cmp}
 use Rattle.std.proofs.lemmas.Slice.Eq.{bytes_eq-Decides}
-use Rattle.snap_counts.specs.Counts.{by_bytes, count_in, count_within}
+use Rattle.snap_counts.specs.Counts.{by_bytes, count_in, count_within, HasCounted}
 use Rattle.snap_counts.proofs.Lists.{one_if}
 
 -- a change of a number by another, which 0 leaves as it is: a sum or a difference
@@ -99,6 +99,21 @@ module _ {Z : Type 0} where
       by true e = some e
       by false e = sound q e
 
+  -- each value of the map has the property
+  abbrev pub AllValues : {X : Type 0} → (X → Type 0) → BTreeMap (String Z) X → Type 0
+  AllValues P m = (q : List ℕ) → IfSome (get_by_text m q) P
+
+  pub AllValues-Sets : {X : Type 0} (P : X → Type 0) (old new : BTreeMap (String Z) X) (text : List ℕ) (w : Option X) → Sets old new text w → IfSome w P → AllValues P old → AllValues P new
+  AllValues-Sets P old new text w sets written all q = subst (λ o. IfSome o P) (sym (sets q)) (by (bytes_eq text q))
+    where
+      by : (b : Bool) → IfSome (cond b w (get_by_text old q)) P
+      by true = written
+      by false = all q
+
+  -- so has the one that is found
+  pub AllValues-found : {X : Type 0} (P : X → Type 0) (m : BTreeMap (String Z) X) (text : List ℕ) (found : X) → Some found ≡ get_by_text m text → AllValues P m → P found
+  AllValues-found P m text found is all = subst (λ o. IfSome o P) (sym is) (all text)
+
   -- no text is counted exactly where there is no entry
   pub none_counted : (m : BTreeMap (String Z) ℕ) → btree_map_len m ≡ 0 → (q : List ℕ) → count_in q (by_bytes m.entries) ≡ 0
   none_counted m empty q = by m.entries empty
@@ -139,6 +154,22 @@ module _ {Z : Type 0} where
           → cond b (count_in q (unwrap_or w [])) (count_in q (unwrap_or (get_by_text old space) [])) ≡ step (count_in q (unwrap_or (get_by_text old space) [])) (one_if (b && bytes_eq q text))
       by true same = one q ∙ ap (λ s. step (count_in q (unwrap_or (get_by_text old s) [])) (one_if (bytes_eq q text))) (sym ((bytes_eq-Decides space namespace).0 same))
       by false differ = sym (none (count_in q (unwrap_or (get_by_text old space) [])))
+
+-- a text is counted that was counted once more
+pub HasCounted-more : (before after : List (List ℕ × ℕ)) (text : List ℕ) → ((q : List ℕ) → count_in q after ≡ count_in q before + one_if (bytes_eq q text)) → HasCounted after
+HasCounted-more before after text more zero =
+    let same : one_if (bytes_eq text text) ≡ 1 = ap one_if ((bytes_eq-Decides text text).1 refl) in
+    absurd (omega (arith, same, more text, zero text))
+
+-- where the counts stay
+pub HasCounted-same : (before after : List (List ℕ × ℕ)) → ((q : List ℕ) → count_in q after ≡ count_in q before) → HasCounted before → HasCounted after
+HasCounted-same before after same counted zero = counted (λ q. sym (same q) ∙ zero q)
+
+-- whatever became of the call that counts one more
+pub HasCounted-either : {A B : Type 0} (r : Result A B) (before after : List (List ℕ × ℕ)) (text : List ℕ)
+    → OnOk r ((q : List ℕ) → count_in q after ≡ count_in q before + one_if (bytes_eq q text)) → OnErr r ((q : List ℕ) → count_in q after ≡ count_in q before) → HasCounted before → HasCounted after
+HasCounted-either (Ok a) before after text more same counted = HasCounted-more before after text more
+HasCounted-either (Err b) before after text more same counted = HasCounted-same before after same counted
 
 -- what `checked_add` says where it gives none
 pub no_sum : (o : Option ℕ) (P : Type 0) (n : ℕ) → SomeIff o P n → o ≡ None → P → ⊥

@@ -18,12 +18,16 @@ pub struct NamespaceCounts {
 }
 
 impl Model for NamespaceCounts {
-    ghost use Rattle.std.specs.Prelude.{List, ℕ};
-    ghost use Rattle.snap_counts.specs.Counts.{by_bytes};
+    ghost use Rattle.std.specs.Prelude.{List, ℕ, IfSome};
+    ghost use Rattle.std.specs.BTreeMap.{get_by_text};
+    ghost use Rattle.snap_counts.specs.Counts.{by_bytes, HasCounted};
 
     ghost Value = { List (List ℕ × List (List ℕ × ℕ)) };
 
     ghost view = { λ a. by_bytes a.map.entries };
+
+    // A namespace stands in the map only while a text of it is counted.
+    ghost invariant = { λ a. (space : List ℕ) → IfSome (get_by_text a.map space) HasCounted };
 }
 
 impl NamespaceCounts {

@@ -1,3 +1,5 @@
 mod Walks
 mod Names
 mod Pages
+mod Places
+mod Starts

@@ -14,6 +14,7 @@ use Rattle.snap_path.specs.Text.{Names}
 use Rattle.snap_layer.specs.declared.node.Node.{Node}
 use Rattle.snap_layer.specs.Tree.{Tree, at, hides, node_hides, names_below}
 use Rattle.snap_layer.proofs.Laws.{names_below_are}
+use Rattle.snap_layer.proofs.Listed.{sorted_below}
 use Rattle.snap_merge.specs.Objects.{Object, seen, AreLayers}
 use Rattle.snap_merge.specs.Listing.{name_cmp, names, put_names}
 use Rattle.snap_merge.proofs.Hiding.{hides_snoc}
@@ -133,20 +134,16 @@ either true b e = absurd (cc)
 either false true e = absurd (cc)
 either false false e = (refl, refl)
 
-or_false : (b : Bool) → (b || false) ≡ b
-or_false true = refl
-or_false false = refl
-
 pub own_names : (k : ℕ) (t : Tree) (ts : List Tree) → AreLayers (t ∷ ts) → (p : Names) → is_merged t p ≡ true
-    → flat_map (λ name. changes_below k t ts (p ++ name ∷ [])) (put_names (names_below p t.entries) []) ≡ flat_map (λ name. changes_below k t ts (p ++ name ∷ [])) (both_names ts (t ∷ ts) p)
+    → flat_map (λ name. changes_below k t ts (p ++ name ∷ [])) (names_below p t.entries) ≡ flat_map (λ name. changes_below k t ts (p ++ name ∷ [])) (both_names ts (t ∷ ts) p)
 own_names k t ts ok p merged =
-    same_told (λ name. changes_below k t ts (p ++ name ∷ [])) (put_names (names_below p t.entries) []) (both_names ts (t ∷ ts) p)
-    (sorted_put (names_below p t.entries) [] nothing_sorted)
+    same_told (λ name. changes_below k t ts (p ++ name ∷ [])) (names_below p t.entries) (both_names ts (t ∷ ts) p)
+    (sorted_below p t.entries ok.0.sorted_paths)
     (sorted_put (names ts p) (put_names (names (t ∷ ts) p) []) (sorted_put (names (t ∷ ts) p) [] nothing_sorted))
     (λ n. by n (at t (p ++ n ∷ [])) refl (is_some (seen ts (p ++ n ∷ [])) || (is_some (seen (t ∷ ts) (p ++ n ∷ [])) || false)) refl)
   where
-    mine : (n : List ℕ) → has n (put_names (names_below p t.entries) []) ≡ is_some (at t (p ++ n ∷ []))
-    mine n = has_put n (names_below p t.entries) [] ∙ or_false (has n (names_below p t.entries)) ∙ names_below_are t p n
+    mine : (n : List ℕ) → has n (names_below p t.entries) ≡ is_some (at t (p ++ n ∷ []))
+    mine n = names_below_are t p n
 
     both : (n : List ℕ) → has n (both_names ts (t ∷ ts) p) ≡ (is_some (seen ts (p ++ n ∷ [])) || (is_some (seen (t ∷ ts) (p ++ n ∷ [])) || false))
     both n =
@@ -159,7 +156,7 @@ own_names k t ts ok p merged =
     apart false false e = refl
 
     by : (n : List ℕ) (o : Option Node) → at t (p ++ n ∷ []) ≡ o → (b : Bool) → (is_some (seen ts (p ++ n ∷ [])) || (is_some (seen (t ∷ ts) (p ++ n ∷ [])) || false)) ≡ b
-        → (has n (put_names (names_below p t.entries) []) ≡ has n (both_names ts (t ∷ ts) p)) ⊎ (changes_below k t ts (p ++ n ∷ []) ≡ [])
+        → (has n (names_below p t.entries) ≡ has n (both_names ts (t ∷ ts) p)) ⊎ (changes_below k t ts (p ++ n ∷ []) ≡ [])
     by n None none b e = inr (untouched_below k t ts ok.0.parents (p ++ n ∷ []) none (hides_snoc t n p [] ∙ apart (node_hides (at t p)) (hides t p) merged))
     by n (Some x) there true e = inl (mine n ∙ ap is_some there ∙ sym (both n ∙ e))
     by n (Some x) there false e =

@@ -1,7 +1,9 @@
 -- What a layer changes of what the layers below it show.
 -- Cited by `ChangeKind::as_str`, `changes`, `pibroulez_run` and others.
 use Rattle.std.specs.Prelude.{ℕ, zero, suc, Bool, true, false, not, is_some, ◌==◌, ◌&&◌, nat_lt, if◌then◌else◌, List, [], ◌∷◌, ◌++◌, length, filter, take, codes, Option, Some, None}
-use Rattle.std.specs.List.{flat_map}
+use Rattle.std.specs.List.{flat_map, slice_get}
+use Rattle.std.specs.declared.ops.Bound.{Bound}
+use Rattle.std.specs.declared.ops.Bound.TheVariants.{Included, Unbounded}
 use Rattle.std.specs.Ordering.{is_gt, is_lt}
 use Rattle.std.specs.Str.{bytes_eq}
 use Rattle.snap_path.specs.Text.{Names, begins}
@@ -92,6 +94,16 @@ is_merged t p = not (node_hides (at t p)) && not (hides t p)
 abbrev pub is_past : Option Names → Names → Bool
 is_past None p = false
 is_past (Some after) p = is_gt (path_cmp after p) && not (begins p after)
+
+-- the names from here on, or all
+abbrev pub bound_at : Option (List ℕ) → Bound (List ℕ)
+bound_at None = Unbounded
+bound_at (Some n) = Included n
+
+-- where in the directory at the path the page begins: at the name there of the path that it begins after, if that is below
+abbrev pub page_start : Option Names → Names → Bound (List ℕ)
+page_start None p = Unbounded
+page_start (Some after) p = if begins p after then bound_at (slice_get after (length p)) else Unbounded
 
 -- the page with one change more, where it comes after the path and has room
 abbrev pub put_row : ℕ → Option Names → List Change → Change → List Change

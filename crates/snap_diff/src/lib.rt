@@ -5,6 +5,7 @@
 #![tactic(auto)]
 
 mod change;
+mod own;
 mod walk;
 
 pub use change::{Change, ChangeKind};

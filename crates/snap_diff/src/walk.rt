@@ -1,18 +1,21 @@
 // The walk over what a layer changes.
-ghost use Rattle.std.specs.Prelude.{◌≡◌, ℕ, [], ◌∷◌, ◌++◌, IfOk, OnOk};
+ghost use Rattle.std.specs.Prelude.{◌≡◌, [], ◌∷◌, ◌++◌, true, false, IfOk, OnOk};
+ghost use Rattle.std.specs.Bound.{bound_map};
 ghost use Rattle.std.specs.Option.{option_copied};
 ghost use Rattle.std.specs.List.{flat_map};
-ghost use Rattle.snap_layer.specs.Tree.{names_below};
 ghost use Rattle.snap_merge.specs.Objects.{seen, AreLayers};
 ghost use Rattle.snap_merge.specs.Listing.{names, put_names};
-ghost use Rattle.snap_diff.specs.Changes.{both_names, changes, changes_below, is_after, is_merged, is_past, is_untouched, page, put_rows, row};
+ghost use Rattle.snap_diff.specs.Changes.{both_names, changes, changes_below, is_after, is_merged, is_past, is_untouched, page, page_start, put_rows, row};
+ghost use Rattle.snap_diff.specs.Places.{IsOwn};
 
 use crate::change::{Change, ChangeKind, change_at};
-use snap_layer::{Layer, Node, Shared};
-use snap_merge::{FsError, Stack, hides, is_dir, show_are_layers};
+use crate::own::Own;
+use snap_layer::{Layer, Shared};
+use snap_merge::{FsError, Stack, is_dir, show_are_layers};
 use snap_path::{Name, NoMemory, Path, PathError};
 use std::alloc::{AllocError, Global};
 use std::collections::BTreeSet;
+use std::ops::Bound;
 
 /// The most names of a path, and one for the root.
 const MAX_DEPTH: u64 = 2048;
@@ -75,13 +78,6 @@ impl<'a> Walk<'a> {
         Stack::over(self.layer, self.lowers)
     }
 
-    /// Whether the layer has nothing at the path, and nothing that hides it.
-    fn is_untouched(&self, path: &Path) -> bool
-        ensures { result ≡ is_untouched self.now.layer.now path.now }
-    {
-        self.layer.at(path).is_none() && !hides(self.layer, path)
-    }
-
     /// Whether a path comes after the one that the page begins after.
     fn is_after(&self, path: &Path) -> bool
         ensures { result ≡ is_after (option_copied self.now.after) path.now }
@@ -121,26 +117,20 @@ impl<'a> Walk<'a> {
         Ok(())
     }
 
-    /// Whether the layer hides nothing of a directory at the path.
-    fn is_merged(&self, path: &Path) -> bool
-        ensures { result ≡ is_merged self.now.layer.now path.now }
+    /// Where in the directory at the path the page begins.
+    fn start(&self, path: &Path) -> Bound<&'a Name>
+        ensures { bound_map (λ n. n.now) result ≡ page_start (option_copied self.now.after) path.now }
     {
-        match self.layer.at(path) {
-            None => !hides(self.layer, path),
-            Some(Node::Dir { opaque, .. }) => !opaque && !hides(self.layer, path),
-            Some(Node::File { .. }) => false,
-            Some(Node::Symlink { .. }) => false,
-            Some(Node::Whiteout) => false,
+        let Some(after) = self.after else {
+            return Bound::Unbounded;
+        };
+        if !after.begins(path) {
+            return Bound::Unbounded;
         }
-    }
-
-    /// The names that the layer has in the directory.
-    fn own_names(&self, alloc: Global, path: &Path) -> Result<BTreeSet<Name>, NoMemory>
-        ensures { IfOk result (λ all. all.keys ≡ put_names (names_below path.now self.now.layer.now.entries) []) }
-    {
-        let mut all = BTreeSet::new(alloc);
-        put_names(&mut all, self.layer.children(path)?)?;
-        Ok(all)
+        match after.names().get(path.names().len()) {
+            Some(name) => Bound::Included(name),
+            None => Bound::Unbounded,
+        }
     }
 
     /// The names in the directory at which something is seen with the layer or without it.
@@ -154,27 +144,17 @@ impl<'a> Walk<'a> {
         Ok(all)
     }
 
-    /// Names that tell all changes in the directory.
-    fn names(&self, alloc: Global, path: &Path) -> Result<BTreeSet<Name>, NoMemory>
-        ensures { IfOk result (λ all. (k : ℕ) → flat_map (λ name. changes_below k self.now.layer.now self.now.lowers.now (path.now ++ name ∷ [])) all.keys ≡ flat_map (λ name. changes_below k self.now.layer.now self.now.lowers.now (path.now ++ name ∷ [])) (both_names self.now.lowers.now (self.now.layer.now ∷ self.now.lowers.now) path.now)) }
-    {
-        self.show_are_layers();
-        if self.is_merged(path) {
-            self.own_names(alloc, path)
-        } else {
-            self.both_names(alloc, path)
-        }
-    }
-
     /// Keeps the changes at the path and below it, at so many names in a row at the most.
     #[cycle(put_below)]
     fn put_below(
         &self,
         alloc: Global,
         path: &Path,
+        own: &Own<'a>,
         depth: u64,
         rows: &mut Vec<Change>,
     ) -> Result<(), NoMemory>
+        requires { IsOwn self.now.layer.now path.now own.now.node own.now.dir own.now.hidden }
         ensures { OnOk result (rows.new.items ≡ put_rows self.now.most (option_copied self.now.after) rows.old.items (changes_below depth self.now.layer.now self.now.lowers.now path.now)) }
     {
         self.show_are_layers();
@@ -187,7 +167,7 @@ impl<'a> Walk<'a> {
         if self.is_past(path) {
             return Ok(());
         }
-        if self.is_untouched(path) {
+        if own.is_untouched() {
             return Ok(());
         }
         let old = self.old().look(path);
@@ -195,7 +175,7 @@ impl<'a> Walk<'a> {
         let kind = change_at(old, new);
         self.put_change(kind, path, rows)?;
         if is_dir(new) {
-            self.put_inside(alloc, path, depth - 1, rows)?;
+            self.put_inside(alloc, path, own, depth - 1, rows)?;
         }
         Ok(())
     }
@@ -206,13 +186,67 @@ impl<'a> Walk<'a> {
         &self,
         alloc: Global,
         path: &Path,
+        own: &Own<'a>,
         depth: u64,
         rows: &mut Vec<Change>,
     ) -> Result<(), NoMemory>
+        requires own { IsOwn self.now.layer.now path.now own.now.node own.now.dir own.now.hidden }
+        requires touched { is_untouched self.now.layer.now path.now ≡ false }
         ensures { OnOk result (rows.new.items ≡ put_rows self.now.most (option_copied self.now.after) rows.old.items (flat_map (λ name. changes_below depth self.now.layer.now self.now.lowers.now (path.now ++ name ∷ [])) (both_names self.now.lowers.now (self.now.layer.now ∷ self.now.lowers.now) path.now))) }
     {
-        for name in self.names(alloc, path)? {
-            self.put_entry(alloc, path, &name, depth, rows)?;
+        if own.is_merged() {
+            self.put_shared(alloc, path, own, depth, rows)
+        } else {
+            self.put_both(alloc, path, own, depth, rows)
+        }
+    }
+
+    /// Keeps the changes in a directory that the layer shares with the layers below: its own names tell them all.
+    #[cycle(put_below)]
+    fn put_shared(
+        &self,
+        alloc: Global,
+        path: &Path,
+        own: &Own<'a>,
+        depth: u64,
+        rows: &mut Vec<Change>,
+    ) -> Result<(), NoMemory>
+        requires own { IsOwn self.now.layer.now path.now own.now.node own.now.dir own.now.hidden }
+        requires touched { is_untouched self.now.layer.now path.now ≡ false }
+        requires merged { is_merged self.now.layer.now path.now ≡ true }
+        ensures { OnOk result (rows.new.items ≡ put_rows self.now.most (option_copied self.now.after) rows.old.items (flat_map (λ name. changes_below depth self.now.layer.now self.now.lowers.now (path.now ++ name ∷ [])) (both_names self.now.lowers.now (self.now.layer.now ∷ self.now.lowers.now) path.now))) }
+    {
+        self.show_are_layers();
+        let mut from = self.start(path);
+        while let Some(name) = own.first_name(from) {
+            if rows.len() >= self.most {
+                return Ok(());
+            }
+            self.put_entry(alloc, path, own, name, depth, rows)?;
+            from = Bound::Excluded(name);
+        }
+        Ok(())
+    }
+
+    /// Keeps the changes in a directory of which the layer hides something: at all names that are seen there.
+    #[cycle(put_below)]
+    fn put_both(
+        &self,
+        alloc: Global,
+        path: &Path,
+        own: &Own<'a>,
+        depth: u64,
+        rows: &mut Vec<Change>,
+    ) -> Result<(), NoMemory>
+        requires { IsOwn self.now.layer.now path.now own.now.node own.now.dir own.now.hidden }
+        ensures { OnOk result (rows.new.items ≡ put_rows self.now.most (option_copied self.now.after) rows.old.items (flat_map (λ name. changes_below depth self.now.layer.now self.now.lowers.now (path.now ++ name ∷ [])) (both_names self.now.lowers.now (self.now.layer.now ∷ self.now.lowers.now) path.now))) }
+    {
+        let names = self.both_names(alloc, path)?;
+        for name in names.range((self.start(path), Bound::Unbounded)) {
+            if rows.len() >= self.most {
+                return Ok(());
+            }
+            self.put_entry(alloc, path, own, name, depth, rows)?;
         }
         Ok(())
     }
@@ -223,15 +257,17 @@ impl<'a> Walk<'a> {
         &self,
         alloc: Global,
         directory: &Path,
+        own: &Own<'a>,
         name: &Name,
         depth: u64,
         rows: &mut Vec<Change>,
     ) -> Result<(), NoMemory>
+        requires { IsOwn self.now.layer.now directory.now own.now.node own.now.dir own.now.hidden }
         ensures { OnOk result (rows.new.items ≡ put_rows self.now.most (option_copied self.now.after) rows.old.items (changes_below depth self.now.layer.now self.now.lowers.now (directory.now ++ name.now ∷ []))) }
     {
         self.show_are_layers();
         match directory.join(name) {
-            Ok(path) => self.put_below(alloc, &path, depth, rows),
+            Ok(path) => self.put_below(alloc, &path, &own.entry(name), depth, rows),
             Err(PathError::BadPath) => Ok(()),
             Err(PathError::OutOfMemory(no_memory)) => Err(no_memory),
         }
@@ -248,8 +284,9 @@ impl<'a> Walk<'a> {
 /// and names are in byte order.
 ///
 /// It fails only where memory is refused: for names, for a path that is looked at or for the changes. Cost: a look at
-/// each path of the layer, and a list of each directory of which it hides something, and a look at each name there; the
-/// bytes of files that are compared. The walk goes into nothing that comes before the page, and ends where that is full.
+/// each path of the layer from the page's place on, and a list of each directory there of which it hides something, and
+/// a look at each name from that place on; the bytes of files that are compared. In a directory on the way to the place
+/// that hides nothing, names before it cost a logarithm together. The walk ends where the page is full.
 pub fn changes(
     alloc: Global,
     layer: &Layer,
@@ -266,7 +303,8 @@ pub fn changes(
         most,
     };
     let root = Path::root(alloc);
+    let own = Own::root(layer);
     let mut rows = Vec::new(alloc);
-    walk.put_below(alloc, &root, MAX_DEPTH, &mut rows)?;
+    walk.put_below(alloc, &root, &own, MAX_DEPTH, &mut rows)?;
     Ok(rows)
 }

@@ -121,7 +121,7 @@ named_snoc : (front : Frames) (f : ℕ × Option (List ℕ)) → AreNamed front 
 named_snoc [] f named some = (some, tt)
 named_snoc (g ∷ front) f named some = (named.0, named_snoc front f named.1 some)
 
-way_named : (fs : Frames) → AreNamed fs → IsWay fs
+pub way_named : (fs : Frames) → AreNamed fs → IsWay fs
 way_named [] named = tt
 way_named (f ∷ []) named = tt
 way_named (f ∷ g ∷ fs) named = (named.0, way_named (g ∷ fs) named.1)

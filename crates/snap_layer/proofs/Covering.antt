@@ -5,14 +5,16 @@ use Rattle.std.specs.Ordering.{nat_cmp}
 use Rattle.std.specs.Cmp.{nat_cmp_total}
 use Rattle.std.specs.FinMap.{nat_cmp-IsAntisymmetric}
 use Rattle.std.specs.List.Sorted.{IsStrictlySortedBy}
-use Rattle.std.specs.Map.{lookup, remove_entry, keys_of}
+use Rattle.std.specs.List.{sum_by}
+use Rattle.std.specs.Map.{lookup, remove_entry, keys_of, values_of}
 use Rattle.std.specs.BTreeMap.{is_at, insert_entry}
 use Rattle.std.proofs.lemmas.Bool.{cond-true, cond-false}
 use Rattle.std.proofs.lemmas.Bool.Decides.{nat_tests}
+use Rattle.std.proofs.lemmas.Map.Entries.{sum_by-insert_entry}
 use Rattle.snap_path.specs.Text.{Names, begins}
 use Rattle.snap_layer.specs.declared.node.Node.{Node}
 use Rattle.snap_layer.specs.declared.node.Node.TheVariants as node
-use Rattle.snap_layer.specs.Tree.{Tree, path_cmp, at, number_of, number_at, has_number, IsDirAt}
+use Rattle.snap_layer.specs.Tree.{Tree, Entries, path_cmp, at, number_of, number_at, has_number, IsDirAt}
 use Rattle.snap_layer.specs.Counts.{name_count}
 use Rattle.snap_layer.specs.Layers.{IsLayer}
 use Rattle.snap_layer.specs.Edits.{with_entry, with_node, without, outside, inside, bodies_without, HasPlace, IsTakeable, IsFree}
@@ -81,6 +83,10 @@ module _ (u : Tree) (layer : IsLayer u) (p : Names) (v : Node) (j : ℕ) (is : a
       by (m ∷ r) q same =
           ap (at (with_entry (without u p) p v)) same ∙ (Sets-with_entry (without u p) p v).others (p ++ m ∷ r) (longer p r m) ∙ (Takes-without u p).below m r
           ∙ sym (ap (at u) same ∙ nothing_below u layer p (λ dir. no_dir v j named (subst IsDirAt is dir)) m r)
+
+  -- what it weighs goes with it
+  pub sums_taken : (f : Node → ℕ) → sum_by f (values_of u.entries) ≡ sum_by f (values_of (outside p u.entries)) + f v
+  sums_taken f = omega (arith, sum_by-insert_entry f path_cmp_total (outside p u.entries) p v (sorted-without u p layer.sorted_paths), ap (λ (es : Entries). sum_by f (values_of es)) back, ap (weight f) (at_taken u p))
 
   pub names_taken : (i : ℕ) → name_count i u.entries ≡ name_count i (without u p).entries + one_if (has_number i v)
   names_taken i = omega (arith, name_count-insert_entry i (without u p).entries p v (sorted-without u p layer.sorted_paths), ap (name_count i) back, ap (weight (λ m. cond (has_number i m) 1 0)) (at_taken u p))

@@ -1,9 +1,16 @@
 -- A directory of a table, by its path.
-use Rattle.std.proofs.Common.{◌≡◌, ℕ, true, false, List, [], ◌∷◌, ◌++◌, Option, Some, None, IsSome, refl, sym, ap, subst, ◌∙◌}
+use Rattle.std.proofs.Common.{◌≡◌, ℕ, Bool, true, false, List, [], ◌∷◌, ◌++◌, Option, Some, None, IsSome, refl, sym, ap, subst, ◌∙◌}
 use Rattle.std.specs.Option.{option_map}
-use Rattle.std.specs.Map.{lookup}
+use Rattle.std.specs.Prelude.{T, ◌&&◌}
+use Rattle.std.specs.declared.cmp.Ordering.{Ordering}
+use Rattle.std.specs.declared.cmp.Ordering.TheVariants.{Less, Equal, Greater}
+use Rattle.std.specs.Ordering.{is_lt}
+use Rattle.std.specs.List.{AllByRecursion}
+use Rattle.std.specs.List.Sorted.{IsStrictlySortedBy}
+use Rattle.std.specs.Map.{lookup, keys_of}
 use Rattle.std.specs.BTreeMap.{is_at}
 use Rattle.std.specs.FinMap as map
+use Rattle.std.specs.FinMap.Entries.{is_sorted, below_all}
 use Rattle.slab.specs.Slab.{Slab as Slots}
 use Rattle.snap_path.specs.Text.{Names}
 use Rattle.snap_layer.specs.declared.node.Node.{Node}
@@ -11,13 +18,15 @@ use Rattle.snap_layer.specs.declared.node.Node.TheVariants.{Dir, File, Symlink, 
 use Rattle.snap_layer.specs.declared.inode.Inode.{Inode}
 use Rattle.snap_layer.specs.declared.inode.Target.{Target}
 use Rattle.snap_layer.specs.declared.inode.Target.TheVariants as target
-use Rattle.snap_layer.specs.Tree.{path_cmp, Tree, at, is_dir, IsDirAt}
+use Rattle.snap_layer.specs.Tree.{path_cmp, Tree, at, is_dir, names_below, Entries, IsDirAt}
 use Rattle.snap_layer.specs.Directory.{Directory, dir_of, entry}
 use Rattle.snap_layer.specs.Walk.{walk, entry_at, node_at, seen, stands, view_of, IsTable}
 use Rattle.snap_layer.specs.Holds.{Holds}
 use Rattle.snap_layer.specs.Reached.{OnlyPath}
+use Rattle.snap_layer.specs.Rows.{name_cmp, items_at}
 use Rattle.snap_layer.proofs.Maps.{lookup_find}
 use Rattle.snap_layer.proofs.Frames.{walk_push}
+use Rattle.snap_layer.proofs.Listed.{names_are}
 
 -- the root's path alone leads to it
 unfoldable pub root_path : (s : Slots Inode) (root : ℕ) → IsTable (view_of s) root → OnlyPath s root root
@@ -35,7 +44,7 @@ no_dir t p (File k) e = refl
 no_dir t p (Symlink k) e = refl
 no_dir t p Whiteout e = refl
 
-a_dir : (t : Tree) (p : Names) (x : Node) → is_dir x ≡ true → dir_of t p x ≡ Some (record { layer = t; path = p })
+pub a_dir : (t : Tree) (p : Names) (x : Node) → is_dir x ≡ true → dir_of t p x ≡ Some (record { layer = t; path = p })
 a_dir t p (Dir m o) e = refl
 a_dir t p (File k) e = absurd (cc)
 a_dir t p (Symlink k) e = absurd (cc)
@@ -47,13 +56,41 @@ not_none o some none = cc
 pub dir_at : (o : Option Node) (x : Node) → o ≡ Some x → is_dir x ≡ true → IsDirAt o
 dir_at o x is dir = subst IsDirAt (sym is) dir
 
+-- ---- a map's entries are in order
+
+each : (a b : Bool) → T (a && b) → T a × T b
+each true b e = (tt, e)
+each false b e = absurd e
+
+is_less : (r : Ordering) → T (is_lt r) → r ≡ Less
+is_less Less e = refl
+is_less Equal e = absurd e
+is_less Greater e = absurd e
+
+rise_above : (k : Names) (es : Entries) → T (below_all path_cmp k es) → AllByRecursion (λ y. path_cmp k y ≡ Less) (keys_of es)
+rise_above k [] a = tt
+rise_above k (e ∷ es) a = let both = each (is_lt (path_cmp k e.0)) (below_all path_cmp k es) a in (is_less (path_cmp k e.0) both.0, rise_above k es both.1)
+
+in_order : (es : Entries) → T (is_sorted path_cmp es) → IsStrictlySortedBy path_cmp (keys_of es)
+unfolding IsStrictlySortedBy
+in_order [] s = tt
+in_order (e ∷ es) s = let both = each (below_all path_cmp e.0 es) (is_sorted path_cmp es) s in (rise_above e.0 es both.0, in_order es both.1)
+
+-- ---- a directory
+
 module _ (s : Slots Inode) (root key : ℕ) (h : Holds s root) (p : OnlyPath s root key) (t : Tree) (same : map.entries h.0 ≡ t.entries) (v : Directory) (view : ◌≡◌ {A = Directory} (record { layer = t; path = p.0 }) v) where
-  stood : (q : Names) → at t q ≡ stands (view_of s) root q
+  pub stood : (q : Names) → at t q ≡ stands (view_of s) root q
   stood q = ap (lookup (is_at (path_cmp q))) (sym same) ∙ lookup_find path_cmp q (map.entries h.0) ∙ sym (map.get-entries h.0 q) ∙ h.1 q
 
   -- the directory's node is what stands at its path
   pub own_node : at v.layer v.path ≡ node_at s key
   own_node = ap (λ (d : Directory). at d.layer d.path) (sym view) ∙ stood p.0 ∙ ap (seen (node_at s)) p.1.0
+
+  -- the names of its items are those below its path
+  pub names_in : IsTable (view_of s) root → IsStrictlySortedBy name_cmp (keys_of (items_at s key)) → keys_of (items_at s key) ≡ names_below v.path v.layer.entries
+  names_in ok order =
+      names_are s root ok.there t (λ q. sym (stood q)) p.0 (Some (target.Inode key)) p.1.0 (subst (λ (es : Entries). IsStrictlySortedBy path_cmp (keys_of es)) same (in_order (map.entries h.0) (map.entries_sorted h.0))) order
+      ∙ ap (λ (d : Directory). names_below d.path d.layer.entries) view
 
   module _ (n : List ℕ) where
     -- the entry's node is what stands at the path and the name

@@ -84,6 +84,8 @@ module _ (ps : Places) (x k : ℕ) (sorted : IsStrictlySortedBy nat_cmp (keys_of
     more = λ j is many. let m = f.more j is many in (m.0, m.1, m.2, ap (remove_entry (is_at (nat_cmp x))) m.3 ∙ back);
     last = λ j is few. ap (remove_entry (is_at (nat_cmp x))) (f.last j is few) ∙ swap j;
     dir = λ is. ap (remove_entry (is_at (nat_cmp x))) (f.dir is) ∙ back;
+    last_slot = f.last_slot;
+    dir_slot = f.dir_slot;
   }
 
   pub releases_without : (s t : View) (qs : Places) (o : Option Target) → Releases s t put qs o → Releases s t ps (remove_entry (is_at (nat_cmp x)) qs) o

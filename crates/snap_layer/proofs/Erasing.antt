@@ -97,6 +97,8 @@ module _ (d : ℕ) (n : List ℕ) where
     more = r.more;
     last = r.last;
     dir = r.dir;
+    last_slot = r.last_slot;
+    dir_slot = r.dir_slot;
   }
 
   -- what was covered is dropped

@@ -10,6 +10,7 @@ pub mod Setting
 pub mod Filling
 pub mod Moves
 pub mod Moving
+mod Somes
 pub mod Testing
 pub mod Laws
 pub mod Maps
@@ -43,3 +44,4 @@ pub mod Trees
 pub mod Ending
 pub mod TreeLayers
 pub mod Below
+pub mod Naming

@@ -27,7 +27,8 @@ use Rattle.snap_layer.proofs.Moves.{apart_below, not_of_parent, sorted-without}
 use Rattle.snap_layer.proofs.Replacing.{inode_count-with_new, name_has_no_inode, HasPlace-from_room, IsLayer-with_new}
 use Rattle.snap_layer.proofs.Filling.{Becomes, becomes, file_becomes, symlink_becomes, whiteout_becomes}
 use Rattle.snap_layer.proofs.Files.{leaf_number, free_names}
-use Rattle.snap_layer.proofs.Totaling.{name_becomes, name_no_dir, fewer_inodes}
+use Rattle.snap_layer.specs.Totals.{path_count}
+use Rattle.snap_layer.proofs.Totaling.{name_becomes, name_no_dir, fewer_inodes, path_count-with_entry}
 use Rattle.snap_layer.proofs.Makes.{most_same}
 use Rattle.snap_layer.proofs.Numbers.{given_back, last_gone}
 
@@ -163,6 +164,9 @@ module _ (t : Tree) (ok : IsLayer t) (path link : Names) (rooms : HasRooms t pat
 
   pub linked_blocks : block_count (with_linked t path link b) ≡ block_count (without t link) + body_blocks b
   linked_blocks = omega (arith, ap block_count linked_is, block_count-with_entry w path n w_sorted, ap (weight dirs) w_none, name_no_dir t.next b, block_count-with_new t link n b ok numbered)
+
+  pub linked_paths : path_count (with_linked t path link b) ≡ path_count (with_new t link (leaf_node t.next b) b) + 1
+  linked_paths = omega (arith, ap path_count linked_is, path_count-with_entry w path n w_sorted, ap (weight (λ m. 1)) w_none)
 
   pub link_place : HasPlace t link
   link_place = HasPlace-from_room t link ok rooms.room

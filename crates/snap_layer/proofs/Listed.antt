@@ -50,7 +50,7 @@ rises_below d n (e ∷ es) a = by (name_below d e.0) refl (rises_below d n es a.
     by None is later = later
     by (Some m) is later = (less_first (name_cmp n m) (sym (cmp_front d (n ∷ []) (m ∷ [])) ∙ ap (path_cmp (d ++ n ∷ [])) (sym (name_below_is d e.0 m is)) ∙ a.0), later)
 
-sorted_below : (d : Names) (es : Entries) → IsStrictlySortedBy path_cmp (keys_of es) → IsStrictlySortedBy name_cmp (names_below d es)
+pub sorted_below : (d : Names) (es : Entries) → IsStrictlySortedBy path_cmp (keys_of es) → IsStrictlySortedBy name_cmp (names_below d es)
 unfolding IsStrictlySortedBy
 sorted_below d [] s = tt
 sorted_below d (e ∷ es) s = by (name_below d e.0) refl (sorted_below d es s.1)

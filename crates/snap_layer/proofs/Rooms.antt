@@ -1,6 +1,6 @@
 -- What stands in place of what stood at a path, and the limits.
-use Rattle.std.proofs.Common.{◌≡◌, ℕ, ◌+◌, ◌<◌, ◌≤◌, Bool, true, false, Result, Ok, Err, refl, sym, ap, subst, ◌∙◌, arith}
-use Rattle.std.specs.Prelude.{◌&&◌, nat_le, IsErrOf, IsErrAnd}
+use Rattle.std.proofs.Common.{◌≡◌, ℕ, ◌+◌, ◌≤◌, Bool, true, false, Result, Ok, Err, refl, sym, ap, subst, ◌∙◌, arith}
+use Rattle.std.specs.Prelude.{◌-◌, ◌^◌, ◌&&◌, nat_le, IsErrOf, IsErrAnd}
 use Rattle.std.proofs.lemmas.Bool.Decides.{nat_tests}
 use Rattle.std.proofs.lemmas.Result.{err_from_is_err_and}
 use Rattle.snap_path.specs.Limits.{most_mode, most_number}
@@ -19,12 +19,12 @@ use Rattle.snap_layer.specs.Edits.{with_entry, with_linked, with_moved, with_new
 use Rattle.snap_layer.specs.Totals.{path_count, fits, IsCounted, IsRoom}
 use Rattle.snap_layer.proofs.Filling.{one_if, SaysFull, memory_said, ok_said, dir_becomes, whiteout_becomes, body_becomes}
 use Rattle.snap_layer.proofs.Files.{leaf_number}
-use Rattle.snap_layer.proofs.Laws.{block_count-with_node, block_count-with_new, sorted-with_node}
-use Rattle.snap_layer.proofs.Linked.{linked_becomes, linked_blocks, linked_inodes, swapped}
+use Rattle.snap_layer.proofs.Laws.{block_count-with_node, block_count-with_new}
+use Rattle.snap_layer.proofs.Linked.{linked_becomes, linked_blocks, linked_inodes, linked_paths}
 use Rattle.snap_layer.proofs.Moves.{block_count-with_moved, most_moved}
 use Rattle.snap_layer.proofs.Moving.{moved_becomes}
 use Rattle.snap_layer.proofs.Replacing.{inode_count-with_new, with_node-free}
-use Rattle.snap_layer.proofs.Totaling.{if_none, path_put, path_count-with_node, path_count-with_moved, path_count-without}
+use Rattle.snap_layer.proofs.Totaling.{path_count-with_node, path_count-with_moved}
 
 -- u is the layer t with what takes so many numbers, inodes and blocks in place of what stands at the path
 pub record Costs (t u : Tree) (p : Names) (k i b : ℕ) : Type 0 where
@@ -37,6 +37,14 @@ pub record Costs (t u : Tree) (p : Names) (k i b : ℕ) : Type 0 where
 -- the test of the limits answers `LayerFull` exactly where they are passed
 abbrev pub IsFullBy : Result Totals LayerError → Bool → Type 0
 IsFullBy r b = (IsErrOf r LayerFull → b ≡ false) × (b ≡ false → IsErrOf r LayerFull)
+
+-- the test wants memory only at the last address
+abbrev pub IsLastBy : Result Totals LayerError → ℕ → Type 0
+IsLastBy r n = IsErrOf r (OutOfMemory no_memory) → n ≡ 2 ^ 64 - 1
+
+pub last_by : {B : Type 0} (r : Result B LayerError) (x : LayerError) (n : ℕ) → IsErrAnd r (λ e. e ≡ x) → IsLastBy (Err x) n → IsErrOf r (OutOfMemory no_memory) → n ≡ 2 ^ 64 - 1
+last_by (Ok a) x n is said e = absurd is
+last_by (Err y) x n is said e = let full : y ≡ OutOfMemory no_memory = cc in said (ap (λ (z : LayerError). Err z) (sym is ∙ full))
 
 both : (a b m : ℕ) → (nat_le a m && nat_le b most_number) ≡ true → (a ≤ m) × (b ≤ most_number)
 both a b m fit = (grind (arith, nat_tests), grind (arith, nat_tests))
@@ -62,7 +70,7 @@ module _ (t u : Tree) (p : Names) (k i b : ℕ) (c : Costs t u p k i b) where
     pub costs_layer : IsLayer u
     costs_layer = let few = both (inode_count u) u.next u.most (costs_within ∙ fit) in c.layer few.0 few.1
 
-    pub costs_counted : (v w : Totals) → IsRoom v t p i b → w.inodes ≡ v.inodes → w.blocks ≡ v.blocks → path_count u < w.paths → IsCounted w u
+    pub costs_counted : (v w : Totals) → IsRoom v t p i b → w.inodes ≡ v.inodes → w.blocks ≡ v.blocks → w.paths ≡ path_count u → IsCounted w u
     costs_counted v w room inodes blocks paths = (record { inodes = omega (arith, inodes, room.inodes, c.inodes); blocks = omega (arith, blocks, room.blocks, c.blocks); paths = paths }, costs_layer)
 
     pub costs_memory : {B : Type 0} (r : Result B LayerError) → IsErrAnd r (λ e. e ≡ OutOfMemory no_memory) → SaysFull r u
@@ -72,9 +80,6 @@ module _ (t u : Tree) (p : Names) (k i b : ℕ) (c : Costs t u p k i b) where
     costs_done x = ok_said x u (costs_within ∙ fit)
 
 -- ---- what each edit puts there
-
-pub path_node : (t : Tree) → IsLayer t → (p : Names) (n : Node) → path_count (with_node t p n) ≤ path_count t + if_none (at t p)
-path_node t ok p n = omega (arith, path_count-with_node t p n ok.sorted_paths, path_put t p)
 
 module _ (t : Tree) (ok : IsLayer t) (p : Names) (path : IsPath p) where
   pub dir_costs : (mode : ℕ) (opaque : Bool) → HasRoom t p → mode ≤ most_mode → Costs t (with_entry t p (Dir mode opaque)) p 0 1 1
@@ -97,8 +102,8 @@ module _ (t : Tree) (ok : IsLayer t) (p : Names) (path : IsPath p) where
     layer = λ few next. let c = body_becomes t ok p path (inode_count (without t p)) refl place (omega (arith, next)) b fit in c.layer (omega (arith, few, c.count));
   }
 
-pub path_moved : (t : Tree) → IsLayer t → (from to : Names) (leaves : Bool) → path_count (with_moved t from to leaves) ≤ path_count t + if_none (at t to)
-path_moved t ok from to leaves = omega (arith, path_count-with_moved t from to leaves ok.sorted_paths, path_put t to)
+pub path_moved : (t : Tree) → IsLayer t → (from to : Names) (leaves : Bool) (i : ℕ) → IsMovable t from to → i ≡ one_if leaves → path_count (with_moved t from to leaves) ≡ path_count (without t to) + i
+path_moved t ok from to leaves i movable one = omega (arith, path_count-with_moved t from to leaves ok.sorted_paths movable.not_around, one)
 
 pub moved_costs : (t : Tree) → IsLayer t → (from to : Names) (leaves : Bool) (i : ℕ) → IsMovable t from to → i ≡ one_if leaves → Costs t (with_moved t from to leaves) to 0 i 0
 moved_costs t ok from to leaves i movable one =
@@ -110,11 +115,8 @@ moved_costs t ok from to leaves i movable one =
     next false = omega arith
 
 module _ (t : Tree) (ok : IsLayer t) (path link : Names) (rooms : HasRooms t path link) (b : Body) where
-  pub path_linked : path_count (with_linked t path link b) ≤ path_count t + if_none (at t link) + 1
-  path_linked =
-      let n = leaf_node t.next b in
-      let one : path_count (with_new t link n b) ≤ path_count t + if_none (at t link) = path_node t ok link n in
-      omega (arith, one, ap path_count (swapped t ok path link rooms b), path_count-with_node (with_new t link n b) path n (sorted-with_node t link n ok.sorted_paths), path_count-without (with_new t link n b) path)
+  pub path_linked : path_count (with_linked t path link b) ≡ path_count (without t link) + 2
+  path_linked = omega (arith, linked_paths t ok path link rooms b, path_count-with_node t link (leaf_node t.next b) ok.sorted_paths)
 
   pub linked_costs : (n : ℕ) → IsBody b → IsPath path → IsPath link → n ≡ body_blocks b → Costs t (with_linked t path link b) link 1 1 n
   linked_costs n fit path_is link_is size = record {

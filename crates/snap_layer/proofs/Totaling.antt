@@ -1,6 +1,6 @@
 -- What an edit does to what a layer keeps beside its inodes.
 use Rattle.std.proofs.Common.{◌≡◌, ℕ, ◌+◌, ◌*◌, ◌<◌, ◌≤◌, Bool, true, false, cond, [], ◌∷◌, length, Option, Some, None, IsSome, refl, sym, ap, subst, ◌∙◌, arith}
-use Rattle.std.specs.Prelude.{is_none, is_some, ◌==◌, count_by, if◌then◌else◌}
+use Rattle.std.specs.Prelude.{is_some, ◌-◌, ◌^◌, ◌==◌, count_by, if◌then◌else◌}
 use Rattle.std.proofs.lemmas.Bool.Decides.{nat_tests}
 use Rattle.std.specs.List.{sum_by}
 use Rattle.std.specs.List.Sorted.{IsStrictlySortedBy}
@@ -16,76 +16,134 @@ use Rattle.snap_layer.specs.declared.node.Node.TheVariants as node
 use Rattle.snap_layer.specs.declared.node.Body.{Body}
 use Rattle.snap_layer.specs.declared.node.Body.TheVariants as body_kinds
 use Rattle.snap_layer.specs.declared.totals.Totals.{Totals}
-use Rattle.snap_layer.specs.Tree.{Tree, Entries, path_cmp, at, body, number_at, has_number, is_dir, is_whiteout, IsDirAt, leaf_node}
+use Rattle.snap_layer.specs.Tree.{Tree, Entries, path_cmp, at, body, number_of, number_at, has_number, is_dir, is_whiteout, IsDirAt, leaf_node}
 use Rattle.snap_layer.specs.Counts.{dir_count, whiteout_count, inode_count, block_count, name_count, body_blocks, most_inodes}
 use Rattle.snap_layer.specs.Layers.{IsLayer}
 use Rattle.snap_layer.specs.Edits.{with_entry, with_body, with_node, with_moved, without, outside, inside, HasPlace}
-use Rattle.snap_layer.specs.Totals.{path_count, Counts}
+use Rattle.snap_layer.specs.Totals.{path_count, Counts, IsClear}
 use Rattle.snap_layer.proofs.Lists.{lookup-filter, sum_by-filter}
 use Rattle.snap_layer.proofs.Paths.{begins_itself, path_cmp_total, path_cmp-IsAntisymmetric}
 use Rattle.snap_layer.proofs.Counting.{dirs, whites, weight, inode_count-without, block_count-with_entry, block_count-with_body, weight_of_body, inode_count-with_body, block_count-without, length-bodies_without, blocks-bodies_without, dropped_blocks}
 use Rattle.snap_layer.proofs.Filling.{dropped_last, dropped_other, Becomes, file_name_becomes, symlink_name_becomes, file_there, symlink_there}
 use Rattle.snap_layer.proofs.Kept.{has_body, node_with_number}
 use Rattle.snap_layer.proofs.Looks.{has_its_number}
-use Rattle.snap_layer.proofs.Covering.{names_taken}
+use Rattle.snap_layer.proofs.Covering.{names_taken, names_beside, sums_taken}
 use Rattle.snap_layer.proofs.Bounds.{blocks_of_bodies}
 use Rattle.snap_layer.proofs.Replacing.{at_taken}
 use Rattle.snap_layer.proofs.Laws.{block_count-with_node}
-use Rattle.snap_layer.proofs.Moves.{sorted-without, sorted-moved, sum_by-moved, IsVacant-without}
+use Rattle.snap_layer.proofs.Moves.{at-moved_gone, sorted-without, sorted-moved, sum_by-moved, IsVacant-without}
 use Rattle.snap_layer.proofs.Setting.{dir_stays}
 
 abbrev ones : Node → ℕ
 ones n = 1
 
-abbrev pub if_none : Option Node → ℕ
-if_none o = if is_none o then 1 else 0
-
-path_count-with_entry : (t : Tree) (p : Names) (n : Node) → IsStrictlySortedBy path_cmp (keys_of t.entries) → path_count (with_entry t p n) + weight ones (at t p) ≡ path_count t + 1
+pub path_count-with_entry : (t : Tree) (p : Names) (n : Node) → IsStrictlySortedBy path_cmp (keys_of t.entries) → path_count (with_entry t p n) + weight ones (at t p) ≡ path_count t + 1
 path_count-with_entry t p n sorted = sum_by-insert_entry ones path_cmp_total t.entries p n sorted
 
-pub path_count-without : (t : Tree) (p : Names) → path_count (without t p) ≤ path_count t
-path_count-without t p = omega (arith, sum_by-filter ones (λ e. begins p e.0) t.entries)
+pub path_count-with_node : (t : Tree) (p : Names) (n : Node) → IsStrictlySortedBy path_cmp (keys_of t.entries) → path_count (with_node t p n) ≡ path_count (without t p) + 1
+path_count-with_node t p n sorted = omega (arith, path_count-with_entry (without t p) p n (sorted-without t p sorted), ap (weight ones) (at_taken t p))
+
+pub path_count-with_moved : (t : Tree) (from to : Names) (leaves : Bool) → IsStrictlySortedBy path_cmp (keys_of t.entries) → begins to from ≡ false → path_count (with_moved t from to leaves) ≡ path_count (without t to) + cond leaves 1 0
+path_count-with_moved t from to true sorted apart =
+    omega (arith, path_count-with_entry (with_moved t from to false) from node.Whiteout (sorted-moved (without t to) from to (sorted-without t to sorted)), ap (weight ones) (at-moved_gone (without t to) from to from apart (begins_itself from)), sum_by-moved ones (without t to) from to (sorted-without t to sorted) (IsVacant-without t to))
+path_count-with_moved t from to false sorted apart = omega (arith, sum_by-moved ones (without t to) from to (sorted-without t to sorted) (IsVacant-without t to))
+
+-- a number has fewer names than there are paths, where a directory is among them
+names_most : (k : ℕ) (es : Entries) → name_count k es ≤ sum_by ones (values_of es)
+names_most k [] = omega arith
+names_most k (e ∷ es) = omega (arith, sum_by-cons ones e.1 (values_of es), sum_by-cons (λ m. cond (has_number k m) 1 0) e.1 (values_of es), names_most k es, one (has_number k e.1))
+  where
+    one : (b : Bool) → cond b 1 0 ≤ 1
+    one true = omega arith
+    one false = omega arith
+
+pub names_few : (k : ℕ) (p : Names) (es : Entries) → IsDirAt (lookup (is_at (path_cmp p)) es) → name_count k es + 1 ≤ sum_by ones (values_of es)
+names_few k p [] dir = absurd dir
+names_few k p (e ∷ es) dir = by (is_at (path_cmp p) e.0) dir (names_few k p es)
+  where
+    one : (b : Bool) → cond b 1 0 ≤ 1
+    one true = omega arith
+    one false = omega arith
+
+    none : (n : Node) → IsDirAt (Some n) → ◌≡◌ {A = ℕ} (cond (has_number k n) 1 0) 0
+    none (node.Dir m b) is = refl
+    none (node.File j) is = absurd (cc)
+    none (node.Symlink j) is = absurd (cc)
+    none node.Whiteout is = absurd (cc)
+
+    by : (b : Bool) → IsDirAt (cond b (Some e.1) (lookup (is_at (path_cmp p)) es)) → (IsDirAt (lookup (is_at (path_cmp p)) es) → name_count k es + 1 ≤ sum_by ones (values_of es)) → name_count k (e ∷ es) + 1 ≤ sum_by ones (values_of (e ∷ es))
+    by true is later = omega (arith, sum_by-cons ones e.1 (values_of es), sum_by-cons (λ m. cond (has_number k m) 1 0) e.1 (values_of es), names_most k es, none e.1 is)
+    by false is later = omega (arith, sum_by-cons ones e.1 (values_of es), sum_by-cons (λ m. cond (has_number k m) 1 0) e.1 (values_of es), later is, one (has_number k e.1))
+
+-- ---- the paths that go
+
+-- one for a name
+abbrev named : Node → ℕ
+named n = cond (is_some (number_of n)) 1 0
+
+-- each path is that of a directory, a whiteout or a name
+paths_split : (es : Entries) → sum_by ones (values_of es) ≡ count_by is_dir (values_of es) + count_by is_whiteout (values_of es) + sum_by named (values_of es)
+paths_split [] = refl
+paths_split (e ∷ es) = omega (arith, sum_by-cons ones e.1 (values_of es), sum_by-cons dirs e.1 (values_of es), sum_by-cons whites e.1 (values_of es), sum_by-cons named e.1 (values_of es), one e.1, paths_split es)
+  where
+    one : (n : Node) → 1 ≡ dirs n + whites n + named n
+    one (node.Dir m b) = refl
+    one (node.File j) = refl
+    one (node.Symlink j) = refl
+    one node.Whiteout = refl
+
+-- where no number has a name there is none
+unnamed : (es : Entries) → ((k : ℕ) → name_count k es ≡ 0) → sum_by named (values_of es) ≡ 0
+unnamed [] none = refl
+unnamed (e ∷ es) none = omega (arith, sum_by-cons named e.1 (values_of es), by (number_of e.1) refl, unnamed es (λ k. omega (arith, none k, cons k)))
+  where
+    cons : (k : ℕ) → name_count k (e ∷ es) ≡ cond (has_number k e.1) 1 0 + name_count k es
+    cons k = sum_by-cons (λ m. cond (has_number k m) 1 0) e.1 (values_of es)
+
+    by : (o : Option ℕ) → number_of e.1 ≡ o → ◌≡◌ {A = ℕ} (cond (is_some o) 1 0) 0
+    by None is = refl
+    by (Some k) is = absurd (omega (arith, none k, cons k, ap {B = ℕ} (λ (b : Bool). cond b 1 0) (has_its_number k e.1 is)))
 
 -- where something stands there is a path
 some_path : (p : Names) (es : Entries) → IsSome (lookup (is_at (path_cmp p)) es) → 1 ≤ sum_by ones (values_of es)
 some_path p [] some = absurd (cc)
 some_path p (e ∷ es) some = omega (arith, sum_by-cons ones e.1 (values_of es))
 
--- what stands at a path goes before something is put there
-pub path_put : (t : Tree) (p : Names) → path_count (without t p) + 1 ≤ path_count t + if_none (at t p)
-path_put t p = by (at t p) refl
-  where
-    by : (o : Option Node) → at t p ≡ o → path_count (without t p) + 1 ≤ path_count t + if_none o
-    by None is = omega (arith, path_count-without t p)
-    by (Some v) is =
-        let there : lookup (is_at (path_cmp p)) (inside p t.entries) ≡ Some v = lookup-filter path_cmp_total path_cmp-IsAntisymmetric (begins p) p t.entries ∙ cond-true (begins p p) (at t p) None (begins_itself p) ∙ is in
-        omega (arith, sum_by-filter ones (λ e. begins p e.0) t.entries, some_path p (inside p t.entries) (ap is_some there))
+module _ (t : Tree) (ok : IsLayer t) (p : Names) where
+  abbrev gone : Entries
+  gone = inside p t.entries
 
-pub path_count-with_node : (t : Tree) (p : Names) (n : Node) → IsStrictlySortedBy path_cmp (keys_of t.entries) → path_count (with_node t p n) ≡ path_count (without t p) + 1
-path_count-with_node t p n sorted = omega (arith, path_count-with_entry (without t p) p n (sorted-without t p sorted), ap (weight ones) (at_taken t p))
+  -- what goes has the name at the path, and no other where nothing but whiteouts stands below it
+  names_gone : (o : Option ℕ) → number_at t p ≡ o → (cond (is_some o) 1 0 ≤ sum_by named (values_of gone)) × (IsClear t p → ◌≡◌ {A = ℕ} (cond (is_some o) 1 0) (sum_by named (values_of gone)))
+  names_gone None is = (omega arith, λ clear. sym (unnamed gone (λ k. omega (arith, names_beside t ok p is clear k, sum_by-filter (λ n. cond (has_number k n) 1 0) (λ e. begins p e.0) t.entries))))
+  names_gone (Some k) is =
+      let v = node_with_number (at t p) k is in
+      let one : sum_by named (values_of gone) ≡ 1 = omega (arith, sums_taken t ok p v.0 k v.1 v.2 named, sum_by-filter named (λ e. begins p e.0) t.entries, ap {B = ℕ} (λ (o : Option ℕ). cond (is_some o) 1 0) v.2) in
+      (omega (arith, one), λ clear. sym one)
 
-pub path_count-with_moved : (t : Tree) (from to : Names) (leaves : Bool) → IsStrictlySortedBy path_cmp (keys_of t.entries) → path_count (with_moved t from to leaves) ≤ path_count (without t to) + 1
-path_count-with_moved t from to true sorted =
-    omega (arith, path_count-with_entry (with_moved t from to false) from node.Whiteout (sorted-moved (without t to) from to (sorted-without t to sorted)), sum_by-moved ones (without t to) from to (sorted-without t to sorted) (IsVacant-without t to))
-path_count-with_moved t from to false sorted = omega (arith, sum_by-moved ones (without t to) from to (sorted-without t to sorted) (IsVacant-without t to))
+  pub paths_gone : (many whites_ names : ℕ) → many ≡ count_by is_dir (values_of gone) → whites_ ≡ count_by is_whiteout (values_of gone) → names ≡ (if is_some (number_at t p) then 1 else 0)
+      → (many + whites_ + names ≤ path_count t) × (IsClear t p → path_count (without t p) + many + whites_ + names ≡ path_count t)
+  paths_gone many whites_ names dirs_are whites_are names_are =
+      let all = sum_by-filter ones (λ e. begins p e.0) t.entries in
+      let split = paths_split gone in
+      let some = names_gone (number_at t p) refl in
+      (omega (arith, all, split, some.0, dirs_are, whites_are, names_are), λ clear. omega (arith, all, split, some.1 clear, dirs_are, whites_are, names_are))
 
--- a number has no more names than there are paths
-pub names_few : (k : ℕ) (es : Entries) → name_count k es ≤ sum_by ones (values_of es)
-names_few k [] = omega arith
-names_few k (e ∷ es) = omega (arith, sum_by-cons ones e.1 (values_of es), sum_by-cons (λ m. cond (has_number k m) 1 0) e.1 (values_of es), names_few k es, one (has_number k e.1))
-  where
-    one : (b : Bool) → cond b 1 0 ≤ 1
-    one true = omega arith
-    one false = omega arith
+  -- where something stands there, a path goes
+  pub path_gone : (n : ℕ) → n ≡ path_count (without t p) → path_count t < 2 ^ 64 → n ≡ 2 ^ 64 - 1 → at t p ≡ None
+  path_gone n left few last = by (at t p) refl
+    where
+      by : (o : Option Node) → at t p ≡ o → o ≡ None
+      by None is = refl
+      by (Some v) is =
+          let there : lookup (is_at (path_cmp p)) gone ≡ Some v = lookup-filter path_cmp_total path_cmp-IsAntisymmetric (begins p) p t.entries ∙ cond-true (begins p p) (at t p) None (begins_itself p) ∙ is in
+          absurd (omega (arith, sum_by-filter ones (λ e. begins p e.0) t.entries, some_path p gone (ap is_some there), left, few, last))
 
 -- ---- the totals of a next layer
 
-module _ (t : Tree) (ok : IsLayer t) (p : Names) (v : Totals) (paths : path_count t + if_none (at t p) < v.paths) where
+module _ (t : Tree) (ok : IsLayer t) (p : Names) (v : Totals) (paths : v.paths ≡ path_count (without t p) + 1) where
   pub counts_node : (n : Node) → v.inodes ≡ inode_count (with_node t p n) → v.blocks ≡ block_count (without t p) + dirs n → Counts v (with_node t p n)
-  counts_node n inodes blocks = record { inodes = inodes; blocks = omega (arith, blocks, block_count-with_node t p n ok); paths = omega (arith, path_count-with_node t p n ok.sorted_paths, path_put t p, paths) }
-
-pub counts_without : (t : Tree) (p : Names) (v : Totals) → path_count t < v.paths → v.inodes ≡ inode_count (without t p) → v.blocks ≡ block_count (without t p) → Counts v (without t p)
-counts_without t p v paths inodes blocks = record { inodes = inodes; blocks = blocks; paths = omega (arith, paths, path_count-without t p) }
+  counts_node n inodes blocks = record { inodes = inodes; blocks = omega (arith, blocks, block_count-with_node t p n ok); paths = omega (arith, path_count-with_node t p n ok.sorted_paths, paths) }
 
 -- a directory's mode or mark changes nothing
 pub counts_dir : (t : Tree) → IsLayer t → (p : Names) (m n : ℕ) (b c : Bool) (v : Totals) → at t p ≡ Some (node.Dir m b) → n ≤ most_mode → Counts v t → Counts v (with_entry t p (node.Dir n c))
@@ -185,6 +243,26 @@ left_is t v same p q path totals had many whites files freed dirs_are whites_are
     record {
       inodes_are = omega (arith, counts.inodes, facts.0, facts.1, d, w, files_are);
       blocks_are = omega (arith, counts.blocks, facts.0, d, freed_are);
+    }
+
+-- so are its paths
+pub record ArePathsLeft (t : Tree) (p : Names) (totals : Totals) (dirs whiteouts names : ℕ) : Type 0 where
+  pub fit : dirs + whiteouts + names ≤ totals.paths
+  pub paths_are : IsClear t p → path_count (without t p) + dirs + whiteouts + names ≡ totals.paths
+  pub few : path_count t ≡ totals.paths
+
+pub paths_left : (t v : Tree) → v ≡ t → IsLayer t → (p q : Names) → q ≡ p → (totals : Totals) → Counts totals v → (many white names : ℕ)
+    → many ≡ count_by is_dir (values_of (inside q v.entries)) → white ≡ count_by is_whiteout (values_of (inside q v.entries)) → names ≡ (if is_some (number_at t p) then 1 else 0)
+    → ArePathsLeft t p totals many white names
+paths_left t v same ok p q path totals had many white names dirs_are whites_are names_are =
+    let counts : Counts totals t = subst (Counts totals) same had in
+    let d : many ≡ count_by is_dir (values_of (inside p t.entries)) = dirs_are ∙ (λ i. count_by is_dir (values_of (inside (path i) (same i).entries))) in
+    let w : white ≡ count_by is_whiteout (values_of (inside p t.entries)) = whites_are ∙ (λ i. count_by is_whiteout (values_of (inside (path i) (same i).entries))) in
+    let left = paths_gone t ok p many white names d w names_are in
+    record {
+      fit = omega (arith, left.0, counts.paths);
+      paths_are = λ clear. omega (arith, left.1 clear, counts.paths);
+      few = sym counts.paths;
     }
 
 pub fewer_inodes : (t : Tree) → IsLayer t → (p : Names) → inode_count (without t p) ≤ t.most

@@ -30,7 +30,7 @@ use Rattle.snap_layer.specs.Rows.{name_cmp, Items, items_of, items_at, items_in,
 use Rattle.snap_layer.proofs.Frames.{walk_push}
 use Rattle.snap_layer.proofs.Maps.{lookup_find}
 use Rattle.snap_layer.proofs.Inside.{is_under, inside_is, found_each}
-use Rattle.snap_layer.proofs.Ahead.{passes_named, passes_path, passes_above, last_path_entered, ahead_entered, way_entered, names_few, last_path_text, text_entered}
+use Rattle.snap_layer.proofs.Ahead.{passes_named, passes_path, passes_above, last_path_entered, ahead_entered, way_entered, way_named, names_few, last_path_text, text_entered}
 
 -- ---- the items of a directory
 
@@ -130,6 +130,22 @@ module _ (s : Slots Inode) (root : ℕ) (es : Entries) (p : Names) (fs gs : Fram
   pub step_room : length gs < 2048
   step_room =
       omega (arith, names_few (last_path p gs) step_path_is, passes_above p fs gs n passes walks.way)
+
+  -- its path has few names
+  pub step_few : length p + (length gs - 1) < 2048
+  step_few = omega (arith, names_few (last_path p gs) step_path_is, passes_above p fs gs n passes walks.way)
+
+  -- a walk that leaves out what is below stays one
+  pub step_skip : IsWalk s root es p gs
+  step_skip = record {
+    leads = arrived.1;
+    way = way_named gs (passes_named p fs gs n passes walks.way);
+    text = omega (arith, last_path_text p gs, step_path_is.1);
+    there = walks.there;
+    shows = walks.shows;
+    sorted = walks.sorted;
+    paths = walks.paths;
+  }
 
   module _ (hs : Frames) (enters : hs ≡ gs ++ entered t) (v : Node) (node : Some v ≡ seen (node_at s) (Some t)) (order : IsStrictlySortedBy name_cmp (keys_of (items_in s t))) where
     path_kept : last_path p hs ≡ last_path p gs

@@ -156,7 +156,7 @@ pub record Shifted (s t : View) (df : ℕ) (nf : List ℕ) (dt : ℕ) (nt : List
   pub bodies : (c : ℕ) → t.bodies c ≡ s.bodies c
   pub counts : (c : ℕ) → t.counts c ≡ s.counts c
 
--- t is s without a directory's inode, or with one name fewer of a leaf: a link fewer, or the slot and the place free
+-- t is s without a directory's inode, whose slot is vacant, or with one name fewer of a leaf: a link fewer, or the slot vacant and the place free
 pub record Frees (s t : View) (ps qs : List (ℕ × ℕ)) (k : ℕ) : Type 0 where
   pub entries : (c : ℕ) (m : List ℕ) → (c ≡ k → ⊥) → t.entries c m ≡ s.entries c m
   pub nodes : (c : ℕ) → (c ≡ k → ⊥) → t.nodes c ≡ s.nodes c
@@ -166,6 +166,8 @@ pub record Frees (s t : View) (ps qs : List (ℕ × ℕ)) (k : ℕ) : Type 0 whe
   pub more : (j : ℕ) → option_and_then number_of (s.nodes k) ≡ Some j → 1 < s.counts k → (t.nodes k ≡ s.nodes k) × (t.bodies k ≡ s.bodies k) × (t.counts k + 1 ≡ s.counts k) × (qs ≡ ps)
   pub last : (j : ℕ) → option_and_then number_of (s.nodes k) ≡ Some j → s.counts k ≤ 1 → qs ≡ remove_entry (is_at (nat_cmp j)) ps
   pub dir : option_and_then number_of (s.nodes k) ≡ None → qs ≡ ps
+  pub last_slot : (j : ℕ) → option_and_then number_of (s.nodes k) ≡ Some j → s.counts k ≤ 1 → t.nodes k ≡ None
+  pub dir_slot : option_and_then number_of (s.nodes k) ≡ None → t.nodes k ≡ None
 
 -- t is s without what an entry had
 abbrev pub Releases : View → View → List (ℕ × ℕ) → List (ℕ × ℕ) → Option Target → Type 0

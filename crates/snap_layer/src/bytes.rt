@@ -1,5 +1,6 @@
 // How a file is edited, and how bytes change in place.
 ghost use Rattle.std.specs.Prelude.{◌≡◌, ◌+◌, ◌<◌, ◌≤◌, ℕ, List, IfOk, OnOk, OnErr, length, take, drop, ◌++◌};
+ghost use Rattle.std.specs.Vec.{vec_capacity};
 ghost use Rattle.snap_path.specs.Limits.{most_file_bytes};
 ghost use Rattle.snap_layer.specs.Contents.{bytes_resized, bytes_written, changes, edited, size_of, IsShort};
 ghost use Rattle.snap_layer.specs.declared.content.Content.{Content as ContentValue};
@@ -127,6 +128,9 @@ fn overwrite(items: &mut [u8], offset: usize, bytes: &[u8])
 /// Cuts to so many, and gives the memory of the others back, or fills up with zero bytes. A cut doesn't fail.
 pub(crate) fn resize(items: &mut Vec<u8>, size: usize) -> Result<(), AllocError>
     ensures ok { OnOk result (items.new.items ≡ bytes_resized items.old.items size) }
+    // A cut gives memory back: all of it where no byte is left.
+    ensures capacity { size ≤ length items.old.items → vec_capacity items.new ≤ vec_capacity items.old }
+    ensures frees { size ≡ 0 → vec_capacity items.new ≡ 0 }
     ensures grows { OnErr result (length items.old.items < length (bytes_resized items.old.items size)) }
     ensures err { OnErr result (items.new.items ≡ items.old.items) }
 {

@@ -1,9 +1,13 @@
 // A directory of a layer, by which a walk goes on name by name.
-ghost use Rattle.std.specs.Prelude.{◌≡◌, ◌≤◌, ℕ, [], Some, true};
+ghost use Rattle.std.specs.Prelude.{◌≡◌, ◌≤◌, ℕ, [], Some, true, IfOk};
 ghost use Rattle.std.specs.FinMap as map;
+ghost use Rattle.std.specs.Bound.{bound_map};
+ghost use Rattle.std.specs.List.Sorted.{IsStrictlySortedBy};
+ghost use Rattle.std.specs.Map.{keys_of};
 ghost use Rattle.std.specs.Option.{option_copied};
-ghost use Rattle.snap_layer.specs.Tree.{Tree, at, body, is_dir};
-ghost use Rattle.snap_layer.specs.Directory.{entry};
+ghost use Rattle.snap_layer.specs.Tree.{Tree, at, body, is_dir, names_below};
+ghost use Rattle.snap_layer.specs.Directory.{entry, IsFirstName};
+ghost use Rattle.snap_layer.specs.Rows.{name_cmp, items_at};
 ghost use Rattle.snap_layer.specs.Walk.{view_of, IsTable};
 ghost use Rattle.snap_layer.specs.Holds.{Holds, Holds-prop};
 ghost use Rattle.snap_layer.specs.Reached.{OnlyPath, OnlyPath-prop};
@@ -12,11 +16,40 @@ ghost use Rattle.snap_layer.specs.contracts.inode.Target as target_contracts;
 
 use super::inode::{Inode, Target};
 use super::node::{Body, Node};
+use super::rows::show_items;
 use super::table::Table;
+use super::table::reads::names_in;
 use super::walk::{entry_at, node_of};
 use slab::Slab;
 use snap_path::Name;
+use std::alloc::AllocError;
+use std::collections::BTreeMap;
 use std::marker::Model;
+use std::ops::Bound;
+
+/// The first name of the entries from the bound on.
+fn name_from<'a>(entries: &'a BTreeMap<Name, Target>, from: Bound<&Name>) -> Option<&'a Name>
+    ensures first { IsFirstName (bound_map (λ n. n.now) from.entry) (keys_of entries.now.entries) (option_copied result) }
+    ensures order { IsStrictlySortedBy name_cmp (keys_of entries.now.entries) }
+{
+    match entries.range((from, Bound::Unbounded)).next() {
+        Some((name, _)) => Some(name),
+        None => None,
+    }
+}
+
+/// The same in the directory with the key.
+#[tactic(auto, using(crate::proofs::Inside::no_names))]
+fn name_at<'a>(slots: &'a Slab<Inode>, key: usize, from: Bound<&Name>) -> Option<&'a Name>
+    ensures first { IsFirstName (bound_map (λ n. n.now) from.entry) (keys_of (items_at slots.now key)) (option_copied result) }
+    ensures order { IsStrictlySortedBy name_cmp (keys_of (items_at slots.now key)) }
+{
+    match slots.get(key) {
+        Some(Inode::Dir { entries, .. }) => name_from(entries, from),
+        Some(Inode::Leaf { .. }) => None,
+        None => None,
+    }
+}
 
 /// A directory of a layer, from which a walk goes on name by name. It lends its layer, which no edit changes
 /// for as long.
@@ -100,6 +133,28 @@ impl<'a> Dir<'a> {
                 Some((node, Some(dir)))
             }
         }
+    }
+
+    /// The first of the directory's names from the bound on, in byte order, a whiteout's too, or nothing where there
+    /// is none: from `Bound::Excluded` of a name it is the next one.
+    ///
+    /// Takes no memory. Cost: the logarithm of the directory's entries.
+    pub fn first_name(&self, from: Bound<&Name>) -> Option<&'a Name>
+        ensures { IsFirstName (bound_map (λ n. n.now) from.entry) (names_below self.now.path self.now.layer.entries) (option_copied result) }
+    {
+        name_at(self.slots, self.key, from)
+    }
+
+    /// The names in the directory, in byte order, whiteouts among them.
+    ///
+    /// It fails only where memory is refused. Cost: the directory's entries.
+    pub fn children(&self) -> Result<Vec<Name>, AllocError>
+        ensures { IfOk result (λ names. names.items ≡ names_below self.now.path self.now.layer.entries) }
+    {
+        let table = self.table;
+        let target = Target::Inode(self.key);
+        show_items(self.slots, target);
+        names_in(table.alloc, self.slots, target)
     }
 
     /// The file or symlink of the directory's layer with the number, or nothing.

@@ -1,5 +1,5 @@
 // The edits of a layer.
-ghost use Rattle.std.specs.Prelude.{◌≡◌, ◌↔◌, ◌<◌, ◌≤◌, ◌+◌, ◌-◌, Some, None, is_none, if◌then◌else◌, IfOk, OnOk, OnErr, IsErrOf, IsSome, ◌∷◌, [], true, false};
+ghost use Rattle.std.specs.Prelude.{◌≡◌, ◌↔◌, ◌≤◌, ◌-◌, ◌^◌, Some, None, IfOk, OnOk, OnErr, IsErrOf, IsSome, ◌∷◌, [], true, false};
 ghost use Rattle.std.specs.Map.{keys_of};
 ghost use Rattle.snap_path.specs.Limits.{most_mode};
 ghost use Rattle.snap_path.specs.Memory.{no_memory};
@@ -7,7 +7,7 @@ ghost use Rattle.snap_path.specs.Text.{IsPath};
 ghost use Rattle.snap_layer.specs.Tree.{at, body, number_at, IsDirAt, leaf_node};
 ghost use Rattle.snap_layer.specs.Counts.{body_blocks, is_within};
 ghost use Rattle.snap_layer.specs.Contents.{body_content, edited, Grows, IsContent, IsShort};
-ghost use Rattle.snap_layer.specs.Totals.{path_count, fits, IsRoom};
+ghost use Rattle.snap_layer.specs.Totals.{path_count, fits, IsClear, IsRoom};
 ghost use Rattle.snap_layer.specs.Layers.{IsLayer, IsBody, is_target};
 ghost use Rattle.snap_layer.specs.declared.content.Content.{Content as ContentValue};
 ghost use Rattle.snap_layer.specs.Edits.{with_body, with_entry, with_node, with_new, with_name, name_of, with_filled, with_mode, with_opaque, with_moved, with_linked, with_tree_taken, without, without_tree, inside, HasRoom, HasRooms, HasPlace, IsInnerDir, IsTakeable, IsMovable, IsRegular, HasMode};
@@ -17,7 +17,7 @@ use super::content::Content;
 use super::error::LayerError;
 use super::layer::Layer;
 use super::node::{Body, Bytes, Node};
-use super::totals::{Totals, one_path_more};
+use super::totals::{Totals, more_paths};
 use snap_path::Path;
 use std::alloc::AllocError;
 
@@ -102,14 +102,10 @@ impl Layer {
         ensures sure { OnErr result (at self.old path.now ≡ None) }
         ensures err { OnErr result (self.new ≡ self.old) }
     {
-        let (inodes, blocks) = self.left(path);
-        let paths = self.paths_at(path)?;
+        let left = self.left(path);
+        let paths = more_paths(left.paths, 1)?;
         self.table.put_name(path, number)?;
-        self.totals = Totals {
-            inodes,
-            blocks,
-            paths,
-        };
+        self.totals = Totals { paths, ..left };
         Ok(())
     }
 
@@ -128,7 +124,7 @@ impl Layer {
     {
         let _ = path.names();
         let room = self.room_for(link, 1, 1, body.blocks())?;
-        let paths = one_path_more(room.paths)?;
+        let paths = more_paths(room.paths, 1)?;
         self.table.put_linked(path, link, body)?;
         self.totals = Totals { paths, ..room };
         Ok(())
@@ -161,13 +157,9 @@ impl Layer {
         requires { IsTakeable self.old path.now }
         ensures { self.new ≡ without self.old path.now }
     {
-        let (inodes, blocks) = self.left(path);
+        let left = self.left(path);
         self.table.take(path);
-        self.totals = Totals {
-            inodes,
-            blocks,
-            paths: self.totals.paths,
-        };
+        self.totals = left;
     }
 
     /// Takes a directory and all that is below it, and leaves a whiteout in its place where `leaves` says so. A file
@@ -313,37 +305,27 @@ impl Layer {
         inodes: usize,
         blocks: u64,
     ) -> Result<Totals, LayerError>
-        requires { blocks ≤ 268435456 }
+        requires blocks { blocks ≤ 268435456 }
+        requires inodes { inodes ≤ 1 }
+        requires clear { IsClear self.now path.now }
         ensures room { IfOk result (λ v. IsRoom v self.now path.now inodes blocks) }
         ensures fits { OnOk result (fits self.now path.now numbers inodes ≡ true) }
         ensures full { IsErrOf result LayerError.LayerFull ↔ (fits self.now path.now numbers inodes ≡ false) }
-        ensures sure { IsErrOf result (LayerError.OutOfMemory no_memory) → at self.now path.now ≡ None }
+        // It fails only at the last address.
+        ensures last { IsErrOf result (LayerError.OutOfMemory no_memory) → path_count (without self.now path.now) ≡ 2 ^ 64 - 1 }
         ensures path { IsPath path.now }
         ensures layer { IsLayer self.now }
     {
-        let (left, kept) = self.left(path);
-        if inodes > self.most_inodes() - left || numbers > u32::MAX - self.next_number() {
+        let left = self.left(path);
+        if inodes > self.most_inodes() - left.inodes || numbers > u32::MAX - self.next_number() {
             return Err(LayerError::LayerFull);
         }
-        let paths = self.paths_at(path)?;
+        let paths = more_paths(left.paths, inodes)?;
         Ok(Totals {
-            inodes: left + inodes,
-            blocks: kept + blocks,
+            inodes: left.inodes + inodes,
+            blocks: left.blocks + blocks,
             paths,
         })
-    }
-
-    /// A bound on the number of paths once something stands at the path.
-    fn paths_at(&self, path: &Path) -> Result<usize, AllocError>
-        ensures paths { IfOk result (λ n. path_count self.now + (if is_none (at self.now path.now) then 1 else 0) < n) }
-        ensures sure { OnErr result (at self.now path.now ≡ None) }
-        ensures layer { IsLayer self.now }
-    {
-        let _ = &self.is_layer;
-        match self.at(path) {
-            Some(_) => Ok(self.totals.paths),
-            None => one_path_more(self.totals.paths),
-        }
     }
 
     /// Sets the mode and the mark of the directory at the path.

@@ -1,5 +1,5 @@
 // A layer, and what is read of it.
-ghost use Rattle.std.specs.Prelude.{◌≡◌, ◌↔◌, ◌≤◌, ◌+◌, [], ◌++◌, IfOk, IsSome, IsTrue, length, take, find, nat_lt, option_and_then};
+ghost use Rattle.std.specs.Prelude.{◌≡◌, ◌↔◌, ◌≤◌, ◌+◌, [], ◌++◌, if◌then◌else◌, IfOk, IsSome, IsTrue, is_some, length, take, find, nat_lt, option_and_then};
 ghost use Rattle.std.specs.Option.{option_copied};
 ghost use Rattle.std.specs.List.{sum_by};
 ghost use Rattle.std.specs.Map.{keys_of, values_of};
@@ -7,6 +7,7 @@ ghost use Rattle.snap_path.specs.Limits.{most_mode, most_path_bytes};
 ghost use Rattle.snap_path.specs.Text.{Names, IsPath, text_below};
 ghost use Rattle.snap_layer.specs.Tree.{at, body, names_below, number_of, IsDirAt};
 ghost use Rattle.snap_layer.specs.Counts.{dir_count, whiteout_count, name_count, inode_count, block_count, body_blocks, most_inodes};
+ghost use Rattle.snap_layer.specs.Totals.{path_count, IsClear};
 ghost use Rattle.snap_layer.specs.Layers.{IsLayer};
 ghost use Rattle.snap_layer.specs.Edits.{root_only, root_within, without, without_tree, HasParent, HasRoom, HasRooms, HasPlace, IsTakeable, IsMovable};
 
@@ -20,7 +21,7 @@ use std::alloc::{AllocError, Global};
 use std::fmt;
 use std::marker::Model;
 
-/// A layer of a file system in memory: a table of inodes, what they take, and a bound on the paths.
+/// A layer of a file system in memory: a table of inodes, what they take, and the number of the paths.
 ///
 /// Contracts see it as a `Tree`: the list of its entries in order of paths, the list of its bodies in
 /// order of numbers, the next number, and the most inodes that it may have, which no edit changes. An edit is one
@@ -103,7 +104,7 @@ impl Layer {
             totals: Totals {
                 inodes: 1,
                 blocks: 1,
-                paths: 2,
+                paths: 1,
             },
             is_layer: (),
         })
@@ -204,23 +205,25 @@ impl Layer {
     /// The inodes that are left where what stands at the path and below it is taken. The inode of a file or
     /// a symlink at the path goes where it has no name elsewhere (unlink(2)).
     ///
-    /// Takes no memory. Cost: as `at`, and, where a directory stands there, the number of paths below it times
-    /// the logarithm of a directory's entries.
+    /// A walk of more than 16 directories, each in the other, takes memory, and does without it where it is refused.
+    /// Cost: as `at`, and, where a directory stands there, the number of paths below it times the logarithm of a
+    /// directory's entries.
     pub fn inodes_without(&self, path: &Path) -> usize
         ensures count { result ≡ inode_count (without self.now path.now) }
         ensures few { result ≤ self.now.most }
         ensures most { self.now.most ≤ most_inodes }
         ensures path { IsPath path.now }
     {
-        let (inodes, _) = self.left(path);
-        inodes
+        self.left(path).inodes
     }
 
-    /// The inodes and the blocks that are left where what stands at the path and below it is taken.
-    pub(crate) fn left(&self, path: &Path) -> (usize, u64)
-        ensures inodes { result.0 ≡ inode_count (without self.now path.now) }
-        ensures blocks { result.1 ≡ block_count (without self.now path.now) }
-        ensures few { result.0 ≤ self.now.most }
+    /// What the layer takes where what stands at the path and below it is taken, and its paths where nothing but
+    /// whiteouts stands below it.
+    pub(crate) fn left(&self, path: &Path) -> Totals
+        ensures inodes { result.inodes ≡ inode_count (without self.now path.now) }
+        ensures blocks { result.blocks ≡ block_count (without self.now path.now) }
+        ensures paths { IsClear self.now path.now → result.paths ≡ path_count (without self.now path.now) }
+        ensures few { result.inodes ≤ self.now.most }
         ensures path { IsPath path.now }
         ensures layer { IsLayer self.now }
     {
@@ -228,17 +231,20 @@ impl Layer {
         let node = self.at(path);
         let (dirs, whiteouts) = self.table.tally_inside(path.names(), node);
         let (files, freed) = self.last_body(path, node);
-        (
-            self.totals.inodes - dirs - whiteouts - files,
-            self.totals.blocks - dirs as u64 - freed,
-        )
+        let names = names_in(node);
+        Totals {
+            inodes: self.totals.inodes - dirs - whiteouts - files,
+            blocks: self.totals.blocks - dirs as u64 - freed,
+            paths: self.totals.paths - dirs - whiteouts - names,
+        }
     }
 
     /// The inodes and the blocks that are left where the directory at the path and all below it is taken. A file or
     /// symlink goes where it has no name elsewhere (unlink(2)).
     ///
-    /// The condition is that a directory stands there. Takes no memory. Cost: as `at`, and the number of paths below
-    /// it times the logarithm of a directory's entries, once more for each name there of a file that has several.
+    /// The condition is that a directory stands there. Takes memory as `inodes_without`. Cost: as `at`, and the number
+    /// of paths below it times the logarithm of a directory's entries, once more for each name there of a file that
+    /// has several.
     pub fn left_without_tree(&self, path: &Path) -> (usize, u64)
         requires { IsDirAt (at self.now path.now) }
         ensures inodes { result.0 ≡ inode_count (without_tree self.now path.now) }
@@ -304,7 +310,7 @@ impl Layer {
 
     /// How many directories and how many whiteouts there are, counted from scratch.
     ///
-    /// Takes no memory. Cost: the number of paths, times the logarithm of a directory's entries.
+    /// Takes memory as `inodes_without`. Cost: the number of paths, times the logarithm of a directory's entries.
     pub fn tally(&self) -> (usize, usize)
         ensures { result ≡ (dir_count self.now, whiteout_count self.now) }
     {
@@ -397,8 +403,7 @@ impl Layer {
     /// Whether what stands at `from` may move to `to`: something stands there, what stands at `to` may be
     /// replaced, neither path begins with the other, and each moved path has at most 4095 bytes.
     ///
-    /// Takes no memory. Cost: as `has_place` and
-    /// `has_short_paths`.
+    /// Takes memory and time as `has_place` and `has_short_paths`.
     pub fn can_move(&self, from: &Path, to: &Path) -> bool
         ensures { IsTrue result ↔ IsMovable self.now from.now to.now }
     {
@@ -415,9 +420,9 @@ impl Layer {
 
     /// Whether what stands at `from` and below it would have paths of at most 4095 bytes at `to`.
     ///
-    /// The conditions are that neither path is the root. Takes no memory. The cost is constant where the text of
-    /// `to` is no longer than that of `from`. Else it is the number of paths there, times the logarithm of a
-    /// directory's entries.
+    /// The conditions are that neither path is the root. Takes memory as `inodes_without`. The cost is constant where
+    /// the text of `to` is no longer than that of `from`. Else it is the number of paths there, times the logarithm of
+    /// a directory's entries.
     pub fn has_short_paths(&self, from: &Path, to: &Path) -> bool
         requires from { from.now ≡ [] → ⊥ }
         requires to { to.now ≡ [] → ⊥ }
@@ -434,6 +439,16 @@ fn number_in(node: Option<Node>) -> Option<u32>
     match node {
         Some(node) => node.number(),
         None => None,
+    }
+}
+
+/// One where the node is a name of a file or symlink.
+fn names_in(node: Option<Node>) -> usize
+    ensures { result ≡ (if is_some (option_and_then number_of node) then 1 else 0) }
+{
+    match number_in(node) {
+        Some(_) => 1,
+        None => 0,
     }
 }
 

@@ -1,9 +1,9 @@
 // The entries of a table in order of paths.
-ghost use Rattle.std.specs.Prelude.{[], ◌≡◌, ◌<◌, ◌≤◌, ◌+◌, ◌∷◌, ◌++◌, length, take, Some, MatchOption, IfSome, IfNone};
+ghost use Rattle.std.specs.Prelude.{[], ◌≡◌, ◌≤◌, ◌+◌, ◌∷◌, ◌++◌, length, take, Some, MatchOption, IfSome, IfNone, IfOk, IsOk};
 ghost use Rattle.std.specs.Option.{option_copied};
 ghost use Rattle.std.specs.List.Sorted.{IsStrictlySortedBy};
 ghost use Rattle.std.specs.Map.{keys_of};
-ghost use Rattle.arrayvec.specs.ArrayVec.{array_vec_len};
+ghost use Rattle.smallvec.specs.SmallVec.{HasRoomFor};
 ghost use Rattle.snap_path.specs.Limits.{most_path_bytes};
 ghost use Rattle.snap_path.specs.Text.{Names, text_below};
 ghost use Rattle.snap_layer.specs.contracts.node.Node as node_contracts;
@@ -14,15 +14,19 @@ ghost use Rattle.snap_layer.specs.Rows.{name_cmp, items_at, items_in, after, las
 use super::inode::{Inode, Target};
 use super::node::Node;
 use super::walk::{node_of, walk};
-use arrayvec::ArrayVec;
 use slab::Slab;
+use smallvec::SmallVec;
 use snap_path::Name;
+use std::alloc::{AllocError, Global};
 use std::collections::BTreeMap;
 use std::marker::Model;
 use std::ops::Bound;
 
-/// One more than the most names of a path.
-const MOST_FRAMES: usize = 2048;
+/// How many inodes on the way a walk has room for in itself, where it may take memory for more.
+pub(crate) const FEW_FRAMES: usize = 16;
+
+/// One more than the most names of a path: no walk passes more inodes.
+pub(crate) const MOST_FRAMES: usize = 2048;
 
 /// An inode on the way: its key, and its name that came last.
 #[derive(Default, Drop)]
@@ -40,7 +44,7 @@ impl<'a> Model for Frame<'a> {
     ghost view = { λ f. (f.key, option_copied f.last) };
 }
 
-type Frames<'a> = ArrayVec<Frame<'a>, MOST_FRAMES>;
+type Frames<'a, const ROOM: usize> = SmallVec<Frame<'a>, ROOM>;
 
 /// The first item above the name.
 fn item_after<'a>(
@@ -87,9 +91,9 @@ fn text_of(last: Option<&Name>) -> usize
 }
 
 /// Goes on to the next name and its target, and leaves the inodes that have no more.
-fn advance<'a>(
+fn advance<'a, const ROOM: usize>(
     slots: &'a Slab<Inode>,
-    frames: &mut Frames<'a>,
+    frames: &mut Frames<'a, ROOM>,
     text: &mut usize,
 ) -> Option<(&'a Name, Target)>
     requires text { text.old ≡ frames_text frames.old.items }
@@ -99,6 +103,7 @@ fn advance<'a>(
     ensures passes { IfSome result (λ i. Passes frames.old.items frames.new.items i.0.now) }
     ensures gone { IfNone result (frames.new.items ≡ []) }
     ensures text { text.new ≡ frames_text frames.new.items }
+    ensures capacity { frames.new.capacity ≡ frames.old.capacity }
 {
     let _ = frames.len();
     while let Some(frame) = frames.pop() {
@@ -106,7 +111,7 @@ fn advance<'a>(
         if let Some((name, target)) = first_after(slots, frame.key, frame.last) {
             let last = Some(name);
             *text += text_of(last);
-            frames.push(Frame {
+            frames.push_reserved(Frame {
                 key: frame.key,
                 last,
             });
@@ -117,12 +122,13 @@ fn advance<'a>(
 }
 
 /// Enters the inode that the target is.
-fn enter(frames: &mut Frames<'_>, target: Target)
-    requires { array_vec_len frames.old < 2048 }
-    ensures { frames.new.items ≡ frames.old.items ++ entered target }
+fn enter<const ROOM: usize>(frames: &mut Frames<'_, ROOM>, target: Target)
+    requires { HasRoomFor frames.old 1 }
+    ensures items { frames.new.items ≡ frames.old.items ++ entered target }
+    ensures capacity { frames.new.capacity ≡ frames.old.capacity }
 {
     if let Target::Inode(key) = target {
-        frames.push(Frame { key, last: None });
+        frames.push_reserved(Frame { key, last: None });
     }
 }
 
@@ -158,10 +164,17 @@ pub(crate) fn show_items(slots: &Slab<Inode>, target: Target)
 
 /// Enters the inode to which the path leads, and shows a proof that its items are in order.
 #[tactic(auto, using(crate::proofs::Inside::no_names))]
-fn enter_first(slots: &Slab<Inode>, root: usize, front: &[Name], frames: &mut Frames<'_>)
-    requires { frames.old.items ≡ [] }
+fn enter_first<const ROOM: usize>(
+    slots: &Slab<Inode>,
+    root: usize,
+    front: &[Name],
+    frames: &mut Frames<'_, ROOM>,
+)
+    requires none { frames.old.items ≡ [] }
+    requires room { 1 ≤ frames.old.capacity }
     ensures frames { frames.new.items ≡ entered_from (walk (entry_at slots.now) root front.now) }
     ensures order { IsStrictlySortedBy name_cmp (keys_of (items_from slots.now (walk (entry_at slots.now) root front.now))) }
+    ensures capacity { frames.new.capacity ≡ frames.old.capacity }
 {
     if let Some(target) = walk(slots, root, front) {
         show_items(slots, target);
@@ -189,46 +202,53 @@ pub(crate) struct Row<'a> {
     pub(crate) node: Node,
 }
 
-/// A walk through the entries below a path, in order. It takes no memory, and has room for the longest path.
+/// A walk through the entries below a path, in order. It has room in itself for so many inodes on the way, and takes
+/// memory for more: with `MOST_FRAMES` never.
 ///
 /// Contracts see it as `Progress`: the path below which it goes, the path that came last, and the list of the
 /// entries still to come.
 #[derive(Drop)]
-pub(crate) struct Rows<'a> {
+pub(crate) struct Rows<'a, const ROOM: usize> {
     slots: &'a Slab<Inode>,
     root: usize,
     front: &'a [Name],
-    frames: Frames<'a>,
+    frames: Frames<'a, ROOM>,
     text: usize,
     ghost tree: { Holds slots.now root } by { Holds-prop (node_contracts.the_row).coded slots.now root },
 }
 
-impl<'a> Model for Rows<'a> {
+impl<'a, const ROOM: usize> Model for Rows<'a, ROOM> {
     ghost use Rattle.std.specs.FinMap as map;
-    ghost use Rattle.std.specs.Prelude.{◌≡◌};
+    ghost use Rattle.std.specs.Prelude.{◌≡◌, ◌≤◌};
     ghost use Rattle.snap_layer.specs.Rows.{Progress, last_path, ahead, spread, frames_text, IsWalk};
 
     ghost Value = { Progress };
 
     ghost view = { λ r. record { front = r.front.now; path = last_path r.front.now r.frames.items; rest = spread (map.entries r.tree.0) (ahead r.slots.now r.front.now r.frames.items) } };
 
-    ghost invariant = { λ r. IsWalk r.slots.now r.root (map.entries r.tree.0) r.front.now r.frames.items × (r.text ≡ frames_text r.frames.items) };
+    ghost invariant = { λ r. IsWalk r.slots.now r.root (map.entries r.tree.0) r.front.now r.frames.items × (r.text ≡ frames_text r.frames.items) × (ROOM ≤ r.frames.capacity) };
 }
 
-impl<'a> Rows<'a> {
+impl<'a, const ROOM: usize> Rows<'a, ROOM> {
     ghost use Rattle.std.specs.FinMap as map;
     ghost use Rattle.snap_layer.specs.Edits.{inside};
     ghost use Rattle.snap_layer.specs.Walk.{stands, view_of};
     ghost use Rattle.snap_layer.specs.Rows.{own, IsListed};
 
-    /// The walk through what stands below the path.
-    pub(crate) fn below(slots: &'a Slab<Inode>, root: usize, front: &'a [Name]) -> Rows<'a>
-        requires { (h : Holds slots.now root) × IsListed slots.now root (map.entries h.0) }
+    /// The walk through what stands below the path. It takes no memory.
+    pub(crate) fn below(
+        alloc: Global,
+        slots: &'a Slab<Inode>,
+        root: usize,
+        front: &'a [Name],
+    ) -> Rows<'a, ROOM>
+        requires table { (h : Holds slots.now root) × IsListed slots.now root (map.entries h.0) }
+        requires room { 1 ≤ ROOM }
         ensures front { result.front ≡ front.now }
         ensures path { result.path ≡ front.now }
         ensures rest { (h : Holds slots.now root) → inside front.now (map.entries h.0) ≡ own front.now (stands (view_of slots.now) root front.now) ++ result.rest }
     {
-        let mut frames = ArrayVec::new();
+        let mut frames = SmallVec::new(alloc);
         enter_first(slots, root, front, &mut frames);
         Rows {
             slots,
@@ -241,8 +261,37 @@ impl<'a> Rows<'a> {
 
     /// The next entry.
     ///
-    /// Takes no memory. Cost: the logarithm of a directory's entries, for the entry and for each directory that
-    /// is left.
+    /// It fails only where memory is refused for the inodes on the way, and the walk then leaves out what is below
+    /// this entry. Cost: the logarithm of a directory's entries, for the entry and for each directory that is left.
+    pub(crate) fn try_next(&mut self) -> Result<Option<Row<'a>>, AllocError>
+        ensures row { IfOk result (λ o. MatchOption o (self.old.rest ≡ []) (λ r. self.old.rest ≡ (self.new.path, r.node) ∷ self.new.rest)) }
+        ensures path { IfOk result (λ o. IfSome o (λ r. self.new.path ≡ take r.above self.old.path ++ r.name.now ∷ [])) }
+        ensures above { IfOk result (λ o. IfSome o (λ r. r.above + 1 ≡ length self.new.path)) }
+        ensures text { IfOk result (λ o. IfSome o (λ r. length (text_below self.new.path) ≡ length (text_below self.old.front) + r.text)) }
+        ensures front { self.new.front ≡ self.old.front }
+        ensures sure { 2048 ≤ ROOM → IsOk result }
+    {
+        let Some((name, target)) = advance(self.slots, &mut self.frames, &mut self.text) else {
+            return Ok(None);
+        };
+        self.frames.reserve(1)?;
+        let above = self.front.len() + (self.frames.len() - 1);
+        show_items(self.slots, target);
+        let Some(node) = node_of_target(self.slots, target) else {
+            unreachable!()
+        };
+        enter(&mut self.frames, target);
+        Ok(Some(Row {
+            above,
+            name,
+            text: self.text,
+            node,
+        }))
+    }
+}
+
+impl<'a> Rows<'a, MOST_FRAMES> {
+    /// The next entry. It takes no memory. Cost: as `try_next`.
     pub(crate) fn next(&mut self) -> Option<Row<'a>>
         ensures row { MatchOption result (self.old.rest ≡ []) (λ r. self.old.rest ≡ (self.new.path, r.node) ∷ self.new.rest) }
         ensures path { IfSome result (λ r. self.new.path ≡ take r.above self.old.path ++ r.name.now ∷ []) }
@@ -250,20 +299,9 @@ impl<'a> Rows<'a> {
         ensures text { IfSome result (λ r. length (text_below self.new.path) ≡ length (text_below self.old.front) + r.text) }
         ensures front { self.new.front ≡ self.old.front }
     {
-        let Some((name, target)) = advance(self.slots, &mut self.frames, &mut self.text) else {
-            return None;
-        };
-        let above = self.front.len() + (self.frames.len() - 1);
-        show_items(self.slots, target);
-        let Some(node) = node_of_target(self.slots, target) else {
-            unreachable!()
-        };
-        enter(&mut self.frames, target);
-        Some(Row {
-            above,
-            name,
-            text: self.text,
-            node,
-        })
+        match self.try_next() {
+            Ok(row) => row,
+            Err(_) => unreachable!(),
+        }
     }
 }

@@ -14,7 +14,7 @@ ghost use Rattle.snap_layer.specs.contracts.node.Node as node_contracts;
 ghost use Rattle.snap_layer.specs.Holds.{Holds, Holds-prop};
 ghost use Rattle.snap_layer.specs.Undoing.{with_next, IsNew};
 
-mod reads;
+pub(crate) mod reads;
 mod same;
 
 use super::bytes::Edit;

@@ -1,24 +1,26 @@
-ghost use Rattle.std.specs.Prelude.{◌≡◌, ◌+◌, IfOk};
+ghost use Rattle.std.specs.Prelude.{◌≡◌, ◌+◌, ◌-◌, ◌≤◌, ◌^◌, IfOk, OnErr};
 
 use snap_path::NoMemory;
 use std::alloc::AllocError;
 
-/// What a layer takes, and a bound on the number of its paths, which only rises.
+/// What a layer takes, and the number of its paths.
 #[derive(Clone, Copy)]
 pub(crate) struct Totals {
     /// Its inodes.
     pub(crate) inodes: usize,
     /// Its blocks of 4096 bytes.
     pub(crate) blocks: u64,
-    /// It has fewer paths.
+    /// Its paths.
     pub(crate) paths: usize,
 }
 
-/// A bound on the number of paths, with one more.
-pub(crate) fn one_path_more(paths: usize) -> Result<usize, AllocError>
-    ensures { IfOk result (λ n. n ≡ paths + 1) }
+/// The number of paths with so many more: one or none. It fails only at the last address.
+pub(crate) fn more_paths(paths: usize, more: usize) -> Result<usize, AllocError>
+    requires { more ≤ 1 }
+    ensures ok { IfOk result (λ n. n ≡ paths + more) }
+    ensures last { OnErr result (paths ≡ 2 ^ 64 - 1) }
 {
-    match paths.checked_add(1) {
+    match paths.checked_add(more) {
         Some(sum) => Ok(sum),
         None => Err(NoMemory::of_last_address(paths).into()),
     }

@@ -227,12 +227,12 @@ module _ (namespace lease name : List ℕ) (n : ℕ) (es new : List (ℕ × Leas
       ap values_of writes ∙ at.writes w ∙ ap (set (values_of es) at.place) (is ∙ ap (without_lease_name name) at.at)
       ∙ set-with_name_dropped namespace lease name (values_of es) at.place entry distinct at.within at.passes
 
-  pub numbers-dropped : {Z : Type 0} (index : LeaseIndex Z) → lookup (is_at (nat_cmp n)) es ≡ Some entry → AreNumbers es index → AreNumbers new index
+  pub numbers-dropped : (index : LeaseIndex) → lookup (is_at (nat_cmp n)) es ≡ Some entry → AreNumbers es index → AreNumbers new index
   numbers-dropped index there are space q =
       are space q ∙ sym (number_of-set space q (is_at (nat_cmp n)) entry w (ap (is_lease space q) is) es there) ∙ ap (number_of space q) (sym writes)
 
 -- what the lease at a number names
-pub lease_names_at_number : {Z : Type 0} (es : List (ℕ × Lease)) (ls : List Lease) (index : LeaseIndex Z) (namespace lease name : List ℕ) (n : ℕ) (entry : Lease)
+pub lease_names_at_number : (es : List (ℕ × Lease)) (ls : List Lease) (index : LeaseIndex) (namespace lease name : List ℕ) (n : ℕ) (entry : Lease)
     → IsStrictlySortedBy nat_cmp (keys_of es) → AreDistinct (values_of es) → AreNumbers es index → Some n ≡ number_in namespace lease index → lookup (is_at (nat_cmp n)) es ≡ Some entry → values_of es ≡ ls
     → lease_names ls namespace lease name ≡ does_name name entry
 lease_names_at_number es ls index namespace lease name n entry ordered distinct are found there is =

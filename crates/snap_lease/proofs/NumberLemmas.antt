@@ -1,25 +1,26 @@
 -- Leases by their numbers, and the index of these numbers, before and after a change.
-use Rattle.std.proofs.Common.{◌≡◌, ℕ, suc, ◌-◌, ◌<◌, Bool, true, false, not, cond, count_by, List, [], ◌∷◌, ◌++◌, ◌&&◌, ◌||◌, filter, find, length, get_or, set, Option, None, Some, is_some, Result, Ok, Err, String, BTreeMap, string_bytes, refl, sym, ap, ◌∙◌, subst, arith, bytes_eq}
+use Rattle.std.proofs.Common.{◌≡◌, ℕ, suc, ◌-◌, ◌<◌, Bool, true, false, not, cond, count_by, List, [], ◌∷◌, ◌++◌, ◌≢◌, ◌&&◌, ◌||◌, filter, find, length, get_or, set, Option, None, Some, is_some, Result, Ok, Err, String, BTreeMap, string_bytes, refl, sym, ap, ◌∙◌, subst, arith, bytes_eq}
 use Rattle.std.proofs.lemmas.Cmp.{by_ranked, nat_cmp_total, ranked, tied_itself}
 use Rattle.std.proofs.lemmas.List.{map-append}
 use Rattle.std.proofs.lemmas.List.Sums.{sum_by-cons}
+use Rattle.std.proofs.lemmas.Map.Text.{is_eq-slice_cmp}
 use Rattle.std.proofs.lemmas.Slice.Eq.{bytes_eq-Decides}
 use Rattle.std.specs.BTreeMap.{btree_map_len, get_by_text, insert_entry, is_at}
 use Rattle.std.specs.Cmp.Lexicographic.{slice_cmp}
 use Rattle.std.specs.List.{AllByRecursion, list_any}
 use Rattle.std.specs.List.Sorted.{IsStrictlySortedBy}
 use Rattle.std.specs.Map.{keys_of, values_of, lookup, set_value, remove_entry}
-use Rattle.std.specs.Option.{option_and_then}
+use Rattle.std.specs.Option.{option_and_then, option_map}
 use Rattle.std.specs.Result.{OnErr}
 use Rattle.std.specs.Ordering.{is_eq, match_ordering, nat_cmp, ordering_reverse}
 use Rattle.std.specs.declared.cmp.Ordering.TheVariants.{Less, Greater}
 use Rattle.snap_counts.proofs.Lists.{one_if}
-use Rattle.snap_counts.proofs.Reading.{Sets, read-Sets}
-use Rattle.snap_counts.specs.Counts.{count_within}
+use Rattle.snap_counts.proofs.Reading.{Sets, lookup-by_bytes, read-Sets}
+use Rattle.snap_counts.specs.Counts.{by_bytes, count_within}
 use Rattle.snap_lease.specs.Index.{IsUncounted, NameCounts}
 use Rattle.snap_lease.specs.Lease.{Lease, empty_lease, is_lease, with_lease_name}
 use Rattle.snap_lease.specs.Leases.{AreDistinct, guards, has_lease, with_name_added, without_lease}
-use Rattle.snap_lease.specs.Numbers.{AreNumbers, AreUnnumbered, LeaseIndex, number_in, number_of}
+use Rattle.snap_lease.specs.Numbers.{AreNumbers, AreUnnumbered, LeaseIndex, index_of, number_in, number_of}
 use Rattle.snap_lease.proofs.LeaseLemmas.{list_any-map}
 use Rattle.snap_lease.proofs.ListLemmas.{bytes_eq_comm, filter-none, has_lease-after, is_lease-parts, is_lease_comm, list_any-tail, set-with_name_added, with_name-name, with_name-namespace}
 
@@ -270,29 +271,72 @@ module _ (t : ℕ → Bool) where
 
 -- ---- the index
 
+-- an index as a map of maps
+abbrev pub IndexMap : Type 0 → Type 0
+IndexMap Z = BTreeMap (String Z) (BTreeMap (String Z) ℕ)
+
+pub not_both : (b : Bool) → b ≡ false → b ≡ true → ⊥
+not_both b not_so so = let both : true ≡ false = sym so ∙ not_so in cc
+
+pub none_either : (b : Bool) (o : Option ℕ) → o ≡ None → None ≡ cond b None o
+none_either true o is = refl
+none_either false o is = sym is
+
 module _ {Z : Type 0} where
   -- the number of a name among a namespace's
   abbrev pub number_among : List ℕ → Option (BTreeMap (String Z) ℕ) → Option ℕ
   number_among q names = option_and_then (λ names. get_by_text names q) names
 
-  -- the names of a namespace change, at one name
-  pub number_in-set : (old new : LeaseIndex Z) (namespace lease : List ℕ) (names : Option (BTreeMap (String Z) ℕ)) (w : Option ℕ) → Sets old new namespace names
-      → ((q : List ℕ) → number_among q names ≡ cond (bytes_eq q lease) w (number_among q (get_by_text old namespace)))
-      → (space q : List ℕ) → number_in space q new ≡ cond (bytes_eq space namespace && bytes_eq q lease) w (number_in space q old)
-  number_in-set old new namespace lease names w sets one space q = read-Sets (number_among q) old new namespace names sets space ∙ by (bytes_eq space namespace) refl
+  -- a namespace is found among the bytes as among the keys
+  lookup-index_of : (space : List ℕ) (es : List (String Z × BTreeMap (String Z) ℕ))
+      → lookup (bytes_eq space) (index_of es) ≡ option_map (λ names. by_bytes names.entries) (lookup (is_at (λ k. slice_cmp nat_cmp space (string_bytes k))) es)
+  lookup-index_of space [] = refl
+  lookup-index_of space (e ∷ es) =
+      ap (λ b. cond b (Some (by_bytes e.1.entries)) (lookup (bytes_eq space) (index_of es))) (sym (is_eq-slice_cmp space (string_bytes e.0)))
+      ∙ by (is_at (λ k. slice_cmp nat_cmp space (string_bytes k)) e.0) (lookup-index_of space es)
     where
-      by : (b : Bool) → bytes_eq space namespace ≡ b → cond b (number_among q names) (number_in space q old) ≡ cond (b && bytes_eq q lease) w (number_in space q old)
-      by true same = one q ∙ ap (λ s. cond (bytes_eq q lease) w (number_in s q old)) (sym ((bytes_eq-Decides space namespace).0 same))
-      by false differ = refl
+      by : (b : Bool) → lookup (bytes_eq space) (index_of es) ≡ option_map (λ names. by_bytes names.entries) (lookup (is_at (λ k. slice_cmp nat_cmp space (string_bytes k))) es)
+          → cond b (Some (by_bytes e.1.entries)) (lookup (bytes_eq space) (index_of es)) ≡ option_map (λ names. by_bytes names.entries) (cond b (Some e.1) (lookup (is_at (λ k. slice_cmp nat_cmp space (string_bytes k))) es))
+      by true rest = refl
+      by false rest = rest
+
+  -- so is a number
+  pub number_in-index_of : (space q : List ℕ) (m : IndexMap Z) → number_in space q (index_of m.entries) ≡ number_among q (get_by_text m space)
+  number_in-index_of space q m = ap (option_and_then (lookup (bytes_eq q))) (lookup-index_of space m.entries) ∙ by (get_by_text m space)
+    where
+      by : (o : Option (BTreeMap (String Z) ℕ)) → option_and_then (lookup (bytes_eq q)) (option_map (λ names. by_bytes names.entries) o) ≡ number_among q o
+      by None = refl
+      by (Some names) = lookup-by_bytes q names.entries
+
+  -- what is read of a number where the names of a namespace change
+  read-number : (old new : IndexMap Z) (seen : LeaseIndex) (namespace : List ℕ) (names : Option (BTreeMap (String Z) ℕ)) (f : List ℕ → List ℕ → Option ℕ → Option ℕ) → index_of old.entries ≡ seen → Sets old new namespace names
+      → ((space : List ℕ) → bytes_eq space namespace ≡ true → (q : List ℕ) → number_among q names ≡ f space q (number_among q (get_by_text old space)))
+      → ((space : List ℕ) → bytes_eq space namespace ≡ false → (q : List ℕ) (o : Option ℕ) → o ≡ f space q o)
+      → (space q : List ℕ) → number_in space q (index_of new.entries) ≡ f space q (number_in space q seen)
+  read-number old new seen namespace names f view sets here elsewhere space q =
+      number_in-index_of space q new ∙ read-Sets (number_among q) old new namespace names sets space ∙ by (bytes_eq space namespace) refl
+      ∙ ap (f space q) (sym (number_in-index_of space q old) ∙ ap (number_in space q) view)
+    where
+      by : (b : Bool) → bytes_eq space namespace ≡ b → cond b (number_among q names) (number_among q (get_by_text old space)) ≡ f space q (number_among q (get_by_text old space))
+      by true same = here space same q
+      by false differ = elsewhere space differ q (number_among q (get_by_text old space))
+
+  -- the names of a namespace change, at one name
+  pub number_in-set : (old new : IndexMap Z) (seen : LeaseIndex) (namespace lease : List ℕ) (names : Option (BTreeMap (String Z) ℕ)) (w : Option ℕ) → index_of old.entries ≡ seen → Sets old new namespace names
+      → ((q : List ℕ) → number_among q names ≡ cond (bytes_eq q lease) w (number_among q (get_by_text old namespace)))
+      → (space q : List ℕ) → number_in space q (index_of new.entries) ≡ cond (bytes_eq space namespace && bytes_eq q lease) w (number_in space q seen)
+  number_in-set old new seen namespace lease names w view sets one =
+      read-number old new seen namespace names (λ space q o. cond (bytes_eq space namespace && bytes_eq q lease) w o) view sets
+      (λ space same q. one q ∙ ap (λ s. cond (bytes_eq q lease) w (number_among q (get_by_text old s))) (sym ((bytes_eq-Decides space namespace).0 same)) ∙ ap (λ b. cond (b && bytes_eq q lease) w (number_among q (get_by_text old space))) (sym same))
+      (λ space differ q o. ap (λ b. cond (b && bytes_eq q lease) w o) (sym differ))
 
   -- the names of a namespace are written as they were
-  pub number_in-same : (old new : LeaseIndex Z) (namespace : List ℕ) (names : Option (BTreeMap (String Z) ℕ)) → Sets old new namespace names
-      → ((q : List ℕ) → number_among q names ≡ number_among q (get_by_text old namespace)) → (space q : List ℕ) → number_in space q new ≡ number_in space q old
-  number_in-same old new namespace names sets one space q = read-Sets (number_among q) old new namespace names sets space ∙ by (bytes_eq space namespace) refl
-    where
-      by : (b : Bool) → bytes_eq space namespace ≡ b → cond b (number_among q names) (number_in space q old) ≡ number_in space q old
-      by true same = one q ∙ ap (λ s. number_in s q old) (sym ((bytes_eq-Decides space namespace).0 same))
-      by false differ = refl
+  pub number_in-same : (old new : IndexMap Z) (seen : LeaseIndex) (namespace : List ℕ) (names : Option (BTreeMap (String Z) ℕ)) → index_of old.entries ≡ seen → Sets old new namespace names
+      → ((q : List ℕ) → number_among q names ≡ number_among q (get_by_text old namespace)) → (space q : List ℕ) → number_in space q (index_of new.entries) ≡ number_in space q seen
+  number_in-same old new seen namespace names view sets one =
+      read-number old new seen namespace names (λ space q o. o) view sets
+      (λ space same q. one q ∙ ap (λ s. number_among q (get_by_text old s)) (sym ((bytes_eq-Decides space namespace).0 same)))
+      (λ space differ q o. refl)
 
   pub no_names : (q : List ℕ) (m : BTreeMap (String Z) ℕ) → btree_map_len m ≡ 0 → get_by_text m q ≡ None
   no_names q m empty = by m.entries empty
@@ -301,6 +345,14 @@ module _ {Z : Type 0} where
       by [] e = refl
       by (x ∷ es) e = absurd (omega arith)
 
+  -- a map of names isn't empty once one of them got a number
+  pub named-put : (old new : BTreeMap (String Z) ℕ) (lease : List ℕ) (n : ℕ) → Sets old new lease (Some n) → btree_map_len new ≢ 0
+  named-put old new lease n sets empty =
+      let same : bytes_eq lease lease ≡ true = (bytes_eq-Decides lease lease).1 refl in
+      let there : get_by_text new lease ≡ Some n = read-Sets (λ o. o) old new lease (Some n) sets lease ∙ ap (λ b. cond b (Some n) (get_by_text old lease)) same in
+      let none : get_by_text new lease ≡ None = no_names lease new empty in
+      cc
+
 -- what holds in any case holds after an error
 pub on_err : {T E P : Type 0} (r : Result T E) → P → OnErr r P
 on_err (Ok x) p = tt
@@ -308,13 +360,13 @@ on_err (Err e) p = p
 
 -- ---- the leases with their index
 
-module _ {Z : Type 0} (es : List (ℕ × Lease)) where
+module _ (es : List (ℕ × Lease)) where
   -- the namespace has the lease exactly where the lease has a number
-  pub has_lease_at_number : (ls : List Lease) (index : LeaseIndex Z) (namespace lease : List ℕ) (number : Option ℕ) → number ≡ number_in namespace lease index → AreNumbers es index → values_of es ≡ ls → has_lease ls namespace lease ≡ is_some number
+  pub has_lease_at_number : (ls : List Lease) (index : LeaseIndex) (namespace lease : List ℕ) (number : Option ℕ) → number ≡ number_in namespace lease index → AreNumbers es index → values_of es ≡ ls → has_lease ls namespace lease ≡ is_some number
   has_lease_at_number ls index namespace lease number at are view =
       ap (λ ks. has_lease ks namespace lease) (sym view) ∙ sym (has_number namespace lease es) ∙ ap is_some (sym (are namespace lease) ∙ sym at)
 
-  module _ (index : LeaseIndex Z) (namespace lease : List ℕ) (n : ℕ) (ordered : IsStrictlySortedBy nat_cmp (keys_of es)) (distinct : AreDistinct (values_of es)) (are : AreNumbers es index) (found : Some n ≡ number_in namespace lease index) where
+  module _ (index : LeaseIndex) (namespace lease : List ℕ) (n : ℕ) (ordered : IsStrictlySortedBy nat_cmp (keys_of es)) (distinct : AreDistinct (values_of es)) (are : AreNumbers es index) (found : Some n ≡ number_in namespace lease index) where
     -- its number leads to it
     pub at_number : Agree (is_at (nat_cmp n)) (is_lease namespace lease) es
     at_number = numbered namespace lease n es ordered distinct (sym (are namespace lease) ∙ sym found)
@@ -331,7 +383,7 @@ module _ {Z : Type 0} (es : List (ℕ × Lease)) where
     pub values-released : values_of (remove_entry (is_at (nat_cmp n)) es) ≡ without_lease (values_of es) namespace lease
     values-released = ap values_of removed_at_number ∙ values-filter (λ l. not (is_lease namespace lease l)) es
 
-  module _ (before after : LeaseIndex Z) where
+  module _ (before after : LeaseIndex) where
     pub numbers-created : (namespace lease : List ℕ) (until : Option ℕ) (n : ℕ) (l : Lease) → l ≡ empty_lease namespace lease until → has_lease (values_of es) namespace lease ≡ false → AreNumbers es before
         → ((space q : List ℕ) → number_in space q after ≡ cond (bytes_eq space namespace && bytes_eq q lease) (Some n) (number_in space q before)) → AreNumbers (es ++ (n, l) ∷ []) after
     numbers-created namespace lease until n l is absent are put space q =
@@ -340,7 +392,7 @@ module _ {Z : Type 0} (es : List (ℕ × Lease)) where
         ∙ sym (number_of-push space q n l es (ap (λ (k : Lease). has_lease (values_of es) k.namespace k.name) is ∙ absent))
 
     -- the number of a lease that is not there was put and taken back
-    pub numbers-back : (during : LeaseIndex Z) (namespace lease : List ℕ) (n : ℕ) → has_lease (values_of es) namespace lease ≡ false → AreNumbers es before
+    pub numbers-back : (during : LeaseIndex) (namespace lease : List ℕ) (n : ℕ) → has_lease (values_of es) namespace lease ≡ false → AreNumbers es before
         → ((space q : List ℕ) → number_in space q during ≡ cond (bytes_eq space namespace && bytes_eq q lease) (Some n) (number_in space q before))
         → ((space q : List ℕ) → number_in space q after ≡ cond (bytes_eq space namespace && bytes_eq q lease) None (number_in space q during)) → AreNumbers es after
     numbers-back during namespace lease n absent are put taken space q =
@@ -372,7 +424,7 @@ module _ (namespace lease name : List ℕ) (n : ℕ) (es new : List (ℕ × Leas
       values-written ∙ ap (set (values_of es) at.place) (is ∙ ap (with_lease_name name) at.at)
       ∙ set-with_name_added namespace lease name (values_of es) at.place entry distinct at.within at.passes
 
-  pub numbers-added : {Z : Type 0} (index : LeaseIndex Z) → lookup (is_at (nat_cmp n)) es ≡ Some entry → AreNumbers es index → AreNumbers new index
+  pub numbers-added : (index : LeaseIndex) → lookup (is_at (nat_cmp n)) es ≡ Some entry → AreNumbers es index → AreNumbers new index
   numbers-added index there are space q =
       are space q ∙ sym (number_of-set space q (is_at (nat_cmp n)) entry w (ap (is_lease space q) is ∙ is_lease-with_name space q name entry) es there) ∙ ap (number_of space q) (sym writes)
 
@@ -387,7 +439,7 @@ uncounted-ahead test x left rest during after space name total is passes uncount
     omega (arith, uncounted space name, one, all, sum_by-cons (λ l. one_if (test l && guards space name l)) x rest, so_far)
 
 -- and its number
-pub unnumbered-ahead : {Z : Type 0} (test : Lease → Bool) (x : Lease) (left rest : List Lease) (during after : LeaseIndex Z) (space name : List ℕ) (total : Option ℕ) → left ≡ x ∷ rest → test x ≡ true
+pub unnumbered-ahead : (test : Lease → Bool) (x : Lease) (left rest : List Lease) (during after : LeaseIndex) (space name : List ℕ) (total : Option ℕ) → left ≡ x ∷ rest → test x ≡ true
     → number_in space name after ≡ cond (is_lease space name x) None (number_in space name during)
     → cond (list_any (λ l. test l && is_lease space name l) left) None (number_in space name during) ≡ total → cond (list_any (λ l. test l && is_lease space name l) rest) None (number_in space name after) ≡ total
 unnumbered-ahead test x left rest during after space name total is passes taken so_far =
@@ -400,3 +452,22 @@ unnumbered-ahead test x left rest during after space name total is passes taken 
     by true false old new gone so_far = gone ∙ so_far
     by false true old new gone so_far = so_far
     by false false old new gone so_far = gone ∙ so_far
+
+-- a lease that stays takes nothing back
+pub uncounted-kept : (test : Lease → Bool) (x : Lease) (left rest : List Lease) (n : ℕ) (space name : List ℕ) (total : ℕ) → left ≡ x ∷ rest → test x ≡ false
+    → n - count_by (λ l. test l && guards space name l) left ≡ total → n - count_by (λ l. test l && guards space name l) rest ≡ total
+uncounted-kept test x left rest n space name total is stays so_far =
+    let one : one_if (test x && guards space name x) ≡ 0 = ap (λ b. one_if (b && guards space name x)) stays in
+    let all : count_by (λ l. test l && guards space name l) left ≡ count_by (λ l. test l && guards space name l) (x ∷ rest) = ap (count_by (λ l. test l && guards space name l)) is in
+    omega (arith, one, all, sum_by-cons (λ l. one_if (test l && guards space name l)) x rest, so_far)
+
+pub unnumbered-kept : (test : Lease → Bool) (x : Lease) (left rest : List Lease) (number : Option ℕ) (space name : List ℕ) (total : Option ℕ) → left ≡ x ∷ rest → test x ≡ false
+    → cond (list_any (λ l. test l && is_lease space name l) left) None number ≡ total → cond (list_any (λ l. test l && is_lease space name l) rest) None number ≡ total
+unnumbered-kept test x left rest number space name total is stays so_far =
+    ap (λ b. cond ((b && is_lease space name x) || list_any (λ l. test l && is_lease space name l) rest) None number) (sym stays)
+    ∙ ap (λ ls. cond (list_any (λ l. test l && is_lease space name l) ls) None number) (sym is) ∙ so_far
+
+-- a list without a length has no entries
+pub no_entries : {X : Type 0} (es : List X) → length es ≡ 0 → es ≡ []
+no_entries [] empty = refl
+no_entries (e ∷ es) empty = absurd (omega arith)

@@ -170,7 +170,7 @@ impl LeaseEntry {
 
     /// Takes its number away.
     pub(crate) fn take_number(&self, numbers: &mut LeaseNumbers)
-        ensures { (space name : List ℕ) → number_in space name numbers.new.map ≡ (if is_lease space name self.now then None else number_in space name numbers.old.map) }
+        ensures { (space name : List ℕ) → number_in space name numbers.new ≡ (if is_lease space name self.now then None else number_in space name numbers.old) }
     {
         numbers.take(self.namespace.as_str(), self.name.as_str());
     }

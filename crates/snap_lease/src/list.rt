@@ -1,5 +1,5 @@
 //! The leases of all namespaces.
-ghost use Rattle.std.specs.Prelude.{◌≡◌, ◌≢◌, ◌↔◌, ◌<◌, ℕ, List, [], ◌∷◌, ◌++◌, map, false, count_by, string_bytes, Some, IsTrue, IsOk, IfOk, OnOk, OnErr, IsErrOf, IsOkUnless};
+ghost use Rattle.std.specs.Prelude.{◌≡◌, ◌≢◌, ◌↔◌, ◌<◌, ◌≤◌, ◌^◌, ℕ, List, [], ◌∷◌, ◌++◌, map, false, count_by, string_bytes, Some, IsTrue, IsOk, IfOk, OnOk, OnErr, IsErrOf, IsOkUnless};
 ghost use Rattle.std.specs.List.{AllByRecursion};
 ghost use Rattle.std.specs.Map.{keys_of, values_of};
 ghost use Rattle.snap_path.specs.Memory.{no_memory};
@@ -7,7 +7,7 @@ ghost use Rattle.snap_lease.specs.Lease.{empty_lease, NamesOnce};
 ghost use Rattle.snap_lease.specs.Leases.{AreDistinct, has_lease, names_in_lease, lease_names, naming_count, is_guarded, is_guarded_at, has_ended, with_name_added, with_name_dropped, without_lease, without_ended, CountsAdded, CountsDropped, CountsReleased, CountsLive};
 ghost use Rattle.snap_lease.specs.Index.{AreUncounted};
 ghost use Rattle.snap_lease.specs.Live.{is_among};
-ghost use Rattle.snap_lease.specs.Numbers.{AreUnnumbered};
+ghost use Rattle.snap_lease.specs.Numbers.{AreUnnumbered, next_number};
 
 use crate::entry::LeaseEntry;
 use crate::live::LiveNames;
@@ -49,7 +49,7 @@ impl Model for Leases {
 
     ghost view = { λ a. values_of a.list.entries };
 
-    ghost invariant = { λ a. AreDistinct (values_of a.list.entries) × AllByRecursion NamesOnce (values_of a.list.entries) × AreNameCounts (values_of a.list.entries) a.counts × AreNumbers a.list.entries a.numbers.map × IsOrdered nat_cmp a.list };
+    ghost invariant = { λ a. AreDistinct (values_of a.list.entries) × AllByRecursion NamesOnce (values_of a.list.entries) × AreNameCounts (values_of a.list.entries) a.counts × AreNumbers a.list.entries a.numbers × IsOrdered nat_cmp a.list };
 }
 
 impl Leases {
@@ -310,9 +310,11 @@ impl Leases {
     }
 }
 
-// A number above those of all leases.
+// The number of the next lease, which is above those of all leases.
 fn next_number(list: &BTreeMap<usize, LeaseEntry>) -> Result<usize, AllocError>
-    ensures { IfOk result (λ n. AllByRecursion (λ k. k < n) (keys_of list.now.entries)) }
+    ensures number { IfOk result (λ n. n ≡ next_number list.now.entries) }
+    ensures above { IfOk result (λ n. AllByRecursion (λ k. k < n) (keys_of list.now.entries)) }
+    ensures last { OnErr result (2 ^ 64 ≤ next_number list.now.entries) }
 {
     let Some((last, _)) = list.last_key_value() else {
         return Ok(0);
@@ -334,7 +336,7 @@ fn take_ended(
 )
     requires { AllByRecursion NamesOnce (values_of list.now.entries) }
     ensures counted { AreUncounted (has_ended namespace.now now) (values_of list.now.entries) counts.old counts.new }
-    ensures numbered { AreUnnumbered (has_ended namespace.now now) (values_of list.now.entries) numbers.old.map numbers.new.map }
+    ensures numbered { AreUnnumbered (has_ended namespace.now now) (values_of list.now.entries) numbers.old numbers.new }
 {
     for lease in list.values() {
         if lease.is_of(namespace) && !lease.is_live(now) {

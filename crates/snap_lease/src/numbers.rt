@@ -4,18 +4,30 @@ ghost use Rattle.snap_lease.specs.Numbers.{number_in};
 
 use std::alloc::{AllocError, Global};
 use std::collections::BTreeMap;
+use std::marker::Model;
 
-/// The number of each lease: a map of namespaces to maps of names.
+/// The number of each lease: a map of namespaces to maps of names. Contracts see the list of the namespaces with their
+/// leases' names, by their bytes.
 #[derive(Drop)]
 pub(crate) struct LeaseNumbers {
     alloc: Global,
     map: BTreeMap<String, BTreeMap<String, usize>>,
 }
 
+impl Model for LeaseNumbers {
+    ghost use Rattle.snap_lease.specs.Numbers.{LeaseIndex, index_of, HasNoBareNamespace};
+
+    ghost Value = { LeaseIndex };
+
+    ghost view = { λ n. index_of n.map.entries };
+
+    ghost invariant = { λ n. HasNoBareNamespace n.map };
+}
+
 impl LeaseNumbers {
     /// No lease has a number.
     pub(crate) fn new(alloc: Global) -> LeaseNumbers
-        ensures { (space q : List ℕ) → number_in space q result.map ≡ None }
+        ensures { (space q : List ℕ) → number_in space q result ≡ None }
     {
         LeaseNumbers {
             alloc,
@@ -25,7 +37,7 @@ impl LeaseNumbers {
 
     /// The number of the namespace's lease of this name.
     pub(crate) fn get(&self, namespace: &str, lease: &str) -> Option<usize>
-        ensures { result ≡ number_in namespace.now lease.now self.now.map }
+        ensures { result ≡ number_in namespace.now lease.now self.now }
     {
         match self.map.get(namespace) {
             Some(leases) => leases.get(lease).copied(),
@@ -40,8 +52,8 @@ impl LeaseNumbers {
         lease: &str,
         number: usize,
     ) -> Result<(), AllocError>
-        ensures ok { OnOk result ((space q : List ℕ) → number_in space q self.new.map ≡ (if bytes_eq space namespace.now && bytes_eq q lease.now then Some number else number_in space q self.old.map)) }
-        ensures err { OnErr result ((space q : List ℕ) → number_in space q self.new.map ≡ number_in space q self.old.map) }
+        ensures ok { OnOk result ((space q : List ℕ) → number_in space q self.new ≡ (if bytes_eq space namespace.now && bytes_eq q lease.now then Some number else number_in space q self.old)) }
+        ensures err { OnErr result ((space q : List ℕ) → number_in space q self.new ≡ number_in space q self.old) }
     {
         let key = String::from_str(self.alloc, lease)?;
         if let Some(leases) = self.map.get_mut(namespace) {
@@ -57,7 +69,7 @@ impl LeaseNumbers {
 
     /// Takes the lease's number away. Takes no memory.
     pub(crate) fn take(&mut self, namespace: &str, lease: &str)
-        ensures { (space q : List ℕ) → number_in space q self.new.map ≡ (if bytes_eq space namespace.now && bytes_eq q lease.now then None else number_in space q self.old.map) }
+        ensures { (space q : List ℕ) → number_in space q self.new ≡ (if bytes_eq space namespace.now && bytes_eq q lease.now then None else number_in space q self.old) }
     {
         let Some(leases) = self.map.get_mut(namespace) else {
             return;

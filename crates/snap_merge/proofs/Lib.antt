@@ -9,3 +9,4 @@ pub mod Reaching
 pub mod Named
 pub mod Sharing
 mod Parts
+mod Rows

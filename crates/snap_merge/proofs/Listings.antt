@@ -43,7 +43,7 @@ sorted_insert_key (x ∷ ns) k s = by (name_cmp k x) refl (sorted_insert_key ns 
     by Equal p later = s
     by Greater p later = (all_insert_key (λ y. name_cmp x y ≡ Less) ns k (nat_list_cmp_total.antisymm x k ∙ ap ordering_reverse p) s.0, later)
 
-sorted_put_names : (ms ns : Names) → IsStrictlySortedBy name_cmp ns → IsStrictlySortedBy name_cmp (put_names ms ns)
+pub sorted_put_names : (ms ns : Names) → IsStrictlySortedBy name_cmp ns → IsStrictlySortedBy name_cmp (put_names ms ns)
 sorted_put_names [] ns s = s
 sorted_put_names (m ∷ ms) ns s = sorted_put_names ms (insert_key name_cmp ns m) (sorted_insert_key ns m s)
 
@@ -55,12 +55,12 @@ all_filter : (P : List ℕ → Type 0) (test : List ℕ → Bool) (ns : Names) �
 all_filter P test [] a = tt
 all_filter P test (x ∷ ns) a = elim (test x) as (λ b. AllByRecursion P (cond b (x ∷ filter test ns) (filter test ns))) [ true ↦ (a.0, all_filter P test ns a.1) | false ↦ all_filter P test ns a.1 ]
 
-sorted_filter : (test : List ℕ → Bool) (ns : Names) → IsStrictlySortedBy name_cmp ns → IsStrictlySortedBy name_cmp (filter test ns)
+pub sorted_filter : (test : List ℕ → Bool) (ns : Names) → IsStrictlySortedBy name_cmp ns → IsStrictlySortedBy name_cmp (filter test ns)
 unfolding IsStrictlySortedBy
 sorted_filter test [] s = tt
 sorted_filter test (x ∷ ns) s = elim (test x) as (λ b. IsStrictlySortedBy name_cmp (cond b (x ∷ filter test ns) (filter test ns))) [ true ↦ (all_filter (λ y. name_cmp x y ≡ Less) test ns s.0, sorted_filter test ns s.1) | false ↦ sorted_filter test ns s.1 ]
 
-nothing_sorted : IsStrictlySortedBy name_cmp []
+pub nothing_sorted : IsStrictlySortedBy name_cmp []
 unfolding IsStrictlySortedBy
 nothing_sorted = tt
 
@@ -84,7 +84,7 @@ twice : (a c : Bool) → (a || c) ≡ (a || (a || c))
 twice true c = refl
 twice false c = refl
 
-regrouped : (a b c : Bool) → (b || (a || c)) ≡ ((a || b) || c)
+pub regrouped : (a b c : Bool) → (b || (a || c)) ≡ ((a || b) || c)
 regrouped true true c = refl
 regrouped true false c = refl
 regrouped false b c = refl
@@ -104,7 +104,7 @@ has_insert_key n (x ∷ ns) k = by (name_cmp k x) refl (has_insert_key n ns k)
         twice (bytes_eq n x) (has n ns) ∙ ap (λ (y : List ℕ). bytes_eq n y || (bytes_eq n x || has n ns)) (sym same)
     by Greater p later = ap (λ b. bytes_eq n x || b) later ∙ swapped (bytes_eq n x) (bytes_eq n k) (has n ns)
 
-has_put_names : (n : List ℕ) (ms ns : Names) → has n (put_names ms ns) ≡ (has n ms || has n ns)
+pub has_put_names : (n : List ℕ) (ms ns : Names) → has n (put_names ms ns) ≡ (has n ms || has n ns)
 has_put_names n [] ns = refl
 has_put_names n (m ∷ ms) ns = has_put_names n ms (insert_key name_cmp ns m) ∙ ap (λ b. has n ms || b) (has_insert_key n ns m) ∙ regrouped (bytes_eq n m) (has n ms) (has n ns)
 
@@ -137,12 +137,12 @@ unseen (t ∷ s) q e = by (at t q) e (unseen s q)
     by None f later = through (hides t q) (seen s q) (later f)
     by (Some x) f later = absurd (cc)
 
-kept : (h b : Bool) → (h ≡ false → b ≡ false) → (h && b) ≡ b
+pub kept : (h b : Bool) → (h ≡ false → b ≡ false) → (h && b) ≡ b
 kept true b f = refl
 kept false b f = sym (f refl)
 
 -- the names that pass a test
-has_filter : (n : List ℕ) (test : List ℕ → Bool) (ns : Names) → has n (filter test ns) ≡ (has n ns && test n)
+pub has_filter : (n : List ℕ) (test : List ℕ → Bool) (ns : Names) → has n (filter test ns) ≡ (has n ns && test n)
 has_filter n test [] = refl
 has_filter n test (x ∷ ns) = by (test x) refl (bytes_eq n x) refl (has_filter n test ns)
   where

@@ -24,7 +24,7 @@ use Rattle.snap_merge.proofs.Hiding.{hides_snoc}
 use Rattle.snap_merge.proofs.Above.{dir_seen, nothing_seen, walk_from_dir}
 use Rattle.snap_merge.proofs.Walking.{walk_more, walk_at, plain_at}
 
-split_lt : (a b : ℕ) → (a < b) ⊎ (b ≤ a)
+pub split_lt : (a b : ℕ) → (a < b) ⊎ (b ≤ a)
 split_lt a b = elim (nat_lt a b) as (λ t. nat_lt a b ≡ t → (a < b) ⊎ (b ≤ a)) [ true ↦ λ e. inl (grind (arith, nat_tests)) | false ↦ λ e. inr (grind (arith, nat_tests)) ] refl
 
 -- ---- paths
@@ -55,7 +55,7 @@ hides_append t (n ∷ a) b front =
     ap (λ x. node_hides (at t front) || x) (hides_append t a b (front ++ n ∷ []) ∙ ap (λ (q : Names). hides_from t (front ++ n ∷ []) a || hides_from t q b) (append_assoc front (n ∷ []) a))
     ∙ or_last (node_hides (at t front)) (hides_from t (front ++ n ∷ []) a) (hides_from t (front ++ n ∷ a) b)
 
-no_dir_none : (o : Option Node) → o ≡ None → IsDirAt o → ⊥
+pub no_dir_none : (o : Option Node) → o ≡ None → IsDirAt o → ⊥
 no_dir_none o e d = subst IsDirAt e d
 
 bare_hides : (t : Tree) → IsLayer t → (r front : Names) → at t front ≡ None → hides_from t front r ≡ false

@@ -9,3 +9,4 @@ pub mod Listing
 pub mod Resolving
 pub mod Arrivals
 pub mod Taken
+pub mod Row

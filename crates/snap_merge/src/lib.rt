@@ -9,6 +9,7 @@ mod error;
 mod look;
 mod names;
 mod resolve;
+mod row;
 mod stack;
 mod taken;
 

@@ -5,6 +5,7 @@ ghost use Rattle.snap_layer.specs.Tree.{Tree, body, hides, node_hides};
 ghost use Rattle.snap_merge.specs.Objects.{object, shown, shown_body, is_shown_dir, AreLayers};
 ghost use Rattle.snap_merge.specs.Reach.{Begun, Reached, Steps, Traced};
 ghost use Rattle.snap_merge.specs.Shares.{Shares};
+ghost use Rattle.snap_merge.specs.Row.{dir_at, hides_inside};
 ghost use Rattle.snap_merge.specs.Rules.{LayerRules};
 
 use snap_layer::{Body, Content, Dir, Layer, Node, Shared};
@@ -146,7 +147,9 @@ fn trace_in<'a>(layer: &'a Layer, names: &[Name]) -> Trace<'a>
 
 /// What the layer has of the directory at the path of the names: one walk of the layer.
 pub(crate) fn share_in<'a>(layer: &'a Layer, names: &[Name]) -> Share<'a>
-    ensures { Shares layer.now names.now result.dir result.hides }
+    ensures shares { Shares layer.now names.now result.dir result.hides }
+    ensures dir { result.dir ≡ dir_at layer.now names.now }
+    ensures hides { result.hides ≡ hides_inside layer.now names.now }
 {
     let _ = &layer.is_layer;
     let trace = trace_in(layer, names);
@@ -203,7 +206,7 @@ fn hides_names(layer: &Layer, names: &[Name]) -> bool
 }
 
 /// Whether what stands there hides what the layers below have under it.
-fn node_hides(node: Option<Node>) -> bool
+pub(crate) fn node_hides(node: Option<Node>) -> bool
     ensures { result ≡ node_hides node }
 {
     match node {

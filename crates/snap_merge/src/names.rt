@@ -1,5 +1,5 @@
 // The names that are seen in a directory: what each layer that shares in it adds, the top one first.
-ghost use Rattle.std.specs.Prelude.{◌≡◌, ◌&&◌, Bool, List, ℕ, [], ◌∷◌, ◌++◌, if◌then◌else◌, is_some, true, false, not, Option, OnOk, IfOk};
+ghost use Rattle.std.specs.Prelude.{◌≡◌, ◌&&◌, Bool, List, ℕ, [], ◌∷◌, ◌++◌, if◌then◌else◌, is_some, true, false, Option, OnOk, IfOk};
 ghost use Rattle.std.specs.Str.{bytes_eq};
 ghost use Rattle.snap_layer.specs.Tree.{at};
 ghost use Rattle.snap_merge.specs.Objects.{Object, seen, seen_over};
@@ -24,7 +24,7 @@ pub(crate) fn put_layer(
     let _ = &layer.is_layer;
     let share = share_in(layer, path.names());
     if let Some(dir) = &share.dir {
-        put_dir(shown, gone, dir, layer.children(path)?)?;
+        put_dir(shown, gone, dir, dir.children()?)?;
     }
     Ok(!share.hides)
 }
@@ -71,7 +71,7 @@ pub(crate) fn put_some(
 }
 
 /// Puts the names of one layer's directory among them.
-fn put_dir(
+pub(crate) fn put_dir(
     shown: &mut BTreeSet<Name>,
     gone: &mut BTreeSet<Name>,
     dir: &Dir<'_>,

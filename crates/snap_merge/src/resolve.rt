@@ -13,10 +13,14 @@ ghost use Rattle.snap_merge.specs.Arrivals.{Leads, Ends};
 use super::error::FsError;
 use super::look::Seen;
 use super::stack::Stack;
+use smallvec::SmallVec;
 use snap_path::limits::{MAX_LINKS, MAX_NAME_BYTES, MAX_PATH_BYTES};
 use snap_path::{Name, Path};
 use std::alloc::{AllocError, Global};
 use std::marker::Model;
+
+/// A way of at most so many words takes no memory for them.
+const INLINE_WORDS: usize = 16;
 
 /// How far a way was gone.
 #[derive(Drop)]
@@ -199,7 +203,7 @@ fn enter<'a>(
 /// The words of a path that are still to be resolved, the next one first. Contracts see their list.
 #[derive(Drop)]
 pub(crate) struct Words<'w> {
-    parts: Vec<&'w [u8]>,
+    parts: SmallVec<&'w [u8], INLINE_WORDS>,
     next: usize,
 }
 
@@ -219,7 +223,7 @@ impl<'w> Words<'w> {
     pub(crate) fn of(alloc: Global, names: &'w [Name]) -> Result<Words<'w>, AllocError>
         ensures { IfOk result (λ words. words ≡ names.now) }
     {
-        let mut parts = Vec::new(alloc);
+        let mut parts = SmallVec::new(alloc);
         for name in names {
             parts.push(name.as_str().as_bytes())?;
         }
@@ -230,7 +234,7 @@ impl<'w> Words<'w> {
     pub(crate) fn take(&mut self) -> Option<&'w [u8]>
         ensures { MatchOption result ((self.old ≡ []) × (self.new ≡ [])) (λ word. self.old ≡ word.now ∷ self.new) }
     {
-        let word = *self.parts.get(self.next)?;
+        let word = *self.parts.as_slice().get(self.next)?;
         self.next += 1;
         Some(word)
     }
@@ -239,8 +243,8 @@ impl<'w> Words<'w> {
     pub(crate) fn put_target(&mut self, alloc: Global, target: &'w [u8]) -> Result<(), AllocError>
         ensures { OnOk result (self.new ≡ words_of target.now ++ self.old) }
     {
-        let mut parts = split_words(alloc, target)?;
-        parts.extend_from_slice(&self.parts[self.next..])?;
+        let mut parts = SmallVec::from_vec(split_words(alloc, target)?);
+        parts.extend_from_slice(&self.parts.as_slice()[self.next..])?;
         *self = Words { parts, next: 0 };
         Ok(())
     }

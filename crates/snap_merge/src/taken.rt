@@ -1,22 +1,25 @@
 // What is taken by what is seen at and below a path.
-ghost use Rattle.std.specs.Prelude.{◌≡◌, ◌⊎◌, ◌+◌, ◌++◌, ◌≤◌, [], ◌∷◌, Ok, Err, IfOk, IfErr, OnOk, length, min};
+ghost use Rattle.std.specs.Prelude.{◌≡◌, ◌⊎◌, ◌+◌, ◌++◌, ◌≤◌, [], Option, Ok, Err, IfOk, IfErr, OnOk, unwrap_or};
 ghost use Rattle.std.specs.List.{flat_map, sum_by};
 ghost use Rattle.snap_path.specs.Memory.{no_memory};
-ghost use Rattle.snap_merge.specs.Listing.{names};
 ghost use Rattle.snap_merge.specs.declared.error.FsError.TheVariants as errors;
-ghost use Rattle.snap_merge.specs.Taken.{capped, dirs, file_at, files, part, part_of, part_over, parts_below, taken, taken_by};
+ghost use Rattle.snap_merge.specs.declared.taken.Part.{Part as PartValue};
+ghost use Rattle.snap_merge.specs.Row.{part_in, part_over_dir, parts_in, row_at};
+ghost use Rattle.snap_merge.specs.Taken.{capped, dirs, file_at, files, part, part_of, parts_below, taken, taken_by, with_inside};
 
 use crate::error::FsError;
 use crate::look::hides;
+use crate::row::{names_in, put_row};
 use crate::stack::Stack;
-use snap_layer::{Layer, Node, Shared};
-use snap_path::{Name, Path, PathError};
+use smallvec::SmallVec;
+use snap_layer::{Dir, Node, Shared};
+use snap_path::{Name, Path};
 use snap_usage::Usage;
 use std::alloc::{AllocError, Global};
 use std::collections::BTreeSet;
 
-/// The most names of a path, and one for the root.
-const MAX_DEPTH: u64 = 2048;
+/// The most names of a path.
+const MOST_NAMES: u64 = 2047;
 
 /// A file or a symlink that is seen, by the place of its layer from the top and its number there.
 #[derive(Clone, Copy, PartialEq, Eq, PartialOrd, Ord)]
@@ -34,11 +37,11 @@ pub(crate) enum Part {
     File(FileAt),
 }
 
-/// The file or symlink that has the number in the layer at a place.
-fn file_at(place: u64, layer: &Layer, number: u32) -> Part
-    ensures { result ≡ file_at place layer.now number }
+/// The file or symlink that has the number in the directory's layer, which has a place.
+fn file_at(place: u64, dir: &Dir<'_>, number: u32) -> Part
+    ensures { result ≡ file_at place dir.now.layer number }
 {
-    let blocks = match layer.body(number) {
+    let blocks = match dir.body(number) {
         Some(body) => body.blocks(),
         None => 0,
     };
@@ -49,14 +52,14 @@ fn file_at(place: u64, layer: &Layer, number: u32) -> Part
     })
 }
 
-/// What the node of the layer at a place shows.
-fn part_of(place: u64, layer: &Layer, node: Node) -> Option<Part>
-    ensures { result ≡ part_of place layer.now node }
+/// What a node of the directory's layer, which has a place, shows.
+fn part_of(place: u64, dir: &Dir<'_>, node: Node) -> Option<Part>
+    ensures { result ≡ part_of place dir.now.layer node }
 {
     match node {
         Node::Dir { .. } => Some(Part::Dir),
-        Node::File { number } => Some(file_at(place, layer, number)),
-        Node::Symlink { number } => Some(file_at(place, layer, number)),
+        Node::File { number } => Some(file_at(place, dir, number)),
+        Node::Symlink { number } => Some(file_at(place, dir, number)),
         Node::Whiteout => None,
     }
 }
@@ -70,7 +73,7 @@ fn part_below(place: u64, lowers: &[Shared], path: &Path) -> Option<Part>
     for shared in lowers {
         let layer = shared.layer();
         match layer.at(path) {
-            Some(node) => return part_of(place, layer, node),
+            Some(node) => return part_of(place, &layer.root_dir(), node),
             None if hides(layer, path) => return None,
             None => place += 1,
         }
@@ -142,76 +145,9 @@ impl<'a> Stack<'a> {
             return part_below(0, self.lowers, path);
         };
         match top.at(path) {
-            Some(node) => part_of(0, top, node),
+            Some(node) => part_of(0, &top.root_dir(), node),
             None if hides(top, path) => None,
             None => part_below(1, self.lowers, path),
-        }
-    }
-
-    /// Puts what is seen at the path and below it last, at so many names in a row at the most.
-    #[cycle(put_below)]
-    #[tactic(auto, unfolding(crate::specs::Taken::parts_below))]
-    fn put_below(
-        &self,
-        alloc: Global,
-        path: &Path,
-        most: u64,
-        parts: &mut Vec<Part>,
-    ) -> Result<(), FsError>
-        ensures ok { OnOk result (parts.new.items ≡ parts.old.items ++ parts_below most self.now path.now) }
-        ensures err { IfErr result (λ e. e ≡ errors.OutOfMemory no_memory) }
-    {
-        if most == 0 {
-            return Ok(());
-        }
-        match self.part(path) {
-            None => Ok(()),
-            Some(Part::File(file)) => Ok(parts.push(Part::File(file))?),
-            Some(Part::Dir) => {
-                parts.push(Part::Dir)?;
-                self.put_inside(alloc, path, most - 1, parts)?;
-                Ok(())
-            }
-        }
-    }
-
-    /// Puts what is seen in the directory last.
-    #[cycle(put_below)]
-    fn put_inside(
-        &self,
-        alloc: Global,
-        path: &Path,
-        most: u64,
-        parts: &mut Vec<Part>,
-    ) -> Result<(), FsError>
-        ensures ok { OnOk result (parts.new.items ≡ parts.old.items ++ flat_map (λ name. parts_below most self.now (path.now ++ name ∷ [])) (names self.now path.now)) }
-        ensures err { IfErr result (λ e. e ≡ errors.OutOfMemory no_memory) }
-    {
-        for name in self.names(alloc, path)? {
-            self.put_entry(alloc, path, &name, most, parts)?;
-        }
-        Ok(())
-    }
-
-    /// Puts what is seen at the directory's entry of this name and below it last.
-    #[cycle(put_below)]
-    #[tactic(auto, using(crate::proofs::Parts::no_part))]
-    fn put_entry(
-        &self,
-        alloc: Global,
-        directory: &Path,
-        name: &Name,
-        most: u64,
-        parts: &mut Vec<Part>,
-    ) -> Result<(), FsError>
-        ensures ok { OnOk result (parts.new.items ≡ parts.old.items ++ parts_below most self.now (directory.now ++ name.now ∷ [])) }
-        ensures err { IfErr result (λ e. e ≡ errors.OutOfMemory no_memory) }
-    {
-        self.show_are_layers();
-        match directory.join(name) {
-            Ok(path) => self.put_below(alloc, &path, most, parts),
-            Err(PathError::BadPath) => Ok(()),
-            Err(PathError::OutOfMemory(no_memory)) => Err(FsError::OutOfMemory(no_memory)),
         }
     }
 
@@ -221,8 +157,10 @@ impl<'a> Stack<'a> {
     /// count (overlayfs.rst, "Non-standard behavior"). Whiteouts aren't seen. No symlink is followed.
     ///
     /// The errors of the walk come first; then `NotFound` where nothing is seen. `OutOfMemory` where memory for
-    /// names, for a path that is looked at or for what is found is refused. Cost: that of a list for each directory,
-    /// and for each name that is seen that of a look at it and the logarithm of their number.
+    /// names, for the directories of more than 16 layers or for what is found is refused. Cost: a walk to the path in
+    /// each layer; for each name that a layer has in a directory at or below it the logarithm of the directory's
+    /// names; for each name that is seen the logarithm of a directory's entries, at most twice in each layer that has
+    /// the directory, and the logarithm of the number of files.
     pub fn taken(&self, alloc: Global, path: &Path) -> Result<Usage, FsError>
         ensures ok { IfOk result (λ usage. taken self.now path.now ≡ Ok usage) }
         ensures err { IfErr result (λ e. (e ≡ errors.OutOfMemory no_memory) ⊎ (taken self.now path.now ≡ Err e)) }
@@ -241,7 +179,112 @@ impl<'a> Stack<'a> {
         ensures err { IfErr result (λ e. e ≡ errors.OutOfMemory no_memory) }
     {
         let mut parts = Vec::new(alloc);
-        self.put_below(alloc, path, MAX_DEPTH, &mut parts)?;
+        self.put_below(alloc, path, &mut parts)?;
         Ok(taken_by(alloc, &parts)?)
+    }
+
+    /// Puts what is seen at the path and below it last.
+    fn put_below(&self, alloc: Global, path: &Path, parts: &mut Vec<Part>) -> Result<(), AllocError>
+        ensures { OnOk result (parts.new.items ≡ parts.old.items ++ parts_below 2048 self.now path.now) }
+    {
+        self.show_are_layers();
+        match self.part(path) {
+            None => Ok(()),
+            Some(Part::File(file)) => Ok(parts.push(Part::File(file))?),
+            Some(Part::Dir) => {
+                parts.push(Part::Dir)?;
+                let row = self.row(alloc, path.names())?;
+                put_inside(alloc, row.as_slice(), MOST_NAMES, parts)?;
+                Ok(())
+            }
+        }
+    }
+}
+
+/// What is seen at the name in the directory that has the row.
+fn part_in(row: &[Option<Dir<'_>>], name: &Name) -> Option<Part>
+    ensures { result ≡ part_in 0 row.now name.now }
+{
+    let mut place = 0;
+    for dir in row {
+        if let Some(part) = part_here(place, dir, name) {
+            return part;
+        }
+        place += 1;
+    }
+    None
+}
+
+/// What the directory of the layer at a place shows at the name, or nothing where it has nothing there.
+fn part_here(place: u64, dir: &Option<Dir<'_>>, name: &Name) -> Option<Option<Part>>
+    ensures { (under : Option PartValue) → part_over_dir place dir.now name.now under ≡ unwrap_or result under }
+{
+    let Some(dir) = dir else {
+        return None;
+    };
+    match dir.entry(name) {
+        Some((node, _)) => Some(part_of(place, dir, node)),
+        None => None,
+    }
+}
+
+/// Puts what is seen in the directory that has the row last, and what is below it, at so many names in a row at the
+/// most.
+#[cycle(put_inside)]
+#[tactic(auto, unfolding(crate::specs::Row::parts_in))]
+fn put_inside(
+    alloc: Global,
+    row: &[Option<Dir<'_>>],
+    most: u64,
+    parts: &mut Vec<Part>,
+) -> Result<(), AllocError>
+    ensures { OnOk result (parts.new.items ≡ parts.old.items ++ parts_in most row.now) }
+{
+    if most == 0 {
+        return Ok(());
+    }
+    let names = names_in(alloc, row)?;
+    put_entries(alloc, row, names, most - 1, parts)?;
+    Ok(())
+}
+
+/// Puts what is seen at the directory's entries of these names and below them last.
+#[cycle(put_inside)]
+fn put_entries(
+    alloc: Global,
+    row: &[Option<Dir<'_>>],
+    names: Vec<Name>,
+    most: u64,
+    parts: &mut Vec<Part>,
+) -> Result<(), AllocError>
+    ensures { OnOk result (parts.new.items ≡ parts.old.items ++ flat_map (λ n. with_inside (parts_in most (row_at row.now n)) (part_in 0 row.now n)) names.items) }
+{
+    for name in names {
+        put_entry(alloc, row, &name, most, parts)?;
+    }
+    Ok(())
+}
+
+/// Puts what is seen at the directory's entry of this name and below it last.
+#[cycle(put_inside)]
+fn put_entry(
+    alloc: Global,
+    row: &[Option<Dir<'_>>],
+    name: &Name,
+    most: u64,
+    parts: &mut Vec<Part>,
+) -> Result<(), AllocError>
+    ensures { OnOk result (parts.new.items ≡ parts.old.items ++ with_inside (parts_in most (row_at row.now name.now)) (part_in 0 row.now name.now)) }
+{
+    match part_in(row, name) {
+        None => Ok(()),
+        Some(Part::File(file)) => Ok(parts.push(Part::File(file))?),
+        Some(Part::Dir) => {
+            parts.push(Part::Dir)?;
+            let mut below = SmallVec::new(alloc);
+            put_row(&mut below, row, name)?;
+            put_inside(alloc, below.as_slice(), most, parts)?;
+            Ok(())
+        }
     }
 }

@@ -1,5 +1,6 @@
 // A mount, and its line for mount(8).
 ghost use Rattle.std.specs.Prelude.{◌≡◌, ◌++◌, Some, codes, flat_map};
+ghost use Rattle.std.specs.Fmt.{padded};
 ghost use Rattle.snap_mount.specs.Lines.{joined_options, mount_line};
 ghost use Rattle.snap_mount.specs.Mounts.{mount_kind_word};
 
@@ -62,11 +63,14 @@ impl Clone for Mount {
     }
 }
 
+/// The kind's word, padded as a `str` is.
 impl fmt::Display for MountKind {
     ghost output = { λ kind. Some (mount_kind_word kind) };
 
+    ghost styled_output = { λ kind style. Some (padded style (mount_kind_word kind)) };
+
     fn fmt<W: fmt::Write>(&self, f: &mut fmt::Formatter<W>) -> fmt::Result {
-        f.write_str(self.as_str())
+        f.pad(self.as_str())
     }
 }
 

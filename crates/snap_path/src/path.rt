@@ -1,4 +1,4 @@
-ghost use Rattle.std.specs.Prelude.{Some, take, ◌≡◌, ◌↔◌, ◌<◌, ◌≤◌, ◌++◌, ◌∷◌, [], ℕ, List, IfOk, OnOk, IsErrOf, IsTrue, length, ◌==◌, true, false};
+ghost use Rattle.std.specs.Prelude.{Some, take, ◌≡◌, ◌↔◌, ◌<◌, ◌≤◌, ◌++◌, ◌∷◌, [], ℕ, List, IfOk, IsOk, OnOk, IsErrOf, IsTrue, length, ◌==◌, true, false};
 ghost use Rattle.std.specs.Fmt.{padded};
 ghost use Rattle.std.specs.String.{string_bytes};
 ghost use Rattle.std.specs.Option.{option_copied};
@@ -115,10 +115,11 @@ impl Path {
     /// The path without its last name; the root has no parent. (In path_resolution(7) the parent of
     /// `/` is `/`; here a walk to the root ends.)
     ///
-    /// It takes memory for the parent, and the error is that this was refused. Cost: that of the
-    /// parent's text.
+    /// It takes memory for the parent, and the error is that this was refused; at the root and one
+    /// name below it, it takes none. Cost: that of the parent's text.
     pub fn parent(&self) -> Result<Option<Path>, AllocError>
-        ensures { IfOk result (λ p. p ≡ parent_of self.now) }
+        ensures ok { IfOk result (λ p. p ≡ parent_of self.now) }
+        ensures sure { length self.now ≤ 1 → IsOk result }
     {
         let Some((_, front)) = self.names.split_last() else {
             return Ok(None);
@@ -128,11 +129,12 @@ impl Path {
 
     /// The path of the first names: the root at 0, the path itself at all of them.
     ///
-    /// It takes memory for the result, and the error is that this was refused. Cost: that of the
-    /// result's text.
+    /// It takes memory for the result, and the error is that this was refused; the root takes none.
+    /// Cost: that of the result's text.
     pub fn front(&self, names: usize) -> Result<Path, AllocError>
         requires { names ≤ length self.now }
-        ensures { IfOk result (λ p. p ≡ take names self.now) }
+        ensures ok { IfOk result (λ p. p ≡ take names self.now) }
+        ensures sure { names ≡ 0 → IsOk result }
     {
         let front = &self.names[..names];
         Path::from_names(*self.names.allocator(), front)
@@ -169,11 +171,15 @@ impl Path {
         Ok(path)
     }
 
-    /// The path of the names.
+    /// The path of the names. The root takes no memory.
     fn from_names(alloc: Global, names: &[Name]) -> Result<Path, AllocError>
         requires { IsPath names.now }
-        ensures { IfOk result (λ p. p ≡ names.now) }
+        ensures ok { IfOk result (λ p. p ≡ names.now) }
+        ensures sure { names.now ≡ [] → IsOk result }
     {
+        if names.is_empty() {
+            return Ok(Path::root(alloc));
+        }
         let mut text = String::new(alloc);
         let mut all = Vec::new(alloc);
         append_names(&mut all, names)?;

@@ -1,8 +1,10 @@
 -- What is kept of texts and labels that are beyond their limits: so much that they are beyond them still.
--- Cited by `Labels::cut`, `Text::cut`, `Call::cut` and others.
-use Rattle.std.specs.Prelude.{ℕ, zero, suc, Bool, not, ◌&&◌, nat_le, nat_lt, if◌then◌else◌, [], ◌∷◌, List, find}
+-- Cited by `Labels::cut`, `Text::cut`, `cut_update` and others.
+use Rattle.std.specs.Prelude.{ℕ, zero, suc, Bool, not, ◌&&◌, nat_le, nat_lt, if◌then◌else◌, [], ◌∷◌, List, find, slice_get}
+use Rattle.std.specs.List.{list_all}
 use Rattle.std.specs.Option.{option_map_or}
 use Rattle.snap_record.specs.Labels.{Bytes, Label, is_label}
+use Rattle.snap_record.specs.Updates.{is_update_path, is_whole, replaces_all}
 
 -- a byte of a character in UTF-8 that isn't its first
 abbrev pub is_inner : ℕ → Bool
@@ -26,3 +28,18 @@ cut_label label = (cut 4096 label.0, cut 4096 label.1) ∷ []
 -- labels that have their form as they are; else the first that hasn't, alone and cut
 abbrev pub kept_labels : List Label → List Label
 kept_labels labels = option_map_or cut_label (find (λ l. not (is_label l)) labels) labels
+
+-- a path alone, cut above the 4103 bytes of `labels.` and of a label's longest key
+abbrev pub cut_path : Bytes → List Bytes
+cut_path path = cut 4103 path ∷ []
+
+-- the labels and the paths of an update whose labels have their forms: a malformed path alone; or the labels, and the path of all labels where one is among the paths; or both as they are, where what they change is looked for, and else one path
+abbrev pub kept_by_paths : Bool → List Label → List Bytes → List Label × List Bytes
+kept_by_paths sought labels paths =
+    option_map_or (λ path. ([], cut_path path)) (find (λ path. not (is_update_path path)) paths)
+    (if replaces_all paths then (labels, option_map_or cut_path (find is_whole paths) []) else
+    if sought then (labels, paths) else ([], option_map_or cut_path (slice_get paths 0) []))
+
+-- the labels and the paths of an update: a malformed label alone, without a path, or what stays of paths
+abbrev pub kept_update : Bool → List Label → List Bytes → List Label × List Bytes
+kept_update sought labels paths = if list_all is_label labels then kept_by_paths sought labels paths else (kept_labels labels, [])

@@ -1,6 +1,6 @@
 -- Which snapshots a filter asks for.
--- Cited by `Record::matches`, `matches`, `Accounts::plan` and others.
-use Rattle.std.specs.Prelude.{Bool, true, false, ◌&&◌, Option, List, bytes_eq}
+-- Cited by `Filter::clear`, `Record::matches`, `matches` and others.
+use Rattle.std.specs.Prelude.{Bool, true, false, ◌&&◌, Option, None, List, [], bytes_eq}
 use Rattle.std.specs.List.{list_all}
 use Rattle.std.specs.Option.{option_map_or}
 use Rattle.snap_record.specs.Labels.{Bytes, Label, value_of}
@@ -33,3 +33,7 @@ has_label labels filter = option_map_or (is_text_asked filter.value) (value_of l
 abbrev pub is_match : Info → Filter → Bool
 is_match info filter =
     is_text_asked filter.name info.name && is_text_asked filter.parent info.parent && is_kind_asked filter.kind info.kind && list_all (has_label info.labels) filter.labels
+
+-- a filter without a part, which asks for all snapshots
+abbrev pub no_filter : Filter
+no_filter = record { name = None; parent = None; kind = None; labels = [] }

@@ -1,6 +1,6 @@
 ghost use Rattle.std.specs.Prelude.{◌≡◌};
 ghost use Rattle.std.specs.List.{list_all};
-ghost use Rattle.snap_record.specs.Filters.{has_label, is_kind_asked, is_match, is_same_kind, is_text_asked};
+ghost use Rattle.snap_record.specs.Filters.{has_label, is_kind_asked, is_match, is_same_kind, is_text_asked, no_filter};
 ghost use Rattle.snap_record.specs.Records.{info_of};
 
 use crate::info::Info;
@@ -72,6 +72,18 @@ impl Clone for Filter {
             kind: self.kind,
             labels: self.labels.clone()?,
         })
+    }
+}
+
+impl Filter {
+    /// Leaves no part, so that all snapshots are asked for. Takes no memory, and gives that of the parts back.
+    pub fn clear(&mut self)
+        ensures { self.new ≡ no_filter }
+    {
+        self.name = None;
+        self.parent = None;
+        self.kind = None;
+        self.labels.clear();
     }
 }
 

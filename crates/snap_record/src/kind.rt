@@ -1,4 +1,5 @@
 ghost use Rattle.std.specs.Prelude.{◌≡◌, Some};
+ghost use Rattle.std.specs.Fmt.{padded};
 ghost use Rattle.snap_record.specs.Kinds.{kind_word};
 
 use std::fmt;
@@ -27,10 +28,13 @@ impl Kind {
     }
 }
 
+/// The kind's word, padded as a `str` is.
 impl fmt::Display for Kind {
     ghost output = { λ k. Some (kind_word k) };
 
+    ghost styled_output = { λ k style. Some (padded style (kind_word k)) };
+
     fn fmt<W: fmt::Write>(&self, f: &mut fmt::Formatter<W>) -> fmt::Result {
-        f.write_str(self.as_str())
+        f.pad(self.as_str())
     }
 }

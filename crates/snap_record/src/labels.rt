@@ -1,4 +1,4 @@
-ghost use Rattle.std.specs.Prelude.{◌≡◌, ◌<◌, ◌^◌, ◌↔◌, [], ℕ, List, length, position, option_copied, find, not, bytes_eq, IsTrue, OnOk, OnErr, IfOk};
+ghost use Rattle.std.specs.Prelude.{◌≡◌, ◌<◌, ◌^◌, ◌↔◌, [], ℕ, List, length, position, option_copied, find, not, bytes_eq, IsTrue, IsSome, IsOk, OnOk, OnErr, IfOk};
 ghost use Rattle.std.specs.List.{list_all};
 ghost use Rattle.snap_record.specs.Labels.{value_of, with_label, without_label, is_label, are_labels, HasDistinctKeys};
 ghost use Rattle.snap_record.specs.Cut.{cut_label, kept_labels};
@@ -62,6 +62,9 @@ impl Labels {
     /// grows with the number of labels.
     pub fn insert(&mut self, key: Text, value: Text) -> Result<(), AllocError>
         ensures ok { OnOk result (self.new ≡ with_label self.old key value) }
+
+        // Want of memory comes only for a key that is new.
+        ensures sure { IsSome (value_of self.old key) → IsOk result }
         ensures err { OnErr result (self.new ≡ self.old) }
         ensures distinct { HasDistinctKeys self.new }
     {
@@ -164,6 +167,13 @@ impl Labels {
 
     pub(crate) fn allocator(&self) -> Global {
         *self.list.allocator()
+    }
+
+    /// Leaves no label. Takes no memory, and gives that of the labels back.
+    pub(crate) fn clear(&mut self)
+        ensures { self.new ≡ [] }
+    {
+        *self = Labels::new(self.allocator());
     }
 }
 

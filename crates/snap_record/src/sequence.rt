@@ -73,6 +73,19 @@ impl<T> Sequence<T> {
     {
         self.items.is_empty()
     }
+
+    /// Leaves no item. Takes no memory, and gives that of the items back.
+    pub(crate) fn clear(&mut self)
+    where
+        T: Drop,
+        ensures { self.new ≡ [] }
+    {
+        *self = Sequence::new(self.allocator());
+    }
+
+    pub(crate) fn allocator(&self) -> Global {
+        *self.items.allocator()
+    }
 }
 
 /// The items as they are. Takes no memory.

@@ -176,12 +176,16 @@ impl Hash for Text {
     }
 }
 
+/// The text, padded as a `str` is.
 impl fmt::Display for Text {
     ghost use Rattle.std.specs.Prelude.{Some};
+    ghost use Rattle.std.specs.Fmt.{padded};
 
     ghost output = { λ t. Some t };
 
+    ghost styled_output = { λ t style. Some (padded style t) };
+
     fn fmt<W: fmt::Write>(&self, f: &mut fmt::Formatter<W>) -> fmt::Result {
-        f.write_str(self.as_str())
+        f.pad(self.as_str())
     }
 }

@@ -1,12 +1,18 @@
-ghost use Rattle.std.specs.Prelude.{◌≡◌, ◌&&◌, ◌||◌, not, count_by, is_some, is_none, nat_le, length, option_copied, IfOk, OnOk, OnErr, IsErrOf, Some, false, List, ℕ, ◌∷◌, ◌↔◌};
+ghost use Rattle.std.specs.Prelude.{◌≡◌, ◌&&◌, ◌||◌, not, count_by, find, is_some, is_none, nat_le, length, option_copied, IfOk, OnOk, OnErr, IsErrOf, Some, false, List, ℕ, [], ◌∷◌, ◌↔◌};
 ghost use Rattle.std.specs.List.{cons_option, list_all, list_any};
+ghost use Rattle.std.specs.Option.{option_map_or};
+ghost use Rattle.snap_record.specs.Cut.{cut_path, kept_by_paths, kept_update};
 ghost use Rattle.snap_record.specs.Labels.{value_of, is_among, HasDistinctKeys};
 ghost use Rattle.snap_record.specs.Updates.{named_key, is_whole, is_update_path, replaces_all, named_keys, names_key, with_named, updated, have_forms, is_granted, is_well_formed};
 
 use crate::error::LabelsError;
-use crate::labels::{Labels, MAX_LABELS};
+use crate::labels::{Labels, MAX_LABEL_BYTES, MAX_LABELS};
+use crate::sequence::Sequence;
 use crate::text::Text;
-use std::alloc::AllocError;
+use std::alloc::{AllocError, Global};
+
+/// A path of more bytes names no label: `labels.` has 7, and a label's key at most 4096.
+const MAX_PATH_BYTES: usize = 7 + MAX_LABEL_BYTES;
 
 /// Updates labels as containerd's `Update` does with its field paths.
 ///
@@ -217,4 +223,69 @@ fn apply_key(next: &mut Labels, given: &Labels, key: Text) -> Result<(), AllocEr
             Ok(())
         }
     }
+}
+
+/// Cuts the labels and the paths of an update to what decides it: `sought` says whether the snapshot that it changes is
+/// looked for, once labels and paths have their forms.
+///
+/// Where a label is malformed, the first such alone is left, cut as by [`Labels::cut`], and no path; else, where a path
+/// is malformed, the first such alone, cut as by [`cut`](Text::cut) above 4103 bytes, and no label. Where the labels
+/// replace all, they and the path `labels` are left, if it is there. Else, where nothing is looked for, the first path
+/// alone, cut. So [`is_well_formed`] answers as before. Takes memory only for the label or the path that is left alone;
+/// fails only where it is wanting, and then either may be cut. The cost grows with the number of labels and paths.
+pub fn cut_update(
+    labels: &mut Labels,
+    paths: &mut Sequence<Text>,
+    sought: bool,
+) -> Result<(), AllocError>
+    ensures { OnOk result ((labels.new, paths.new) ≡ kept_update sought labels.old paths.old) }
+{
+    if labels.have_form() {
+        return cut_by_paths(labels, paths, sought);
+    }
+    paths.clear();
+    labels.cut()
+}
+
+fn cut_by_paths(
+    labels: &mut Labels,
+    paths: &mut Sequence<Text>,
+    sought: bool,
+) -> Result<(), AllocError>
+    ensures { OnOk result ((labels.new, paths.new) ≡ kept_by_paths sought labels.old paths.old) }
+{
+    let alloc = paths.allocator();
+    if let Some(path) = first_malformed(paths.as_slice()) {
+        *paths = path_alone(alloc, Some(path))?;
+        labels.clear();
+    } else if replaces_all(paths.as_slice()) {
+        *paths = path_alone(alloc, first_whole(paths.as_slice()))?;
+    } else if !sought {
+        *paths = path_alone(alloc, paths.as_slice().first())?;
+        labels.clear();
+    }
+    Ok(())
+}
+
+fn first_malformed(paths: &[Text]) -> Option<&Text>
+    ensures { option_copied result ≡ find (λ path. not (is_update_path path)) paths.now }
+{
+    paths.iter().find(|path| !is_update_path(path))
+}
+
+fn first_whole(paths: &[Text]) -> Option<&Text>
+    ensures { option_copied result ≡ find is_whole paths.now }
+{
+    paths.iter().find(|path| is_whole(path))
+}
+
+/// The path alone, cut, or none.
+fn path_alone(alloc: Global, path: Option<&Text>) -> Result<Sequence<Text>, AllocError>
+    ensures { IfOk result (λ paths. paths ≡ option_map_or cut_path (option_copied path.entry) []) }
+{
+    let mut paths = Sequence::new(alloc);
+    if let Some(path) = path {
+        paths.push(path.cut_copy(MAX_PATH_BYTES)?)?;
+    }
+    Ok(paths)
 }

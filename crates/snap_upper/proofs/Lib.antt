@@ -23,6 +23,7 @@ pub mod Named
 pub mod MoveCounts
 pub mod Changing
 pub mod Made
+pub mod Sure
 pub mod Shares
 pub mod Examples
 pub mod Uncharged

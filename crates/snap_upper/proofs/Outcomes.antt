@@ -22,7 +22,7 @@ use Rattle.snap_upper.specs.declared.op.Op.{Op}
 use Rattle.snap_upper.specs.Adding.{IsNext}
 use Rattle.snap_upper.specs.After.{Outcome, after, tests, first_error, error_if, limited, next_layer, planned}
 
-no_bool : true ≡ false → ⊥
+pub no_bool : true ≡ false → ⊥
 no_bool e = cc
 
 -- ---- tests

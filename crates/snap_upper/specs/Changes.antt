@@ -1,6 +1,6 @@
 -- What an operation does to the layer, once its tests have passed.
 -- Cited by invariants and private clauses alone.
-use Rattle.std.specs.Prelude.{◌≡◌, ◌≤◌, ℕ, ◌∷◌, ◌++◌, [], Bool, true, false, List, Option, Some, None, Ok, is_some}
+use Rattle.std.specs.Prelude.{◌≡◌, ◌≤◌, ℕ, ◌∷◌, ◌++◌, [], Bool, true, false, List, Option, Some, None, Ok, is_some, IsSome}
 use Rattle.std.specs.Option.{option_copied}
 use Rattle.snap_path.specs.Limits.{most_mode}
 use Rattle.snap_layer.specs.Tree.{Tree, at, body, IsDirAt}
@@ -22,6 +22,7 @@ use Rattle.snap_upper.specs.declared.change.New.{New}
 use Rattle.snap_upper.specs.declared.change.New.TheVariants.{Dir, Empty, Sized, File, Symlink}
 use Rattle.snap_upper.specs.declared.change.Change.{Change}
 use Rattle.snap_upper.specs.declared.change.Change.TheVariants.{Nothing, Put, Fill, SetMode, SetOpaque, Erase, EraseTree, Link, Move}
+use Rattle.snap_upper.specs.Memory.{IsNoGrowth, TakesNoMemory}
 use Rattle.snap_upper.specs.After.{Outcome, after, limited, with_content, erased, tree_erased, renamed, next_layer, first_error, tests, is_same_name}
 
 -- what is put, with its content
@@ -72,6 +73,18 @@ IsReady (EraseTree path covers) u lowers = IsInnerDir u path.now × (covers ≡ 
 IsReady (Link from to) u lowers = first_error (tests (op.Link from.now to.now) (u ∷ lowers)) ≡ None
 IsReady (Move from to leaves covers) u lowers = (first_error (tests (op.Rename from.now to.now) (u ∷ lowers)) ≡ None) × (is_same_name u from.now to.now ≡ false) × (leaves ≡ is_some (below u lowers from.now)) × (covers ≡ is_some (below u lowers to.now))
 
+-- the change takes no memory: it changes or takes what the layer has, or does nothing
+abbrev pub IsInPlace : Change → Tree → Type 0
+IsInPlace Nothing u = Unit {0}
+IsInPlace (Put path new) u = ⊥
+IsInPlace (Fill number size edit) u = IsNoGrowth u (Some number) (edited edit)
+IsInPlace (SetMode path mode) u = Unit {0}
+IsInPlace (SetOpaque path) u = Unit {0}
+IsInPlace (Erase path covers) u = IsSome (at u path.now)
+IsInPlace (EraseTree path covers) u = ⊥
+IsInPlace (Link from to) u = ⊥
+IsInPlace (Move from to leaves covers) u = ⊥
+
 -- it is the directory or file that is seen, with the mode
 abbrev pub IsWithMode : New → Option Object → ℕ → Type 0
 IsWithMode (Dir mode opaque) o m = (is_shown_dir o ≡ true) × (mode ≡ m) × (opaque ≡ false)
@@ -85,3 +98,4 @@ pub record IsChange (c : Change) (op : Op) (u : Tree) (lowers : List Tree) : Typ
   pub layers : AreLayers lowers
   pub ready : IsReady c u lowers
   pub same : outcome c u lowers ≡ after op u lowers
+  pub in_place : TakesNoMemory op u → IsInPlace c u

@@ -1,4 +1,5 @@
 pub mod After
+pub mod Memory
 pub mod Adding
 pub mod Changed
 pub mod Changes

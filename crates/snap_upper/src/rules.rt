@@ -9,7 +9,8 @@ ghost use Rattle.snap_merge.specs.Objects.{file, seen, AreLayers};
 ghost use Rattle.snap_merge.specs.Walk.{walk};
 ghost use Rattle.snap_copyup.specs.Copying.{below, copied_up};
 ghost use Rattle.snap_upper.specs.After.{after, limited, with_content, lists_names, error_by_kind};
-ghost use Rattle.snap_upper.specs.Changes.{outcome, IsChange, IsReady, IsWithMode};
+ghost use Rattle.snap_upper.specs.Changes.{outcome, IsChange, IsInPlace, IsReady, IsWithMode};
+ghost use Rattle.snap_upper.specs.Memory.{IsNoGrowth};
 ghost use Rattle.snap_upper.specs.declared.op.Op.TheVariants as op;
 
 use super::change::{Change, New, is_dir_there, is_whiteout, own_number};
@@ -175,6 +176,7 @@ fn editing<'a>(
     requires size { (m : ℕ) (old : ContentValue) → seen (layer.now ∷ lowers.now) path.now ≡ Some (file m old) → size ≡ size_of old }
     requires short { (m : ℕ) (old : ContentValue) → seen (layer.now ∷ lowers.now) path.now ≡ Some (file m old) → IsShort edit old }
     ensures ok { IfOk result (λ c. IsReady c layer.now lowers.now × (outcome c layer.now lowers.now ≡ limited (with_content (copied_up layer.now lowers.now path.now) (number_at (copied_up layer.now lowers.now path.now) path.now) (edited edit.entry)))) }
+    ensures in_place { IfOk result (λ c. IsNoGrowth layer.now (number_at layer.now path.now) (edited edit.entry) → IsInPlace c layer.now) }
     ensures sure { IfErr result (λ e. ⊥) }
 {
     let _ = &layer.is_layer;

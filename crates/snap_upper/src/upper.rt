@@ -1,5 +1,5 @@
 // The upper layer, on which an operation is done.
-ghost use Rattle.std.specs.Prelude.{◌≡◌, ◌⊎◌, ◌∷◌, OnOk, OnErr, IfErr, Ok, Err, false, ℕ, List, Some, None, [], ◌++◌, is_some, true};
+ghost use Rattle.std.specs.Prelude.{◌≡◌, ◌⊎◌, ◌∷◌, OnOk, OnErr, IfErr, Ok, Err, false, ℕ, List, Some, None, [], ◌++◌, is_some, true, IsSome};
 ghost use Rattle.snap_path.specs.Memory.{no_memory};
 ghost use Rattle.snap_layer.specs.Tree.{at, body};
 ghost use Rattle.snap_layer.specs.Edits.{IsFree, IsInnerDir};
@@ -14,7 +14,8 @@ ghost use Rattle.snap_copyup.specs.Copying.{below, with_parents};
 ghost use Rattle.snap_copyup.specs.Places.{with_last, CanStand};
 ghost use Rattle.snap_upper.specs.After.{after, lists_names, within_share, limited, with_content, erased, tree_erased};
 ghost use Rattle.snap_upper.specs.Changed.{changed, Changes};
-ghost use Rattle.snap_upper.specs.Changes.{outcome, IsReady, as_last, IsSound};
+ghost use Rattle.snap_upper.specs.Changes.{outcome, IsInPlace, IsReady, as_last, IsSound};
+ghost use Rattle.snap_upper.specs.Memory.{IsNoGrowth, TakesNoMemory};
 
 use super::change::{Change, New};
 use super::names::{link, shift};
@@ -60,6 +61,14 @@ use snap_usage::Usage;
 /// and those of a file that grows, is cut or is copied up; for a rename to a longer path also the paths that move,
 /// and for a directory that is removed or replaced the list of its names. A link or a rename also lists the paths
 /// of the directories that it adds.
+///
+/// These take no memory, so that a caller to whom it is refused can still give some back:
+/// - a write within a file of the layer itself, or a cut of it; where the bytes aren't kept, each write and truncation;
+/// - a mode or an opaque mark of what the layer itself has at the path;
+/// - an unlink, or a whiteout of a file or a symlink, where the layer itself has the name, also where a whiteout is put;
+/// - a rename that has nothing to do.
+///
+/// Each other one makes a file longer, adds a path, or first lists the names or the paths in a directory.
 pub fn apply(layer: &mut Layer, lowers: &[Shared], op: &Op) -> Result<(), FsError>
     ensures ok { OnOk result (after op.now layer.old lowers.now ≡ Ok layer.new) }
     ensures error { IfErr result (λ e. (e ≡ FsError.OutOfMemory no_memory) ⊎ (after op.now layer.old lowers.now ≡ Err e)) }
@@ -67,6 +76,8 @@ pub fn apply(layer: &mut Layer, lowers: &[Shared], op: &Op) -> Result<(), FsErro
     // Where no names are listed, want of memory never stands for another error but `LayerFull`.
     ensures first { lists_names op.now (layer.old ∷ lowers.now) ≡ false → IfErr (after op.now layer.old lowers.now) (λ e. (e ≡ FsError.LayerFull) ⊎ (result ≡ Err e)) }
 
+    // Want of memory never stands for the answer of an operation that takes none.
+    ensures sure { TakesNoMemory op.now layer.old → IfErr result (λ e. after op.now layer.old lowers.now ≡ Err e) }
     // What `after` means for what is seen: here, and for the operation over any lower layers.
     ensures view { OnOk result (changed op.now layer.old (seen (layer.old ∷ lowers.now)) (seen (layer.new ∷ lowers.now))) }
     ensures law { Changes op.now layer.old }
@@ -81,8 +92,8 @@ pub fn apply(layer: &mut Layer, lowers: &[Shared], op: &Op) -> Result<(), FsErro
 ///
 /// The errors are those of `apply` in the same order, `LayerFull` last; then `NeedsCharge`, with that count,
 /// where the share doesn't cover it in both quantities; then `OutOfMemory`, as `plan` may answer it, or for a
-/// growth that was refused. After any of them the layer is as it was. The cost is that of `apply`: the count is
-/// kept beside the layer.
+/// growth that was refused. After any of them the layer is as it was. It takes no memory where `apply` takes none. The
+/// cost is that of `apply`: the count is kept beside the layer.
 pub fn apply_within(
     layer: &mut Layer,
     lowers: &[Shared],
@@ -95,6 +106,8 @@ pub fn apply_within(
     ensures unchanged { OnErr result (layer.new ≡ layer.old) }
     // Where no names are listed, want of memory never stands for another error.
     ensures first { lists_names op.now (layer.old ∷ lowers.now) ≡ false → IfErr (within_share share (after op.now layer.old lowers.now)) (λ e. result ≡ Err e) }
+    // It never stands for the answer of an operation that takes none.
+    ensures sure { TakesNoMemory op.now layer.old → IfErr result (λ e. within_share share (after op.now layer.old lowers.now) ≡ Err e) }
 {
     let change = rule(layer, lowers, op)?;
     let need = weigh(layer, lowers, change)?.after;
@@ -110,6 +123,7 @@ fn perform(layer: &mut Layer, lowers: &[Shared], change: Change<'_>) -> Result<(
     requires ready { IsReady change layer.old lowers.now }
     ensures ok { OnOk result (outcome change.entry layer.old lowers.now ≡ Ok layer.new) }
     ensures error { IfErr result (λ e. (e ≡ FsError.OutOfMemory no_memory) ⊎ (outcome change.entry layer.old lowers.now ≡ Err e)) }
+    ensures sure { IsInPlace change.entry layer.old → IfErr result (λ e. outcome change.entry layer.old lowers.now ≡ Err e) }
     ensures unchanged { OnErr result (layer.new ≡ layer.old) }
 {
     let _ = &layer.is_layer;
@@ -172,6 +186,7 @@ fn fill(layer: &mut Layer, number: u32, edit: Edit<'_>) -> Result<(), FsError>
     requires there { (m : ℕ) × (old : ContentValue) × (body layer.old number ≡ Some (body_kinds.File m old)) × IsShort edit old }
     ensures ok { OnOk result (limited (with_content layer.old (Some number) (edited edit.entry)) ≡ Ok layer.new) }
     ensures error { IfErr result (λ e. e ≡ FsError.OutOfMemory no_memory) }
+    ensures sure { IsNoGrowth layer.old (Some number) (edited edit.entry) → IfErr result (λ e. ⊥) }
     ensures unchanged { OnErr result (layer.new ≡ layer.old) }
 {
     layer.edit_content(number, edit)?;
@@ -189,6 +204,7 @@ fn erase(layer: &mut Layer, lowers: &[Shared], path: &Path, covers: bool) -> Res
     requires covers { covers ≡ is_some (below layer.old lowers.now path.now) }
     ensures ok { OnOk result (limited (erased layer.old lowers.now path.now) ≡ Ok layer.new) }
     ensures error { IfErr result (λ e. (e ≡ FsError.OutOfMemory no_memory) ⊎ (limited (erased layer.old lowers.now path.now) ≡ Err e)) }
+    ensures sure { IsSome (at layer.old path.now) → IfErr result (λ e. limited (erased layer.old lowers.now path.now) ≡ Err e) }
     ensures unchanged { OnErr result (layer.new ≡ layer.old) }
 {
     let _ = &layer.is_layer;

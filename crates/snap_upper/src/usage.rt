@@ -40,8 +40,9 @@ pub struct Planned {
 /// Cost: that of a few looks through the layers at each path, whatever is missing above it.
 ///
 /// It takes no memory but for the names of a directory that is seen at the path of an `Rmdir`, or where a
-/// `Rename` goes to. These plans may answer `OutOfMemory`, where no test before the list fails, and their
-/// cost is also that of the list.
+/// `Rename` goes to, and for the walk through a directory that a `Whiteout` takes or a `Rename` moves to a longer
+/// path, as `Layer::inodes_without` does. The plans that list names may answer `OutOfMemory`, where no test before
+/// the list fails, and their cost is also that of the list.
 pub fn plan(layer: &Layer, lowers: &[Shared], op: &Op) -> Result<Planned, FsError>
     ensures answer { Answers (planned (after op.now layer.now lowers.now)) result }
     ensures sure { lists_names op.now (layer.now ∷ lowers.now) ≡ false → result ≡ planned (after op.now layer.now lowers.now) }

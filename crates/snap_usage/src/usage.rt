@@ -1,13 +1,19 @@
 ghost use Rattle.std.specs.Prelude.{◌≡◌, ◌↔◌, ◌+◌, ◌-◌, ◌<◌, ◌^◌, Some, IsTrue};
+ghost use Rattle.std.specs.Fmt.{padded};
 ghost use Rattle.std.specs.Option.{option_map_or};
 ghost use Rattle.snap_layer.specs.Tree.{body};
 ghost use Rattle.snap_layer.specs.Counts as layer_counts;
 ghost use Rattle.snap_layer.specs.Counts.{block_count, body_blocks, inode_count};
 ghost use Rattle.snap_usage.specs.Counted.{Covers, count_of, usage_text};
 
+use arrayvec::ArrayString;
 use snap_layer::Layer;
 use snap_path::limits::BLOCK_BYTES;
 use std::fmt;
+use std::fmt::Write;
+
+/// The most bytes of a usage's text: two numbers of 20 digits and a slash.
+const MAX_TEXT_BYTES: usize = 41;
 
 /// So many blocks of 4096 bytes, and so many inodes: the two quantities of containerd's
 /// `snapshots.Usage`, with its size in blocks.
@@ -114,12 +120,16 @@ fn blocks_at(layer: &Layer, number: u32) -> u64
     }
 }
 
-/// The blocks, a slash and the inodes, as `4/3`; a width or a precision has no effect.
+/// The blocks, a slash and the inodes, as `4/3`, padded as a `str` is.
 impl fmt::Display for Usage {
     ghost output = { λ usage. Some (usage_text usage) };
 
+    ghost styled_output = { λ usage style. Some (padded style (usage_text usage)) };
+
     fn fmt<W: fmt::Write>(&self, f: &mut fmt::Formatter<W>) -> fmt::Result {
         let (blocks, inodes) = (self.blocks, self.inodes);
-        write!(f, "{blocks}/{inodes}")
+        let mut text = ArrayString::<MAX_TEXT_BYTES>::new();
+        write!(text, "{blocks}/{inodes}")?;
+        f.pad(text.as_str())
     }
 }

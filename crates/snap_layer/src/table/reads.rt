@@ -1,5 +1,5 @@
 // What is read of a table entry by entry.
-ghost use Rattle.std.specs.Prelude.{[], ◌≡◌, ◌∷◌, ◌++◌, ◌↔◌, ◌<◌, ◌≤◌, ◌+◌, ℕ, List, IfOk, IsSome, IsTrue, count_by, length, take};
+ghost use Rattle.std.specs.Prelude.{[], ◌≡◌, ◌∷◌, ◌++◌, ◌↔◌, ◌<◌, ◌≤◌, ◌+◌, ℕ, List, IfOk, IsOk, IsSome, IsTrue, count_by, length, take};
 ghost use Rattle.std.specs.List.{list_all, sum_by};
 ghost use Rattle.std.specs.List.Sorted.{IsStrictlySortedBy};
 ghost use Rattle.std.specs.Map.{keys_of, values_of};
@@ -15,7 +15,7 @@ ghost use Rattle.snap_layer.specs.Rows.{name_cmp, items_in, own, targets_whiteou
 
 use super::super::inode::{Inode, Target};
 use super::super::node::Node;
-use super::super::rows::{Rows, show_items};
+use super::super::rows::{FEW_FRAMES, MOST_FRAMES, Rows, show_items};
 use super::super::walk::{stands, walk};
 use super::Table;
 use slab::Slab;
@@ -80,7 +80,11 @@ fn names_of(alloc: Global, entries: &BTreeMap<Name, Target>) -> Result<Vec<Name>
 }
 
 /// The names of the items.
-fn names_in(alloc: Global, slots: &Slab<Inode>, target: Target) -> Result<Vec<Name>, AllocError>
+pub(crate) fn names_in(
+    alloc: Global,
+    slots: &Slab<Inode>,
+    target: Target,
+) -> Result<Vec<Name>, AllocError>
     ensures { IfOk result (λ names. names.items ≡ keys_of (items_in slots.now target)) }
 {
     let Target::Inode(key) = target else {
@@ -109,14 +113,43 @@ fn are_whiteouts(slots: &Slab<Inode>, target: Target) -> bool
     }
 }
 
+/// How many of the walk's first so many entries are names of the file number.
+fn names_of_rows<const ROOM: usize>(
+    number: u32,
+    many: usize,
+    rows: &mut Rows<'_, ROOM>,
+) -> Result<usize, AllocError>
+    ensures ok { IfOk result (λ n. n ≡ name_count number (take many rows.old.rest)) }
+    ensures sure { 2048 ≤ ROOM → IsOk result }
+{
+    let (mut names, mut left) = (0, many);
+    while let Some(row) = rows.try_next()? {
+        if left == 0 {
+            return Ok(names);
+        }
+        left -= 1;
+        names += usize::from(has_number(row.node, number));
+    }
+    Ok(names)
+}
+
 impl Table {
-    /// The walk through what stands below the path.
-    pub(super) fn below<'a>(&'a self, front: &'a [Name]) -> Rows<'a>
+    /// The walk through what stands below the path. It has room for few inodes on the way, and takes memory for more.
+    fn below<'a>(&'a self, front: &'a [Name]) -> Rows<'a, FEW_FRAMES>
         ensures front { result.front ≡ front.now }
         ensures path { result.path ≡ front.now }
         ensures rest { inside front.now self.now.entries ≡ own front.now (at self.now front.now) ++ result.rest }
     {
-        Rows::below(&self.slots, self.root, front)
+        Rows::below(self.alloc, &self.slots, self.root, front)
+    }
+
+    /// The same with room for all of them.
+    pub(super) fn all_below<'a>(&'a self, front: &'a [Name]) -> Rows<'a, MOST_FRAMES>
+        ensures front { result.front ≡ front.now }
+        ensures path { result.path ≡ front.now }
+        ensures rest { inside front.now self.now.entries ≡ own front.now (at self.now front.now) ++ result.rest }
+    {
+        Rows::below(self.alloc, &self.slots, self.root, front)
     }
 
     /// What stands at the path of the names.
@@ -140,24 +173,53 @@ impl Table {
         self.tally_walk(front)
     }
 
-    /// The same, by a walk.
+    /// The same, by a walk. Where it is refused memory, it begins again with room for all.
     fn tally_walk(&self, front: &[Name]) -> (usize, usize)
         ensures dirs { result.0 ≡ count_by is_dir (values_of (inside front.now self.now.entries)) }
         ensures whiteouts { result.1 ≡ count_by is_whiteout (values_of (inside front.now self.now.entries)) }
     {
+        if let Ok(counts) = self.tally_rows(front, &mut self.below(front)) {
+            return counts;
+        }
+        self.tally_all(front)
+    }
+
+    /// The same, by a walk with room for all.
+    #[cold]
+    #[inline(never)]
+    fn tally_all(&self, front: &[Name]) -> (usize, usize)
+        ensures dirs { result.0 ≡ count_by is_dir (values_of (inside front.now self.now.entries)) }
+        ensures whiteouts { result.1 ≡ count_by is_whiteout (values_of (inside front.now self.now.entries)) }
+    {
+        match self.tally_rows(front, &mut self.all_below(front)) {
+            Ok(counts) => counts,
+            Err(_) => unreachable!(),
+        }
+    }
+
+    /// The same, by the walk.
+    fn tally_rows<const ROOM: usize>(
+        &self,
+        front: &[Name],
+        rows: &mut Rows<'_, ROOM>,
+    ) -> Result<(usize, usize), AllocError>
+        requires { inside front.now self.now.entries ≡ own front.now (at self.now front.now) ++ rows.old.rest }
+        ensures dirs { IfOk result (λ n. n.0 ≡ count_by is_dir (values_of (inside front.now self.now.entries))) }
+        ensures whiteouts { IfOk result (λ n. n.1 ≡ count_by is_whiteout (values_of (inside front.now self.now.entries))) }
+        ensures sure { 2048 ≤ ROOM → IsOk result }
+    {
         let _ = self.next_number();
         let (mut dirs, mut whiteouts) = counts_of(self.node_at(front));
-        let mut rows = self.below(front);
-        while let Some(row) = rows.next() {
+        while let Some(row) = rows.try_next()? {
             dirs += usize::from(row.node.is_dir());
             whiteouts += usize::from(row.node.is_whiteout());
         }
-        (dirs, whiteouts)
+        Ok((dirs, whiteouts))
     }
 
     /// How many directories and how many whiteouts there are, counted from scratch.
     ///
-    /// Takes no memory. Cost: the number of paths, times the logarithm of a directory's entries.
+    /// Cost: the number of paths, times the logarithm of a directory's entries.
     pub fn tally(&self) -> (usize, usize)
         ensures { result ≡ (dir_count self.now, whiteout_count self.now) }
     {
@@ -176,7 +238,7 @@ impl Table {
         let mut paths = Vec::new(self.alloc);
         let mut last = front.clone()?;
         let mut rows = self.below(front.names());
-        while let Some(row) = rows.next() {
+        while let Some(row) = rows.try_next()? {
             let path = path_beside(&last, row.above, row.name)?;
             paths.push(last)?;
             last = path;
@@ -185,21 +247,29 @@ impl Table {
         Ok(paths)
     }
 
-    /// How many of the first so many entries below the path are names of the file number.
+    /// How many of the first so many entries below the path are names of the file number. Where a walk is refused
+    /// memory, it begins again with room for all.
     fn names_among(&self, front: &[Name], number: u32, many: usize) -> usize
         ensures { (rest : Entries) → inside front.now self.now.entries ≡ own front.now (at self.now front.now) ++ rest → result ≡ name_count number (take many rest) }
     {
         let _ = self.next_number();
-        let (mut names, mut left) = (0, many);
-        let mut rows = self.below(front);
-        while let Some(row) = rows.next() {
-            if left == 0 {
-                return names;
-            }
-            left -= 1;
-            names += usize::from(has_number(row.node, number));
+        if let Ok(names) = names_of_rows(number, many, &mut self.below(front)) {
+            return names;
         }
-        names
+        self.names_among_all(front, number, many)
+    }
+
+    /// The same, by a walk with room for all.
+    #[cold]
+    #[inline(never)]
+    fn names_among_all(&self, front: &[Name], number: u32, many: usize) -> usize
+        ensures { (rest : Entries) → inside front.now self.now.entries ≡ own front.now (at self.now front.now) ++ rest → result ≡ name_count number (take many rest) }
+    {
+        let _ = self.next_number();
+        match names_of_rows(number, many, &mut self.all_below(front)) {
+            Ok(names) => names,
+            Err(_) => unreachable!(),
+        }
     }
 
     /// The inode and the blocks of the file or symlink whose last name is the entry, which is that many entries below
@@ -224,24 +294,58 @@ impl Table {
     /// The inodes and the blocks of the files and symlinks that have all their names below the directory. The bound is
     /// one on the number of paths.
     ///
-    /// Takes no memory. Cost: the number of paths below it times the logarithm of a directory's entries, once more
-    /// for each name there of a file that has several.
+    /// Where a walk is refused memory, it begins again with room for all. Cost: the number of paths below it times the
+    /// logarithm of a directory's entries, once more for each name there of a file that has several.
     pub(crate) fn ended_below(&self, front: &[Name], bound: usize) -> (usize, u64)
         requires dir { IsDirAt (at self.now front.now) }
-        requires few { path_count self.now < bound }
+        requires few { path_count self.now ≤ bound }
         ensures inodes { result.0 ≡ length (bodies_unnamed (outside front.now self.now.entries) self.now.bodies) }
         ensures blocks { result.1 ≡ sum_by body_blocks (values_of (bodies_unnamed (outside front.now self.now.entries) self.now.bodies)) }
     {
+        if let Ok(ended) = self.ended_rows(front, bound, &mut self.below(front)) {
+            return ended;
+        }
+        self.ended_all(front, bound)
+    }
+
+    /// The same, by a walk with room for all.
+    #[cold]
+    #[inline(never)]
+    fn ended_all(&self, front: &[Name], bound: usize) -> (usize, u64)
+        requires dir { IsDirAt (at self.now front.now) }
+        requires few { path_count self.now ≤ bound }
+        ensures inodes { result.0 ≡ length (bodies_unnamed (outside front.now self.now.entries) self.now.bodies) }
+        ensures blocks { result.1 ≡ sum_by body_blocks (values_of (bodies_unnamed (outside front.now self.now.entries) self.now.bodies)) }
+    {
+        match self.ended_rows(front, bound, &mut self.all_below(front)) {
+            Ok(ended) => ended,
+            Err(_) => unreachable!(),
+        }
+    }
+
+    /// The same, by the walk.
+    fn ended_rows<const ROOM: usize>(
+        &self,
+        front: &[Name],
+        bound: usize,
+        rows: &mut Rows<'_, ROOM>,
+    ) -> Result<(usize, u64), AllocError>
+        requires dir { IsDirAt (at self.now front.now) }
+        requires few { path_count self.now ≤ bound }
+        requires rows { inside front.now self.now.entries ≡ own front.now (at self.now front.now) ++ rows.old.rest }
+        ensures inodes { IfOk result (λ n. n.0 ≡ length (bodies_unnamed (outside front.now self.now.entries) self.now.bodies)) }
+        ensures blocks { IfOk result (λ n. n.1 ≡ sum_by body_blocks (values_of (bodies_unnamed (outside front.now self.now.entries) self.now.bodies))) }
+        ensures sure { 2048 ≤ ROOM → IsOk result }
+    {
         let _ = self.next_number();
         let (mut inodes, mut blocks, mut many) = (0, 0, 0);
-        let mut rows = self.below(front);
-        while let Some(row) = rows.next() {
+        while let Some(row) = rows.try_next()? {
             many += 1;
             let (file, freed) = self.ended_at(front, row.node, many);
             inodes += file;
             blocks += freed;
         }
-        (inodes, blocks)
+        Ok((inodes, blocks))
     }
 
     /// The names in a directory, in byte order, whiteouts among them. There are none where no directory
@@ -275,27 +379,60 @@ impl Table {
         }
     }
 
-    /// Whether the texts of the paths at the front and below it have at most so many bytes.
+    /// Whether the texts of the paths at the front and below it have at most so many bytes. Where a walk is refused
+    /// memory, it begins again with room for all.
     fn has_texts_within(&self, front: &Path, most: usize) -> bool
         requires front { front.now ≡ [] → ⊥ }
         requires most { length (text_of front.now) ≤ most }
         ensures { result ≡ list_all (is_text_within most) (inside front.now self.now.entries) }
     {
+        if let Ok(within) = self.has_rows_within(front, most, &mut self.below(front.names())) {
+            return within;
+        }
+        self.has_all_within(front, most)
+    }
+
+    /// The same, by a walk with room for all.
+    #[cold]
+    #[inline(never)]
+    fn has_all_within(&self, front: &Path, most: usize) -> bool
+        requires front { front.now ≡ [] → ⊥ }
+        requires most { length (text_of front.now) ≤ most }
+        ensures { result ≡ list_all (is_text_within most) (inside front.now self.now.entries) }
+    {
+        match self.has_rows_within(front, most, &mut self.all_below(front.names())) {
+            Ok(within) => within,
+            Err(_) => unreachable!(),
+        }
+    }
+
+    /// The same, by the walk.
+    fn has_rows_within<const ROOM: usize>(
+        &self,
+        front: &Path,
+        most: usize,
+        rows: &mut Rows<'_, ROOM>,
+    ) -> Result<bool, AllocError>
+        requires front { front.now ≡ [] → ⊥ }
+        requires most { length (text_of front.now) ≤ most }
+        requires at { rows.old.front ≡ front.now }
+        requires rows { inside front.now self.now.entries ≡ own front.now (at self.now front.now) ++ rows.old.rest }
+        ensures ok { IfOk result (λ b. b ≡ list_all (is_text_within most) (inside front.now self.now.entries)) }
+        ensures sure { 2048 ≤ ROOM → IsOk result }
+    {
         let own = front.as_str().len();
-        let mut rows = self.below(front.names());
-        while let Some(row) = rows.next() {
+        while let Some(row) = rows.try_next()? {
             if row.text > most - own {
-                return false;
+                return Ok(false);
             }
         }
-        true
+        Ok(true)
     }
 
     /// Whether what stands at `from` and below it would have paths of at most 4095 bytes at `to`.
     ///
-    /// The conditions are that neither path is the root. Takes no memory. The cost is constant where the text of
-    /// `to` is no longer than that of `from`. Else it is the number of paths there, times the logarithm of a
-    /// directory's entries.
+    /// The conditions are that neither path is the root. The cost is constant where the text of `to` is no longer than
+    /// that of `from`. Else it is the number of paths there, times the logarithm of a directory's entries.
     pub fn has_short_paths(&self, from: &Path, to: &Path) -> bool
         requires from { from.now ≡ [] → ⊥ }
         requires to { to.now ≡ [] → ⊥ }

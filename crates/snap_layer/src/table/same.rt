@@ -11,7 +11,7 @@ ghost use Rattle.snap_layer.specs.Rows.{AreHoused};
 use super::super::edit::body_at;
 use super::super::inode::Inode;
 use super::super::node::{Body, Node};
-use super::super::rows::{Row, Rows};
+use super::super::rows::{MOST_FRAMES, Row, Rows};
 use super::Table;
 use slab::Slab;
 use std::collections::BTreeMap;
@@ -35,7 +35,7 @@ fn is_same_row(row: &Row<'_>, other: &Row<'_>) -> bool
 }
 
 /// Whether the walk's next entry is that of the row, which another walk gave after the same path.
-fn is_next(row: &Row<'_>, others: &mut Rows<'_>) -> bool
+fn is_next(row: &Row<'_>, others: &mut Rows<'_, MOST_FRAMES>) -> bool
     ensures same { (p : Names)
         → p ≡ take row.now.above others.old.path ++ row.now.name.now ∷ []
         → row.now.above + 1 ≡ length p
@@ -50,7 +50,7 @@ fn is_next(row: &Row<'_>, others: &mut Rows<'_>) -> bool
 }
 
 /// Whether the walk has no more entries.
-fn is_over(rows: &mut Rows<'_>) -> bool
+fn is_over(rows: &mut Rows<'_, MOST_FRAMES>) -> bool
     ensures { IsTrue result ↔ (rows.old.rest ≡ []) }
 {
     rows.next().is_none()
@@ -101,8 +101,8 @@ impl Table {
         if !is_same_node(self.node_at(&[]), other.node_at(&[])) {
             return false;
         }
-        let mut rows = self.below(&[]);
-        let mut others = other.below(&[]);
+        let mut rows = self.all_below(&[]);
+        let mut others = other.all_below(&[]);
         while let Some(row) = rows.next() {
             if !is_next(&row, &mut others) {
                 return false;

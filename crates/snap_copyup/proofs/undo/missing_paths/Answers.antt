@@ -30,7 +30,7 @@ loop-names-preserved c = record {
       let none = none_past u p n ok c.standing_dirs-first.ensures k past lt in
       let v = with_parents u lowers p in
       let found : Undoes c.loop-names.missing.items v (with_parents u lowers (take (k + 1) p)) = subst (λ (i : ℕ). Undoes c.loop-names.missing.items v (with_parents u lowers (take i p))) names (c.loop-names.invariant.undo lowers way) in
-      subst (λ (ps : List Names). Undoes ps v (with_parents u lowers (take k p))) (sym (c.in_ok-push.ensures.items ∙ ap (λ (f : Names). c.loop-names.missing.items ++ f ∷ []) c.in_ok-front.ensures))
+      subst (λ (ps : List Names). Undoes ps v (with_parents u lowers (take k p))) (sym (c.in_ok-push.ensures.items ∙ ap (λ (f : Names). c.loop-names.missing.items ++ f ∷ []) c.in_ok-front.ensures.ok))
       (undoes_more c.loop-names.missing.items (take k p) v (with_parents u lowers (take (k + 1) p)) (with_parents u lowers (take k p)) found (front_takeable u lowers p k lt ok way none) (front_taken u lowers p k lt ok way none));
 }
 

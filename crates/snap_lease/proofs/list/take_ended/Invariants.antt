@@ -11,4 +11,4 @@ use Rattle.snap_lease.proofs.list.take_ended.Given as goal
 abbrev pub invariant-loop-lease : goal.invariant-loop-lease
 invariant-loop-lease l = AllByRecursion NamesOnce l.lease-iterator
     × ((space name : List ℕ) → count_within space name l.counts - count_by (λ k. has_ended l.namespace l.now k && guards space name k) l.lease-iterator ≡ count_within space name l.initial.counts - count_by (λ k. has_ended l.namespace l.now k && guards space name k) (values_of l.list.entries))
-    × ((space name : List ℕ) → cond (list_any (λ k. has_ended l.namespace l.now k && is_lease space name k) l.lease-iterator) None (number_in space name l.numbers.map) ≡ cond (list_any (λ k. has_ended l.namespace l.now k && is_lease space name k) (values_of l.list.entries)) None (number_in space name l.initial.numbers.map))
+    × ((space name : List ℕ) → cond (list_any (λ k. has_ended l.namespace l.now k && is_lease space name k) l.lease-iterator) None (number_in space name l.numbers) ≡ cond (list_any (λ k. has_ended l.namespace l.now k && is_lease space name k) (values_of l.list.entries)) None (number_in space name l.initial.numbers))

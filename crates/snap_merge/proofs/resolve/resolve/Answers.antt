@@ -20,7 +20,7 @@ loop-words-init c =
     let same = c.names-names.ensures.names in
     let words : c.in_ok-words.words ≡ drop k p = c.in_ok-words.ensures ∙ take_rest c.names-names.result.now k ∙ ap (drop k) same in
     let dirs = subst (λ (q : Names). Reached s q c.reach.result.dirs (option_map object c.reach.result.seen)) same c.reach.ensures in
-    ap (λ (q : Names). way (following 40 s) s q c.in_ok-words.words) c.in_ok-place.ensures
+    ap (λ (q : Names). way (following 40 s) s q c.in_ok-words.words) c.in_ok-place.ensures.ok
     ∙ ap (way (following 40 s) s (take k p)) words
     ∙ way_dirs (following 40 s) s p c.reach.result.dirs c.names-names.ensures.valid dirs.dirs k (omega (arith, c.min-dirs.ensures, ap length same)) (omega (arith, c.min-dirs.ensures, c.saturating_sub.ensures))
 

@@ -18,4 +18,5 @@ returns-clause-ok c =
       layers = (subst AreLayers c.over.ensures c.in_ok-check_new.ensures.layers).1;
       ready = (made.way, (vacant_unseen u ls p ok made.unseen, made.low, omega arith), tt);
       same = file_after u ls p c.args.mode passes;
+      in_place = λ none. absurd none;
     }

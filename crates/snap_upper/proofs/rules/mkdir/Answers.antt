@@ -19,4 +19,5 @@ returns-clause-ok c =
       layers = (subst AreLayers c.over.ensures c.in_ok-check_new.ensures.layers).1;
       ready = (made.way, (vacant_unseen u ls p ok made.unseen, made.low), tt);
       same = dir_after u ls p c.args.mode passes c.is_whiteout-opaque.result (c.is_whiteout-opaque.ensures ∙ ap is_whiteout_at c.at.ensures);
+      in_place = λ none. absurd none;
     }

@@ -4,6 +4,7 @@ use Rattle.snap_merge.specs.Objects.{AreLayers, dir, seen}
 use Rattle.snap_upper.specs.declared.op.Op.TheVariants as op
 use Rattle.snap_upper.proofs.Outcomes.{stack_passes}
 use Rattle.snap_upper.proofs.Opaque.{own_dir, own_opaque_after, lower_opaque_ready, lower_opaque_after}
+use Rattle.snap_upper.proofs.Sure.{no_value}
 use Rattle.snap_layer.specs.Layers.{IsLayer}
 use Rattle.snap_upper.proofs.rules.opaque.Goals as goal
 
@@ -21,6 +22,7 @@ returns-then-is_some-clause-ok c =
       layers = (subst AreLayers c.over.ensures c.in_ok-mode.ensures.layers).1;
       ready = own_dir u ls p m ok was some;
       same = own_opaque_after u ls p ok passes m was some;
+      in_place = λ there. tt;
     }
 
 pub returns-clause-ok : goal.returns-clause-ok
@@ -35,4 +37,4 @@ returns-clause-ok c =
     let m = c.in_ok-mode.mode in
     let was : seen (u ∷ ls) p ≡ Some (dir m) = ap (λ (s : List Tree). seen s p) (sym c.over.ensures) ∙ c.in_ok-mode.ensures.mode in
     let ready = lower_opaque_ready u ls p ok passes m was layers none in
-    record { layers = layers; ready = (ready.0, ready.1, tt); same = lower_opaque_after u ls p ok passes m was none }
+    record { layers = layers; ready = (ready.0, ready.1, tt); same = lower_opaque_after u ls p ok passes m was none; in_place = no_value (at u p) none }

@@ -23,4 +23,5 @@ returns-clause-ok c =
       layers = (subst AreLayers c.over.ensures c.in_ok-check_put.ensures.layers).1;
       ready = (made.way, (vacant_unseen u ls p ok made.unseen, made.low, fits), fits);
       same = sized_after u ls p c.args.mode size digest _ passes c.as_ref-digest.ensures.value;
+      in_place = λ none. absurd none;
     }

@@ -17,4 +17,4 @@ returns-clause-ok c =
     let ok = subst IsLayer c.layer.view_is c.layer.invariant.1 in
     let passes : first_error (tests (op.Rmdir p) (u ∷ ls)) ≡ None = ap (λ (s : List Tree). first_error (tests (op.Rmdir p) s)) (sym c.over.ensures) ∙ c.in_ok-found.ensures.ok in
     let erasable = IsErasable-dir (u ∷ ls) p passes in
-    record { layers = (subst AreLayers c.over.ensures c.in_ok-found.ensures.layers).1; ready = (erasable.way, erasable.there, erasable.below_root, (λ n. free_unseen u ls (p ++ n ∷ []) ok (erasable.clear n)), c.is_below-covers.ensures); same = sym (after_passes (op.Rmdir p) u ls passes) }
+    record { layers = (subst AreLayers c.over.ensures c.in_ok-found.ensures.layers).1; ready = (erasable.way, erasable.there, erasable.below_root, (λ n. free_unseen u ls (p ++ n ∷ []) ok (erasable.clear n)), c.is_below-covers.ensures); same = sym (after_passes (op.Rmdir p) u ls passes); in_place = λ none. absurd none }

@@ -4,6 +4,7 @@ use Rattle.snap_merge.specs.Objects.{AreLayers}
 use Rattle.snap_upper.specs.declared.op.Op.TheVariants as op
 use Rattle.snap_upper.proofs.Outcomes.{stack_passes}
 use Rattle.snap_upper.proofs.Modes.{settable, has_mode, own_mode_after, empty, lower_ready, lower_after}
+use Rattle.snap_upper.proofs.Sure.{no_value}
 use Rattle.snap_layer.specs.Layers.{IsLayer}
 use Rattle.snap_upper.proofs.rules.set_mode.Goals as goal
 
@@ -20,6 +21,7 @@ returns-then-is_some-clause-ok c =
       layers = (subst AreLayers c.over.ensures c.in_ok-check_mode.ensures.layers).1;
       ready = (has_mode u ls p ok can.there some, can.low);
       same = own_mode_after u ls p c.args.mode ok passes some;
+      in_place = λ there. tt;
     }
 
 pub lower_with-requires-clause-nothing : goal.lower_with-requires-clause-nothing
@@ -50,4 +52,4 @@ returns-clause-ok c =
     let layers = (subst AreLayers c.over.ensures c.in_ok-check_mode.ensures.layers).1 in
     let new = c.in_ok-new.new in
     let is = c.in_ok-new.ensures.ok in
-    record { layers = layers; ready = lower_ready u ls p c.args.mode ok passes layers none new is; same = lower_after u ls p c.args.mode ok passes none new is }
+    record { layers = layers; ready = lower_ready u ls p c.args.mode ok passes layers none new is; same = lower_after u ls p c.args.mode ok passes none new is; in_place = no_value (at u p) none }

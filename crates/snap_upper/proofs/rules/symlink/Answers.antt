@@ -20,4 +20,5 @@ returns-clause-ok c =
       layers = (subst AreLayers c.over.ensures c.in_ok-check_symlink.ensures.layers).1;
       ready = (made.way, (vacant_unseen u ls p ok made.unseen, subst (λ (bs : List ℕ). is_target bs ≡ true) (sym c.as_slice-target.ensures) made.target_is), tt);
       same = symlink_after u ls p target c.as_slice-target.result.now passes c.as_slice-target.ensures;
+      in_place = λ none. absurd none;
     }

@@ -7,6 +7,7 @@ use Rattle.snap_upper.specs.declared.op.Op.TheVariants as op
 use Rattle.snap_upper.specs.After.{limited}
 use Rattle.snap_upper.proofs.Outcomes.{stack_passes, after_passes}
 use Rattle.snap_upper.proofs.Trees.{IsErasableTree-passed, tree_is_erased}
+use Rattle.snap_upper.proofs.Sure.{node_of_number, number_of_no_dir}
 use Rattle.snap_layer.specs.Layers.{IsLayer}
 use Rattle.snap_upper.proofs.rules.whiteout.Goals as goal
 
@@ -21,6 +22,7 @@ returns-then-is_dir_there-clause-ok c =
       layers = (subst AreLayers c.over.ensures c.in_ok-found.ensures.layers).1;
       ready = (record { dir = c.is_dir_there.ensures.0 c.if-is_dir_there.true; below_root = erasable.below_root }, c.is_below-covers.ensures);
       same = sym (after_passes (op.Whiteout p) u ls passes);
+      in_place = λ named. absurd (number_of_no_dir (at u p) named (c.is_dir_there.ensures.0 c.if-is_dir_there.true));
     }
 
 pub returns-clause-ok : goal.returns-clause-ok
@@ -36,6 +38,7 @@ returns-clause-ok c =
       layers = (subst AreLayers c.over.ensures c.in_ok-found.ensures.layers).1;
       ready = (erasable.way, erasable.there, erasable.below_root, (λ n. subst IsFree (sym (nothing_below u ok p no_dir n [])) tt), c.is_below-covers.ensures);
       same = ap limited (sym (tree_is_erased u ls p ok erasable.way no_dir)) ∙ sym (after_passes (op.Whiteout p) u ls passes);
+      in_place = node_of_number (at u p);
     }
   where
     clash : true ≡ false → ⊥

@@ -2,6 +2,8 @@ use Rattle.std.proofs.Common.{subst}
 use Rattle.snap_copyup.proofs.Alone.{OnOk-weaker}
 use Rattle.snap_upper.proofs.Changing.{after_changes}
 use Rattle.snap_upper.proofs.Made.{made_changes, made_first}
+use Rattle.snap_upper.specs.After.{after}
+use Rattle.snap_upper.proofs.Sure.{lists_none, made_sure, refused_sure}
 use Rattle.snap_layer.specs.Layers.{IsLayer}
 use Rattle.snap_upper.proofs.upper.apply.Goals as goal
 
@@ -16,3 +18,13 @@ returns-clause-law c = λ lowers v layers e. after_changes c.args.op.now c.args.
 
 pub returns-clause-first : goal.returns-clause-first
 returns-clause-first c = λ none. made_first c.args.op.now c.args.layer.now c.args.lowers.now c.in_ok-change.change c.perform.result c.in_ok-change.ensures.ok
+
+pub returns-in_err-change-clause-sure : goal.returns-in_err-change-clause-sure
+returns-in_err-change-clause-sure c = λ none.
+    let op = c.args.op.now in
+    let u = c.args.layer.now in
+    let ls = c.args.lowers.now in
+    refused_sure (after op u ls) c.in_err-change.field-0.0 c.from_residual.result c.from_residual.ensures.1 (c.in_err-change.ensures.sure (lists_none op u ls none))
+
+pub returns-clause-sure : goal.returns-clause-sure
+returns-clause-sure c = made_sure c.args.op.now c.args.layer.now c.args.lowers.now c.in_ok-change.change c.perform.result c.in_ok-change.ensures.ok c.perform.ensures.sure

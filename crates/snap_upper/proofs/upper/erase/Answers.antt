@@ -10,6 +10,8 @@ use Rattle.snap_copyup.specs.Copying.{below}
 use Rattle.snap_upper.specs.After.{limited}
 use Rattle.snap_upper.proofs.Outcomes.{limited_fits, layer_fits, edit_refused}
 use Rattle.snap_upper.proofs.Erased.{place_erased, takeable_erased, erased_covered, erased_bare}
+use Rattle.snap_upper.proofs.Outcomes.{no_bool}
+use Rattle.snap_upper.proofs.Sure.{covered_sure}
 use Rattle.snap_layer.specs.Layers.{IsLayer}
 use Rattle.snap_upper.proofs.upper.erase.Goals as goal
 
@@ -56,3 +58,15 @@ returns-clause-ok c =
     let bare : is_some (below u ls p) ≡ false = sym c.requires.covers ∙ c.if-covers.false in
     let next = c.take_name.new.self in
     ap limited (erased_bare u ls p (subst IsLayer c.layer.view_is c.layer.invariant.1) some bare ∙ sym c.take_name.ensures) ∙ limited_fits next (layer_fits next (subst IsLayer c.layer-2.view_is c.layer-2.invariant.1))
+
+pub returns-then-is_none-clause-sure : goal.returns-then-is_none-clause-sure
+returns-then-is_none-clause-sure c = λ (some : is_some (at c.args.layer.now c.args.path.now) ≡ true). absurd (no_bool (sym some ∙ ap is_some (sym c.at.ensures) ∙ c.is_none.ensures ∙ ap not c.if-is_none.true))
+
+pub returns-in-Err-clause-sure : goal.returns-in-Err-clause-sure
+returns-in-Err-clause-sure c = λ (some : is_some (at c.args.layer.now c.args.path.now) ≡ true).
+    let u = c.args.layer.now in
+    let ls = c.args.lowers.now in
+    let p = c.args.path.now in
+    let covers : is_some (below u ls p) ≡ true = sym c.requires.covers ∙ c.if-covers.true in
+    subst (λ (t : Tree). limited t ≡ Err c.from.result) (sym (erased_covered u ls p (subst IsLayer c.layer.view_is c.layer.invariant.1) some covers))
+    (covered_sure c.in-Err.error c.from.result u (with_node u p Whiteout) p c.from.ensures (λ full. c.in-Err.ensures.full.0 (ap (λ (x : LayerError). Err x) full)) (λ want. c.in-Err.ensures.sure (ap (λ (x : LayerError). Err x) want)) some)

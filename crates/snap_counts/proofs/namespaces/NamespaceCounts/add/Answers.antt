@@ -2,8 +2,8 @@ use Rattle.std.proofs.Common.{◌∙◌, ◌≡◌, ◌+◌, [], None, Some, ap,
 use Rattle.std.proofs.lemmas.Result.{on_ok_weaker, on_err_weaker}
 use Rattle.std.specs.BTreeMap.{get_by_text}
 use Rattle.std.specs.Option.{option_copied_mut}
-use Rattle.snap_counts.specs.Counts.{count_in, count_within}
-use Rattle.snap_counts.proofs.Reading.{Sets-inserted, Sets-written, count_within-by_bytes, within_step, zero_within}
+use Rattle.snap_counts.specs.Counts.{count_in, count_within, HasCounted}
+use Rattle.snap_counts.proofs.Reading.{AllValues-Sets, AllValues-found, HasCounted-either, HasCounted-more, Sets-inserted, Sets-written, count_within-by_bytes, within_step, zero_within}
 use Rattle.snap_counts.proofs.Lists.{one_if}
 use Rattle.snap_counts.proofs.namespaces.NamespaceCounts.add.Goals as goal
 
@@ -43,6 +43,15 @@ returns-in-Some-clause-err c =
     (λ q. same q ∙ ap (λ o. count_in q (unwrap_or o [])) c.in-Some.ensures.value))
     c.add.ensures.err
 
+pub invariant_of-self : goal.invariant_of-self
+invariant_of-self c =
+    let m = c.self.inside.map in
+    let more = c.add.new.self in
+    let found = c.in-Some.counts.now in
+    let sets = Sets-written m (c.get_mut.follows.lender more) c.args.namespace.now found more c.in-Some.ensures.value (c.get_mut.follows.holds more).3 in
+    let counted = HasCounted-either c.add.result found more c.args.text.now c.add.ensures.ok c.add.ensures.err (AllValues-found HasCounted m c.args.namespace.now found c.in-Some.ensures.value c.self.invariant) in
+    AllValues-Sets HasCounted m (c.get_mut.follows.lender more) c.args.namespace.now (Some more) sets counted c.self.invariant
+
 pub returns-in_err-key-clause-there : goal.returns-in_err-key-clause-there
 returns-in_err-key-clause-there c = λ some.
     let absent : get_by_text c.self.inside.map c.args.namespace.now ≡ None = sym c.get_mut.ensures.value ∙ ap option_copied_mut c.in_default.is in
@@ -69,3 +78,9 @@ returns-clause-ok c =
     let sets = Sets-inserted m c.get_mut.follows.lender-at-none c.insert.new.self c.args.namespace.now c.in_ok-key.key first c.get_mut.follows.holds-at-none c.in_ok-key.ensures.ok c.in_ok-insert.ensures.updates in
     within_step (λ a b. a + b) (λ a. omega arith) m c.insert.new.self c.args.self.now c.args.namespace.now c.args.text.now (Some first) c.self.view_is sets
     (λ q. c.in_ok-add.ensures.ok q ∙ ap (λ n. n + one_if (bytes_eq q c.args.text.now)) (c.new-counts.ensures q ∙ ap (λ o. count_in q (unwrap_or o [])) (sym absent)))
+
+pub invariant_of-self-2 : goal.invariant_of-self-2
+invariant_of-self-2 c =
+    let first = c.add-2.new.self in
+    let sets = Sets-inserted c.self.inside.map c.get_mut.follows.lender-at-none c.insert.new.self c.args.namespace.now c.in_ok-key.key first c.get_mut.follows.holds-at-none c.in_ok-key.ensures.ok c.in_ok-insert.ensures.updates in
+    AllValues-Sets HasCounted c.self.inside.map c.insert.new.self c.args.namespace.now (Some first) sets (HasCounted-more _ first c.args.text.now c.in_ok-add.ensures.ok) c.self.invariant

@@ -1,14 +1,19 @@
-use Rattle.std.proofs.Common.{rules, arith, ◌≡◌, ◌++◌, ◌∷◌, [], ℕ, List, Option, Err, length, sym, ap, ◌∙◌}
+use Rattle.std.proofs.Common.{rules, arith, true, false, ◌≡◌, ◌++◌, ◌∷◌, [], ℕ, List, Option, Err, length, sym, ap, ◌∙◌}
 use Rattle.std.specs.List.{flat_map}
+use Rattle.std.specs.declared.ops.Bound.{Bound}
+use Rattle.std.specs.declared.ops.Bound.TheVariants.{Excluded}
 use Rattle.std.specs.Option.{option_copied, option_map}
 use Rattle.std.proofs.lemmas.Bool.{le-ltb}
-use Rattle.std.proofs.lemmas.Map.Iter.{rest_all}
 use Rattle.snap_path.specs.Text.{Names}
 use Rattle.snap_layer.specs.Tree.{Tree}
 use Rattle.snap_merge.specs.Objects.{object, seen}
 use Rattle.snap_diff.specs.declared.change.Change.{Change}
 use Rattle.snap_diff.specs.Changes.{changes_below, put_rows}
 use Rattle.snap_diff.proofs.Pages.{skipped}
+use Rattle.snap_diff.specs.Places.{names_in}
+use Rattle.snap_layer.specs.Directory.{names_from}
+use Rattle.snap_diff.proofs.Places.{touched_is}
+use Rattle.snap_diff.proofs.Starts.{from_start, shared_names}
 use Rattle.snap_diff.proofs.Walks.{none_deep, put_full, untouched, put_dir, put_other, no_changes, too_long, put_rows-append}
 use Rattle.snap_diff.proofs.walk.Walk.+put_below.Goals as goal
 
@@ -26,7 +31,7 @@ put_below-returns-then-is_past t c =
 
 pub put_below-returns-then-is_untouched : goal.put_below-returns-then-is_untouched
 put_below-returns-then-is_untouched t c =
-    sym (ap (put_rows c.args.self.now.most (option_copied c.args.self.now.after) c.args.rows.now.items) (untouched c.args.depth c.args.self.now.layer.now c.args.self.now.lowers.now c.show_are_layers.ensures c.args.path.now (sym c.is_untouched.ensures ∙ c.if-is_untouched.true)))
+    sym (ap (put_rows c.args.self.now.most (option_copied c.args.self.now.after) c.args.rows.now.items) (untouched c.args.depth c.args.self.now.layer.now c.args.self.now.lowers.now c.show_are_layers.ensures c.args.path.now (touched_is c.args.self.now.layer.now c.args.path.now c.args.own.now.node c.args.own.now.dir c.args.own.now.hidden c.requires true (sym c.is_untouched.ensures ∙ c.if-is_untouched.true))))
 
 pub put_below-returns-in_ok-put_inside : goal.put_below-returns-in_ok-put_inside
 put_below-returns-in_ok-put_inside t c =
@@ -34,7 +39,7 @@ put_below-returns-in_ok-put_inside t c =
     (option_map object c.look-old.result) (option_map object c.look-new.result) c.change_at-kind.result
     (c.look-old.ensures ∙ ap (λ (s : List Tree). seen s c.args.path.now) c.old.ensures)
     (c.look-new.ensures ∙ ap (λ (s : List Tree). seen s c.args.path.now) c.new.ensures)
-    c.change_at-kind.ensures (sym c.is_dir.ensures ∙ c.if-is_dir.true) c.if-depth-eq0.false (sym c.is_untouched.ensures ∙ c.if-is_untouched.false) c.in_ok-put_change.ensures c.in_ok-put_inside.ensures
+    c.change_at-kind.ensures (sym c.is_dir.ensures ∙ c.if-is_dir.true) c.if-depth-eq0.false (touched_is c.args.self.now.layer.now c.args.path.now c.args.own.now.node c.args.own.now.dir c.args.own.now.hidden c.requires false (sym c.is_untouched.ensures ∙ c.if-is_untouched.false)) c.in_ok-put_change.ensures c.in_ok-put_inside.ensures
 
 pub put_below-returns-else-is_dir : goal.put_below-returns-else-is_dir
 put_below-returns-else-is_dir t c =
@@ -42,7 +47,7 @@ put_below-returns-else-is_dir t c =
     (option_map object c.look-old.result) (option_map object c.look-new.result) c.change_at-kind.result
     (c.look-old.ensures ∙ ap (λ (s : List Tree). seen s c.args.path.now) c.old.ensures)
     (c.look-new.ensures ∙ ap (λ (s : List Tree). seen s c.args.path.now) c.new.ensures)
-    c.change_at-kind.ensures (sym c.is_dir.ensures ∙ c.if-is_dir.false) c.if-depth-eq0.false (sym c.is_untouched.ensures ∙ c.if-is_untouched.false) c.in_ok-put_change.ensures
+    c.change_at-kind.ensures (sym c.is_dir.ensures ∙ c.if-is_dir.false) c.if-depth-eq0.false (touched_is c.args.self.now.layer.now c.args.path.now c.args.own.now.node c.args.own.now.dir c.args.own.now.hidden c.requires false (sym c.is_untouched.ensures ∙ c.if-is_untouched.false)) c.in_ok-put_change.ensures
 
 -- at what is no path nothing is changed
 pub put_entry-returns-in-Err-BadPath : goal.put_entry-returns-in-Err-BadPath
@@ -50,24 +55,78 @@ put_entry-returns-in-Err-BadPath t c =
     let p : Names = c.args.directory.now ++ c.args.name.now ∷ [] in
     sym (ap (put_rows c.args.self.now.most (option_copied c.args.self.now.after) c.args.rows.now.items) (no_changes c.args.depth c.args.self.now.layer.now c.args.self.now.lowers.now c.show_are_layers.ensures p (too_long p ((c.in-Err-BadPath.ensures {u = tt}).bad.0 (ap Err c.in-Err-BadPath.field-0-is)))))
 
-pub put_inside-loop-name-preserved : goal.put_inside-loop-name-preserved
-put_inside-loop-name-preserved t c =
+pub put_shared-loop-name-init : goal.put_shared-loop-name-init
+put_shared-loop-name-init t c =
     let most = c.args.self.now.most in
     let after : Option Names = option_copied c.args.self.now.after in
     let f : List ℕ → List Change = λ name. changes_below c.args.depth c.args.self.now.layer.now c.args.self.now.lowers.now (c.args.path.now ++ name ∷ []) in
-    let left : c.loop-name.name-iterator ≡ c.in-Some.name ∷ c.next.new.self = search rules in
+    ap (λ (b : Bound (List ℕ)). put_rows most after c.args.rows.now.items (flat_map f (names_from b (names_in c.args.own.now.dir)))) c.start-from.ensures
+    ∙ from_start c.args.depth c.args.self.now.layer.now c.args.self.now.lowers.now most after c.args.rows.now.items c.args.path.now (names_in c.args.own.now.dir)
+
+pub put_shared-loop-name-preserved : goal.put_shared-loop-name-preserved
+put_shared-loop-name-preserved t c =
+    let most = c.args.self.now.most in
+    let after : Option Names = option_copied c.args.self.now.after in
+    let f : List ℕ → List Change = λ name. changes_below c.args.depth c.args.self.now.layer.now c.args.self.now.lowers.now (c.args.path.now ++ name ∷ []) in
+    let rest : Names = names_from (Excluded c.in-Some.name.now) (names_in c.args.own.now.dir) in
+    ap (λ (rs : List Change). put_rows most after rs (flat_map f rest)) c.in_ok-put_entry.ensures
+    ∙ sym (put_rows-append most after c.loop-name.rows.items (f c.in-Some.name.now) (flat_map f rest))
+    ∙ ap (λ (ns : Names). put_rows most after c.loop-name.rows.items (flat_map f ns)) (sym c.in-Some.ensures)
+    ∙ c.loop-name.invariant
+
+pub put_shared-loop-name-smaller : goal.put_shared-loop-name-smaller
+put_shared-loop-name-smaller t c = omega (arith, ap (λ (ns : Names). length ns) c.in-Some.ensures)
+
+pub put_shared-returns : goal.put_shared-returns
+put_shared-returns t c =
+    let most = c.args.self.now.most in
+    let after : Option Names = option_copied c.args.self.now.after in
+    let f : List ℕ → List Change = λ name. changes_below c.args.depth c.args.self.now.layer.now c.args.self.now.lowers.now (c.args.path.now ++ name ∷ []) in
+    ap (λ (ns : Names). put_rows most after c.loop-name.rows.items (flat_map f ns)) (sym c.in_default.ensures)
+    ∙ c.loop-name.invariant
+    ∙ ap (put_rows most after c.args.rows.now.items) (shared_names c.args.depth c.args.self.now.layer.now c.args.self.now.lowers.now c.show_are_layers.ensures c.args.path.now c.args.own.now.node c.args.own.now.dir c.args.own.now.hidden c.requires.own c.requires.touched c.requires.merged)
+
+pub put_shared-returns-then-len-self : goal.put_shared-returns-then-len-self
+put_shared-returns-then-len-self t c =
+    let most = c.args.self.now.most in
+    let after : Option Names = option_copied c.args.self.now.after in
+    let f : List ℕ → List Change = λ name. changes_below c.args.depth c.args.self.now.layer.now c.args.self.now.lowers.now (c.args.path.now ++ name ∷ []) in
+    let left : Names = c.in-Some.name.now ∷ names_from (Excluded c.in-Some.name.now) (names_in c.args.own.now.dir) in
+    sym (put_full most after c.loop-name.rows.items (flat_map f left) (le-ltb (length c.loop-name.rows.items) most (omega (arith, c.len.ensures, c.if-len-self.true))))
+    ∙ ap (λ (ns : Names). put_rows most after c.loop-name.rows.items (flat_map f ns)) (sym c.in-Some.ensures)
+    ∙ c.loop-name.invariant
+    ∙ ap (put_rows most after c.args.rows.now.items) (shared_names c.args.depth c.args.self.now.layer.now c.args.self.now.lowers.now c.show_are_layers.ensures c.args.path.now c.args.own.now.node c.args.own.now.dir c.args.own.now.hidden c.requires.own c.requires.touched c.requires.merged)
+
+pub put_both-loop-name-preserved : goal.put_both-loop-name-preserved
+put_both-loop-name-preserved t c =
+    let most = c.args.self.now.most in
+    let after : Option Names = option_copied c.args.self.now.after in
+    let f : List ℕ → List Change = λ name. changes_below c.args.depth c.args.self.now.layer.now c.args.self.now.lowers.now (c.args.path.now ++ name ∷ []) in
+    let left : c.loop-name.name-iterator ≡ c.in-Some.name.now ∷ c.next.new.self = search rules in
     ap (λ (rs : List Change). put_rows most after rs (flat_map f c.next.new.self)) c.in_ok-put_entry.ensures
-    ∙ sym (put_rows-append most after c.loop-name.rows.items (f c.in-Some.name) (flat_map f c.next.new.self))
+    ∙ sym (put_rows-append most after c.loop-name.rows.items (f c.in-Some.name.now) (flat_map f c.next.new.self))
     ∙ ap (λ (ns : Names). put_rows most after c.loop-name.rows.items (flat_map f ns)) (sym left)
     ∙ c.loop-name.invariant
 
-pub put_inside-returns : goal.put_inside-returns
-put_inside-returns t c =
+pub put_both-returns : goal.put_both-returns
+put_both-returns t c =
     let most = c.args.self.now.most in
     let after : Option Names = option_copied c.args.self.now.after in
     let f : List ℕ → List Change = λ name. changes_below c.args.depth c.args.self.now.layer.now c.args.self.now.lowers.now (c.args.path.now ++ name ∷ []) in
-    let none : c.loop-name.name-iterator ≡ [] = rest_all (λ n. n) _ _ _ c.in-None.is c.next.ensures.steps in
+    let none : c.loop-name.name-iterator ≡ [] = search rules in
     ap (λ (ns : Names). put_rows most after c.loop-name.rows.items (flat_map f ns)) (sym none)
     ∙ c.loop-name.invariant
-    ∙ ap (λ (ns : Names). put_rows most after c.args.rows.now.items (flat_map f ns)) c.into_iter-name-iterator.ensures.into_iter_gives.0
-    ∙ ap (put_rows most after c.args.rows.now.items) (c.in_ok-name-items.ensures c.args.depth)
+    ∙ ap (λ (ns : Names). put_rows most after c.args.rows.now.items (flat_map f ns)) (c.into_iter-name-iterator.ensures.into_iter_gives ∙ c.range-name-items.ensures.between tt ∙ ap (λ (b : Bound (List ℕ)). names_from b c.in_ok-names.names.keys) c.start.ensures)
+    ∙ from_start c.args.depth c.args.self.now.layer.now c.args.self.now.lowers.now most after c.args.rows.now.items c.args.path.now c.in_ok-names.names.keys
+    ∙ ap (λ (ns : Names). put_rows most after c.args.rows.now.items (flat_map f ns)) c.in_ok-names.ensures
+
+pub put_both-returns-then-len-self : goal.put_both-returns-then-len-self
+put_both-returns-then-len-self t c =
+    let most = c.args.self.now.most in
+    let after : Option Names = option_copied c.args.self.now.after in
+    let f : List ℕ → List Change = λ name. changes_below c.args.depth c.args.self.now.layer.now c.args.self.now.lowers.now (c.args.path.now ++ name ∷ []) in
+    sym (put_full most after c.loop-name.rows.items (flat_map f c.loop-name.name-iterator) (le-ltb (length c.loop-name.rows.items) most (omega (arith, c.len.ensures, c.if-len-self.true))))
+    ∙ c.loop-name.invariant
+    ∙ ap (λ (ns : Names). put_rows most after c.args.rows.now.items (flat_map f ns)) (c.into_iter-name-iterator.ensures.into_iter_gives ∙ c.range-name-items.ensures.between tt ∙ ap (λ (b : Bound (List ℕ)). names_from b c.in_ok-names.names.keys) c.start.ensures)
+    ∙ from_start c.args.depth c.args.self.now.layer.now c.args.self.now.lowers.now most after c.args.rows.now.items c.args.path.now c.in_ok-names.names.keys
+    ∙ ap (λ (ns : Names). put_rows most after c.args.rows.now.items (flat_map f ns)) c.in_ok-names.ensures

@@ -43,4 +43,4 @@ returns-clause-fewer c =
     omega (arith, is.inodes_are, is.some, is.count)
 
 pub ended_below-files-requires-clause-few : goal.ended_below-files-requires-clause-few
-ended_below-files-requires-clause-few c = c.self.invariant.0.paths
+ended_below-files-requires-clause-few c = omega (arith, c.self.invariant.0.paths)

@@ -40,7 +40,7 @@ invariant_of-self-2 c =
     let ok : IsLayer c.args.self.now = c.room_for.ensures.layer in
     let costs = moved_costs c.args.self.now ok c.args.from.now c.args.to.now c.args.leaves c.from.result c.requires (c.from.ensures ∙ as_number c.args.leaves) in
     let is : c.relocate.new.self ≡ with_moved c.args.self.now c.args.from.now c.args.to.now c.args.leaves = c.in_ok-relocate.ensures.ok ∙ ap (λ (u : Tree). with_moved u c.args.from.now c.args.to.now c.args.leaves) c.self.view_is in
-    subst (IsCounted _) (sym is) (costs_counted (c.args.self.now) (with_moved c.args.self.now c.args.from.now c.args.to.now c.args.leaves) c.args.to.now 0 c.from.result 0 costs c.in_ok-room.ensures.fits _ _ c.in_ok-room.ensures.room refl refl (omega (arith, path_moved c.args.self.now ok c.args.from.now c.args.to.now c.args.leaves, c.in_ok-room.ensures.room.paths)))
+    subst (IsCounted _) (sym is) (costs_counted (c.args.self.now) (with_moved c.args.self.now c.args.from.now c.args.to.now c.args.leaves) c.args.to.now 0 c.from.result 0 costs c.in_ok-room.ensures.fits _ _ c.in_ok-room.ensures.room refl refl (omega (arith, path_moved c.args.self.now ok c.args.from.now c.args.to.now c.args.leaves c.from.result c.requires (c.from.ensures ∙ as_number c.args.leaves), c.in_ok-room.ensures.room.paths)))
 
 pub returns-clause-ok : goal.returns-clause-ok
 returns-clause-ok c = c.in_ok-relocate.ensures.ok ∙ ap (λ (u : Tree). with_moved u c.args.from.now c.args.to.now c.args.leaves) c.self.view_is

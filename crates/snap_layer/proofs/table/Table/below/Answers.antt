@@ -1,4 +1,4 @@
-use Rattle.std.proofs.Common.{◌++◌, sym, ap, ◌∙◌}
+use Rattle.std.proofs.Common.{◌++◌, sym, ap, ◌∙◌, arith}
 use Rattle.snap_layer.specs.Tree.{Tree}
 use Rattle.snap_layer.specs.Edits.{inside}
 use Rattle.snap_layer.specs.Rows.{own}
@@ -7,12 +7,18 @@ use Rattle.snap_layer.proofs.table.Table.below.Goals as goal
 
 pub below-requires : goal.below-requires
 below-requires c = (
-  c.self.inside.tree,
-  record {
-    there = c.self.invariant.table.there;
-    sorted = c.self.invariant.layer.sorted_paths;
-    paths = c.self.invariant.layer.paths;
-  },
+  omega arith,
+  (
+    (
+      c.self.inside.tree,
+      record {
+        there = c.self.invariant.table.there;
+        sorted = c.self.invariant.layer.sorted_paths;
+        paths = c.self.invariant.layer.paths;
+      },
+    ),
+    omega arith,
+  ),
 )
 
 pub returns-clause-rest : goal.returns-clause-rest

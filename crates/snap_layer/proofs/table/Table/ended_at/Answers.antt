@@ -1,6 +1,6 @@
-use Rattle.std.proofs.Common.{◌≡◌, ◌+◌, ◌++◌, ◌≤◌, take, sym, ap, subst, ◌∙◌, arith}
+use Rattle.std.proofs.Common.{◌≡◌, ◌++◌, ◌≤◌, take, sym, ap, subst, ◌∙◌, arith}
 use Rattle.std.specs.Option.{option_copied}
-use Rattle.snap_layer.specs.Tree.{Entries, at, body}
+use Rattle.snap_layer.specs.Tree.{Entries, at}
 use Rattle.snap_layer.specs.Counts.{name_count}
 use Rattle.snap_layer.specs.Rows.{own}
 use Rattle.snap_layer.proofs.Ending.{all_end, has_last, start_entries, names_inside_few}

@@ -5,10 +5,11 @@ use Rattle.snap_layer.specs.Tree.{at}
 use Rattle.snap_layer.specs.Edits.{inside}
 use Rattle.snap_layer.specs.Rows.{own}
 use Rattle.snap_layer.proofs.Below.{AreListed, listed_first, next_path}
+use Rattle.snap_layer.proofs.Somes.{match_some, if_some}
 use Rattle.snap_layer.proofs.table.Table.paths_inside.Goals as goal
 
-pub loop-row-init : goal.loop-row-init
-loop-row-init c =
+pub loop-rows-init : goal.loop-rows-init
+loop-rows-init c =
     let t = c.args.self.now in
     let p = c.args.front.now in
     record {
@@ -22,5 +23,5 @@ loop-row-init c =
 pub path_beside-requires-clause-short : goal.path_beside-requires-clause-short
 path_beside-requires-clause-short c =
     subst (λ (q : Names). length (text_below q) ≤ most_path_bytes)
-    (c.in-Some.ensures.path ∙ ap (λ (q : Names). take c.in-Some.row.above q ++ c.in-Some.row.name.now ∷ []) (sym c.loop-row.invariant.last))
-    (next_path c.args.self.now c.next_number.ensures.layer c.args.front.now c.loop-row.paths.items c.loop-row.last c.next.new.self.path c.in-Some.row.node c.loop-row.rows.rest c.next.new.self.rest c.loop-row.invariant.listed c.in-Some.ensures.row).1
+    ((if_some _ c.in-Some.is c.in_ok-row.ensures.path) ∙ ap (λ (q : Names). take c.in-Some.row.above q ++ c.in-Some.row.name.now ∷ []) (sym c.loop-rows.invariant.last))
+    (next_path c.args.self.now c.next_number.ensures.layer c.args.front.now c.loop-rows.paths.items c.loop-rows.last c.try_next.new.self.path c.in-Some.row.node c.loop-rows.rows.rest c.try_next.new.self.rest c.loop-rows.invariant.listed (match_some _ _ c.in-Some.is c.in_ok-row.ensures.row)).1

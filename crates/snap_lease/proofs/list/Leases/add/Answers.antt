@@ -18,12 +18,12 @@ use Rattle.snap_lease.proofs.list.Leases.add.Goals as goal
 pub returns-in_default-clause-no_lease : goal.returns-in_default-clause-no_lease
 returns-in_default-clause-no_lease c =
     let absent : has_lease c.args.self.now c.args.namespace.now c.args.lease.now ≡ false =
-    has_lease_at_number c.self.inside.list.entries c.args.self.now c.self.inside.numbers.map c.args.namespace.now c.args.lease.now c.get.result c.get.ensures c.self.invariant.3 c.self.view_is ∙ ap is_some c.in_default.is in
+    has_lease_at_number c.self.inside.list.entries c.args.self.now c.self.inside.numbers c.args.namespace.now c.args.lease.now c.get.result c.get.ensures c.self.invariant.3 c.self.view_is ∙ ap is_some c.in_default.is in
     search rules
 
 pub unreachable-requires : goal.unreachable-requires
 unreachable-requires c =
-    let found = found_at_number c.self.inside.list.entries c.self.inside.numbers.map c.args.namespace.now c.args.lease.now c.in-Some.number c.self.invariant.4 c.self.invariant.0 c.self.invariant.3 c.in-Some.ensures in
+    let found = found_at_number c.self.inside.list.entries c.self.inside.numbers c.args.namespace.now c.args.lease.now c.in-Some.number c.self.invariant.4 c.self.invariant.0 c.self.invariant.3 c.in-Some.ensures in
     absurd (true≢false (sym found ∙ ap is_some (sym c.get_mut.ensures.value ∙ ap option_copied_mut c.in_default-get_mut.is)))
 
 -- what is refused where it is new is not there
@@ -44,14 +44,14 @@ invariant_of-self c =
       subst (λ xs. AreDistinct (values_of xs)) e c.self.invariant.0,
       subst (λ xs. AllByRecursion NamesOnce (values_of xs)) e c.self.invariant.1,
       subst (λ xs. AreNameCounts (values_of xs) c.add.new.counts) e (λ space name. c.in_err-add.ensures.err_counts space name ∙ c.self.invariant.2 space name),
-      subst (λ xs. AreNumbers xs c.self.inside.numbers.map) e c.self.invariant.3,
+      subst (λ xs. AreNumbers xs c.self.inside.numbers) e c.self.invariant.3,
       (c.get_mut.follows.holds c.add.new.self).4,
     )
 
 pub returns-in_err-add-clause-no_lease : goal.returns-in_err-add-clause-no_lease
 returns-in_err-add-clause-no_lease c =
     let there : has_lease c.args.self.now c.args.namespace.now c.args.lease.now ≡ true =
-    has_lease_at_number c.self.inside.list.entries c.args.self.now c.self.inside.numbers.map c.args.namespace.now c.args.lease.now (Some c.in-Some.number) c.in-Some.ensures c.self.invariant.3 c.self.view_is in
+    has_lease_at_number c.self.inside.list.entries c.args.self.now c.self.inside.numbers c.args.namespace.now c.args.lease.now (Some c.in-Some.number) c.in-Some.ensures c.self.invariant.3 c.self.view_is in
     search rules
 
 pub returns-in_err-add-clause-memory : goal.returns-in_err-add-clause-memory
@@ -59,7 +59,7 @@ returns-in_err-add-clause-memory c =
     let ls = values_of c.self.inside.list.entries in
     let entry = c.in-Some-get_mut.entry.now in
     let s =
-    stands_at_number c.self.inside.list.entries c.self.inside.numbers.map c.args.namespace.now c.args.lease.now c.in-Some.number c.self.invariant.4 c.self.invariant.0 c.self.invariant.3 c.in-Some.ensures
+    stands_at_number c.self.inside.list.entries c.self.inside.numbers c.args.namespace.now c.args.lease.now c.in-Some.number c.self.invariant.4 c.self.invariant.0 c.self.invariant.3 c.in-Some.ensures
     entry (sym c.in-Some-get_mut.ensures.value) in
     let named : lease_names c.args.self.now c.args.namespace.now c.args.lease.now c.args.name.now ≡ does_name c.args.name.now entry =
     ap (λ ks. lease_names ks c.args.namespace.now c.args.lease.now c.args.name.now) (sym c.self.view_is)
@@ -73,7 +73,7 @@ returns-in_err-add-clause-err c = on_err c.from_residual.result (ap values_of (s
 -- where the lease is
 at : (c : goal.In_ok-add) → Stands (is_at (nat_cmp c.in-Some.number)) (is_lease c.args.namespace.now c.args.lease.now) c.self.inside.list.entries c.in-Some-get_mut.entry.now
 at c =
-    stands_at_number c.self.inside.list.entries c.self.inside.numbers.map c.args.namespace.now c.args.lease.now c.in-Some.number c.self.invariant.4 c.self.invariant.0 c.self.invariant.3 c.in-Some.ensures
+    stands_at_number c.self.inside.list.entries c.self.inside.numbers c.args.namespace.now c.args.lease.now c.in-Some.number c.self.invariant.4 c.self.invariant.0 c.self.invariant.3 c.in-Some.ensures
     c.in-Some-get_mut.entry.now (sym c.in-Some-get_mut.ensures.value)
 
 -- what the call leaves
@@ -98,7 +98,7 @@ invariant_of-self-2 c =
       subst (AllByRecursion NamesOnce) (sym (new_values c)) (NamesOnce-with_name_added namespace lease name (values_of es) c.self.invariant.1),
       subst (λ ls. AreNameCounts ls c.add.new.counts) (sym written)
           (counts-changed (values_of es) s.place entry w entry c.self.inside.counts c.add.new.counts c.self.invariant.2 s.within s.at c.in_ok-add.ensures.counted),
-      numbers-added namespace lease name c.in-Some.number es new entry w s writes c.in_ok-add.ensures.ok c.self.inside.numbers.map (sym c.in-Some-get_mut.ensures.value) c.self.invariant.3,
+      numbers-added namespace lease name c.in-Some.number es new entry w s writes c.in_ok-add.ensures.ok c.self.inside.numbers (sym c.in-Some-get_mut.ensures.value) c.self.invariant.3,
       (c.get_mut.follows.holds w).4,
     )
 
@@ -120,5 +120,5 @@ returns-clause-counts c =
 pub returns-clause-no_lease : goal.returns-clause-no_lease
 returns-clause-no_lease c =
     let there : has_lease c.args.self.now c.args.namespace.now c.args.lease.now ≡ true =
-    has_lease_at_number c.self.inside.list.entries c.args.self.now c.self.inside.numbers.map c.args.namespace.now c.args.lease.now (Some c.in-Some.number) c.in-Some.ensures c.self.invariant.3 c.self.view_is in
+    has_lease_at_number c.self.inside.list.entries c.args.self.now c.self.inside.numbers c.args.namespace.now c.args.lease.now (Some c.in-Some.number) c.in-Some.ensures c.self.invariant.3 c.self.view_is in
     search rules

@@ -15,7 +15,7 @@ absent c = ap (λ ls. has_lease ls c.args.namespace.now c.args.lease.now) c.self
 
 -- what the call leaves
 items : (c : goal.Joined-this) → c.insert.new.self.entries ≡ c.self.inside.list.entries ++ (c.in_ok-number.number, c.in_ok-entry.entry) ∷ []
-items c = c.in_default.ensures.entries ∙ insert_entry-last c.in_ok-number.number c.in_ok-entry.entry c.self.inside.list.entries c.in_ok-number.ensures
+items c = c.in_default.ensures.entries ∙ insert_entry-last c.in_ok-number.number c.in_ok-entry.entry c.self.inside.list.entries c.in_ok-number.ensures.above
 
 values : (c : goal.Joined-this) → values_of c.insert.new.self.entries ≡ values_of c.self.inside.list.entries ++ c.in_ok-entry.entry ∷ []
 values c = ap values_of (items c) ∙ values-push c.in_ok-number.number c.in_ok-entry.entry c.self.inside.list.entries
@@ -35,8 +35,8 @@ invariant_of-self-in_default c =
       subst AreDistinct (sym (values c)) (AreDistinct-push (values_of es) entry c.self.invariant.0 new),
       subst (AllByRecursion NamesOnce) (sym (values c)) (all-push NamesOnce (values_of es) entry c.self.invariant.1 once),
       counts c,
-      subst (λ xs. AreNumbers xs c.put.new.self.map) (sym (items c))
-          (numbers-created es c.self.inside.numbers.map c.put.new.self.map c.args.namespace.now c.args.lease.now c.args.until c.in_ok-number.number entry is (absent c) c.self.invariant.3 c.in_ok-put.ensures.ok),
+      subst (λ xs. AreNumbers xs c.put.new.self) (sym (items c))
+          (numbers-created es c.self.inside.numbers c.put.new.self c.args.namespace.now c.args.lease.now c.args.until c.in_ok-number.number entry is (absent c) c.self.invariant.3 c.in_ok-put.ensures.ok),
       c.insert.ensures.ordered,
     )
 
@@ -49,6 +49,15 @@ pub returns-in_default-clause-counts : goal.returns-in_default-clause-counts
 returns-in_default-clause-counts c = λ space name.
     sym (counts c space name) ∙ c.self.invariant.2 space name ∙ ap (λ ls. naming_count ls space name) c.self.view_is
 
+pub invariant_of-self : goal.invariant_of-self
+invariant_of-self c = (
+  c.self.invariant.0,
+  c.self.invariant.1,
+  c.self.invariant.2,
+  (λ space name. c.in_err-put.ensures.err space name ∙ c.self.invariant.3 space name),
+  c.self.invariant.4,
+)
+
 pub invariant_of-self-2 : goal.invariant_of-self-2
 invariant_of-self-2 c =
     let none = ap (λ ls. has_lease ls c.args.namespace.now c.args.lease.now) c.self.view_is ∙ sym c.has.ensures ∙ c.if-has.false in
@@ -56,8 +65,8 @@ invariant_of-self-2 c =
       subst (λ xs. AreDistinct (values_of xs)) e c.self.invariant.0,
       subst (λ xs. AllByRecursion NamesOnce (values_of xs)) e c.self.invariant.1,
       subst (λ xs. AreNameCounts (values_of xs) c.self.inside.counts) e c.self.invariant.2,
-      subst (λ xs. AreNumbers xs c.take.new.self.map) e
-          (numbers-back c.self.inside.list.entries c.self.inside.numbers.map c.take.new.self.map c.put.new.self.map c.args.namespace.now c.args.lease.now c.in_ok-number.number none c.self.invariant.3
+      subst (λ xs. AreNumbers xs c.take.new.self) e
+          (numbers-back c.self.inside.list.entries c.self.inside.numbers c.take.new.self c.put.new.self c.args.namespace.now c.args.lease.now c.in_ok-number.number none c.self.invariant.3
           c.in_ok-put.ensures.ok c.take.ensures),
       c.insert.ensures.ordered,
     )

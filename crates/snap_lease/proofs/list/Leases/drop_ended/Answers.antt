@@ -22,13 +22,13 @@ values c = ap values_of (kept c) ∙ values-filter (λ l. not (has_ended c.args.
 pub invariant_of-self : goal.invariant_of-self
 invariant_of-self c =
     let es = c.self.inside.list.entries in
-    let index = c.take_ended.new.numbers.map in (
+    let index = c.take_ended.new.numbers in (
       subst AreDistinct (sym (values c)) (AreDistinct-filter _ _ c.self.invariant.0),
       subst (AllByRecursion NamesOnce) (sym (values c)) (all-filter NamesOnce _ _ c.self.invariant.1),
       subst (λ ls. AreNameCounts ls c.take_ended.new.counts) (sym (values c))
           (counts-ended c.args.namespace.now c.args.now (values_of es) c.self.inside.counts c.take_ended.new.counts c.self.invariant.2 c.take_ended.ensures.counted),
       subst (λ xs. AreNumbers xs index) (sym (kept c))
-          (numbers-ended es c.self.inside.numbers.map index (has_ended c.args.namespace.now c.args.now) c.self.invariant.0 c.self.invariant.3 c.take_ended.ensures.numbered),
+          (numbers-ended es c.self.inside.numbers index (has_ended c.args.namespace.now c.args.now) c.self.invariant.0 c.self.invariant.3 c.take_ended.ensures.numbered),
       c.retain.ensures.ordered,
     )
 

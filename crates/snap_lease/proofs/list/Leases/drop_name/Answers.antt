@@ -22,7 +22,7 @@ use Rattle.snap_lease.proofs.list.Leases.drop_name.Goals.{then-drop_name, else-d
 -- without the lease no name is in it
 absent : (c : goal.In_default) → has_lease c.args.self.now c.args.namespace.now c.args.lease.now ≡ false
 absent c =
-    has_lease_at_number c.self.inside.list.entries c.args.self.now c.self.inside.numbers.map c.args.namespace.now c.args.lease.now c.get.result c.get.ensures c.self.invariant.3 c.self.view_is ∙ ap is_some c.in_default.is
+    has_lease_at_number c.self.inside.list.entries c.args.self.now c.self.inside.numbers c.args.namespace.now c.args.lease.now c.get.result c.get.ensures c.self.invariant.3 c.self.view_is ∙ ap is_some c.in_default.is
 
 pub returns-in_default-clause-named : goal.returns-in_default-clause-named
 returns-in_default-clause-named c =
@@ -34,7 +34,7 @@ returns-in_default-clause-no_lease c = (λ _. absent c, λ _. refl)
 
 pub unreachable-requires : goal.unreachable-requires
 unreachable-requires c =
-    let found = found_at_number c.self.inside.list.entries c.self.inside.numbers.map c.args.namespace.now c.args.lease.now c.in-Some.number c.self.invariant.4 c.self.invariant.0 c.self.invariant.3 c.in-Some.ensures in
+    let found = found_at_number c.self.inside.list.entries c.self.inside.numbers c.args.namespace.now c.args.lease.now c.in-Some.number c.self.invariant.4 c.self.invariant.0 c.self.invariant.3 c.in-Some.ensures in
     absurd (true≢false (sym found ∙ ap is_some (sym c.get_mut.ensures.value ∙ ap option_copied_mut c.in_default-get_mut.is)))
 
 pub drop_name-requires-clause-counted : goal.drop_name-requires-clause-counted
@@ -44,7 +44,7 @@ drop_name-requires-clause-counted c = λ named.
     let entry = c.in-Some-get_mut.entry.now in
     let ls = values_of c.self.inside.list.entries in
     let s =
-    stands_at_number c.self.inside.list.entries c.self.inside.numbers.map namespace lease c.in-Some.number c.self.invariant.4 c.self.invariant.0 c.self.invariant.3 c.in-Some.ensures
+    stands_at_number c.self.inside.list.entries c.self.inside.numbers namespace lease c.in-Some.number c.self.invariant.4 c.self.invariant.0 c.self.invariant.3 c.in-Some.ensures
     entry (sym c.in-Some-get_mut.ensures.value) in
     subst (λ n. 0 < count_within n c.args.name.now c.self.inside.counts) ((is_lease-parts namespace lease (get_or ls s.place entry) s.passes).0 ∙ sym (ap (λ (l : Lease). l.namespace) s.at))
     (counted_at namespace lease c.args.name.now ls s.place entry c.self.inside.counts c.self.invariant.2 s.within s.passes (sym (ap (does_name c.args.name.now) s.at) ∙ named))
@@ -52,7 +52,7 @@ drop_name-requires-clause-counted c = λ named.
 -- where the lease is
 at : (c : goal.Joined-drop_name) → Stands (is_at (nat_cmp c.in-Some.number)) (is_lease c.args.namespace.now c.args.lease.now) c.self.inside.list.entries c.in-Some-get_mut.entry.now
 at c =
-    stands_at_number c.self.inside.list.entries c.self.inside.numbers.map c.args.namespace.now c.args.lease.now c.in-Some.number c.self.invariant.4 c.self.invariant.0 c.self.invariant.3 c.in-Some.ensures
+    stands_at_number c.self.inside.list.entries c.self.inside.numbers c.args.namespace.now c.args.lease.now c.in-Some.number c.self.invariant.4 c.self.invariant.0 c.self.invariant.3 c.in-Some.ensures
     c.in-Some-get_mut.entry.now (sym c.in-Some-get_mut.ensures.value)
 
 -- what the call leaves
@@ -76,7 +76,7 @@ invariant_of-self c =
       subst (AllByRecursion NamesOnce) (sym (new_values c)) (NamesOnce-with_name_dropped namespace lease name (values_of es) c.self.invariant.1),
       subst (λ ls. AreNameCounts ls c.drop_name.new.counts) (sym (ap values_of writes ∙ s.writes w))
           (counts-changed (values_of es) s.place entry w entry c.self.inside.counts c.drop_name.new.counts c.self.invariant.2 s.within s.at c.drop_name.ensures.counted),
-      numbers-dropped namespace lease name c.in-Some.number es new entry w s writes c.drop_name.ensures.left c.self.inside.numbers.map (sym c.in-Some-get_mut.ensures.value) c.self.invariant.3,
+      numbers-dropped namespace lease name c.in-Some.number es new entry w s writes c.drop_name.ensures.left c.self.inside.numbers (sym c.in-Some-get_mut.ensures.value) c.self.invariant.3,
       (c.get_mut.follows.holds w).4,
     )
 
@@ -126,13 +126,13 @@ returns-clause-counts c =
 pub returns-clause-named : goal.returns-clause-named
 returns-clause-named c =
     named_by c.if-drop_name.result _ _ (answered c)
-    (lease_names_at_number c.self.inside.list.entries c.args.self.now c.self.inside.numbers.map c.args.namespace.now c.args.lease.now c.args.name.now c.in-Some.number c.in-Some-get_mut.entry.now
+    (lease_names_at_number c.self.inside.list.entries c.args.self.now c.self.inside.numbers c.args.namespace.now c.args.lease.now c.args.name.now c.in-Some.number c.in-Some-get_mut.entry.now
     c.self.invariant.4 c.self.invariant.0 c.self.invariant.3 c.in-Some.ensures (sym c.in-Some-get_mut.ensures.value) c.self.view_is)
 
 pub returns-clause-no_lease : goal.returns-clause-no_lease
 returns-clause-no_lease c =
     no_lease_by c.if-drop_name.result _ _ (answered c)
-    (has_lease_at_number c.self.inside.list.entries c.args.self.now c.self.inside.numbers.map c.args.namespace.now c.args.lease.now (Some c.in-Some.number) c.in-Some.ensures c.self.invariant.3 c.self.view_is)
+    (has_lease_at_number c.self.inside.list.entries c.args.self.now c.self.inside.numbers c.args.namespace.now c.args.lease.now (Some c.in-Some.number) c.in-Some.ensures c.self.invariant.3 c.self.view_is)
 
 pub returns-clause-err : goal.returns-clause-err
 returns-clause-err c =

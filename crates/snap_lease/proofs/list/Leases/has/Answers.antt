@@ -5,4 +5,4 @@ use Rattle.snap_lease.proofs.list.Leases.has.Goals as goal
 pub returns : goal.returns
 returns c =
     c.is_some.ensures
-    ∙ sym (has_lease_at_number c.self.inside.list.entries c.args.self.now c.self.inside.numbers.map c.args.namespace.now c.args.lease.now c.get.result c.get.ensures c.self.invariant.3 c.self.view_is)
+    ∙ sym (has_lease_at_number c.self.inside.list.entries c.args.self.now c.self.inside.numbers c.args.namespace.now c.args.lease.now c.get.result c.get.ensures c.self.invariant.3 c.self.view_is)

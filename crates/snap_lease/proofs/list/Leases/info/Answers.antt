@@ -11,18 +11,18 @@ use Rattle.snap_lease.proofs.list.Leases.info.Goals as goal
 pub returns-in_default : goal.returns-in_default
 returns-in_default c =
     let absent : has_lease c.args.self.now c.args.namespace.now c.args.lease.now ≡ false =
-    has_lease_at_number c.self.inside.list.entries c.args.self.now c.self.inside.numbers.map c.args.namespace.now c.args.lease.now c.get.result c.get.ensures c.self.invariant.3 c.self.view_is ∙ ap is_some c.in_default.is in
+    has_lease_at_number c.self.inside.list.entries c.args.self.now c.self.inside.numbers c.args.namespace.now c.args.lease.now c.get.result c.get.ensures c.self.invariant.3 c.self.view_is ∙ ap is_some c.in_default.is in
     sym (told_lease-none c.args.self.now c.args.namespace.now c.args.lease.now absent)
 
 pub index-requires : goal.index-requires
 index-requires c =
-    found_at_number c.self.inside.list.entries c.self.inside.numbers.map c.args.namespace.now c.args.lease.now c.in-Some.number c.self.invariant.4 c.self.invariant.0 c.self.invariant.3 c.in-Some.ensures
+    found_at_number c.self.inside.list.entries c.self.inside.numbers c.args.namespace.now c.args.lease.now c.in-Some.number c.self.invariant.4 c.self.invariant.0 c.self.invariant.3 c.in-Some.ensures
 
 pub returns : goal.returns
 returns c =
     let es = c.self.inside.list.entries in
     let test = is_lease c.args.namespace.now c.args.lease.now in
-    let agree = at_number es c.self.inside.numbers.map c.args.namespace.now c.args.lease.now c.in-Some.number c.self.invariant.4 c.self.invariant.0 c.self.invariant.3 c.in-Some.ensures in
+    let agree = at_number es c.self.inside.numbers c.args.namespace.now c.args.lease.now c.in-Some.number c.self.invariant.4 c.self.invariant.0 c.self.invariant.3 c.in-Some.ensures in
     let found : find test c.args.self.now ≡ Some c.index.result.now =
     ap (find test) (sym c.self.view_is) ∙ sym (lookup-find (is_at (nat_cmp c.in-Some.number)) test es agree) ∙ c.index.ensures in
     ap Some c.in_ok-info.ensures ∙ sym (ap (option_map told) found)

@@ -6,9 +6,9 @@ pub returns : goal.returns
 returns c =
     let found = c.in_ok-word.ensures.lookup in
     let next = c.self.inside.next in
-    let parts : List (Bor (List ℕ)) = c.deref.result.now in
+    let parts : List (Bor (List ℕ)) = c.as_slice.result.now in
     let rest : drop next parts ≡ c.in_ok-word.field-0.now ∷ drop (next + 1) parts = drop_more parts next c.in_ok-word.field-0.now found.3.0 ∙ ap (λ (part : Bor (List ℕ)). part ∷ drop (next + 1) parts) (sym found.1) in
     let all : drop next c.self.inside.parts.items ≡ c.in_ok-word.field-0.now ∷ drop (next + 1) c.self.inside.parts.items =
-    ap (drop next) (sym c.deref.ensures.value) ∙ rest ∙ ap (λ (xs : List (Bor (List ℕ))). c.in_ok-word.field-0.now ∷ drop (next + 1) xs) c.deref.ensures.value
+    ap (drop next) (sym c.as_slice.ensures) ∙ rest ∙ ap (λ (xs : List (Bor (List ℕ))). c.in_ok-word.field-0.now ∷ drop (next + 1) xs) c.as_slice.ensures
     in
     sym c.self.view_is ∙ ap (map (λ (part : Bor (List ℕ)). part.now)) all

@@ -9,7 +9,7 @@ use Rattle.snap_path.specs.Limits.{most_path_bytes}
 pub invariant_of-path : goal.invariant_of-path
 unfolding encode
 invariant_of-path c =
-    let same : c.path.inside.names.items ≡ c.args.self.now = c.path.view_is ∙ c.in_ok-path.ensures ∙ c.deref.ensures.value ∙ c.self.view_is in
+    let same : c.path.inside.names.items ≡ c.args.self.now = c.path.view_is ∙ c.in_ok-path.ensures.ok ∙ c.deref.ensures.value ∙ c.self.view_is in
     let fits : length (text_below (c.path.inside.names.items ++ c.args.name.now ∷ [])) ≤ most_path_bytes = rw same c.requires in
     let pushed = IsHeld_push (string_bytes c.path.inside.text) c.path.inside.names.items c.args.name.now c.path.invariant c.as_str.ensures.valid fits in
     let text : string_bytes c.push_str.new.self ≡ (string_bytes c.path.inside.text ++ 47 ∷ []) ++ c.args.name.now = c.in_ok-push_str.ensures.bytes ∙ ap (λ b. b ++ c.as_str.result.now) c.in_ok-push.ensures.bytes ∙ ap (λ n. (string_bytes c.path.inside.text ++ 47 ∷ []) ++ n) c.as_str.ensures.value in
