@@ -1,16 +1,16 @@
 -- A call whose texts are cut makes the same step: a text that is cut is refused before and after.
-use Rattle.std.proofs.Common.{◌≡◌, ℕ, suc, ◌+◌, ◌<◌, ◌≤◌, Bool, true, false, List, [], ◌∷◌, length, Option, Some, None, ◌⊎◌, inl, inr, refl, sym, ap, ◌∙◌, arith}
-use Rattle.std.specs.List.{AllByRecursion, list_all, list_any, find}
+use Rattle.std.proofs.Common.{◌≡◌, ℕ, zero, suc, ◌+◌, ◌<◌, ◌≤◌, Bool, true, false, true≢false, List, [], ◌∷◌, length, drop, Option, Some, None, ◌⊎◌, inl, inr, refl, sym, ap, ◌∙◌, arith}
+use Rattle.std.specs.List.{AllByRecursion, list_all, list_any, find, starts_with}
 use Rattle.std.specs.Option.{option_map, option_map_or}
-use Rattle.std.specs.Prelude.{if◌then◌else◌, ◌&&◌, ◌==◌, not, nat_lt, nat_le, bytes_eq, Err}
-use Rattle.std.proofs.lemmas.Bool.{false_from_ne_true}
+use Rattle.std.specs.Prelude.{if◌then◌else◌, ◌&&◌, ◌||◌, ◌==◌, not, nat_eq, nat_lt, nat_le, bytes_eq, codes, is_some, slice_get, Err}
+use Rattle.std.proofs.lemmas.Bool.{and_parts, false_from_ne_true}
 use Rattle.std.proofs.lemmas.Bool.Decides.{nat_tests}
 use Rattle.std.proofs.lemmas.Slice.Eq.{bytes_eq-Decides}
 use Rattle.snap_layer.specs.Tree.{Tree}
-use Rattle.snap_usage.specs.declared.usage.Usage.{Usage}
-use Rattle.snap_record.specs.Cut.{cut, cut_label, kept_labels}
+use Rattle.snap_record.specs.Cut.{cut, cut_label, cut_path, kept_by_paths, kept_labels, kept_update}
+use Rattle.snap_record.specs.Filters.{no_filter}
 use Rattle.snap_record.specs.Labels.{Bytes, Label, is_label, are_labels}
-use Rattle.snap_record.specs.Updates.{is_update_path, is_well_formed, replaces_all}
+use Rattle.snap_record.specs.Updates.{is_update_path, is_well_formed, is_whole, named_key, named_keys, replaces_all, with_named}
 use Rattle.snap_record.specs.Records.{info_of, usage_of}
 use Rattle.snap_record.specs.declared.filter.Filter.{Filter}
 use Rattle.snap_record.specs.declared.record.Record.{Record}
@@ -26,11 +26,12 @@ use Rattle.snap_call.specs.declared.reply.Reply.TheVariants.{Info, Page, Usage a
 use Rattle.snap_call.specs.declared.state.State.{State}
 use Rattle.snap_call.specs.Forms.{is_key, is_parent, is_start, is_page, is_limit}
 use Rattle.snap_call.specs.Good.{HasShortNames}
-use Rattle.snap_call.specs.Kept.{kept}
-use Rattle.snap_call.specs.Records.{active_at, has_key, record_at, info_page}
+use Rattle.snap_call.specs.Kept.{is_short_name, kept}
+use Rattle.snap_call.specs.Records.{active_at, has_key, record_at, info_page, with_labels}
 use Rattle.snap_call.specs.State.{place_of}
-use Rattle.snap_call.specs.Step.{are_formed, at_record, commit, commit_as, committed, counted, has_named, in_namespace, lease_add_record, lease_create_at, lease_drop_at, lease_release_at, mounts, place_for, place_on, prepare_at, refused, remove_record, set_limit_at, step, sweep_at, unless_refused, update_record, view_at}
+use Rattle.snap_call.specs.Step.{are_formed, at_record, commit, commit_as, committed, counted, has_named, in_namespace, lease_add_record, lease_create_at, lease_drop_at, lease_release_at, mounts, place_for, place_on, prepare_at, refused, relabelled_at, remove_record, set_limit_at, step, sweep_at, unless_refused, update_record, view_at}
 use Rattle.snap_call.proofs.Leasing.{position-past}
+use Rattle.snap_call.proofs.Lists.{find-passes, found-any}
 
 -- ---- a text that is cut, or stays
 
@@ -127,13 +128,22 @@ malformed_cut key value bad = by (nat_le (length key) 4096) (nat_le (length valu
         let second : length value ≤ 4096 = grind (arith, nat_tests) in
         ap (λ k. is_label (k, cut 4096 value)) (cut_within 4096 key first) ∙ (ap (λ v. is_label (key, v)) (cut_within 4096 value second) ∙ bad)
 
-malformed_found : (labels : List Label) (l : Label) → find (λ m. not (is_label m)) labels ≡ Some l → (list_all is_label labels ≡ false) × (is_label l ≡ false)
-malformed_found [] l e = absurd (cc)
-malformed_found (m ∷ ms) l e = by (is_label m) refl (malformed_found ms l) e
+-- the first that hasn't its form
+malformed_found : {A : Type 0} (f : A → Bool) (xs : List A) (x : A) → find (λ y. not (f y)) xs ≡ Some x → (list_all f xs ≡ false) × (f x ≡ false)
+malformed_found f [] x e = absurd (cc)
+malformed_found {A} f (y ∷ ys) x e = by (f y) refl (malformed_found f ys x) e
   where
-    by : (b : Bool) → is_label m ≡ b → (find (λ n. not (is_label n)) ms ≡ Some l → (list_all is_label ms ≡ false) × (is_label l ≡ false)) → (if not b then Some m else find (λ n. not (is_label n)) ms) ≡ Some l → ((b && list_all is_label ms) ≡ false) × (is_label l ≡ false)
-    by true is rest f = rest f
-    by false is rest f = let same : m ≡ l = cc in (refl, ap is_label (sym same) ∙ is)
+    by : (b : Bool) → f y ≡ b → (find (λ z. not (f z)) ys ≡ Some x → (list_all f ys ≡ false) × (f x ≡ false)) → (if not b then Some y else find (λ z. not (f z)) ys) ≡ Some x → ((b && list_all f ys) ≡ false) × (f x ≡ false)
+    by true is rest e = rest e
+    by false is rest e = let same : y ≡ x = cc in (refl, ap f (sym same) ∙ is)
+
+none_malformed : {A : Type 0} (f : A → Bool) (xs : List A) → find (λ y. not (f y)) xs ≡ None → list_all f xs ≡ true
+none_malformed f [] e = refl
+none_malformed {A} f (y ∷ ys) e = by (f y) refl (none_malformed f ys) e
+  where
+    by : (b : Bool) → f y ≡ b → (find (λ z. not (f z)) ys ≡ None → list_all f ys ≡ true) → (if not b then Some y else find (λ z. not (f z)) ys) ≡ None → (b && list_all f ys) ≡ true
+    by true is rest e = rest e
+    by false is rest e = absurd (cc)
 
 labels_stay : (labels : List Label) → Stays are_labels kept_labels labels
 labels_stay labels = by (find (λ m. not (is_label m)) labels) refl
@@ -141,21 +151,49 @@ labels_stay labels = by (find (λ m. not (is_label m)) labels) refl
     by : (o : Option Label) → find (λ m. not (is_label m)) labels ≡ o → (option_map_or cut_label o labels ≡ labels) ⊎ ((are_labels labels ≡ false) × (are_labels (option_map_or cut_label o labels) ≡ false))
     by None e = inl refl
     by (Some l) e =
-        let found = malformed_found labels l e in
+        let found = malformed_found is_label labels l e in
         inr (ap (λ x. x && nat_le (length labels) 64) found.0, ap (λ x. x && true && true) (malformed_cut l.0 l.1 found.1))
 
--- the labels of an update
-update_stays : (paths : List Bytes) (labels : List Label) → Stays (λ given. is_well_formed given paths) kept_labels labels
-update_stays paths labels = by (find (λ m. not (is_label m)) labels) refl
+-- malformed labels stay malformed
+labels_malformed : (labels : List Label) → list_all is_label labels ≡ false → list_all is_label (kept_labels labels) ≡ false
+labels_malformed labels bad = by (find (λ m. not (is_label m)) labels) refl
   where
-    many : List Label → Bool
-    many given = if replaces_all paths then nat_le (length given) 64 else true
+    by : (o : Option Label) → find (λ m. not (is_label m)) labels ≡ o → list_all is_label (option_map_or cut_label o labels) ≡ false
+    by None e = bad
+    by (Some l) e = ap (λ x. x && true) (malformed_cut l.0 l.1 (malformed_found is_label labels l e).1)
 
-    by : (o : Option Label) → find (λ m. not (is_label m)) labels ≡ o → (option_map_or cut_label o labels ≡ labels) ⊎ ((is_well_formed labels paths ≡ false) × (is_well_formed (option_map_or cut_label o labels) paths ≡ false))
-    by None e = inl refl
-    by (Some l) e =
-        let found = malformed_found labels l e in
-        inr (ap (λ x. (x && list_all is_update_path paths) && many labels) found.0, ap (λ x. ((x && true) && list_all is_update_path paths) && many (cut_label l)) (malformed_cut l.0 l.1 found.1))
+-- ---- a path of an update, which is cut
+
+starts_alike : (most : ℕ) (bs start : Bytes) → length start ≤ most → starts_with nat_eq (cut most bs) start ≡ starts_with nat_eq bs start
+unfolding cut
+starts_alike most [] start low = refl
+starts_alike most (b ∷ bs) [] low = refl
+starts_alike zero (b ∷ bs) (c ∷ cs) low = absurd (omega arith)
+starts_alike (suc most) (b ∷ bs) (c ∷ cs) low = ap (λ x. nat_eq c b && x) (starts_alike most bs cs (omega arith))
+
+not_whole : (path : Bytes) → 4103 < length path → is_whole path ≡ false
+not_whole path long = false_from_ne_true (is_whole path) (λ same. let e : length path ≡ 6 = ap length ((bytes_eq-Decides path (codes "labels")).0 same) in absurd (omega arith))
+
+named_long : (path : Bytes) → 4103 < length path → is_update_path path ≡ starts_with nat_eq path (codes "labels.")
+named_long path long = ap (λ w. w || is_some (named_key path)) (not_whole path long) ∙ by (starts_with nat_eq path (codes "labels.")) (nat_lt 7 (length path)) (grind (arith, nat_tests))
+  where
+    by : (a b : Bool) → b ≡ true → is_some (if a && b then Some (drop 7 path) else None) ≡ a
+    by true b e = ap (λ x. is_some (if x then Some (drop 7 path) else None)) e
+    by false b e = refl
+
+path_alike : (path : Bytes) → (is_whole (cut 4103 path) ≡ is_whole path) × (is_update_path (cut 4103 path) ≡ is_update_path path)
+path_alike path = by (nat_le (length path) 4103) refl
+  where
+    by : (b : Bool) → nat_le (length path) 4103 ≡ b → (is_whole (cut 4103 path) ≡ is_whole path) × (is_update_path (cut 4103 path) ≡ is_update_path path)
+    by true e =
+        let low : length path ≤ 4103 = grind (arith, nat_tests) in
+        (ap is_whole (cut_within 4103 path low), ap is_update_path (cut_within 4103 path low))
+    by false e =
+        let high : 4103 < length path = grind (arith, nat_tests) in
+        let above : 4103 < length (cut 4103 path) = cut_above 4103 path high in (
+          not_whole (cut 4103 path) above ∙ sym (not_whole path high),
+          named_long (cut 4103 path) above ∙ (starts_alike 4103 path (codes "labels.") (omega arith) ∙ sym (named_long path high)),
+        )
 
 -- ---- the name of a namespace
 
@@ -246,14 +284,120 @@ module _ (s : State) (short : HasShortNames s) where
   commit_alike slot name lease labels Nothing = refl
   commit_alike slot name lease labels (Count now) = refl
 
+  -- a namespace with too long a name
+  placeless : (name : Bytes) → is_short_name name ≡ false → (next : ℕ → State × Reply) → in_namespace s name next ≡ refused s NoNamespace
+  placeless name e next =
+      let long : 255 < length name = grind (arith, nat_tests) in
+      ap (λ o. option_map_or next o (refused s NoNamespace)) (unplaced name long s.namespaces short)
+
   -- an update
-  updated_alike : (name key : Bytes) (labels : List Label) (paths : List Bytes)
-      → step s (calls.Update (cut 255 name) (cut 1024 key) (kept_labels labels) paths) Nothing ≡ step s (calls.Update name key labels paths) Nothing
-  updated_alike name key labels paths =
-      ap (λ x. if is_key (cut 1024 key) && is_well_formed (kept_labels labels) paths then x else refused s BadArgument) (in_same name (λ n place. option_map_or (update_record s (cut 1024 key) (kept_labels labels) paths place) (record_at place (cut 1024 key) s.records) (refused s NotFound)))
-      ∙ formed_alike {A = Bytes × List Label} (λ p. is_key p.0 && is_well_formed p.1 paths) (λ p. (cut 1024 p.0, kept_labels p.1)) (key, labels)
-      (both is_key (λ l. is_well_formed l paths) (cut 1024) kept_labels key labels (key_stays key) (update_stays paths labels))
-      (λ p. at_record s name p.0 (update_record s p.0 p.1 paths)) (refused s BadArgument)
+  abbrev looked : Bytes → Bytes → List Label × List Bytes → State × Reply
+  looked name key given = step s (calls.Update name key given.0 given.1) Nothing
+
+  abbrev formed : List Label × List Bytes → Bool
+  formed given = is_well_formed given.0 given.1
+
+  malformed : (name key : Bytes) (given : List Label × List Bytes) → formed given ≡ false → looked name key given ≡ refused s BadArgument
+  malformed name key given e =
+      ap (λ b. if b then at_record s name key (update_record s key given.0 given.1) else refused s BadArgument) (out_right (is_key key) (formed given) e)
+
+  -- which isn't looked for
+  unsought : (name key : Bytes) (given : List Label × List Bytes) → (is_short_name name && is_key key) ≡ false → formed given ≡ true → looked name key given ≡ (if is_key key then refused s NoNamespace else refused s BadArgument)
+  unsought name key given out is = by (is_key key) (is_short_name name) refl refl
+    where
+      found : State × Reply
+      found = at_record s name key (update_record s key given.0 given.1)
+
+      by : (k n : Bool) → is_key key ≡ k → is_short_name name ≡ n → looked name key given ≡ (if is_key key then refused s NoNamespace else refused s BadArgument)
+      by false n e f = ap (λ k. if k && formed given then found else refused s BadArgument) e ∙ sym (ap (λ k. if k then refused s NoNamespace else refused s BadArgument) e)
+      by true true e f = absurd (true≢false (sym (ap (λ k. is_short_name name && k) e ∙ ap (λ n. n && true) f) ∙ out))
+      by true false e f =
+          ap (λ k. if k && formed given then found else refused s BadArgument) e
+          ∙ (ap (λ w. if w then found else refused s BadArgument) is
+          ∙ (placeless name f (λ place. option_map_or (update_record s key given.0 given.1 place) (record_at place key s.records) (refused s NotFound))
+          ∙ sym (ap (λ k. if k then refused s NoNamespace else refused s BadArgument) e)))
+
+  -- which replaces all
+  abbrev whole_at : Bytes → Bytes → List Label → Bool → Bool → List Bytes → State × Reply
+  whole_at name key labels paths all named =
+      if is_key key && ((list_all is_label labels && paths) && (if all then nat_le (length labels) 64 else true))
+      then at_record s name key (λ place r.
+      let after = (if all then labels else with_named r.labels labels named) in
+      if (list_all is_label labels && paths) && nat_le (length after) 64
+      then (relabelled_at s place key after, Info (info_of (with_labels after (s.entries + 1) r)))
+      else refused s BadArgument)
+      else refused s BadArgument
+
+  replaced : (name key : Bytes) (labels : List Label) (ps qs : List Bytes) → list_all is_update_path ps ≡ list_all is_update_path qs → replaces_all ps ≡ true → replaces_all qs ≡ true → looked name key (labels, ps) ≡ looked name key (labels, qs)
+  replaced name key labels ps qs same all both =
+      ap (λ b. whole_at name key labels (list_all is_update_path ps) b (named_keys ps)) all
+      ∙ (ap (λ f. whole_at name key labels f true (named_keys qs)) same
+      ∙ sym (ap (λ b. whole_at name key labels (list_all is_update_path qs) b (named_keys qs)) both))
+
+  -- whose labels and paths have their forms
+  formed_update : (name key : Bytes) (labels : List Label) (paths : List Bytes) → list_all is_label labels ≡ true → list_all is_update_path paths ≡ true
+      → looked name key (if replaces_all paths then (labels, option_map_or cut_path (find is_whole paths) []) else if is_short_name name && is_key key then (labels, paths) else ([], option_map_or cut_path (slice_get paths 0) [])) ≡ looked name key (labels, paths)
+  formed_update name key labels [] are each = refl
+  formed_update name key labels (p ∷ ps) are each = by (list_any is_whole (p ∷ ps)) refl
+    where
+      paths : List Bytes
+      paths = p ∷ ps
+
+      by_sought : (b : Bool) → (is_short_name name && is_key key) ≡ b → list_any is_whole paths ≡ false → looked name key (if b then (labels, paths) else ([], cut_path p)) ≡ looked name key (labels, paths)
+      by_sought true e none = refl
+      by_sought false e none =
+          let first : is_update_path p ≡ true = (and_parts (is_update_path p) (list_all is_update_path ps) each).0 in
+          let one : formed ([], cut_path p) ≡ true =
+          ap (λ f. (true && (f && true)) && (if is_whole (cut 4103 p) || false then true else true)) ((path_alike p).1 ∙ first)
+          ∙ elim (is_whole (cut 4103 p)) as (λ w. (if w || false then true else true) ≡ true) [ true ↦ refl | false ↦ refl ] in
+          let all : formed (labels, paths) ≡ true =
+          ap (λ f. (f && list_all is_update_path paths) && (if list_any is_whole paths then nat_le (length labels) 64 else true)) are
+          ∙ (ap (λ f. f && (if list_any is_whole paths then nat_le (length labels) 64 else true)) each
+          ∙ ap (λ w. if w then nat_le (length labels) 64 else true) none) in
+          unsought name key ([], cut_path p) e one ∙ sym (unsought name key (labels, paths) e all)
+
+      by_found : (o : Option Bytes) → find is_whole paths ≡ o → list_any is_whole paths ≡ true → looked name key (labels, option_map_or cut_path o []) ≡ looked name key (labels, paths)
+      by_found None e some = let found = found-any is_whole paths some in absurd (let bad : ◌≡◌ {A = Option Bytes} None (Some found.0) = sym e ∙ found.1 in cc)
+      by_found (Some q) e some =
+          let whole : is_whole q ≡ true = find-passes is_whole paths q e in
+          let form : is_update_path q ≡ true = ap (λ w. w || is_some (named_key q)) whole in
+          replaced name key labels (cut_path q) paths
+          (ap (λ f. f && true) ((path_alike q).1 ∙ form) ∙ sym each)
+          (ap (λ w. w || false) ((path_alike q).0 ∙ whole))
+          some
+
+      by : (b : Bool) → list_any is_whole paths ≡ b → looked name key (if b then (labels, option_map_or cut_path (find is_whole paths) []) else if is_short_name name && is_key key then (labels, paths) else ([], cut_path p)) ≡ looked name key (labels, paths)
+      by true e = by_found (find is_whole paths) refl e
+      by false e = by_sought (is_short_name name && is_key key) refl e
+
+  kept_alike : (name key : Bytes) (labels : List Label) (paths : List Bytes) → looked name key (kept_update (is_short_name name && is_key key) labels paths) ≡ looked name key (labels, paths)
+  kept_alike name key labels paths = by (list_all is_label labels) refl
+    where
+      sought : Bool
+      sought = is_short_name name && is_key key
+
+      many : List Label → List Bytes → Bool
+      many given named = if replaces_all named then nat_le (length given) 64 else true
+
+      by_path : (o : Option Bytes) → find (λ p. not (is_update_path p)) paths ≡ o → list_all is_label labels ≡ true
+          → looked name key (option_map_or (λ p. ([], cut_path p)) o (if replaces_all paths then (labels, option_map_or cut_path (find is_whole paths) []) else if sought then (labels, paths) else ([], option_map_or cut_path (slice_get paths 0) []))) ≡ looked name key (labels, paths)
+      by_path None e are = formed_update name key labels paths are (none_malformed is_update_path paths e)
+      by_path (Some p) e are =
+          let found = malformed_found is_update_path paths p e in
+          malformed name key ([], cut_path p) (ap (λ f. (true && (f && true)) && many [] (cut_path p)) ((path_alike p).1 ∙ found.1))
+          ∙ sym (malformed name key (labels, paths) (ap (λ f. (list_all is_label labels && f) && many labels paths) found.0 ∙ ap (λ f. f && many labels paths) (out_right (list_all is_label labels) false refl)))
+
+      by : (b : Bool) → list_all is_label labels ≡ b → looked name key (if b then kept_by_paths sought labels paths else (kept_labels labels, [])) ≡ looked name key (labels, paths)
+      by true e = by_path (find (λ p. not (is_update_path p)) paths) refl e
+      by false e =
+          malformed name key (kept_labels labels, []) (ap (λ f. (f && true) && nat_le (length (kept_labels labels)) 64) (labels_malformed labels e))
+          ∙ sym (malformed name key (labels, paths) (ap (λ f. (f && list_all is_update_path paths) && many labels paths) e))
+
+  updated_alike : (name key : Bytes) (given : List Label × List Bytes) → looked (cut 255 name) (cut 1024 key) given ≡ looked name key given
+  updated_alike name key given =
+      ap (λ x. if is_key (cut 1024 key) && formed given then x else refused s BadArgument) (in_same name (λ n place. option_map_or (update_record s (cut 1024 key) given.0 given.1 place) (record_at place (cut 1024 key) s.records) (refused s NotFound)))
+      ∙ formed_alike (λ k. is_key k && formed given) (cut 1024) key (beside is_key (cut 1024) key (formed given) (key_stays key))
+      (λ k. at_record s name k (update_record s k given.0 given.1)) (refused s BadArgument)
 
   -- a walk
   walked_alike : (name after : Bytes) (most : ℕ) (asked : Filter)
@@ -262,6 +406,22 @@ module _ (s : State) (short : HasShortNames s) where
       ap (λ x. if is_start (cut 1024 after) && is_page most then x else refused s BadArgument) (in_same name (λ n place. (counted s, Page (info_page place (cut 1024 after) most asked s.records))))
       ∙ formed_alike (λ a. is_start a && is_page most) (cut 1024) after (beside is_start (cut 1024) after (is_page most) (text_stays 1024 after))
       (λ a. in_namespace s name (λ place. (counted s, Page (info_page place a most asked s.records)))) (refused s BadArgument)
+
+  -- whose filter isn't looked at
+  asked_alike : (name after : Bytes) (most : ℕ) (asked : Filter)
+      → step s (calls.Walk name after most (if is_start after && is_page most && is_short_name name then asked else no_filter)) Nothing ≡ step s (calls.Walk name after most asked) Nothing
+  asked_alike name after most asked = by (is_start after && is_page most) (is_short_name name) refl refl
+    where
+      pages : Filter → ℕ → State × Reply
+      pages filter place = (counted s, Page (info_page place after most filter s.records))
+
+      paged : Filter → State × Reply
+      paged filter = in_namespace s name (pages filter)
+
+      by : (b n : Bool) → (is_start after && is_page most) ≡ b → is_short_name name ≡ n → step s (calls.Walk name after most (if b && n then asked else no_filter)) Nothing ≡ step s (calls.Walk name after most asked) Nothing
+      by true true e f = refl
+      by true false e f = ap (λ x. if is_start after && is_page most then x else refused s BadArgument) (placeless name f (pages no_filter) ∙ sym (placeless name f (pages asked)))
+      by false n e f = ap (λ b. if b then paged no_filter else refused s BadArgument) e ∙ sym (ap (λ b. if b then paged asked else refused s BadArgument) e)
 
   -- each call
   pub step_kept : (call : Call) (given : Given) → step s (kept call) given ≡ step s call given
@@ -276,8 +436,10 @@ module _ (s : State) (short : HasShortNames s) where
   step_kept (calls.Mounts namespace key) given = on_key namespace key (λ n k place. option_map_or (λ r. (counted s, mounts s r)) (record_at place k s.records) (refused s NotFound))
   step_kept (calls.View namespace key parent labels) given = made namespace key parent labels (view_at s)
   step_kept (calls.Remove namespace key) given = on_key namespace key (λ n k place. option_map_or (remove_record s n k place) (record_at place k s.records) (refused s NotFound))
-  step_kept (calls.Update namespace key labels paths) given = updated_alike namespace key labels paths
-  step_kept (calls.Walk namespace after most asked) given = walked_alike namespace after most asked
+  step_kept (calls.Update namespace key labels paths) given =
+      updated_alike namespace key (kept_update (is_short_name namespace && is_key key) labels paths) ∙ kept_alike namespace key labels paths
+  step_kept (calls.Walk namespace after most asked) given =
+      walked_alike namespace after most (if is_start after && is_page most && is_short_name namespace then asked else no_filter) ∙ asked_alike namespace after most asked
   step_kept (calls.SetLimit namespace limit) given = ap (λ x. if is_limit limit then x else refused s BadArgument) (in_same namespace (λ n. set_limit_at s limit))
   step_kept (calls.LeaseCreate namespace lease until) given = on_key namespace lease (λ n l place. lease_create_at s n l until)
   step_kept (calls.LeaseAdd namespace lease name) given = on_keys namespace lease name (λ n l k place. option_map_or (lease_add_record s n l k) (record_at place k s.records) (refused s NotFound))

@@ -24,6 +24,7 @@ pub mod Keeping
 pub mod Reaching
 pub mod Sweeping
 pub mod Kept
+pub mod Promising
 pub mod Cutting
 pub mod Counts
 pub mod Replaying

@@ -7,6 +7,7 @@ pub mod Reached
 pub mod Indexes
 pub mod Marked
 pub mod Good
+pub mod Promised
 pub mod Step
 pub mod Questions
 pub mod Kept

@@ -1,6 +1,7 @@
 ghost use Rattle.std.specs.Prelude.{◌≡◌, ◌<◌, ◌+◌, ◌^◌, length, true, false, Some, IsSome, OnOk, OnErr, IfOk};
 ghost use Rattle.snap_call.specs.Forms.{is_config};
 ghost use Rattle.snap_call.specs.Good.{Good};
+ghost use Rattle.snap_call.specs.Promised.{Promised};
 ghost use Rattle.snap_call.specs.Records.{active_at, committed_as, has_key, info_page, with_record, without_slot};
 ghost use Rattle.snap_call.specs.State.{opening, place_of, name_at, limit_at, with_limit};
 ghost use Rattle.snap_call.specs.Step.{IsAllowed, step, has_named, leases_after};
@@ -77,6 +78,7 @@ impl State {
         // call keeps.
         ensures good { is_config config ≡ true → Good result }
         ensures keeps { (s : State) (call : Call) (given : Given) → Good s → IsAllowed s call given → Good (step s call given).0 }
+        ensures promised { (s : State) → Good s → Promised s }
     {
         State {
             root: config.root,

@@ -3,6 +3,7 @@ use Rattle.snap_call.specs.declared.state.State.{State}
 use Rattle.snap_call.specs.Good.{Good}
 use Rattle.snap_call.specs.State.{opening}
 use Rattle.snap_call.proofs.Kept.{good_opening, good_step}
+use Rattle.snap_call.proofs.Promising.{good_promised}
 use Rattle.snap_call.proofs.state.State.opening.Goals as goal
 
 pub returns-clause-good : goal.returns-clause-good
@@ -14,3 +15,6 @@ returns-clause-good c = λ valid.
 
 pub returns-clause-keeps : goal.returns-clause-keeps
 returns-clause-keeps c = good_step
+
+pub returns-clause-promised : goal.returns-clause-promised
+returns-clause-promised c = good_promised

@@ -1,0 +1,7 @@
+-- What a good state promises.
+use Rattle.snap_call.specs.declared.state.State.{State}
+use Rattle.snap_call.specs.Good.{Good}
+use Rattle.snap_call.specs.Promised.{Promised}
+
+pub good_promised : (s : State) → Good s → Promised s
+good_promised s good = record { parents = good.parents; leased = good.leased; counted = good.counted; within = good.within; chains = good.chains }

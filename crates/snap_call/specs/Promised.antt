@@ -1,0 +1,21 @@
+-- What a store promises of its snapshots whenever no call is under way. `Good` is what a step needs besides to keep it.
+-- Cited by `State::opening`.
+use Rattle.std.specs.Prelude.{◌≡◌, ℕ, ◌<◌, true, IsSome, length}
+use Rattle.std.specs.List.{AllByRecursion}
+use Rattle.snap_usage.specs.Counted.{Covers}
+use Rattle.snap_call.specs.declared.state.State.{State}
+use Rattle.snap_call.specs.Good.{IsGuarding, IsUsageCounted}
+use Rattle.snap_call.specs.Records.{charge_of}
+use Rattle.snap_call.specs.State.{chain_from, is_base, limit_at}
+
+pub record Promised (s : State) : Type 0 where
+  -- each snapshot has no parent, or one that is a committed snapshot of its namespace
+  pub parents : AllByRecursion (λ r. is_base r.namespace r.parent s.records ≡ true) s.records
+  -- each snapshot that a lease names is there and committed, in the lease's namespace
+  pub leased : AllByRecursion (IsGuarding s.namespaces s.records) s.leases
+  -- each committed snapshot's stored usage is the count over its layer
+  pub counted : AllByRecursion (λ r. IsUsageCounted r.content) s.records
+  -- each namespace is charged within its limit
+  pub within : (place : ℕ) → place < length s.namespaces → Covers (limit_at place s.namespaces) (charge_of place s.records)
+  -- each snapshot has a chain of at most 64 committed ancestors
+  pub chains : AllByRecursion (λ r. IsSome (chain_from 64 s.records r.namespace r.parent)) s.records
