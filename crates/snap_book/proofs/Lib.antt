@@ -3,3 +3,4 @@ pub mod Rooted
 pub mod Commits
 pub mod Viewing
 mod Asking
+pub mod Promises

@@ -1,6 +1,7 @@
 // A book: its state, its journal, and what is read of both.
 ghost use Rattle.std.specs.Prelude.{◌≡◌, ◌≤◌, ◌<◌, ◌+◌, ◌↔◌, ℕ, None, Some, length, Ok, Err, IfErr, IsErrOf, ◌⊎◌, [], IfOk, OnErr, false, true};
 ghost use Rattle.snap_call.specs.Good.{Good};
+ghost use Rattle.snap_call.specs.Promised.{Promised};
 ghost use Rattle.snap_call.specs.Journal.{Replays};
 ghost use Rattle.snap_call.specs.Records.{open_count, charge_of, sum_of, max_sessions};
 ghost use Rattle.snap_call.specs.declared.call.Call.TheVariants as calls;
@@ -16,6 +17,7 @@ ghost use Rattle.std.specs.Option.{option_map};
 ghost use Rattle.snap_path.specs.Memory.{no_memory};
 ghost use Rattle.snap_usage.specs.Counted.{Covers};
 ghost use Rattle.snap_book.specs.Slot.{found_of, slot_and_id_of};
+ghost use Rattle.snap_history.specs.Changes.{no_shares};
 ghost use Rattle.snap_history.specs.Open.{shares_of};
 
 use crate::journal::{Journal, session_entry};
@@ -149,9 +151,11 @@ impl<N: StoreName> Book<N> {
 
     /// The records of all snapshots, in order of their namespaces' places and the bytes of their keys.
     /// Takes no memory. The cost is constant.
+    #[tactic(auto, using(crate::proofs::Promises::good_promises))]
     pub fn records(&self) -> &Records
         ensures records { result.now ≡ self.now.state.records }
-        // What holds of every book.
+        // What holds of every book: what its store promises of its snapshots, and what each call keeps besides.
+        ensures promised { Promised self.now.state }
         ensures good { Good self.now.state }
         ensures began { IsBeginning self.now.opening }
         ensures replays { Replays self.now.opening self.now.journal self.now.state }
@@ -161,10 +165,11 @@ impl<N: StoreName> Book<N> {
     }
 
     /// What the open snapshots of the namespace were charged when the round began, for
-    /// [`history`](snap_history::history); none where the store has no such namespace. Takes memory for a
-    /// place for each slot. The cost grows with the numbers of slots and of namespaces.
+    /// [`history`](snap_history::history); a place without a share for each slot where the store has no such
+    /// namespace. Takes memory for a place for each slot. The cost grows with the numbers of slots and of namespaces.
     pub fn opening_shares(&self, namespace: &str) -> Result<Shares, AllocError>
-        ensures { IfOk result (λ shares. (place : ℕ) → place_of namespace.now self.now.state.namespaces ≡ Some place → shares ≡ shares_of self.now.opening.slots place self.now.opening.records) }
+        ensures shares { IfOk result (λ shares. (place : ℕ) → place_of namespace.now self.now.state.namespaces ≡ Some place → shares ≡ shares_of self.now.opening.slots place self.now.opening.records) }
+        ensures none { IfOk result (λ shares. place_of namespace.now self.now.state.namespaces ≡ None → shares ≡ no_shares self.now.state.slots) }
     {
         match self.accounts.state().place_of(namespace) {
             Some(place) => self.journal.shares().of_namespace(self.alloc, place),

@@ -12,6 +12,7 @@ ghost use Rattle.snap_merge.specs.declared.error.FsError.TheVariants.{OutOfMemor
 ghost use Rattle.snap_usage.specs.Counted.{Covers};
 ghost use Rattle.snap_usage.specs.declared.usage.Usage as usages;
 ghost use Rattle.snap_upper.specs.After.{after, planned, lists_names};
+ghost use Rattle.snap_upper.specs.Memory.{TakesNoMemory};
 ghost use Rattle.snap_book.specs.Files.{worked};
 
 use crate::active::{Active, Sealed};
@@ -105,7 +106,8 @@ impl<N: StoreName> Active<N> {
     ///
     /// The errors are those of [`Active::apply`] up to `LayerFull`, in the same order. It changes
     /// nothing. It takes no memory but for the names of a directory that is removed or renamed over,
-    /// where no test before that fails: such a plan can answer `OutOfMemory`. The cost is that of `snap_upper::plan`.
+    /// where no test before that fails: such a plan can answer `OutOfMemory`; and for the walk through a directory
+    /// that a whiteout takes or that moves to a longer path. The cost is that of `snap_upper::plan`.
     pub fn plan(&self, op: &Op) -> Result<Planned, FsError>
         ensures answer { Answers (planned (after op.now self.now.layer self.now.lowers)) result }
         ensures sure { lists_names op.now (self.now.layer ∷ self.now.lowers) ≡ false → result ≡ planned (after op.now self.now.layer self.now.lowers) }
@@ -119,7 +121,8 @@ impl<N: StoreName> Active<N> {
     /// - those of the operation, in the order of `snap_upper::apply`, `LayerFull` last;
     /// - `NeedsCharge`, with the count of the whole next layer: the share doesn't cover it in both
     ///   quantities. A charge of that much makes room for the operation;
-    /// - `OutOfMemory`: a growth was refused.
+    /// - `OutOfMemory`: a growth was refused. What works on the layer's own things wants none, as `snap_upper::apply`
+    ///   says: a write within a file, a cut, a mode, an opaque mark, an unlink.
     ///
     /// After any of them the snapshot is as it was. The share stays, also where the layer shrinks.
     /// The cost is that of [`snap_upper::apply_within`].
@@ -135,6 +138,8 @@ impl<N: StoreName> Active<N> {
         ensures unchanged { OnErr result (self.new ≡ self.old) }
         // Where no names are listed, want of memory never stands for another error.
         ensures first { lists_names op.now (self.old.layer ∷ self.old.lowers) ≡ false → IfErr (worked op.now self.old.share.usage self.old.layer self.old.lowers) (λ e. result ≡ Err e) }
+        // What works on the layer's own things is never refused memory.
+        ensures sure { TakesNoMemory op.now self.old.layer → IfErr result (λ e. worked op.now self.old.share.usage self.old.layer self.old.lowers ≡ Err e) }
         // So much is asked for exactly where it is the next layer's count and the share doesn't cover it.
         ensures needs { lists_names op.now (self.old.layer ∷ self.old.lowers) ≡ false → (need : usages.Usage) → IsErrOf result (NeedsCharge need) ↔ ((planned (after op.now self.old.layer self.old.lowers) ≡ Ok (record { after = need })) × ¬ Covers self.old.share.usage need) }
     {

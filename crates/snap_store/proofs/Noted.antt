@@ -1,6 +1,6 @@
 -- What a call leaves on its session's tape, by what it left in the book.
-use Rattle.std.specs.Prelude.{if◌then◌else◌}
-use Rattle.std.proofs.Common.{◌≡◌, ◌<◌, List, [], ◌∷◌, ◌++◌, Option, None, sym, ap, ◌∙◌, subst, arith}
+use Rattle.std.specs.Prelude.{if◌then◌else◌, Bool}
+use Rattle.std.proofs.Common.{◌≡◌, ℕ, ◌<◌, List, [], ◌∷◌, ◌++◌, Option, None, sym, ap, ◌∙◌, subst, arith}
 use Rattle.snap_call.specs.declared.call.Call.{Call}
 use Rattle.snap_call.specs.declared.call.Given.{Given}
 use Rattle.snap_call.specs.declared.entry.Entry.{Entry}
@@ -36,3 +36,11 @@ pub answered_on : (old mid : SessionValue) (b after : BookValue) (call : Call) (
     → e ≡ (if is_noted reply then after.copy else None) → AnsweredOn old (session_with_entry mid e) call given reply
 answered_on old mid b after call given (Refused why) e same room by is = refused_on old mid b after call given why e same room by is
 answered_on old mid b after call given reply e same room by is = taped old mid b after call given reply e same room by is
+
+-- a refused call, by what was found of the refusal
+pub refused_noted : (old mid now : SessionValue) (b after : BookValue) (n : ℕ) (call : Call) (given : Given) (why : Refusal) (t : Bool) → Untaped old mid → 0 < mid.spare → n ≡ mid.number → RefusedBy b after n call given why → t ≡ is_recorded why
+    → now ≡ session_with_entry mid (if t then after.copy else None) → RefusedOn old now call given why
+refused_noted old mid now b after n call given why t same room number by is noted =
+    let at = subst (λ (n : ℕ). RefusedBy b after n call given why) number by in
+    subst (λ (s : SessionValue). RefusedOn old s call given why) (sym noted)
+    (refused_on old mid b after call given why (if t then after.copy else None) same room at (ap (λ (t : Bool). if t then after.copy else None) is))

@@ -1,5 +1,5 @@
 // The close of a store, and the next round.
-ghost use Rattle.std.specs.Prelude.{◌≡◌, IfOk, OnOk, IfErr, Ok, Err};
+ghost use Rattle.std.specs.Prelude.{◌≡◌, IfOk, OnOk, IfErr, Ok, Err, length};
 ghost use Rattle.std.specs.Option.{option_map};
 ghost use Rattle.snap_call.specs.Records.{charge_of, open_count, sum_of};
 ghost use Rattle.snap_call.specs.State.{place_of};
@@ -14,7 +14,7 @@ use crate::store::{Store, begun};
 use snap_book::{Book, Refusal, SharedEntry};
 use snap_call::Records;
 use snap_round::{RoundName, Tie};
-use snap_tape::Session;
+use snap_tape::{Session, TapeCount};
 use snap_usage::Usage;
 use std::alloc::Global;
 use std::marker::Model;
@@ -73,15 +73,24 @@ impl<N: RoundName> Store<N> {
         ensures returned { IfErr result (λ back. back.sessions ≡ sessions) }
         ensures cause { IfErr result (λ back. HasCause back.store back.sessions.items back.cause) }
     {
-        let (alloc, book, tie, layer_inodes) = self.into_book();
+        let (alloc, book, tie, layer_inodes, tapes) = self.into_book();
         match close_cause(alloc, &book, sessions.as_slice()) {
             Ok(None) => Ok(Closed::of(alloc, book, tie)),
-            Ok(Some(cause)) => Err(NotClosed::of(alloc, book, tie, layer_inodes, sessions, cause)),
+            Ok(Some(cause)) => Err(NotClosed::of(
+                alloc,
+                book,
+                tie,
+                layer_inodes,
+                tapes,
+                sessions,
+                cause,
+            )),
             Err(no_memory) => Err(NotClosed::of(
                 alloc,
                 book,
                 tie,
                 layer_inodes,
+                tapes,
                 sessions,
                 Cause::OutOfMemory(no_memory),
             )),
@@ -122,6 +131,7 @@ impl<N: RoundName> NotClosed<N> {
         book: Book<N>,
         tie: Tie<N>,
         layer_inodes: u64,
+        tapes: TapeCount,
         sessions: Vec<Session>,
         cause: Cause,
     ) -> NotClosed<N>
@@ -129,6 +139,7 @@ impl<N: RoundName> NotClosed<N> {
         requires began { open_count book.opening.records ≡ 0 }
         requires whole { tie ≡ whole_round (round_of book) }
         requires layers { HasLayers (round_of book) layer_inodes }
+        requires made { tapes ≡ length book.journal }
         ensures same { result.store ≡ round_of book }
         ensures returned { result.sessions ≡ sessions }
         ensures cause { HasCause result.store result.sessions.items result.cause }
@@ -136,7 +147,7 @@ impl<N: RoundName> NotClosed<N> {
         // The clauses of the records tell what the book keeps.
         let _records = book.records();
         NotClosed {
-            store: Store::of(alloc, book, tie, layer_inodes),
+            store: Store::of(alloc, book, tie, layer_inodes, tapes),
             sessions,
             cause,
         }

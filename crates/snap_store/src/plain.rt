@@ -7,8 +7,8 @@ ghost use Rattle.snap_accounts.specs.Entries.{IsPlain};
 ghost use Rattle.snap_store.specs.Replies.{AreMounts, IsDone, IsInfo, IsPage, IsRemoval, IsReplyTo, IsSweep, IsUsage};
 ghost use Rattle.snap_tape.specs.Tapes.{AnsweredOn, RefusedOn, Taped};
 
-use crate::note::{entry_of, is_noted};
-use crate::store::Store;
+use crate::note::{is_noted, note_entry};
+use crate::store::{Locked, Store};
 use snap_book::{Call, Refusal, Removed, Reply};
 use snap_mount::Mount;
 use snap_record::{Filter, Info, Labels, Sequence, Text};
@@ -190,9 +190,9 @@ impl<N: RoundName> Store<N> {
             return (Reply::Refused(refused.into()), Removed::none(self.alloc));
         }
         let mut locked = self.book.lock(rt);
-        let book = &mut locked.book;
+        let Locked { book, tapes, .. } = &mut *locked;
         let (reply, removed) = book.do_call_apart(session.number(), call);
-        session.note(entry_of(book, is_noted(&reply)));
+        note_entry(book, tapes, session, is_noted(&reply));
         (reply, removed)
     }
 

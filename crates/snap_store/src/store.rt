@@ -1,5 +1,5 @@
 // A store: its book behind the lock, and the calls that hand snapshots out and take them back.
-ghost use Rattle.std.specs.Prelude.{◌≡◌, ◌≤◌, ◌+◌, ◌⊎◌, ◌∷◌, ◌<◌, [], None, false, IfOk, IfErr, OnOk, IsErrOf, ◌↔◌};
+ghost use Rattle.std.specs.Prelude.{◌≡◌, ◌≤◌, ◌+◌, ◌⊎◌, ◌∷◌, ◌<◌, [], None, false, length, IfOk, IfErr, OnOk, IsErrOf, ◌↔◌};
 ghost use Rattle.snap_path.specs.Memory.{no_memory};
 ghost use Rattle.snap_usage.specs.Counted.{count_of};
 ghost use Rattle.snap_call.specs.Forms.{is_config};
@@ -16,25 +16,27 @@ ghost use Rattle.snap_round.specs.Rounds.{whole_round};
 ghost use Rattle.snap_store.specs.Rounds.{HasLayers, round_of};
 ghost use Rattle.snap_store.specs.Values.{IsChargedTo, IsPrepared, IsViewed};
 
-use crate::note::{entry_of, is_recorded};
+use crate::note::{is_recorded, note_entry};
 use snap_book::{Active, Book, Config, Held, Refusal, Sealed, Viewed};
 use snap_record::{Labels, Text};
 use snap_round::{Half, KnownRound, NewStore, RoundName, Tie};
-use snap_tape::Session;
+use snap_tape::{Session, TapeCount};
 use snap_usage::Usage;
 use std::alloc::Global;
 use std::marker::{Brand, Model};
 use std::sync::{Mutex, Wait};
 
-// What the lock holds: the book, and the half of the round that it is of. The half takes no bytes.
+// What the lock holds: the book, the half of the round that it is of, which takes no bytes, and how many entries the
+// sessions' tapes were given.
 #[derive(Drop)]
 pub(crate) struct Locked<N: RoundName> {
     pub(crate) book: Book<N>,
     pub(crate) half: Half<N>,
+    pub(crate) tapes: TapeCount,
 }
 
 impl<N: RoundName> Model for Locked<N> {
-    ghost use Rattle.std.specs.Prelude.{◌≡◌};
+    ghost use Rattle.std.specs.Prelude.{◌≡◌, length};
     ghost use Rattle.snap_round.specs.Rounds.{inner};
     ghost use Rattle.snap_book.specs.Book.{BookValue};
     ghost use Rattle.snap_store.specs.Rounds.{round_of};
@@ -43,7 +45,8 @@ impl<N: RoundName> Model for Locked<N> {
 
     ghost view = { λ l. l.book };
 
-    ghost invariant = { λ l. l.half ≡ inner (round_of l.book) };
+    // The tapes were given each entry that was made.
+    ghost invariant = { λ l. (l.half ≡ inner (round_of l.book)) × (l.tapes ≡ length l.book.journal) };
 }
 
 /// A store of snapshots: a [`Book`] behind one lock, which any number of threads call at once, each by a
@@ -95,9 +98,16 @@ fn known<N: RoundName, K: KnownRound>(
     requires idle { open_count book.opening.records ≡ 0 }
     requires layers { HasLayers (round_of book) layer_inodes }
     requires whole { tie ≡ whole_round tie.round }
+    requires empty { book.journal ≡ [] }
     ensures { result ≡ round_of book }
 {
-    Store::of(alloc, book, tie.begin::<K>(), layer_inodes)
+    Store::of(
+        alloc,
+        book,
+        tie.begin::<K>(),
+        layer_inodes,
+        TapeCount::none(),
+    )
 }
 
 // The store of a book that begins a round.
@@ -113,27 +123,36 @@ pub(crate) fn begun<N: RoundName>(alloc: Global, book: Book<N>, tie: Tie<N>) -> 
 
 impl<N: RoundName> Store<N> {
     // The store of a book, which is of the round of the tie.
-    pub(crate) fn of(alloc: Global, book: Book<N>, tie: Tie<N>, layer_inodes: u64) -> Store<N>
+    pub(crate) fn of(
+        alloc: Global,
+        book: Book<N>,
+        tie: Tie<N>,
+        layer_inodes: u64,
+        tapes: TapeCount,
+    ) -> Store<N>
         requires whole { tie ≡ whole_round (round_of book) }
         requires idle { open_count book.opening.records ≡ 0 }
         requires layers { HasLayers (round_of book) layer_inodes }
+        requires made { tapes ≡ length book.journal }
         ensures { result ≡ round_of book }
     {
         let (tie, half) = tie.split();
         Store {
             alloc,
-            book: Mutex::new(Locked { book, half }),
+            book: Mutex::new(Locked { book, half, tapes }),
             tie,
             layer_inodes,
         }
     }
 
-    // Its book, out of the lock: it is of the store's round. Beside it the most inodes of a new layer.
-    pub(crate) fn into_book(self) -> (Global, Book<N>, Tie<N>, u64)
+    // Its book, out of the lock: it is of the store's round. Beside it the most inodes of a new layer, and how many
+    // entries the tapes were given.
+    pub(crate) fn into_book(self) -> (Global, Book<N>, Tie<N>, u64, TapeCount)
         ensures round { round_of result.1 ≡ self }
         ensures whole { result.2 ≡ whole_round (round_of result.1) }
         ensures idle { open_count result.1.opening.records ≡ 0 }
         ensures layers { HasLayers (round_of result.1) result.3 }
+        ensures made { result.4 ≡ length result.1.journal }
     {
         let Store {
             alloc,
@@ -141,8 +160,8 @@ impl<N: RoundName> Store<N> {
             tie,
             layer_inodes,
         } = self;
-        let Locked { book, half } = book.into_inner();
-        (alloc, book, tie.join(half), layer_inodes)
+        let Locked { book, half, tapes } = book.into_inner();
+        (alloc, book, tie.join(half), layer_inodes, tapes)
     }
 
     /// A store with the namespaces of the configuration and no snapshots, in a round without sessions.
@@ -179,13 +198,10 @@ impl<N: RoundName> Store<N> {
         let mut tape = Vec::new(self.alloc);
         tape.reserve(1)?;
         let mut locked = self.book.lock(rt);
-        let book = &mut locked.book;
-        let number = book.open_session()?;
-        let Some(entry) = book.take_entry() else {
-            unreachable!()
-        };
-        tape.push_reserved(entry);
-        Ok(Session::of(number, tape))
+        let Locked { book, tapes, .. } = &mut *locked;
+        let mut session = Session::of(book.open_session()?, tape);
+        note_entry(book, tapes, &mut session, true);
+        Ok(session)
     }
 
     /// Makes an active snapshot in the lowest free slot, charged 1/1 for its root, over a parent or over
@@ -210,15 +226,15 @@ impl<N: RoundName> Store<N> {
     {
         session.reserve(1)?;
         let mut locked = self.book.lock(rt);
-        let book = &mut locked.book;
+        let Locked { book, tapes, .. } = &mut *locked;
         let n = session.number();
         match book.prepare_within(n, namespace, key, parent, labels, self.layer_inodes) {
             Ok((active, _)) => {
-                session.note(book.take_entry());
+                note_entry(book, tapes, session, true);
                 Ok(active)
             }
             Err(why) => {
-                session.note(entry_of(book, is_recorded(why)));
+                note_entry(book, tapes, session, is_recorded(why));
                 Err(why)
             }
         }
@@ -243,14 +259,14 @@ impl<N: RoundName> Store<N> {
     {
         session.reserve(1)?;
         let mut locked = self.book.lock(rt);
-        let book = &mut locked.book;
+        let Locked { book, tapes, .. } = &mut *locked;
         match book.view(session.number(), namespace, key, parent, labels) {
             Ok(viewed) => {
-                session.note(book.take_entry());
+                note_entry(book, tapes, session, true);
                 Ok(viewed)
             }
             Err(why) => {
-                session.note(entry_of(book, is_recorded(why)));
+                note_entry(book, tapes, session, is_recorded(why));
                 Err(why)
             }
         }
@@ -278,14 +294,14 @@ impl<N: RoundName> Store<N> {
     {
         session.reserve(1)?;
         let mut locked = self.book.lock(rt);
-        let book = &mut locked.book;
+        let Locked { book, tapes, .. } = &mut *locked;
         match book.charge(session.number(), active, need, want) {
             Ok(()) => {
-                session.note(book.take_entry());
+                note_entry(book, tapes, session, true);
                 Ok(())
             }
             Err(why) => {
-                session.note(entry_of(book, is_recorded(why)));
+                note_entry(book, tapes, session, is_recorded(why));
                 Err(why)
             }
         }
@@ -308,14 +324,14 @@ impl<N: RoundName> Store<N> {
     {
         session.reserve(1)?;
         let mut locked = self.book.lock(rt);
-        let book = &mut locked.book;
+        let Locked { book, tapes, .. } = &mut *locked;
         match book.trim(session.number(), active) {
             Ok(()) => {
-                session.note(book.take_entry());
+                note_entry(book, tapes, session, true);
                 Ok(())
             }
             Err(why) => {
-                session.note(entry_of(book, is_recorded(why)));
+                note_entry(book, tapes, session, is_recorded(why));
                 Err(why)
             }
         }
@@ -346,14 +362,14 @@ impl<N: RoundName> Store<N> {
             return Err((refused.into(), sealed));
         }
         let mut locked = self.book.lock(rt);
-        let book = &mut locked.book;
+        let Locked { book, tapes, .. } = &mut *locked;
         match book.commit(session.number(), name, lease, labels, sealed) {
             Ok(usage) => {
-                session.note(book.take_entry());
+                note_entry(book, tapes, session, true);
                 Ok(usage)
             }
             Err((why, sealed)) => {
-                session.note(entry_of(book, is_recorded(why)));
+                note_entry(book, tapes, session, is_recorded(why));
                 Err((why, sealed))
             }
         }
@@ -372,9 +388,9 @@ impl<N: RoundName> Store<N> {
     {
         let released = held.release();
         let mut locked = self.book.lock(rt);
-        let book = &mut locked.book;
+        let Locked { book, tapes, .. } = &mut *locked;
         let freed = book.take_back(session.number(), released);
-        session.note(book.take_entry());
+        note_entry(book, tapes, session, true);
         freed
     }
 }

@@ -44,6 +44,11 @@ abbrev pub session_with_entry : SessionValue → Option Entry → SessionValue
 session_with_entry s None = s
 session_with_entry s (Some e) = record { number = s.number; tape = s.tape ++ e ∷ []; spare = s.spare - 1 }
 
+-- so many entries, and this one, where there is one
+abbrev pub count_with : ℕ → Option Entry → ℕ
+count_with n None = n
+count_with n (Some e) = n + 1
+
 -- whether a refused call leaves an entry
 abbrev pub is_recorded : Refusal → Bool
 is_recorded JournalFull = false

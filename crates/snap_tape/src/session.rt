@@ -1,5 +1,6 @@
 // A session: its number and its tape.
-ghost use Rattle.std.specs.Prelude.{◌≡◌, ◌≤◌, ◌<◌, ◌+◌, OnOk, OnErr};
+ghost use Rattle.std.specs.Prelude.{◌≡◌, ◌≤◌, ◌<◌, ◌+◌, ◌-◌, OnOk, OnErr, vec_len};
+ghost use Rattle.std.specs.Vec.{vec_capacity};
 ghost use Rattle.snap_tape.specs.Tapes.{Untaped, session_with_entry};
 
 use snap_call::SharedEntry;
@@ -31,6 +32,7 @@ impl Session {
     pub fn of(number: u64, tape: Vec<SharedEntry>) -> Session
         ensures number { result.number ≡ number }
         ensures tape { result.tape ≡ tape.items }
+        ensures spare { result.spare ≡ vec_capacity tape - vec_len tape }
     {
         Session { number, tape }
     }

@@ -10,6 +10,7 @@ ghost use Rattle.snap_call.specs.Totals.{usage_taken};
 ghost use Rattle.snap_call.specs.declared.refusal.Refusal.TheVariants.{BadArgument, OutOfMemory};
 ghost use Rattle.snap_book.specs.Book.{IsBeginning};
 ghost use Rattle.snap_book.specs.Slot.{found_of, slot_and_id_of};
+ghost use Rattle.snap_history.specs.Changes.{no_shares};
 ghost use Rattle.snap_history.specs.Open.{shares_of};
 ghost use Rattle.snap_world.specs.declared.step.Step.TheVariants.{Hand, Locked};
 ghost use Rattle.snap_world.specs.World.{Fits, hand_at};
@@ -200,7 +201,8 @@ impl<N: StoreName> World<N> {
     /// What the open snapshots of the namespace were charged when the round began, as
     /// [`Book::opening_shares`](snap_book::Book::opening_shares) has it.
     pub fn opening_shares(&self, namespace: &str) -> Result<Shares, AllocError>
-        ensures { IfOk result (λ shares. (place : ℕ) → place_of namespace.now self.now.state.namespaces ≡ Some place → shares ≡ shares_of self.now.opening.slots place self.now.opening.records) }
+        ensures shares { IfOk result (λ shares. (place : ℕ) → place_of namespace.now self.now.state.namespaces ≡ Some place → shares ≡ shares_of self.now.opening.slots place self.now.opening.records) }
+        ensures none { IfOk result (λ shares. place_of namespace.now self.now.state.namespaces ≡ None → shares ≡ no_shares self.now.state.slots) }
     {
         self.book.opening_shares(namespace)
     }
