@@ -1,3 +1,4 @@
 pub mod Exit
 pub mod Replayed
 pub mod Tasks
+pub mod Words

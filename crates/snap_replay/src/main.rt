@@ -5,10 +5,13 @@
 //! here are the words of the command line, the standard streams and the status.
 #![tactic(auto)]
 
+ghost use Rattle.clap.specs.Words.{found_of, one_of, rows_of, subcommand_rows_of};
 ghost use Rattle.snap_replay.specs.Exit.{exit_of};
 ghost use Rattle.snap_replay.specs.Replayed.{HasReplayed, HasServed};
 ghost use Rattle.snap_replay.specs.Tasks.{IsTask};
-ghost use Rattle.std.specs.Prelude.{◌≡◌, ◌≤◌, IfOk, IfSome};
+ghost use Rattle.snap_replay.specs.Words.{IsAsked, IsNumberOf, field_rule_of, is_given, run_options_of, writers_of};
+ghost use Rattle.snap_replay.specs.declared.Task.TheVariants.{Writers};
+ghost use Rattle.std.specs.Prelude.{◌≡◌, ◌≤◌, IfOk, IfSome, Option, codes, option_map, ℕ};
 
 use clap::error::ErrorKind as WordsErrorKind;
 use clap::{Arg, ArgAction, ArgMatches, Command, Error, value_parser};
@@ -244,9 +247,18 @@ fn task_of(alloc: Global, words: &[String]) -> Result<Option<Task>, Error>
     Ok(chosen(&matches))
 }
 
+// Whether the option is given.
+fn is_given(name: &str, words: &ArgMatches<'_>) -> bool
+    ensures { result ≡ is_given name.now (rows_of (found_of words.now)) }
+{
+    words.get_one::<bool>(name).unwrap_or(false)
+}
+
 // Which fields the words let a line have.
-fn field_rule(words: &ArgMatches<'_>) -> FieldRule {
-    if words.get_flag(STRICT) {
+fn field_rule(words: &ArgMatches<'_>) -> FieldRule
+    ensures { result ≡ field_rule_of (rows_of (found_of words.now)) }
+{
+    if is_given(STRICT, words) {
         FieldRule::Known
     } else {
         FieldRule::Any
@@ -254,34 +266,44 @@ fn field_rule(words: &ArgMatches<'_>) -> FieldRule {
 }
 
 // How the words want a script to be run.
-fn run_options(words: &ArgMatches<'_>) -> RunOptions {
+fn run_options(words: &ArgMatches<'_>) -> RunOptions
+    ensures { result ≡ run_options_of (rows_of (found_of words.now)) }
+{
     RunOptions {
         fields: field_rule(words),
-        stops_at_refusal: words.get_flag(STOP),
+        stops_at_refusal: is_given(STOP, words),
     }
+}
+
+// The jobs' options, where the words have a number of workers.
+fn job_options(words: &ArgMatches<'_>) -> Option<JobOptions>
+    ensures { (number : Option ℕ) × (IsNumberOf (one_of (codes "workers") (rows_of (found_of words.now))) number × (option_map Writers result ≡ writers_of number (rows_of (found_of words.now)))) }
+{
+    let workers = words.get_one::<u32>(WORKERS)?;
+    if workers < 1 || workers > MAX_WORKERS {
+        return None;
+    }
+    Some(JobOptions {
+        workers,
+        ends: is_given(ENDS, words),
+        fields: field_rule(words),
+    })
 }
 
 // The task, where the words have one; those that clap has let through do.
 fn chosen(matches: &ArgMatches<'_>) -> Option<Task>
-    ensures { IfSome result IsTask }
+    ensures asked { IsAsked (subcommand_rows_of matches.now) result }
+    ensures task { IfSome result IsTask }
 {
-    match matches.subcommand() {
-        Some(("run", own)) => Some(Task::Run {
+    let (name, own) = matches.subcommand()?;
+    match name {
+        "run" => Some(Task::Run {
             options: run_options(own),
         }),
-        Some(("serve", _)) => Some(Task::Serve),
-        Some(("writers", own)) => {
-            let workers = own.get_one::<u32>(WORKERS)?;
-            if workers < 1 || workers > MAX_WORKERS {
-                return None;
-            }
-            Some(Task::Writers {
-                options: JobOptions {
-                    workers,
-                    ends: own.get_flag(ENDS),
-                    fields: field_rule(own),
-                },
-            })
+        "serve" => Some(Task::Serve),
+        "writers" => {
+            let options = job_options(own)?;
+            Some(Task::Writers { options })
         }
         _ => None,
     }

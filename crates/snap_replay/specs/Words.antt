@@ -1,0 +1,56 @@
+-- What the words of a command line ask for, by clap's account of them.
+-- Cited by invariants and private clauses alone.
+use Rattle.std.specs.Prelude.{◌≡◌, ◌<◌, ℕ, ◌^◌, Bool, true, false, ◌&&◌, nat_le, if◌then◌else◌, List, Option, None, Some, codes}
+use Rattle.std.specs.Option.{option_map_or}
+use Rattle.std.specs.Str.{bytes_eq}
+use Rattle.std.specs.Str.Parse.{IsNumeral, digits_value, without_leading_plus}
+use Rattle.clap.specs.Words.{Row, Text, one_of}
+use Rattle.snap_script.specs.declared.unknown.FieldRule.{FieldRule}
+use Rattle.snap_script.specs.declared.unknown.FieldRule.TheVariants.{Any, Known}
+use Rattle.snap_session.specs.declared.run.RunOptions.{RunOptions}
+use Rattle.snap_jobs.specs.declared.run.JobOptions.{JobOptions}
+use Rattle.snap_replay.specs.declared.Task.{Task}
+use Rattle.snap_replay.specs.declared.Task.TheVariants.{Run, Serve, Writers}
+
+-- the option of this name is given: what was found of it reads "true"
+abbrev pub is_given : List ℕ → List Row → Bool
+is_given name rows = option_map_or (λ text. bytes_eq text (codes "true")) (one_of name rows) false
+
+-- `--strict` lets no unknown field stand
+abbrev pub field_rule_of : List Row → FieldRule
+field_rule_of rows = if is_given (codes "strict") rows then Known else Any
+
+-- `--stop` ends a run at its first refusal
+abbrev pub run_options_of : List Row → RunOptions
+run_options_of rows = record { fields = field_rule_of rows; stops_at_refusal = is_given (codes "stop") rows }
+
+-- `--ends` tells how each job ended
+abbrev pub job_options_of : ℕ → List Row → JobOptions
+job_options_of workers rows = record { workers = workers; ends = is_given (codes "ends") rows; fields = field_rule_of rows }
+
+-- the text is this number in decimal digits, and it is of 32 bits; or it is none
+abbrev pub IsNumberOf : Option Text → Option ℕ → Type 0
+IsNumberOf None number = number ≡ None
+IsNumberOf (Some text) (Some n) = IsNumeral 10 (without_leading_plus text) × (n ≡ digits_value 10 (without_leading_plus text)) × (n < 2 ^ 32)
+IsNumberOf (Some text) None = IsNumeral 10 (without_leading_plus text) → digits_value 10 (without_leading_plus text) < 2 ^ 32 → ⊥
+
+-- jobs by so many workers, where there are 1 to 16
+abbrev pub writers_of : Option ℕ → List Row → Option Task
+writers_of None rows = None
+writers_of (Some workers) rows = if nat_le 1 workers && nat_le workers 16 then Some (Writers (job_options_of workers rows)) else None
+
+-- by whether the command is `run`, `serve` or `writers`, and what was found of its options: a run, a server, jobs by so many workers, or nothing
+abbrev pub IsAskedAs : Bool → Bool → Bool → List Row → Option Task → Type 0
+IsAskedAs true is_serve is_writers rows task = task ≡ Some (Run (run_options_of rows))
+IsAskedAs false true is_writers rows task = task ≡ Some Serve
+IsAskedAs false false true rows task = (number : Option ℕ) × IsNumberOf (one_of (codes "workers") rows) number × (task ≡ writers_of number rows)
+IsAskedAs false false false rows task = task ≡ None
+
+-- what the command of this name asks for
+abbrev pub IsAskedBy : List ℕ → List Row → Option Task → Type 0
+IsAskedBy name rows task = IsAskedAs (bytes_eq name (codes "run")) (bytes_eq name (codes "serve")) (bytes_eq name (codes "writers")) rows task
+
+-- the same of the command that was found, if one was
+abbrev pub IsAsked : Option (Text × List Row) → Option Task → Type 0
+IsAsked None task = task ≡ None
+IsAsked (Some found) task = IsAskedBy found.0 found.1 task
