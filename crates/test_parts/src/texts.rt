@@ -38,14 +38,28 @@ fn other_texts(rt: HostRuntime) {
     let (bad, no_path) = (PathError::BadPath, PathError::OutOfMemory(no_memory));
     let (full, no_layer) = (LayerError::LayerFull, LayerError::OutOfMemory(no_memory));
     let (none, there) = (LeaseError::NoLease, LeaseError::LeaseExists);
-    let (no_lease, usage) = (LeaseError::OutOfMemory(no_memory), usage(4, 3));
+    let no_lease = LeaseError::OutOfMemory(no_memory);
     let (lacks, unnamed) = (LeaseNameError::NoLease, LeaseNameError::NoName);
     let found = format!(in rt.alloc();
-        "{bad}, {no_path}; {full}, {no_layer}; {none}, {there}, {no_lease}; {lacks}, {unnamed}; {usage}"
+        "{bad}, {no_path}; {full}, {no_layer}; {none}, {there}, {no_lease}; {lacks}, {unnamed}"
     ).expect(&rt, "memory for a text");
     equal(
         &rt,
         found.as_str(),
-        "invalid path, out of memory; the layer is full, out of memory; no such lease, the lease exists already, out of memory; no such lease, no such name in the lease; 4/3",
+        "invalid path, out of memory; the layer is full, out of memory; no such lease, the lease exists already, out of memory; no such lease, no such name in the lease",
+    );
+}
+
+#[test]
+fn texts_of_usages(rt: HostRuntime) {
+    let (small, greatest) = (usage(4, 3), usage(u64::MAX, u64::MAX));
+    let found = format!(in rt.alloc(); "{small}|{small:5}|{small:>5}|{small:.2}|{greatest}").expect(
+        &rt,
+        "memory for a text",
+    );
+    equal(
+        &rt,
+        found.as_str(),
+        "4/3|4/3  |  4/3|4/|18446744073709551615/18446744073709551615",
     );
 }

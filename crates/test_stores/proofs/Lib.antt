@@ -1,1 +1,4 @@
 mod Slots
+mod FirstLayer
+mod FirstTape
+mod FirstRound

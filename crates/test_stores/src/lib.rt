@@ -9,6 +9,8 @@ mod closes;
 #[cfg(test)]
 mod first_calls;
 #[cfg(test)]
+mod first_example;
+#[cfg(test)]
 mod gates;
 #[cfg(test)]
 mod jobs;
